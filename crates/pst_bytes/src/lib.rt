@@ -1,0 +1,138 @@
+//! The bytes of a file, and the little-endian numbers in them.
+#![tactic(auto)]
+
+ghost use Rattle.std.specs.Prelude.{◌≡◌, ◌+◌, ◌≤◌, ◌↔◌, [], length, option_map, IfSome, IsTrue};
+ghost use Rattle.pst_bytes.specs.Image.{bytes_of, bytes_at, num, number_at, lent, IsInside, IsPartOf};
+
+mod span;
+
+use byteorder::{ByteOrder, LittleEndian};
+pub use span::Span;
+
+/// The bytes of a file, borrowed for `'a`. Offsets are in bytes from the first one, and numbers are
+/// little-endian ([MS-PST] 2.1).
+#[derive(Clone, Copy)]
+pub struct Image<'a> {
+    bytes: &'a [u8],
+}
+
+// Readers that test whether the bytes are there.
+impl<'a> Image<'a> {
+    /// The image that these bytes are. Nothing is read or copied.
+    pub fn new(bytes: &'a [u8]) -> Image<'a>
+        ensures { bytes_of result ≡ bytes.entry.now }
+    {
+        Image { bytes }
+    }
+
+    /// How many bytes the file has.
+    pub fn len(self) -> u64
+        ensures { result ≡ length (bytes_of self.entry) }
+    {
+        self.bytes.len() as u64
+    }
+
+    /// Whether the file has no byte.
+    pub fn is_empty(self) -> bool
+        ensures { IsTrue result ↔ (length (bytes_of self.entry) ≡ 0) }
+    {
+        self.bytes.is_empty()
+    }
+
+    /// The bytes of a span, in the file's own memory; None exactly where some of them lie past the end.
+    pub fn lend(self, span: Span) -> Option<&'a [u8]>
+        ensures value { option_map (λ s. s.now) result ≡ lent (bytes_of self.entry) span }
+        ensures own { IfSome result (λ s. IsPartOf self.entry span s) }
+    {
+        let len = self.bytes.len() as u64;
+        if span.at > len || span.len > len - span.at {
+            return None;
+        }
+        let at = span.at as usize;
+        let end = at + span.len as usize;
+        Some(&self.bytes[at..end])
+    }
+
+    /// The byte at an offset; None exactly past the end.
+    #[tactic(auto, unfolding(crate::specs::Image::num))]
+    pub fn u8_at(self, at: u64) -> Option<u8>
+        ensures { result ≡ number_at (bytes_of self.entry) at 1 }
+    {
+        let bytes = self.lend(Span { at, len: 1 })?;
+        Some(bytes[0])
+    }
+
+    /// The number of the 2 bytes at an offset; None exactly where some of them lie past the end.
+    #[tactic(auto, unfolding(crate::specs::Image::num))]
+    pub fn u16_at(self, at: u64) -> Option<u16>
+        ensures { result ≡ number_at (bytes_of self.entry) at 2 }
+    {
+        let bytes = self.lend(Span { at, len: 2 })?;
+        Some(LittleEndian::read_u16(bytes))
+    }
+
+    /// The number of the 4 bytes at an offset; None exactly where some of them lie past the end.
+    #[tactic(auto, unfolding(crate::specs::Image::num))]
+    pub fn u32_at(self, at: u64) -> Option<u32>
+        ensures { result ≡ number_at (bytes_of self.entry) at 4 }
+    {
+        let bytes = self.lend(Span { at, len: 4 })?;
+        Some(LittleEndian::read_u32(bytes))
+    }
+
+    /// The number of the 8 bytes at an offset; None exactly where some of them lie past the end.
+    #[tactic(auto, unfolding(crate::specs::Image::num))]
+    pub fn u64_at(self, at: u64) -> Option<u64>
+        ensures { result ≡ number_at (bytes_of self.entry) at 8 }
+    {
+        let bytes = self.lend(Span { at, len: 8 })?;
+        Some(LittleEndian::read_u64(bytes))
+    }
+}
+
+// Readers of bytes that the caller knows to be there.
+impl<'a> Image<'a> {
+    /// The byte at an offset inside the file.
+    pub fn number8(self, at: u64) -> u8
+        requires { at + 1 ≤ length (bytes_of self) }
+        ensures { result ≡ num (bytes_of self.entry) at 1 }
+    {
+        self.u8_at(at).unwrap()
+    }
+
+    /// The number of 2 bytes inside the file.
+    pub fn number16(self, at: u64) -> u16
+        requires { at + 2 ≤ length (bytes_of self) }
+        ensures { result ≡ num (bytes_of self.entry) at 2 }
+    {
+        self.u16_at(at).unwrap()
+    }
+
+    /// The number of 4 bytes inside the file.
+    pub fn number32(self, at: u64) -> u32
+        requires { at + 4 ≤ length (bytes_of self) }
+        ensures { result ≡ num (bytes_of self.entry) at 4 }
+    {
+        self.u32_at(at).unwrap()
+    }
+
+    /// The number of 8 bytes inside the file.
+    pub fn number64(self, at: u64) -> u64
+        requires { at + 8 ≤ length (bytes_of self) }
+        ensures { result ≡ num (bytes_of self.entry) at 8 }
+    {
+        self.u64_at(at).unwrap()
+    }
+
+    /// The bytes of a span inside the file, in the file's own memory.
+    pub fn slice(self, span: Span) -> &'a [u8]
+        requires { IsInside (bytes_of self) span }
+        ensures value { result.now ≡ bytes_at (bytes_of self.entry) span }
+        ensures own { IsPartOf self.entry span result }
+    {
+        self.lend(span).unwrap()
+    }
+}
+
+#[cfg(test)]
+mod tests;

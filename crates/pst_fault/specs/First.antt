@@ -1,0 +1,40 @@
+-- The first fault of a part of the file: of the conditions and the parts that it is made of, in their order.
+-- These words are shared by every layer that checks something.
+use Rattle.std.specs.Prelude.{◌≡◌, ℕ, zero, suc, Bool, true, false, Option, Some, None, Result, Ok, Err, List, [], ◌++◌, ◌⊎◌}
+use Rattle.pst_fault.specs.declared.fault.Fault.{Fault}
+use Rattle.pst_fault.specs.Fault.{no_memory}
+
+-- the first of two faults
+infixr 20 ◌then◌
+abbrev pub ◌then◌ : Option Fault → Option Fault → Option Fault
+(Some f) then g = Some f
+None then g = g
+
+-- a condition, and its fault where it fails
+abbrev pub holds_or : Bool → Fault → Option Fault
+holds_or true f = None
+holds_or false f = Some f
+
+-- the first fault of the parts with the numbers below n
+abbrev pub first_below : (ℕ → Option Fault) → ℕ → Option Fault
+first_below part zero = None
+first_below part (suc n) = first_below part n then part n
+
+-- the lists with the numbers below n, joined
+abbrev pub join_below : {X : Type 0} → (ℕ → List X) → ℕ → List X
+join_below part zero = []
+join_below part (suc n) = join_below part n ++ part n
+
+-- what a check answers: the value where there is no fault, else the fault
+abbrev pub answer : {X : Type 0} → Option Fault → X → Result X Fault
+answer None x = Ok x
+answer (Some f) x = Err f
+
+-- the fault is the first one, unless memory ran out
+abbrev pub IsFirst : Option Fault → Fault → Type 0
+IsFirst first f = (f ≡ no_memory) ⊎ (first ≡ Some f)
+
+-- What a check tells that may run out of memory: the value exactly where there is no fault, else the first one.
+abbrev pub Tells : {X : Type 0} → Result X Fault → Option Fault → X → Type 0
+Tells (Ok x) first value = (first ≡ None) × (x ≡ value)
+Tells (Err f) first value = IsFirst first f

@@ -1,0 +1,169 @@
+use super::*;
+use pst_bytes::Image;
+use pst_fault::{Fault, Kind, Place};
+use std::alloc::Global;
+use std::test::Fail;
+
+// Places and bytes of the fields of a small store's header, as [MS-PST] 2.2.2.6 orders them: a store of 271,360 bytes
+// with one allocation map. The two check values are another program's.
+const FIELDS: [(usize, &[u8]); 14] = [
+    (0, b"!BDN"),
+    (4, &[0x24, 0x6d, 0x4c, 0xff]),
+    (8, b"SM"),
+    (10, &[23]),
+    (32, &[12]),
+    (184, &[0x00, 0x24, 0x04]),
+    (192, &[0x00, 0x44]),
+    (200, &[0x80, 0xd7, 0x03]),
+    (216, &[4, 0, 0, 0, 0, 0, 0, 0, 0x00, 0x48]),
+    (232, &[8, 0, 0, 0, 0, 0, 0, 0, 0x00, 0x4a]),
+    (248, &[2]),
+    (512, &[0x80]),
+    (516, &[12]),
+    (524, &[0x9a, 0xda, 0x53, 0x0f]),
+];
+
+fn set(image: &mut [u8], at: usize, bytes: &[u8]) -> Result<(), Fail> {
+    for (i, byte) in bytes.iter().enumerate() {
+        let there = image.get_mut(at.saturating_add(i)).ok_or("past the end")?;
+        *there = *byte;
+    }
+    Ok(())
+}
+
+fn small_store(alloc: Global, len: usize) -> Result<Vec<u8>, Fail> {
+    let mut image = vec![in alloc; 0u8; len]?;
+    for (at, bytes) in FIELDS {
+        set(&mut image, at, bytes)?;
+    }
+    Ok(image)
+}
+
+// The check values of the header, right for what stands there.
+fn seal(image: &mut [u8]) -> Result<(), Fail> {
+    let partial = pst_crc::check(image.get(8..479).ok_or("too short")?);
+    set(image, 4, &partial.to_le_bytes())?;
+    let full = pst_crc::check(image.get(8..524).ok_or("too short")?);
+    set(image, 524, &full.to_le_bytes())
+}
+
+fn refused(kind: Kind, at: u64) -> Result<Header, Fault> {
+    let place = Place { at, bid: 0, nid: 0 };
+    Err(Fault { kind, place })
+}
+
+#[test]
+fn a_good_header_is_read(rt: HostRuntime) -> Result<(), Fail> {
+    let image = small_store(rt.alloc(), 271_360)?;
+    let header = Header {
+        eof: 271_360,
+        last_amap: 17_408,
+        free: 251_776,
+        nbt: Bref { bid: 4, ib: 0x4800 },
+        bbt: Bref { bid: 8, ib: 0x4a00 },
+        maps_valid: 2,
+        next_page: 12,
+        next_block: 12,
+        version: 23,
+    };
+    assert_eq!(rt; read_header(Image::new(&image)), Ok(header));
+    assert_eq!(rt; header.end(), 271_360);
+    assert_eq!(rt; header.amap_count(), 1);
+    Ok(())
+}
+
+// The mapped part ends where the last map's part ends, or where the file ends.
+#[test]
+fn the_mapped_part_ends(rt: HostRuntime) -> Result<(), Fail> {
+    let image = small_store(rt.alloc(), 271_360)?;
+    let header = read_header(Image::new(&image)).map_err(|_| "refused")?;
+    for (eof, last_amap, end, maps) in [
+        (271_360, 17_408, 271_360, 1),
+        (300_000, 17_408, 271_360, 1),
+        (18_432, 17_408, 18_432, 1),
+        (2_303_000, 2_048_000 + 17_408 - 16_384, 2_302_976, 9),
+        (u64::MAX, u64::MAX, u64::MAX, 72_638_703_667_266),
+    ] {
+        let header = Header {
+            eof,
+            last_amap,
+            ..header
+        };
+        assert_eq!(rt; header.end(), end, "eof {eof}");
+        assert_eq!(rt; header.amap_count(), maps, "eof {eof}");
+    }
+    Ok(())
+}
+
+// One field is changed, and the check values are made right again.
+#[test]
+fn the_first_fault_of_a_sealed_header(rt: HostRuntime) -> Result<(), Fail> {
+    let rows: [(usize, &[u8], Kind, u64); 13] = [
+        (0, &[0], Kind::Magic, 0),
+        (8, &[0], Kind::Magic, 8),
+        (10, &[15], Kind::Version(15), 10),
+        (10, &[36, 1], Kind::Version(292), 10),
+        (513, &[1], Kind::Encoded(1), 513),
+        (184, &[0x01], Kind::Root, 184),
+        (184, &[0xff, 0x45, 0x00], Kind::Root, 192),
+        (192, &[0x00, 0x40], Kind::Root, 192),
+        (192, &[0x00, 0x46], Kind::Root, 192),
+        (192, &[0x00, 0x24, 0x04], Kind::Root, 192),
+        (
+            192,
+            &[0xff, 0xff, 0xff, 0xff, 0xff, 0xff, 0xff, 0xff],
+            Kind::Root,
+            192,
+        ),
+        (248, &[0], Kind::MapsInvalid, 248),
+        (248, &[3], Kind::MapsInvalid, 248),
+    ];
+    for (at, bytes, kind, place) in rows {
+        let mut image = small_store(rt.alloc(), 271_360)?;
+        set(&mut image, at, bytes)?;
+        seal(&mut image)?;
+        assert_eq!(rt;
+            read_header(Image::new(&image)),
+            refused(kind, place),
+            "at {at}"
+        );
+    }
+    Ok(())
+}
+
+#[test]
+fn a_flipped_bit_breaks_a_check_value(rt: HostRuntime) -> Result<(), Fail> {
+    for (at, place) in [(300, 4), (520, 524), (4, 4), (524, 524)] {
+        let mut image = small_store(rt.alloc(), 271_360)?;
+        let byte = image.get_mut(at).ok_or("too short")?;
+        *byte ^= 1;
+        let answer = read_header(Image::new(&image));
+        assert_eq!(rt; answer, refused(Kind::HeaderCheck, place), "at {at}");
+    }
+    Ok(())
+}
+
+// An earlier rule is told before a later one, and a file's length matters.
+#[test]
+fn lengths_of_a_file(rt: HostRuntime) -> Result<(), Fail> {
+    for (len, kind, place) in [(564, Kind::Root, 184), (271_359, Kind::Root, 184)] {
+        let image = small_store(rt.alloc(), len)?;
+        assert_eq!(rt;
+            read_header(Image::new(&image)),
+            refused(kind, place),
+            "of {len}"
+        );
+    }
+    let image = small_store(rt.alloc(), 271_360)?;
+    for len in [0, 1, 563] {
+        let front = image.get(..len).ok_or("too short")?;
+        assert_eq!(rt;
+            read_header(Image::new(front)),
+            refused(Kind::Short, 0),
+            "of {len}"
+        );
+    }
+    let longer = small_store(rt.alloc(), 271_424)?;
+    assert!(rt; read_header(Image::new(&longer)).is_ok());
+    Ok(())
+}

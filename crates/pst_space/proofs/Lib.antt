@@ -1,0 +1,5 @@
+pub mod ApartLemmas
+pub mod ClaimLemmas
+pub mod FlagLemmas
+pub mod MapLemmas
+pub mod MarkLemmas

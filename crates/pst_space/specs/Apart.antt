@@ -1,0 +1,42 @@
+-- Spans that have no byte in common, and what that says of the flags.
+use Rattle.std.specs.Prelude.{◌≡◌, ℕ, ◌+◌, ◌<◌, ◌≤◌, ◌↔◌, ◌⊎◌, ⊤, Bool, false, ◌&&◌, ◌||◌, nat_le, nat_lt, List, [], ◌∷◌, length, replicate, Option, Some}
+use Rattle.pst_bytes.specs.declared.span.Span.{Span}
+use Rattle.pst_space.specs.Claimed.{Claimed, IsUnits, claim_all, flag_of, first_unit, unit_count}
+
+abbrev pub end_of_span : Span → ℕ
+end_of_span span = span.at + span.len
+
+-- two spans have no byte in common
+abbrev pub IsApartFrom : Span → Span → Type 0
+IsApartFrom s t = (end_of_span s ≤ t.at) ⊎ (end_of_span t ≤ s.at)
+
+abbrev pub IsApartFromAll : Span → List Span → Type 0
+IsApartFromAll s [] = ⊤
+IsApartFromAll s (t ∷ ts) = IsApartFrom s t × IsApartFromAll s ts
+
+-- no two places of the list have a byte in common
+abbrev pub AreApart : List Span → Type 0
+AreApart [] = ⊤
+AreApart (s ∷ ss) = IsApartFromAll s ss × AreApart ss
+
+-- each span is one or more whole units of the mapped part
+abbrev pub AreUnits : Claimed → List Span → Type 0
+AreUnits claimed [] = ⊤
+AreUnits claimed (s ∷ ss) = IsUnits claimed s × AreUnits claimed ss
+
+-- the unit lies in the span
+abbrev pub covers : Span → ℕ → Bool
+covers s unit = nat_le (first_unit s) unit && nat_lt unit (first_unit s + unit_count s)
+
+-- the unit lies in one of the spans
+abbrev pub is_covered : List Span → ℕ → Bool
+is_covered [] unit = false
+is_covered (s ∷ ss) unit = covers s unit || is_covered ss unit
+
+-- Where nothing is claimed, spans can be claimed one after another exactly where no two of them have a byte in common.
+abbrev pub ApartLaw : Type 0
+ApartLaw = (units : ℕ) (spans : List Span) → AreUnits (replicate units false) spans → ((new : Claimed) × (claim_all (replicate units false) spans ≡ Some new)) ↔ AreApart spans
+
+-- The flags are then those of the units in which one of them lies.
+abbrev pub FlagsLaw : Type 0
+FlagsLaw = (units : ℕ) (spans : List Span) (new : Claimed) → claim_all (replicate units false) spans ≡ Some new → (unit : ℕ) → unit < units → flag_of new unit ≡ is_covered spans unit

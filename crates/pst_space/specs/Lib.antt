@@ -1,0 +1,4 @@
+pub mod Apart
+pub mod Claimed
+pub mod Flags
+pub mod Step

@@ -1,0 +1,16 @@
+//! Laws of claims, each the contract of a function that does nothing.
+
+ghost use Rattle.pst_space.specs.Apart.{ApartLaw, FlagsLaw};
+ghost use Rattle.pst_space.specs.Claimed.{MapsLaw};
+
+/// Where nothing is claimed yet, spans of whole units can be claimed one after another exactly where no two of them have
+/// a byte in common; and the flags are then those of the units in which one of them lies.
+pub fn claims_are_apart()
+    ensures apart { ApartLaw }
+    ensures flags { FlagsLaw }
+{}
+
+/// The map pages of a file have no byte in common.
+pub fn map_pages_are_apart()
+    ensures { MapsLaw }
+{}

@@ -1,0 +1,13 @@
+//! What is claimed of a file: a flag for each unit of 64 bytes of the mapped part ([MS-PST] 2.2.2.7.2), so that no
+//! page or block lies on another.
+#![tactic(auto)]
+
+mod bits;
+mod claims;
+mod laws;
+
+pub use claims::Claims;
+pub use laws::{claims_are_apart, map_pages_are_apart};
+
+#[cfg(test)]
+mod tests;

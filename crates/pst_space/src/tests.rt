@@ -1,0 +1,73 @@
+ghost use Rattle.std.specs.Prelude.{◌<◌};
+ghost use Rattle.pst_header.specs.Head.{IsLastMap};
+
+use super::*;
+use pst_bytes::Span;
+use pst_fault::{Fault, Kind};
+use pst_header::{Bref, Header};
+use std::test::Fail;
+
+// A header of so many regions of 253,952 bytes ([MS-PST] 2.2.2.7.2).
+fn header_of(regions: u64) -> Header
+    requires { (0 < regions) × (regions < 1000) }
+    ensures { IsLastMap result.last_amap result.eof }
+{
+    let root = Bref { bid: 0, ib: 0 };
+    Header {
+        eof: 17408 + 253952 * regions,
+        last_amap: 17408 + 253952 * (regions - 1),
+        free: 0,
+        nbt: root,
+        bbt: root,
+        maps_valid: 2,
+        next_page: 0,
+        next_block: 0,
+        version: 23,
+    }
+}
+
+// What claiming a span answers, where the span is whole units of the mapped part.
+fn claim(claims: &mut Claims, at: u64, len: u64) -> Result<Result<(), Fault>, Fail> {
+    let whole = at >= 17408 && at.is_multiple_of(64) && len.is_multiple_of(64) && len > 0;
+    if !whole
+        || at > 1_000_000
+        || len > 1_000_000
+        || (at - 17408) / 64 + len / 64 > claims.units()
+    {
+        return Err(Fail::from("no whole units"));
+    }
+    Ok(claims.claim(Span { at, len }))
+}
+
+// Allocation maps take the first 8 of every 3,968 units, and a page map the next 8 in every eighth region.
+#[test]
+fn map_pages_are_claimed(rt: HostRuntime) -> Result<(), Fail> {
+    let claims = Claims::new(rt.alloc(), &header_of(9))?;
+    for unit in 0..9 * 3968 + 100 {
+        let region = unit / 3968;
+        let place = unit % 3968;
+        let maps = if region == 0 || region == 8 { 16 } else { 8 };
+        let claimed = region < 9 && place < maps;
+        assert_eq!(rt; claims.is_claimed(unit), claimed, "unit {unit}");
+    }
+    assert!(rt; !claims.is_claimed(u64::MAX));
+    Ok(())
+}
+
+#[test]
+fn a_span_is_claimed_once(rt: HostRuntime) -> Result<(), Fail> {
+    let mut claims = Claims::new(rt.alloc(), &header_of(1))?;
+    assert_eq!(rt; claims.units(), 3968);
+    let overlap = |at: u64| Err(Fault::at(Kind::Overlap, at));
+    assert_eq!(rt; claim(&mut claims, 0x4800, 512)?, Ok(()));
+    assert_eq!(rt; claim(&mut claims, 0x4800, 512)?, overlap(0x4800));
+    assert_eq!(rt; claim(&mut claims, 0x49c0, 128)?, overlap(0x49c0));
+    assert!(rt; !claims.is_claimed(24));
+    assert_eq!(rt; claim(&mut claims, 0x4a00, 64)?, Ok(()));
+    assert!(rt; claims.is_claimed(24));
+    assert!(rt; !claims.is_claimed(25));
+    assert_eq!(rt; claim(&mut claims, 0x4600, 512)?, overlap(0x4600));
+    assert_eq!(rt; claim(&mut claims, 271_296, 64)?, Ok(()));
+    assert!(rt; claims.is_claimed(3967));
+    Ok(())
+}
