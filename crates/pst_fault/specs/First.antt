@@ -38,3 +38,9 @@ IsFirst first f = (f ≡ no_memory) ⊎ (first ≡ Some f)
 abbrev pub Tells : {X : Type 0} → Result X Fault → Option Fault → X → Type 0
 Tells (Ok x) first value = (first ≡ None) × (x ≡ value)
 Tells (Err f) first value = IsFirst first f
+
+-- What a check answers whose value is a view: a view exactly where there is no fault, else the first one. Which view it is
+-- stands in clauses of their own.
+abbrev pub Checks : {X : Type 0} → Result X Fault → Option Fault → Type 0
+Checks (Ok x) first = first ≡ None
+Checks (Err f) first = first ≡ Some f

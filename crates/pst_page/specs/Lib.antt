@@ -1,0 +1,4 @@
+pub mod Entry
+pub mod Fault
+pub mod Good
+pub mod Page

@@ -1,0 +1,280 @@
+use super::*;
+use pst_bytes::Image;
+use pst_fault::{Fault, Kind, Place};
+use pst_header::{Bref, Header, read_header};
+use std::alloc::Global;
+use std::process::Abort;
+use std::test::Fail;
+
+// Where the two root pages of a small store lie, and their identifiers.
+const NBT: Bref = Bref { bid: 4, ib: 0x4800 };
+
+const BBT: Bref = Bref { bid: 8, ib: 0x4a00 };
+
+// Places and bytes of a small store of 271,360 bytes, other than 0: its header, as [MS-PST] 2.2.2.6 orders the fields,
+// and its two pages, of two entries each. All check values and signatures are another program's.
+const BYTES: [(usize, &[u8]); 27] = [
+    (0, b"!BDN"),
+    (4, &[0x24, 0x6d, 0x4c, 0xff]),
+    (8, b"SM"),
+    (10, &[23]),
+    (32, &[12]),
+    (184, &[0x00, 0x24, 0x04]),
+    (192, &[0x00, 0x44]),
+    (200, &[0x80, 0xd7, 0x03]),
+    (216, &[4, 0, 0, 0, 0, 0, 0, 0, 0x00, 0x48]),
+    (232, &[8, 0, 0, 0, 0, 0, 0, 0, 0x00, 0x4a]),
+    (248, &[2]),
+    (512, &[0x80]),
+    (516, &[12]),
+    (524, &[0x9a, 0xda, 0x53, 0x0f]),
+    (0x4800, &[0x21, 0, 0, 0, 0, 0, 0, 0, 4]),
+    (0x4820, &[0x22, 0x01, 0, 0, 0, 0, 0, 0, 8]),
+    (0x4838, &[0x22, 0x01]),
+    (0x49e8, &[2, 15, 32, 0]),
+    (0x49f0, &[0x81, 0x81, 0x04, 0x48, 0x91, 0x90, 0xfc, 0x1c]),
+    (0x49f8, &[4]),
+    (0x4a00, &[4, 0, 0, 0, 0, 0, 0, 0, 0x00, 0x4c]),
+    (0x4a10, &[44, 0, 2]),
+    (0x4a18, &[8, 0, 0, 0, 0, 0, 0, 0, 0x40, 0x4c]),
+    (0x4a28, &[38, 0, 2]),
+    (0x4be8, &[2, 20, 24, 0]),
+    (0x4bf0, &[0x80, 0x80, 0x08, 0x4a, 0xf0, 0x16, 0x98, 0x2d]),
+    (0x4bf8, &[8]),
+];
+
+fn set(image: &mut [u8], at: usize, bytes: &[u8]) -> Result<(), Fail> {
+    for (i, byte) in bytes.iter().enumerate() {
+        let there = image.get_mut(at.saturating_add(i)).ok_or("past the end")?;
+        *there = *byte;
+    }
+    Ok(())
+}
+
+fn small_store(alloc: Global, len: usize) -> Result<Vec<u8>, Fail> {
+    let mut image = vec![in alloc; 0u8; len]?;
+    for (at, bytes) in BYTES {
+        set(&mut image, at, bytes)?;
+    }
+    Ok(image)
+}
+
+// The check value of a page, right for what stands there.
+fn seal(image: &mut [u8], at: usize) -> Result<(), Fail> {
+    let end = at.saturating_add(496);
+    let check = pst_crc::check(image.get(at..end).ok_or("too short")?);
+    set(image, end.saturating_add(4), &check.to_le_bytes())
+}
+
+fn fault_of(kind: Kind, bref: Bref) -> Fault {
+    let place = Place {
+        at: bref.ib,
+        bid: bref.bid,
+        nid: 0,
+    };
+    Fault { kind, place }
+}
+
+// What is read there, or no page and no fault where the header is bad.
+fn fault_at(image: &[u8], bref: Bref, kind: PageKind) -> Option<Fault> {
+    let image = Image::new(image);
+    let Ok(header) = read_header(image) else {
+        return None;
+    };
+    read_page(image, &header, bref, kind).err()
+}
+
+fn is_refused<R: Abort>(rt: &R, image: &[u8], bref: Bref, kind: PageKind, fault: Kind) {
+    let answer = fault_at(image, bref, kind);
+    assert_eq!(rt; answer, Some(fault_of(fault, bref)), "at {}", bref.ib);
+}
+
+#[test]
+fn a_page_of_nodes_is_read(rt: HostRuntime) -> Result<(), Fail> {
+    let bytes = small_store(rt.alloc(), 271_360)?;
+    let image = Image::new(&bytes);
+    let Ok(header) = read_header(image) else {
+        panic!(rt; "no header");
+    };
+    let Ok(page) = read_page(image, &header, NBT, PageKind::Nbt) else {
+        panic!(rt; "no page");
+    };
+    assert!(rt; page.count() == 2);
+    assert!(rt; page.level() == 0);
+    assert_eq!(rt; page.width(), 32);
+    assert_eq!(rt; page.place(1), 0x4820);
+    assert_eq!(rt; page.key(1), 0x122);
+    let first = NodeEntry {
+        nid: 0x21,
+        bid_data: 4,
+        bid_sub: 0,
+        parent: 0,
+    };
+    let second = NodeEntry {
+        nid: 0x122,
+        bid_data: 8,
+        bid_sub: 0,
+        parent: 0x122,
+    };
+    assert_eq!(rt; page.node_entry(0), first);
+    assert_eq!(rt; page.node_entry(1), second);
+    assert_eq!(rt; page.entry(1), bytes.get(0x4820..0x4840));
+    assert_eq!(rt; page.entry(2), None);
+    assert_eq!(rt; page.entry(255), None);
+    Ok(())
+}
+
+#[test]
+#[tactic(auto, using(crate::proofs::PageLemmas::good_has_shape))]
+fn a_page_of_blocks_is_read(rt: HostRuntime) -> Result<(), Fail> {
+    let bytes = small_store(rt.alloc(), 271_360)?;
+    let image = Image::new(&bytes);
+    let Ok(header) = read_header(image) else {
+        panic!(rt; "no header");
+    };
+    let Ok(page) = read_page(image, &header, BBT, PageKind::Bbt) else {
+        panic!(rt; "no page");
+    };
+    assert!(rt; page.count() == 2);
+    assert!(rt; page.level() == 0);
+    let first = BlockEntry {
+        bid: 4,
+        ib: 0x4c00,
+        cb: 44,
+    };
+    let second = BlockEntry {
+        bid: 8,
+        ib: 0x4c40,
+        cb: 38,
+    };
+    assert_eq!(rt; page.block_entry(0), first);
+    assert_eq!(rt; page.block_entry(1), second);
+    assert_eq!(rt; page.entry(0), bytes.get(0x4a00..0x4a18));
+    let again = known_page(image, BBT, PageKind::Bbt);
+    assert_eq!(rt; again.entry(1), page.entry(1));
+    Ok(())
+}
+
+// A branch of one entry, that names the page of blocks.
+#[test]
+fn a_branch_names_its_children(rt: HostRuntime) -> Result<(), Fail> {
+    let mut bytes = small_store(rt.alloc(), 271_360)?;
+    let entry = [5, 0, 0, 0, 0, 0, 0, 0, 8, 0, 0, 0, 0, 0, 0, 0, 0x00, 0x4a];
+    set(&mut bytes, 0x4c00, &entry)?;
+    set(&mut bytes, 0x4de8, &[1, 20, 24, 15])?;
+    // 0x4C00 exclusive or 12 is 0x4C0C.
+    set(&mut bytes, 0x4df0, &[0x80, 0x80, 0x0c, 0x4c])?;
+    set(&mut bytes, 0x4df8, &[12])?;
+    seal(&mut bytes, 0x4c00)?;
+    let branch = Bref {
+        bid: 12,
+        ib: 0x4c00,
+    };
+    let image = Image::new(&bytes);
+    assert!(rt; image.len() >= 0x4e00);
+    let Ok(page) = open_page(image, branch, PageKind::Bbt) else {
+        panic!(rt; "no page");
+    };
+    assert_eq!(rt; page.level(), 15);
+    assert!(rt; page.count() == 1);
+    assert_eq!(rt; page.child(0), BBT);
+    assert_eq!(rt; page.key(0), 4);
+    Ok(())
+}
+
+// What a page has behind its entries is changed, and its check value is made right again.
+#[test]
+fn shapes_that_cannot_be(rt: HostRuntime) -> Result<(), Fail> {
+    let rows: [(usize, &[u8]); 6] = [
+        (0x49eb, &[16]),
+        (0x49ea, &[31]),
+        (0x49e8, &[16]),
+        (0x49e8, &[8, 15, 62]),
+        (0x49e8, &[0, 15, 32, 1]),
+        (0x49e8, &[1, 15, 23, 1]),
+    ];
+    for (at, shape) in rows {
+        let mut image = small_store(rt.alloc(), 271_360)?;
+        set(&mut image, at, shape)?;
+        seal(&mut image, 0x4800)?;
+        is_refused(&rt, &image, NBT, PageKind::Nbt, Kind::PageShape);
+    }
+    let fine: [&[u8]; 4] = [
+        &[15, 15, 32, 0],
+        &[0, 15, 32, 0],
+        &[2, 15, 244, 0],
+        &[20, 15, 24, 15],
+    ];
+    for shape in fine {
+        let mut image = small_store(rt.alloc(), 271_360)?;
+        set(&mut image, 0x49e8, shape)?;
+        seal(&mut image, 0x4800)?;
+        assert_eq!(rt; fault_at(&image, NBT, PageKind::Nbt), None);
+    }
+    Ok(())
+}
+
+#[test]
+fn trailers_that_are_wrong(rt: HostRuntime) -> Result<(), Fail> {
+    let rows: [(usize, &[u8]); 8] = [
+        (0x49f0, &[0x80, 0x80]),
+        (0x49f0, &[0x80]),
+        (0x49f1, &[0x80]),
+        (0x49f2, &[0]),
+        (0x49f4, &[0]),
+        (0x49f8, &[5]),
+        (0x49ff, &[1]),
+        (0x4900, &[1]),
+    ];
+    for (at, bytes) in rows {
+        let mut image = small_store(rt.alloc(), 271_360)?;
+        set(&mut image, at, bytes)?;
+        is_refused(&rt, &image, NBT, PageKind::Nbt, Kind::PageTrailer);
+    }
+    let image = small_store(rt.alloc(), 271_360)?;
+    is_refused(&rt, &image, NBT, PageKind::Bbt, Kind::PageTrailer);
+    let other = Bref { bid: 6, ..NBT };
+    is_refused(&rt, &image, other, PageKind::Nbt, Kind::PageTrailer);
+    Ok(())
+}
+
+// The file goes on behind the mapped part, which ends at 271,360.
+#[test]
+fn places_where_no_page_may_lie(rt: HostRuntime) -> Result<(), Fail> {
+    let image = small_store(rt.alloc(), 272_384)?;
+    for ib in [
+        0,
+        0x43c0,
+        0x4801,
+        0x4820,
+        271_360 - 448,
+        271_360,
+        u64::MAX - 63,
+    ] {
+        let bref = Bref { bid: 4, ib };
+        is_refused(&rt, &image, bref, PageKind::Nbt, Kind::PagePlace);
+    }
+    let image = Image::new(&image);
+    let header = read_header(image).map_err(|_| "no header")?;
+    for ib in [0x4400, 0x4440, 271_360 - 512] {
+        let span = page_place(&header, Bref { bid: 4, ib });
+        assert!(rt; span.is_ok_and(|s| s.at == ib && s.len == 512), "at {ib}");
+    }
+    Ok(())
+}
+
+#[test]
+fn keys_of_entries(rt: HostRuntime) {
+    for (kind, number, key) in [
+        (PageKind::Bbt, 5, 4),
+        (PageKind::Bbt, 6, 6),
+        (PageKind::Bbt, u64::MAX, u64::MAX - 1),
+        (PageKind::Nbt, 5, 5),
+        (PageKind::Nbt, 0x1_0000_0121, 0x121),
+        (PageKind::Nbt, u64::MAX, 0xffff_ffff),
+    ] {
+        assert_eq!(rt; kind.key_of(number), key, "of {number}");
+    }
+    let bytes = [0xab; 8];
+    assert_eq!(rt; PageKind::Nbt.key_at(Image::new(&bytes), 0), 0xabab_abab);
+}
