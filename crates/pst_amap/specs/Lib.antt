@@ -1,0 +1,5 @@
+pub mod Lost
+pub mod Map
+pub mod Marks
+pub mod Old
+pub mod Report

@@ -1,0 +1,17 @@
+//! Allocation maps ([MS-PST] 2.2.2.7.2): whether they mark what is claimed, and what they mark besides.
+#![tactic(auto)]
+
+mod comparison;
+mod laws;
+mod lost;
+mod map;
+mod marks;
+mod old;
+mod report;
+
+pub use comparison::compare;
+pub use laws::{maps_decide, runs_are_whole};
+pub use report::{BitOrder, MapReport};
+
+#[cfg(test)]
+mod tests;

@@ -1,0 +1,66 @@
+//! Lost runs.
+
+ghost use Rattle.std.specs.Prelude.{◌≡◌, ℕ, ◌+◌, ◌-◌, ◌*◌, ◌≤◌, ◌<◌, ◌^◌, ◌++◌, length, IfOk, OnOk};
+ghost use Rattle.pst_bytes.specs.Image.{bytes_of};
+ghost use Rattle.pst_header.specs.Head.{Head};
+ghost use Rattle.pst_space.specs.Claimed.{unit_total};
+ghost use Rattle.pst_amap.specs.Marks.{mark_place};
+ghost use Rattle.pst_amap.specs.Lost.{is_lost as lost, lost_runs, run_before};
+
+use crate::marks::is_marked;
+use crate::report::BitOrder;
+use pst_bytes::{Image, Span};
+use pst_header::Header;
+use pst_space::Claims;
+use std::alloc::{AllocError, Global};
+
+#[tactic(auto, unfolding(crate::specs::Lost::is_lost))]
+fn is_lost(image: Image, order: BitOrder, claims: &Claims, unit: u64) -> bool
+    requires { mark_place unit + 1 ≤ length (bytes_of image) }
+    ensures { result ≡ lost order (bytes_of image.entry) claims.now unit }
+{
+    is_marked(image, order, unit) && !claims.is_claimed(unit)
+}
+
+// Adds the run of so many units that ends before a unit, if it has any.
+fn push_run(runs: &mut Vec<Span>, unit: u64, run: u64) -> Result<(), AllocError>
+    requires run { run ≤ unit }
+    requires small { unit < 2 ^ 57 }
+    ensures { OnOk result (runs.new.items ≡ runs.old.items ++ run_before unit run) }
+{
+    if run > 0 {
+        runs.push(Span {
+            at: 17408 + 64 * (unit - run),
+            len: 64 * run,
+        })?;
+    }
+    Ok(())
+}
+
+/// The runs of units that are marked and not claimed, in order. AllocError where their memory is refused.
+#[tactic(auto, using(crate::proofs::MapLemmas::mark_inside, crate::proofs::LostLemmas::runs_picked, crate::proofs::LostLemmas::runs_passed, crate::proofs::LostLemmas::runs_end))]
+pub fn find_lost(
+    alloc: Global,
+    image: Image,
+    header: &Header,
+    order: BitOrder,
+    claims: &Claims,
+) -> Result<Vec<Span>, AllocError>
+    requires head { Head (bytes_of image) header.now }
+    requires units { length claims.now ≡ unit_total header.now }
+    ensures { IfOk result (λ runs. runs.items ≡ lost_runs order (bytes_of image.entry) claims.now) }
+{
+    let mut runs = Vec::new(alloc);
+    let mut run = 0;
+    let units = claims.units();
+    for unit in 0..units {
+        if is_lost(image, order, claims, unit) {
+            run += 1;
+        } else {
+            push_run(&mut runs, unit, run)?;
+            run = 0;
+        }
+    }
+    push_run(&mut runs, units, run)?;
+    Ok(runs)
+}

@@ -1,0 +1,85 @@
+//! Marked units.
+
+ghost use Rattle.std.specs.Prelude.{◌≡◌, ◌+◌, ◌≤◌, ◌<◌, ◌^◌, length};
+ghost use Rattle.pst_bytes.specs.Image.{bytes_of};
+ghost use Rattle.pst_fault.specs.First.{answer};
+ghost use Rattle.pst_header.specs.Head.{Head};
+ghost use Rattle.pst_space.specs.Claimed.{unit_total};
+ghost use Rattle.pst_amap.specs.Marks.{is_marked as marked, mark_place, mark_bit, marks_fault, unit_fault, missing_fault, order_of, chosen_of};
+
+use crate::report::BitOrder;
+use pst_bytes::Image;
+use pst_fault::{Fault, Kind};
+use pst_header::Header;
+use pst_space::Claims;
+
+impl BitOrder {
+    fn mark_bit(self, unit: u64) -> u64
+        ensures { result ≡ mark_bit self unit }
+    {
+        match self {
+            BitOrder::High => 7 - unit % 8,
+            BitOrder::Low => unit % 8,
+        }
+    }
+}
+
+/// Whether a unit is marked in the map of its region.
+#[tactic(auto, unfolding(crate::specs::Marks::is_marked))]
+pub fn is_marked(image: Image, order: BitOrder, unit: u64) -> bool
+    requires { mark_place unit + 1 ≤ length (bytes_of image) }
+    ensures { result ≡ marked order (bytes_of image.entry) unit }
+{
+    let byte = image.number8(17408 + 253952 * (unit / 3968) + unit % 3968 / 8);
+    (byte >> order.mark_bit(unit)) % 2 == 1
+}
+
+// One unit: if it is claimed, it is marked.
+#[tactic(auto, unfolding(crate::specs::Marks::unit_fault))]
+fn check_unit(image: Image, order: BitOrder, claims: &Claims, unit: u64) -> Result<(), Fault>
+    requires inside { mark_place unit + 1 ≤ length (bytes_of image) }
+    requires small { unit < 2 ^ 58 }
+    ensures { result ≡ answer (unit_fault order (bytes_of image.entry) claims.now unit) tt }
+{
+    if claims.is_claimed(unit) && !is_marked(image, order, unit) {
+        return Err(Fault::at(Kind::MapMissing, 17408 + 64 * unit));
+    }
+    Ok(())
+}
+
+// Each claimed unit is marked in one order of bits.
+#[tactic(auto, using(crate::proofs::MapLemmas::mark_inside, pst_fault::proofs::FirstLemmas::first_more))]
+fn check_marks(image: Image, header: &Header, order: BitOrder, claims: &Claims) -> Result<(), Fault>
+    requires head { Head (bytes_of image) header.now }
+    requires units { length claims.now ≡ unit_total header.now }
+    ensures { result ≡ answer (marks_fault order (bytes_of image.entry) claims.now) tt }
+{
+    for unit in 0..claims.units() {
+        check_unit(image, order, claims, unit)?;
+    }
+    Ok(())
+}
+
+/// The order of bits in which each claimed unit is marked: the most significant first where that fits, else the least
+/// significant. MapMissing at the lowest unit that is claimed and not marked most significant first, where neither fits.
+#[tactic(auto, using(crate::proofs::OrderLemmas::order_found), unfolding(crate::specs::Marks::missing_fault, crate::specs::Marks::order_of))]
+pub fn find_order(image: Image, header: &Header, claims: &Claims) -> Result<BitOrder, Fault>
+    requires head { Head (bytes_of image) header.now }
+    requires units { length claims.now ≡ unit_total header.now }
+    ensures { result ≡ answer (missing_fault (bytes_of image.entry) claims.now) (order_of (bytes_of image.entry) claims.now) }
+{
+    let high = check_marks(image, header, BitOrder::High, claims);
+    let low = check_marks(image, header, BitOrder::Low, claims);
+    chosen(high, low)
+}
+
+// The order that fits, of what was found of both.
+fn chosen(high: Result<(), Fault>, low: Result<(), Fault>) -> Result<BitOrder, Fault>
+    ensures { result ≡ chosen_of high low }
+{
+    match (high, low) {
+        (Ok(()), _) => Ok(BitOrder::High),
+        (Err(_), Ok(())) => Ok(BitOrder::Low),
+        (Err(fault), Err(_)) => Err(fault),
+    }
+}

@@ -1,0 +1,204 @@
+ghost use Rattle.std.specs.Prelude.{◌≡◌, length};
+
+use super::*;
+use pst_bytes::{Image, Span};
+use pst_fault::{Fault, Kind};
+use pst_header::{Header, read_header};
+use pst_make::{m0, seal_header, seal_page};
+use pst_space::Claims;
+use std::alloc::Global;
+use std::test::Fail;
+
+fn set(image: &mut [u8], at: usize, bytes: &[u8]) -> Result<(), Fail> {
+    for (i, byte) in bytes.iter().enumerate() {
+        let there = image.get_mut(at.saturating_add(i)).ok_or("past the end")?;
+        *there = *byte;
+    }
+    Ok(())
+}
+
+// The check value of a page, right for what stands there.
+fn seal(image: &mut [u8], at: u64) -> Result<(), Fail> {
+    if at > 1_000_000 || image.len() < 1_000 || at > image.len() as u64 - 512 {
+        return Err(Fail::from("past the end"));
+    }
+    seal_page(image, at);
+    Ok(())
+}
+
+fn claim(claims: &mut Claims, at: u64, len: u64) -> Result<(), Fail>
+    ensures { length claims.new ≡ length claims.old }
+{
+    let whole = at >= 17408 && at.is_multiple_of(64) && len.is_multiple_of(64) && len > 0;
+    if !whole
+        || at > 1_000_000
+        || len > 1_000_000
+        || (at - 17408) / 64 + len / 64 > claims.units()
+    {
+        return Err(Fail::from("no whole units"));
+    }
+    claims
+        .claim(Span { at, len })
+        .map_err(|_| Fail::from("on another"))
+}
+
+// What the comparison answers of an image, after these spans are claimed; and whether a unit is claimed then.
+fn compared(
+    alloc: Global,
+    image: &[u8],
+    spans: &[(u64, u64)],
+    unit: u64,
+) -> Result<(Result<MapReport, Fault>, bool), Fail> {
+    let image = Image::new(image);
+    let Ok(header) = read_header(image) else {
+        return Err(Fail::from("no header"));
+    };
+    let mut claims = Claims::new(alloc, &header)?;
+    for (at, len) in spans {
+        claim(&mut claims, *at, *len)?;
+    }
+    let report = compare(alloc, image, &header, &mut claims);
+    Ok((report, claims.is_claimed(unit)))
+}
+
+// The pages and blocks of the small store.
+const SMALL: [(u64, u64); 4] = [(0x4800, 512), (0x4a00, 512), (0x4c00, 64), (0x4c40, 64)];
+
+// The small store with other bits in the fifth byte of its map.
+fn small_store(alloc: Global, byte: u8) -> Result<Vec<u8>, Fail> {
+    let mut image = m0(alloc)?;
+    set(&mut image, 0x4404, &[byte])?;
+    seal(&mut image, 0x4400)?;
+    Ok(image)
+}
+
+#[test]
+fn what_is_claimed_is_marked(rt: HostRuntime) -> Result<(), Fail> {
+    for (byte, order, lost) in [
+        (0xc0, BitOrder::High, None),
+        (0xe0, BitOrder::High, Some(Span { at: 19584, len: 64 })),
+        (
+            0xf8,
+            BitOrder::High,
+            Some(Span {
+                at: 19584,
+                len: 192,
+            }),
+        ),
+        (0x03, BitOrder::Low, None),
+        (0x83, BitOrder::Low, Some(Span { at: 19904, len: 64 })),
+    ] {
+        let image = small_store(rt.alloc(), byte)?;
+        let (report, claimed) = compared(rt.alloc(), &image, &SMALL, 33)?;
+        let report = report.map_err(|_| Fail::from("refused"))?;
+        assert_eq!(rt; report.order, order, "with {byte}");
+        assert_eq!(rt; report.old_maps, 0);
+        assert_eq!(rt; report.lost.as_slice(), lost.as_slice(), "with {byte}");
+        assert!(rt; claimed);
+    }
+    Ok(())
+}
+
+#[test]
+fn what_is_missing_is_told(rt: HostRuntime) -> Result<(), Fail> {
+    for (byte, at) in [
+        (0x80, 0x4c40),
+        (0x00, 0x4c00),
+        (0x40, 0x4c00),
+        (0x02, 0x4c00),
+    ] {
+        let image = small_store(rt.alloc(), byte)?;
+        let (report, _) = compared(rt.alloc(), &image, &SMALL, 0)?;
+        assert!(rt;
+            report.err() == Some(Fault::at(Kind::MapMissing, at)),
+            "with {byte}"
+        );
+    }
+    Ok(())
+}
+
+#[test]
+fn a_map_page_has_to_be_good(rt: HostRuntime) -> Result<(), Fail> {
+    // The check value, the type twice, the signature, the identifier, and the page's own units.
+    let rows: [(usize, u8, bool); 6] = [
+        (500, 0, false),
+        (496, 0x83, true),
+        (497, 0x83, true),
+        (498, 1, false),
+        (504, 1, true),
+        (0, 0x7f, true),
+    ];
+    for (place, byte, sealed) in rows {
+        let mut image = m0(rt.alloc())?;
+        set(&mut image, 0x4400_usize.saturating_add(place), &[byte])?;
+        if sealed {
+            seal(&mut image, 0x4400)?;
+        }
+        let (report, _) = compared(rt.alloc(), &image, &SMALL, 0)?;
+        assert!(rt;
+            report.err() == Some(Fault::at(Kind::MapPage, 0x4400)),
+            "at {place}"
+        );
+    }
+    Ok(())
+}
+
+// Two regions with no tree, and a page of a type behind the second allocation map, whose units are marked or not.
+fn two_regions(alloc: Global, kinds: [u8; 2], marks: u8) -> Result<Vec<u8>, Fail> {
+    let small = m0(alloc)?;
+    let mut image = vec![in alloc; 0u8; 525_312]?;
+    set(&mut image, 0, small.get(..564).ok_or("too short")?)?;
+    set(&mut image, 184, &[0x00, 0x04, 0x08])?;
+    set(&mut image, 192, &[0x00, 0x24, 0x04])?;
+    seal_header(&mut image);
+    set(&mut image, 0x4400, &[0xff, 0xff])?;
+    set(
+        &mut image,
+        0x4400 + 496,
+        &[0x84, 0x84, 0, 0, 0, 0, 0, 0, 0x00, 0x44],
+    )?;
+    seal(&mut image, 0x4400)?;
+    set(&mut image, 271_360, &[0xff, 0x00, marks])?;
+    set(
+        &mut image,
+        271_360 + 496,
+        &[0x84, 0x84, 0, 0, 0, 0, 0, 0, 0x00, 0x24, 0x04],
+    )?;
+    seal(&mut image, 271_360)?;
+    set(
+        &mut image,
+        272_384 + 496,
+        &[kinds[0], kinds[1], 0, 0, 0, 0, 0, 0, 0x00, 0x28, 0x04],
+    )?;
+    seal(&mut image, 272_384)?;
+    Ok(image)
+}
+
+#[test]
+fn old_map_pages_are_claimed(rt: HostRuntime) -> Result<(), Fail> {
+    let run = Span {
+        at: 272_384,
+        len: 512,
+    };
+    let front = Span {
+        at: 272_384,
+        len: 448,
+    };
+    let rows = [
+        ([0x82, 0x82], 0xff, 1, None, true),
+        ([0x85, 0x85], 0xff, 1, None, true),
+        ([0x82, 0x85], 0xff, 1, None, true),
+        ([0x83, 0x83], 0xff, 0, Some(run), false),
+        ([0x82, 0x82], 0x00, 0, None, false),
+        ([0x82, 0x82], 0xfe, 0, Some(front), false),
+    ];
+    for (kinds, marks, old_maps, lost, claimed) in rows {
+        let image = two_regions(rt.alloc(), kinds, marks)?;
+        let (report, is_claimed) = compared(rt.alloc(), &image, &[], 3968 + 16)?;
+        let report = report.map_err(|_| Fail::from("refused"))?;
+        assert_eq!(rt; report.old_maps, old_maps, "marks {marks}");
+        assert_eq!(rt; report.lost.as_slice(), lost.as_slice(), "marks {marks}");
+        assert_eq!(rt; is_claimed, claimed, "marks {marks}");
+    }
+    Ok(())
+}

@@ -1,0 +1,6 @@
+pub mod ImageLemmas
+pub mod LayoutLemmas
+pub mod PageLemmas
+pub mod PlanLemmas
+pub mod SealLemmas
+pub mod WriteLemmas

@@ -1,0 +1,5 @@
+use Rattle.std.proofs.Common.{◌*◌, ◌≤◌}
+use Rattle.pst_make.proofs.store.build.Given as goal
+
+abbrev pub invariant-loop-region : goal.invariant-loop-region
+invariant-loop-region l = l.free ≤ 253952 * l.region

@@ -1,0 +1,6 @@
+pub mod Elsewhere
+pub mod Layout
+pub mod Made
+pub mod Pages
+pub mod Plan
+pub mod Sealed

@@ -1,0 +1,42 @@
+//! Writing little-endian numbers and bytes at places of an image.
+
+ghost use Rattle.std.specs.Prelude.{◌≡◌, ◌+◌, ◌≤◌, length};
+ghost use Rattle.pst_bytes.specs.Image.{num};
+ghost use Rattle.pst_make.specs.Elsewhere.{SameElsewhere, one_span, written};
+
+/// Writes bytes at a place, and nothing else.
+#[tactic(auto, unfolding(crate::specs::Elsewhere::written))]
+pub(crate) fn put_bytes(image: &mut [u8], at: u64, bytes: &[u8])
+    requires { at + length bytes.now ≤ length image.old }
+    ensures { image.new ≡ written image.old at bytes.now }
+{
+    let at = at as usize;
+    image[at..at + bytes.len()].copy_from_slice(bytes);
+}
+
+/// Writes a number of 2 bytes at a place, and nothing else.
+pub(crate) fn put16(image: &mut [u8], at: u64, number: u16)
+    requires { at + 2 ≤ length image.old }
+    ensures value { num image.new at 2 ≡ number }
+    ensures others { SameElsewhere image.old image.new (one_span at 2) }
+{
+    put_bytes(image, at, &number.to_le_bytes());
+}
+
+/// Writes a number of 4 bytes at a place, and nothing else.
+pub(crate) fn put32(image: &mut [u8], at: u64, number: u32)
+    requires { at + 4 ≤ length image.old }
+    ensures value { num image.new at 4 ≡ number }
+    ensures others { SameElsewhere image.old image.new (one_span at 4) }
+{
+    put_bytes(image, at, &number.to_le_bytes());
+}
+
+/// Writes a number of 8 bytes at a place, and nothing else.
+pub(crate) fn put64(image: &mut [u8], at: u64, number: u64)
+    requires { at + 8 ≤ length image.old }
+    ensures value { num image.new at 8 ≡ number }
+    ensures others { SameElsewhere image.old image.new (one_span at 8) }
+{
+    put_bytes(image, at, &number.to_le_bytes());
+}

@@ -1,0 +1,20 @@
+use Rattle.std.proofs.Common.{◌-◌, ◌++◌, length, take, drop, sym, ap, subst, ◌∙◌, arith, length-take}
+use lib.Seq.{take-add, take-take}
+use Rattle.std.specs.Io.KnownBytes.{Appends}
+use Rattle.std.proofs.KnownBytes.{Appends-trans}
+use Rattle.pst_show.proofs.output.emit.Goals as goal
+
+pub loop-written-preserved-in-Ok : goal.loop-written-preserved-in-Ok
+loop-written-preserved-in-Ok g c =
+    let done = c.loop-written.written in
+    let n = c.in-Ok.n in
+    let xs = c.args.bytes.now in
+    let before = c.loop-written.invariant in
+    let fits = c.in-Ok.ensures.bound in
+    let most = length-take (length xs - done) (drop done xs) in
+    let joined = ap (λ l. take done xs ++ l) (take-take n (length xs - done) (drop done xs) (omega arith)) ∙ sym (take-add done n xs) in
+    record {
+      inside = omega arith;
+      tries = before.tries;
+      holds = subst (Appends _ _) joined (Appends-trans _ _ _ _ _ before.holds c.in-Ok.ensures.bytes);
+    }

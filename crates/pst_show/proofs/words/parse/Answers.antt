@@ -1,0 +1,13 @@
+use Rattle.std.proofs.Common.{sym, ◌∙◌}
+use Rattle.pst_show.specs.Words.{texts}
+use Rattle.pst_show.proofs.WordLemmas.{asked_is}
+use Rattle.pst_show.proofs.words.parse.Goals as goal
+
+pub returns-in-Some-clause-ok : goal.returns-in-Some-clause-ok
+returns-in-Some-clause-ok c = record {
+  accepted = c.in-Ok.ensures.kinds;
+  is = asked_is (texts c.args.words.now) c.in-Ok.matches c.in-Ok.ensures.ok ∙ sym c.in-Some.ensures;
+}
+
+pub returns-in-Ok-clause-err : goal.returns-in-Ok-clause-err
+returns-in-Ok-clause-err c = (c.in-Ok.ensures.kinds, asked_is (texts c.args.words.now) c.in-Ok.matches c.in-Ok.ensures.ok ∙ sym c.in-None.ensures)

@@ -1,0 +1,116 @@
+//! The bytes of a reader, all of them, within limits.
+
+ghost use Rattle.std.specs.Prelude.{◌≡◌, ◌≤◌, ◌<◌, ◌+◌, IfOk, IfSome, IsErrOf, length, vec_len};
+ghost use Rattle.std.specs.Io.{ReadsAtMost};
+ghost use Rattle.std.specs.Io.KnownBytes.{ReadConsumes};
+
+use std::alloc::{AllocError, Global};
+use std::io;
+use std::io::{ErrorKind, Read};
+use thiserror::Error;
+
+// The most bytes that a file may have.
+const MOST_BYTES: usize = 17_179_869_184;
+
+// The most reads that are asked of a reader.
+const MOST_READS: u32 = 16_777_216;
+
+// How many bytes are asked for at a time.
+const PIECE: usize = 65_536;
+
+/// Why the bytes of a reader were not taken.
+#[derive(Clone, Copy, Debug, PartialEq, Eq, Error)]
+pub enum LoadFault {
+    /// A read failed.
+    #[error("the file cannot be read")]
+    Read,
+    /// There are more than 17,179,869,184 bytes, or 16,777,216 reads did not show the end.
+    #[error("the file is too long")]
+    TooLong,
+    /// Memory was refused.
+    #[error("out of memory")]
+    Memory,
+}
+
+// Why no more is read.
+#[derive(Clone, Copy, Debug, PartialEq, Eq)]
+enum Stop {
+    Read,
+    Bytes,
+    Reads,
+    Memory,
+}
+
+// A buffer of this length.
+fn zeros(alloc: Global, len: usize) -> Result<Vec<u8>, AllocError>
+    ensures { IfOk result (λ v. vec_len v ≡ len) }
+{
+    vec![in alloc; 0u8; len]
+}
+
+// One read, and the count of reads with it. This is the one place that reads.
+fn read_once<R: Read>(input: &mut R, piece: &mut [u8], reads: &mut u32) -> io::Result<usize>
+    requires { reads.old < 16777216 }
+    ensures counted { reads.new ≡ reads.old + 1 }
+    ensures bound { ReadsAtMost result piece.new }
+    ensures bytes { ReadConsumes (R.remaining input.old) (R.remaining input.new) result piece.new }
+{
+    *reads += 1;
+    input.read(piece)
+}
+
+// All bytes that the reader gives, or why they were not taken; and how many reads were made.
+#[tactic(auto, using(crate::proofs::Loading::loading))]
+fn fill<R: Read>(alloc: Global, input: &mut R, reads: &mut u32) -> Result<Vec<u8>, Stop>
+    requires { reads.old ≡ 0 }
+    ensures whole { IfOk result (λ bytes. IfSome (R.remaining input.old) (λ known. bytes.items ≡ known)) }
+    ensures fits { IfOk result (λ bytes. vec_len bytes ≤ 17179869184) }
+    ensures too_long { IsErrOf result Stop.Bytes → IfSome (R.remaining input.old) (λ known. 17179869184 < length known) }
+    ensures too_many { IsErrOf result Stop.Reads → reads.new ≡ 16777216 }
+    ensures ends { reads.new ≤ 16777216 }
+{
+    let mut bytes = Vec::new(alloc);
+    let mut piece = match zeros(alloc, PIECE) {
+        Ok(piece) => piece,
+        Err(_) => return Err(Stop::Memory),
+    };
+    while *reads < MOST_READS {
+        match read_once(input, &mut piece, reads) {
+            Ok(0) => return Ok(bytes),
+            Ok(n) => {
+                if n > MOST_BYTES - bytes.len() {
+                    return Err(Stop::Bytes);
+                }
+                if bytes.extend_from_slice(&piece[..n]).is_err() {
+                    return Err(Stop::Memory);
+                }
+            }
+            Err(error) => {
+                if error.kind() != ErrorKind::Interrupted {
+                    return Err(Stop::Read);
+                }
+            }
+        }
+    }
+    Err(Stop::Reads)
+}
+
+/// All bytes that a reader gives, in at most 16,777,216 reads of up to 65,536 bytes each. A read that is interrupted
+/// is made again, and counts. `TooLong` comes where more than 17,179,869,184 bytes came, or where the most reads
+/// have not shown the end; `Memory` where the buffer could not grow; `Read` where a read failed. After an error
+/// nothing is given, and what was read is lost.
+pub fn load<R: Read>(alloc: Global, input: &mut R) -> Result<Vec<u8>, LoadFault>
+    // What is given is all that the reader had.
+    ensures whole { IfOk result (λ bytes. IfSome (R.remaining input.old) (λ known. bytes.items ≡ known)) }
+
+    // It is within the limit.
+    ensures fits { IfOk result (λ bytes. vec_len bytes ≤ 17179869184) }
+{
+    let mut reads = 0;
+    match fill(alloc, input, &mut reads) {
+        Ok(bytes) => Ok(bytes),
+        Err(Stop::Read) => Err(LoadFault::Read),
+        Err(Stop::Bytes | Stop::Reads) => Err(LoadFault::TooLong),
+        Err(Stop::Memory) => Err(LoadFault::Memory),
+    }
+}

@@ -1,0 +1,76 @@
+//! Why a run shows nothing.
+
+ghost use Rattle.std.specs.Prelude.{◌≡◌};
+ghost use Rattle.pst_show.specs.declared.refusal.Refusal.TheVariants as refusal;
+ghost use Rattle.pst_show.specs.Refusal.{IsOfInput, status_of};
+
+use crate::input::LoadFault;
+use crate::output::EmitFault;
+use pst_fault::Fault;
+use std::alloc::AllocError;
+use thiserror::Error;
+
+/// Why a run shows nothing. Its text is the line on the standard error, without a line feed.
+#[derive(Clone, Copy, Debug, PartialEq, Eq, Error)]
+pub enum Refusal {
+    /// The file is not what it has to be.
+    #[error("{0}")]
+    Fault(Fault),
+    /// The file cannot be read, or is too long.
+    #[error("cannot read the file")]
+    Input,
+    /// The output cannot be written.
+    #[error("cannot write")]
+    Output,
+    /// Memory was refused.
+    #[error("out of memory")]
+    Memory,
+}
+
+impl Refusal {
+    /// The status with which the run ends.
+    pub fn status(self) -> u8
+        ensures { result ≡ status_of self }
+    {
+        match self {
+            Refusal::Fault(_) => 1,
+            Refusal::Input | Refusal::Output => 3,
+            Refusal::Memory => 4,
+        }
+    }
+}
+
+impl From<Fault> for Refusal {
+    ghost from_gives = { λ f r. r ≡ refusal.Fault f };
+
+    fn from(fault: Fault) -> Refusal {
+        Refusal::Fault(fault)
+    }
+}
+
+impl From<AllocError> for Refusal {
+    ghost from_gives = { λ _ r. r ≡ refusal.Memory };
+
+    fn from(_error: AllocError) -> Refusal {
+        Refusal::Memory
+    }
+}
+
+impl From<LoadFault> for Refusal {
+    ghost from_gives = { λ _ r. IsOfInput r };
+
+    fn from(fault: LoadFault) -> Refusal {
+        match fault {
+            LoadFault::Read | LoadFault::TooLong => Refusal::Input,
+            LoadFault::Memory => Refusal::Memory,
+        }
+    }
+}
+
+impl From<EmitFault> for Refusal {
+    ghost from_gives = { λ _ r. r ≡ refusal.Output };
+
+    fn from(_fault: EmitFault) -> Refusal {
+        Refusal::Output
+    }
+}

@@ -1,0 +1,100 @@
+//! One run of the program.
+
+ghost use Rattle.std.specs.Prelude.{◌≡◌, ◌≢◌, ◌⊎◌, [], IfSome};
+ghost use Rattle.clap.specs.Words.{fault_of, kind_of};
+ghost use Rattle.pst_show.specs.Answer.{answer_to};
+ghost use Rattle.pst_show.specs.Refusal.{status_of};
+ghost use Rattle.pst_show.specs.Run.{Ends, Answers};
+ghost use Rattle.pst_show.specs.Words.{Asked, IsAsked, IsStatusOf, IsRefused, show_app, texts, MatchNone};
+
+use crate::answer::answer;
+use crate::input::load;
+use crate::output::emit;
+use crate::refusal::Refusal;
+use crate::words::{Ask, NoOrder, parse};
+use clap::error::ErrorKind;
+use std::alloc::Global;
+use std::io::{Read, Write};
+
+// Shows what is asked for of what the reader gives.
+fn show<R: Read, W: Write>(
+    alloc: Global,
+    ask: Ask,
+    input: &mut R,
+    out: &mut W,
+) -> Result<(), Refusal>
+    ensures { IfSome (R.remaining input.old) (λ bytes.
+        Ends result (answer_to ask bytes) (W.contents out.old) (W.contents out.new)) }
+{
+    let bytes = load(alloc, input)?;
+    let text = answer(alloc, ask, &bytes)?;
+    emit(&text, out)?;
+    Ok(())
+}
+
+/// Says on the error output why nothing is shown, and gives the status for it. A line that cannot be written changes
+/// nothing.
+pub fn refuse<E: Write>(refusal: Refusal, err: &mut E) -> u8
+    ensures { result ≡ status_of refusal }
+{
+    let _ = writeln!(err, "{refusal}");
+    refusal.status()
+}
+
+// What is said where there is nothing to be done: help and the version on the output, all else on the error output.
+fn decline<W: Write, E: Write>(none: NoOrder, out: &mut W, err: &mut E) -> u8
+    ensures status { MatchNone none (λ e. IsStatusOf (kind_of e) result) (result ≡ 2) }
+    ensures quiet { (result ≡ 2) ⊎ (result ≡ 4) → out.new ≡ out.old }
+{
+    match none {
+        NoOrder::Words(error) => {
+            if error.kind() == ErrorKind::OutOfMemory {
+                refuse(Refusal::Memory, err)
+            } else if error.use_stderr() {
+                let _ = write!(err, "{error}");
+                2
+            } else {
+                match write!(out, "{error}") {
+                    Ok(()) => 0,
+                    Err(_) => refuse(Refusal::Output, err),
+                }
+            }
+        }
+        NoOrder::Nothing => {
+            let _ = writeln!(err, "nothing is asked for");
+            2
+        }
+    }
+}
+
+/// Runs what the words after the program's name ask for, and gives the status with which the program ends: 0 where it
+/// is shown (or help, or the version), 1 where the file is refused, 2 where the words are, 3 where the file cannot be
+/// read or the output cannot be written, 4 where memory is refused. Each other status than 0 comes with a line on
+/// `err`; a fault of `err` changes nothing.
+pub fn run<R: Read, W: Write, E: Write>(
+    alloc: Global,
+    words: &[String],
+    input: &mut R,
+    out: &mut W,
+    err: &mut E,
+) -> u8
+    // Where the words are accepted and ask for something, the status and what is written are the answer to the
+    // bytes of the file.
+    ensures answered { (a : Asked) → IsAsked (texts words.entry.now) a → IfSome (R.remaining input.old) (λ bytes.
+        Answers (answer_to a.ask bytes) result (W.contents out.old) (W.contents out.new)) }
+
+    // Where the words are refused, or ask for help or the version, nothing is read.
+    ensures refused { fault_of show_app (texts words.entry.now) ≢ [] → IsRefused (fault_of show_app (texts words.entry.now)) result }
+    ensures unread { fault_of show_app (texts words.entry.now) ≢ [] → input.new ≡ input.old }
+
+    // Nothing is written to the output where the words are refused.
+    ensures quiet { result ≡ 2 → out.new ≡ out.old }
+{
+    match parse(alloc, words) {
+        Ok(order) => match show(alloc, order.ask, input, out) {
+            Ok(()) => 0,
+            Err(refusal) => refuse(refusal, err),
+        },
+        Err(none) => decline(none, out, err),
+    }
+}
