@@ -1,0 +1,5 @@
+pub mod BlockLemmas
+pub mod BlockLaws
+pub mod TableLemmas
+pub mod WalkLemmas
+pub mod WalkLaws

@@ -1,0 +1,30 @@
+-- A good block.
+use Rattle.std.specs.Prelude.{◌≡◌, ℕ, ◌+◌, ◌%◌, ◌≤◌, ◌↔◌, List, None}
+use Rattle.pst_bytes.specs.Image.{num, bytes_at}
+use Rattle.pst_crc.specs.Crc.{crc, signature_of}
+use Rattle.pst_page.specs.declared.entry.BlockEntry.{BlockEntry}
+use Rattle.pst_block.specs.Block.{block_size, body_span, trailer_at, bid_key}
+use Rattle.pst_block.specs.Fault.{block_fault}
+
+-- a block's place in the mapped part, which ends at `end` ([MS-PST] 2.2.2.8)
+pub record IsPlace (end : ℕ) (e : BlockEntry) : Type 0 where
+  pub small : e.cb ≤ 8176
+  pub whole_units : e.ib % 64 ≡ 0
+  pub mapped : 17408 ≤ e.ib
+  pub inside : e.ib + block_size e.cb ≤ end
+
+-- its trailer (2.2.2.8.1): cb, wSig, dwCRC, bid
+pub record HasTrailer (I : List ℕ) (e : BlockEntry) : Type 0 where
+  pub length : num I (trailer_at e) 2 ≡ e.cb
+  pub signature : num I (trailer_at e + 2) 2 ≡ signature_of e.ib (num I (trailer_at e + 8) 8)
+  pub check : num I (trailer_at e + 4) 4 ≡ crc (bytes_at I (body_span e))
+  pub bid : bid_key (num I (trailer_at e + 8) 8) ≡ bid_key e.bid
+
+-- The block of an entry is good: it is in the mapped part, and its trailer is right.
+pub record GoodBlock (I : List ℕ) (end : ℕ) (e : BlockEntry) : Type 0 where
+  pub place : IsPlace end e
+  pub trailer : HasTrailer I e
+
+-- a block is good exactly where it has no first fault
+abbrev pub BlockLaw : Type 0
+BlockLaw = (I : List ℕ) (end : ℕ) (e : BlockEntry) → GoodBlock I end e ↔ (block_fault end I e ≡ None)

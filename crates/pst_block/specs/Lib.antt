@@ -1,0 +1,6 @@
+pub mod Block
+pub mod Fault
+pub mod Good
+pub mod Walk
+pub mod Table
+pub mod Blocks

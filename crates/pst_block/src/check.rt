@@ -1,0 +1,134 @@
+//! The check of all blocks of a file.
+
+ghost use Rattle.std.specs.Prelude.{◌≡◌, ◌⊎◌, ◌+◌, ◌≤◌, length, Some, IfOk, OnOk, IsOk};
+ghost use Rattle.pst_bytes.specs.Image.{bytes_of};
+ghost use Rattle.pst_header.specs.Head.{Head};
+ghost use Rattle.pst_header.specs.Header.{end_of};
+ghost use Rattle.pst_btree.specs.Trees.{block_entries};
+ghost use Rattle.pst_space.specs.Claimed.{Claimed, IsUnits, claim_all, unit_total};
+ghost use Rattle.pst_space.specs.Step.{ClaimsSome, claim_step};
+ghost use Rattle.pst_block.specs.Block.{block_span};
+ghost use Rattle.pst_block.specs.Table.{table_with};
+ghost use Rattle.pst_block.specs.Blocks.{table_of, image_of, mapped_end};
+ghost use Rattle.pst_block.specs.Walk.{block_step, blocks_walk, block_spans, Ends, AreGood};
+
+use crate::blocks::Blocks;
+use crate::read::{block_place, check_trailer};
+use pst_btree::BlockTree;
+use pst_bytes::{Image, Span};
+use pst_fault::{Fault, Kind};
+use pst_header::Header;
+use pst_page::BlockEntry;
+use pst_space::Claims;
+
+// Claims a block, and names it where it overlaps.
+fn claim_block(claims: &mut Claims, span: Span, entry: BlockEntry) -> Result<(), Fault>
+    requires place { span ≡ block_span entry }
+    requires units { IsUnits claims.old (block_span entry) }
+    ensures same { length claims.new ≡ length claims.old }
+    ensures ends { Ends result claims.new (claim_step (block_span entry) entry.bid claims.old) }
+{
+    match claims.claim(span) {
+        Ok(()) => Ok(()),
+        Err(_) => Err(Fault::within(Kind::Overlap, entry.ib, entry.bid)),
+    }
+}
+
+// One block: its place, its claim, its trailer.
+#[tactic(auto, unfolding(crate::specs::Walk::block_step), using(pst_header::proofs::Head::head_end, crate::proofs::BlockLemmas::size_large, crate::proofs::BlockLemmas::size_whole))]
+fn check_block(
+    image: Image,
+    header: &Header,
+    entry: BlockEntry,
+    claims: &mut Claims,
+) -> Result<(), Fault>
+    requires head { Head (bytes_of image) header.now }
+    requires units { length claims.old ≡ unit_total header.now }
+    ensures same { length claims.new ≡ length claims.old }
+    ensures ends { Ends result claims.new (block_step (end_of header.now) (bytes_of image.entry) claims.old entry) }
+{
+    let span = block_place(header, entry)?;
+    claim_block(claims, span, entry)?;
+    check_trailer(image, entry)
+}
+
+// All blocks, one after another.
+fn check_each(
+    image: Image,
+    header: &Header,
+    entries: &[BlockEntry],
+    claims: &mut Claims,
+) -> Result<(), Fault>
+    requires head { Head (bytes_of image) header.now }
+    requires units { length claims.old ≡ unit_total header.now }
+    ensures same { length claims.new ≡ length claims.old }
+    ensures ends { Ends result claims.new (blocks_walk (end_of header.now) (bytes_of image.entry) claims.old entries.now) }
+{
+    for entry in entries {
+        check_block(image, header, *entry, claims)?;
+    }
+    Ok(())
+}
+
+// The blocks, with the fault that a walk of them gives.
+#[tactic(auto, using(pst_header::proofs::Head::head_end, crate::proofs::WalkLaws::walked_no_fault))]
+fn checked<'a>(
+    image: Image<'a>,
+    header: &Header,
+    tree: BlockTree<'a>,
+    entries: &[BlockEntry],
+    claims: &mut Claims,
+) -> Result<Blocks<'a>, Fault>
+    requires head { Head (bytes_of image) header.now }
+    requires units { length claims.old ≡ unit_total header.now }
+    requires entries { entries.now ≡ block_entries tree }
+    ensures same_units { length claims.new ≡ length claims.old }
+    ensures exact { Ends result claims.new (blocks_walk (end_of header.now) (bytes_of image.entry) claims.old (block_entries tree.entry)) }
+    ensures image { IfOk result (λ b. image_of b ≡ image.entry) }
+    ensures table { IfOk result (λ b. table_of b ≡ table_with (bytes_of image.entry) (block_entries tree.entry)) }
+    ensures end { IfOk result (λ b. mapped_end b ≡ end_of header.now) }
+{
+    check_each(image, header, entries, claims)?;
+    let end = header.end();
+    Ok(Blocks { image, tree, end })
+}
+
+/// The blocks of a file whose header is this one, all checked. The tree is the file's block B-tree and the entries are
+/// its, from left to right, as `walk_blocks` answered them; the claims are of the same file, and hold all pages. Block by
+/// block, the first fault is told where the block lies, with the identifier of its entry: BlockPlace, as `read_block` says;
+/// Overlap, where the block has a byte in common with what is claimed; BlockTrailer. Each block is check-summed once, and
+/// no memory is taken.
+///
+/// After a fault the blocks that came before it are claimed, too.
+pub fn check_blocks<'a>(
+    image: Image<'a>,
+    header: &Header,
+    tree: BlockTree<'a>,
+    entries: &[BlockEntry],
+    claims: &mut Claims,
+) -> Result<Blocks<'a>, Fault>
+    requires head { Head (bytes_of image) header.now }
+    requires units { length claims.old ≡ unit_total header.now }
+    requires entries { entries.now ≡ block_entries tree }
+    ensures same_units { length claims.new ≡ length claims.old }
+
+    // Whether all are good and apart, and what is claimed; or which fault it is, and what is claimed by then.
+    ensures exact { Ends result claims.new (blocks_walk (end_of header.now) (bytes_of image.entry) claims.old (block_entries tree.entry)) }
+
+    // Then all blocks are good, and claimed.
+    ensures found { OnOk result (AreGood (bytes_of image.entry) (end_of header.now) (block_entries tree.entry)) }
+    ensures claims { OnOk result (claim_all claims.old (block_spans (block_entries tree.entry)) ≡ Some claims.new) }
+
+    // Good blocks that can be claimed are answered.
+    ensures only { (new : Claimed) → AreGood (bytes_of image.entry) (end_of header.now) (block_entries tree.entry) → claim_all claims.old (block_spans (block_entries tree.entry)) ≡ Some new → IsOk result }
+
+    // Whatever the answer, the blocks from the first up to some one are claimed.
+    ensures some { ClaimsSome claims.old claims.new (block_spans (block_entries tree.entry)) }
+
+    // Which blocks they are.
+    ensures image { IfOk result (λ b. image_of b ≡ image.entry) }
+    ensures table { IfOk result (λ b. table_of b ≡ table_with (bytes_of image.entry) (block_entries tree.entry)) }
+    ensures end { IfOk result (λ b. mapped_end b ≡ end_of header.now) }
+{
+    checked(image, header, tree, entries, claims)
+}

@@ -1,0 +1,19 @@
+//! The blocks of a file ([MS-PST] 2.2.2.8): a good block is read, any other is refused with its first fault; and all
+//! blocks of a file, checked once, are looked up by their identifiers.
+#![tactic(auto)]
+
+mod blocks;
+mod check;
+mod laws;
+mod read;
+mod size;
+
+pub use blocks::Blocks;
+pub use check::check_blocks;
+pub use laws::{block_decides, blocks_decide};
+pub use pst_page::BlockEntry;
+pub use read::{Block, read_block};
+pub use size::block_size;
+
+#[cfg(test)]
+mod tests;

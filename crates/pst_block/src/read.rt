@@ -1,0 +1,129 @@
+//! Reading a block, with the first fault of a bad one.
+
+ghost use Rattle.std.specs.Prelude.{◌≡◌, ◌+◌, ◌-◌, ◌%◌, ◌≤◌, ◌<◌, length, IfOk, OnOk, IsOk};
+ghost use Rattle.pst_bytes.specs.Image.{bytes_of, bytes_at, IsPartOf};
+ghost use Rattle.pst_fault.specs.First.{answer, Checks};
+ghost use Rattle.pst_header.specs.Head.{Head};
+ghost use Rattle.pst_header.specs.Header.{end_of};
+ghost use Rattle.pst_block.specs.Block.{block_span, body_span, block_size as size_of};
+ghost use Rattle.pst_block.specs.Fault.{is_trailer, place_fault, trailer_fault, block_fault};
+ghost use Rattle.pst_block.specs.Good.{GoodBlock};
+
+use crate::size::{block_size, body_span};
+use pst_bytes::{Image, Span};
+use pst_fault::{Fault, Kind};
+use pst_header::Header;
+use pst_page::{BlockEntry, PageKind};
+
+// Where the mapped part begins.
+const MAPPED: u64 = 0x4400;
+
+// How many bytes a body has at most.
+const MOST: u16 = 8176;
+
+/// A good block of a file.
+#[derive(Clone, Copy, Debug, PartialEq, Eq)]
+pub struct Block<'a> {
+    /// Its entry in the block B-tree.
+    pub entry: BlockEntry,
+    /// Its body, in the file's own memory: the `entry.cb` bytes at `entry.ib`.
+    pub body: &'a [u8],
+}
+
+/// The span of a block, or BlockPlace.
+#[tactic(auto, unfolding(crate::specs::Fault::place_fault, crate::specs::Fault::is_place))]
+pub(crate) fn block_place(header: &Header, entry: BlockEntry) -> Result<Span, Fault>
+    ensures exact { result ≡ answer (place_fault (end_of header.now) entry) (block_span entry) }
+    ensures whole_units { OnOk result (entry.ib % 64 ≡ 0) }
+    ensures mapped { OnOk result (17408 ≤ entry.ib) }
+    ensures inside { OnOk result (entry.ib + size_of entry.cb ≤ end_of header.now) }
+{
+    let end = header.end();
+    let ib = entry.ib;
+    let size = block_size(entry.cb);
+    if entry.cb <= MOST && ib.is_multiple_of(64) && ib >= MAPPED && ib <= end && end - ib >= size {
+        Ok(Span { at: ib, len: size })
+    } else {
+        Err(Fault::within(Kind::BlockPlace, ib, entry.bid))
+    }
+}
+
+// Whether the trailer at an offset is the block's ([MS-PST] 2.2.2.8.1).
+fn is_trailer(image: Image, entry: BlockEntry, at: u64) -> bool
+    requires body { entry.ib + entry.cb ≤ length (bytes_of image) }
+    requires inside { at + 16 ≤ length (bytes_of image) }
+    ensures { result ≡ is_trailer (bytes_of image.entry) entry at }
+{
+    let bid = image.number64(at + 8);
+    image.number16(at) == entry.cb
+        && PageKind::Bbt.key_of(bid) == PageKind::Bbt.key_of(entry.bid)
+        && image.number16(at + 2) == pst_crc::signature(entry.ib, bid)
+        && image.number32(at + 4) == pst_crc::check(image.slice(body_span(entry)))
+}
+
+/// The trailer of a block in its place, or BlockTrailer.
+#[tactic(auto, unfolding(crate::specs::Fault::trailer_fault, crate::specs::Fault::has_trailer))]
+pub(crate) fn check_trailer(image: Image, entry: BlockEntry) -> Result<(), Fault>
+    requires { entry.ib + size_of entry.cb ≤ length (bytes_of image) }
+    ensures { result ≡ answer (trailer_fault (bytes_of image.entry) entry) tt }
+{
+    let at = entry.ib + block_size(entry.cb) - 16;
+    if is_trailer(image, entry, at) {
+        Ok(())
+    } else {
+        Err(Fault::within(Kind::BlockTrailer, entry.ib, entry.bid))
+    }
+}
+
+/// The body of a block that lies in the file.
+pub(crate) fn body_in<'a>(image: Image<'a>, entry: BlockEntry) -> &'a [u8]
+    requires { entry.ib + entry.cb ≤ length (bytes_of image) }
+    ensures bytes { result.now ≡ bytes_at (bytes_of image.entry) (body_span entry) }
+    ensures own { IsPartOf image.entry (body_span entry) result }
+{
+    image.slice(body_span(entry))
+}
+
+// The block, or its first fault.
+#[tactic(auto, unfolding(crate::specs::Fault::block_fault), using(pst_header::proofs::Head::head_end, crate::proofs::BlockLemmas::size_large))]
+fn checked<'a>(image: Image<'a>, header: &Header, entry: BlockEntry) -> Result<Block<'a>, Fault>
+    requires { Head (bytes_of image) header.now }
+    ensures exact { Checks result (block_fault (end_of header.now) (bytes_of image.entry) entry) }
+    ensures entry { IfOk result (λ b. b.entry ≡ entry) }
+    ensures body { IfOk result (λ b. b.body.now ≡ bytes_at (bytes_of image.entry) (body_span entry)) }
+    ensures own { IfOk result (λ b. IsPartOf image.entry (body_span entry) b.body) }
+{
+    block_place(header, entry)?;
+    check_trailer(image, entry)?;
+    let body = body_in(image, entry);
+    Ok(Block { entry, body })
+}
+
+/// The block of an entry of the block B-tree of a file whose header is this one, or its first fault, at the block's place
+/// `entry.ib` and with the entry's identifier: BlockPlace, where its body has over 8,176 bytes, or it does not lie in the
+/// mapped part of the file, which begins at 0x4400 and ends at `header.end()`, on a multiple of 64 ([MS-PST] 2.2.2.8);
+/// BlockTrailer, where the length, the identifier, the signature or the check value of its trailer is wrong (2.2.2.8.1).
+/// Bit 0 of identifiers says nothing; the signature is of the identifier as the trailer has it. Padding is free.
+pub fn read_block<'a>(
+    image: Image<'a>,
+    header: &Header,
+    entry: BlockEntry,
+) -> Result<Block<'a>, Fault>
+    requires { Head (bytes_of image) header.now }
+
+    // What is read is a good block.
+    ensures found { OnOk result (GoodBlock (bytes_of image.entry) (end_of header.now) entry) }
+
+    // A good block is read.
+    ensures only { GoodBlock (bytes_of image.entry) (end_of header.now) entry → IsOk result }
+
+    // Which fault it is, and where.
+    ensures exact { Checks result (block_fault (end_of header.now) (bytes_of image.entry) entry) }
+
+    // Which block it is.
+    ensures entry { IfOk result (λ b. b.entry ≡ entry) }
+    ensures body { IfOk result (λ b. b.body.now ≡ bytes_at (bytes_of image.entry) (body_span entry)) }
+    ensures own { IfOk result (λ b. IsPartOf image.entry (body_span entry) b.body) }
+{
+    checked(image, header, entry)
+}

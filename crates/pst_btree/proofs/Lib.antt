@@ -1,0 +1,11 @@
+pub mod DescendLemmas
+pub mod EntryLemmas
+pub mod FindLemmas
+pub mod FromLemmas
+pub mod InsideLemmas
+pub mod MarkedLemmas
+pub mod OrderLemmas
+pub mod RiseLemmas
+pub mod SomeLemmas
+pub mod TreeLaws
+pub mod WalkLemmas

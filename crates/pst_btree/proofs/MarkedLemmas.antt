@@ -1,0 +1,46 @@
+-- How many units are claimed: 8 for each page, so that pages can be counted.
+use Rattle.std.proofs.Common.{◌≡◌, ℕ, suc, zero, ◌+◌, ◌<◌, ◌≤◌, Bool, true, false, not, ◌&&◌, cond, [], ◌∷◌, length, get_or, set, Some, None, refl, sym, ap, ◌∙◌, arith, inl, length-set}
+use Rattle.pst_header.specs.declared.header.Bref.{Bref}
+use Rattle.pst_space.specs.Claimed.{Claimed, IsUnits, is_clear, filled, first_unit, with_span, claim_of}
+use Rattle.pst_space.proofs.MarkLemmas.{clear_filled}
+use Rattle.pst_btree.specs.Marked.{marked}
+use Rattle.pst_btree.specs.Tree.{span_of}
+
+pub marked_most : (m : Claimed) → marked m ≤ length m
+unfolding marked
+marked_most [] = omega arith
+marked_most (true ∷ m) = let h = marked_most m in omega (arith, h)
+marked_most (false ∷ m) = let h = marked_most m in omega (arith, h)
+
+marked_set : (m : Claimed) (u : ℕ) → u < length m → get_or m u false ≡ false → marked (set m u true) ≡ suc (marked m)
+unfolding marked
+marked_set [] u lt e = absurd (omega arith)
+marked_set (true ∷ m) zero lt e = absurd cc
+marked_set (false ∷ m) zero lt e = refl
+marked_set (true ∷ m) (suc u) lt e = ap suc (marked_set m u (omega arith) e)
+marked_set (false ∷ m) (suc u) lt e = marked_set m u (omega arith) e
+
+clear_both : (x y : Bool) → (not x && y) ≡ true → (x ≡ false) × (y ≡ true)
+clear_both true y e = absurd cc
+clear_both false y e = (refl, e)
+
+marked_filled : (m : Claimed) (u n : ℕ) → u + n ≤ length m → is_clear m u n ≡ true → marked (filled m u n) ≡ marked m + n
+marked_filled m u zero le e = omega arith
+marked_filled m u (suc n) le e =
+    let c = clear_both (get_or m u false) _ e in
+    let rest : is_clear (set m u true) (u + 1) n ≡ true = clear_filled m u 1 (u + 1) n (inl (omega arith)) ∙ c.1 in
+    let long : (u + 1) + n ≤ length (set m u true) = omega (arith, length-set m u true) in
+    let one = marked_set m u (omega arith) c.0 in
+    let more = marked_filled (set m u true) (u + 1) n long rest in
+    omega (arith, one, more)
+
+claim_made : (b : Bool) (x y : Claimed) → cond b (Some x) None ≡ Some y → (b ≡ true) × (x ≡ y)
+claim_made true x y e = (refl, cc)
+claim_made false x y e = absurd cc
+
+pub marked_page : (old new : Claimed) (page : Bref) → IsUnits old (span_of page) → claim_of old (span_of page) ≡ Some new → marked new ≡ marked old + 8
+unfolding claim_of with_span
+marked_page old new page u e =
+    let c = claim_made _ _ _ e in
+    let more = marked_filled old (first_unit (span_of page)) 8 u.inside c.0 in
+    ap marked (sym c.1) ∙ more

@@ -1,0 +1,11 @@
+pub mod Entries
+pub mod Find
+pub mod Laws
+pub mod Marked
+pub mod Nodes
+pub mod Order
+pub mod Tree
+pub mod TreeProps
+pub mod Trees
+pub mod View
+pub mod Walk

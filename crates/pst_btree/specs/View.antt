@@ -1,0 +1,31 @@
+-- The tree that a view stands for, and its entries.
+use Rattle.std.specs.Prelude.{ℕ, List, length, map}
+use Rattle.pst_bytes.specs.Image.{bytes_of}
+use Rattle.pst_page.specs.declared.entry.BlockEntry.{BlockEntry}
+use Rattle.pst_page.specs.declared.entry.NodeEntry.{NodeEntry}
+use Rattle.pst_page.specs.Entry.{block_entry_at, node_entry_at}
+use Rattle.pst_btree.specs.declared.tree.TreeView.{TreeView}
+use Rattle.pst_space.specs.Claimed.{Claimed}
+use Rattle.pst_btree.specs.Tree.{Tree, tree_at, entries_of, pages_of}
+use Rattle.pst_btree.specs.Walk.{Found, found_so_far}
+
+abbrev pub image_of : TreeView → List ℕ
+image_of view = bytes_of view.image
+
+abbrev pub tree_of : TreeView → Tree
+tree_of view = tree_at view.kind (image_of view) view.level view.root
+
+-- the places of its entries, from left to right
+abbrev pub entries : TreeView → List ℕ
+entries view = entries_of (tree_of view)
+
+-- what stands there in the block B-tree, and in the node B-tree
+abbrev pub block_entries_of : TreeView → List BlockEntry
+block_entries_of view = map (block_entry_at (image_of view)) (entries view)
+
+abbrev pub node_entries_of : TreeView → List NodeEntry
+node_entries_of view = map (node_entry_at (image_of view)) (entries view)
+
+-- what a walk has found once it has this view
+abbrev pub found_in : Claimed → TreeView → Found
+found_in claimed view = found_so_far claimed (entries view) (length (pages_of (tree_of view)))

@@ -1,0 +1,25 @@
+//! The two B-trees of a file ([MS-PST] 2.2.2.7.7): the block B-tree says where each block lies, the node B-tree which
+//! blocks each node has. A tree is walked once, page by page, and refused with its first fault; then it can be looked
+//! into without fault.
+#![tactic(auto)]
+
+mod block_tree;
+mod descend;
+mod laws;
+mod node_tree;
+mod nodes;
+mod order;
+mod tree;
+mod walk;
+mod walked;
+mod walks;
+
+pub use block_tree::BlockTree;
+pub use laws::{block_keys_rise, entries_are_maps, node_keys_rise, walk_decides};
+pub use node_tree::NodeTree;
+pub use nodes::Nodes;
+pub use pst_page::{BlockEntry, NodeEntry};
+pub use walks::{walk_blocks, walk_nodes};
+
+#[cfg(test)]
+mod tests;

@@ -1,0 +1,473 @@
+use super::*;
+use pst_bytes::Image;
+use pst_fault::{Fault, Kind};
+use pst_header::{Bref, read_header};
+use pst_page::PageKind;
+use pst_space::Claims;
+use std::alloc::{AllocError, Global};
+use std::process::Abort;
+use std::test::Fail;
+
+// How long the small store is.
+const LENGTH: usize = 271_360;
+
+// The root page of its block B-tree.
+const BBT: Bref = Bref { bid: 8, ib: 0x4a00 };
+
+// Where test trees are put: the pages of a tree follow each other from here, and each has its place as its identifier.
+const PAGES: u64 = 0x8000;
+
+// Places and bytes of a small store of 271,360 bytes, other than 0: its header, as [MS-PST] 2.2.2.6 orders the fields,
+// and its two root pages, of two entries each. All check values and signatures are another program's.
+const BYTES: [(usize, &[u8]); 27] = [
+    (0, b"!BDN"),
+    (4, &[0x24, 0x6d, 0x4c, 0xff]),
+    (8, b"SM"),
+    (10, &[23]),
+    (32, &[12]),
+    (184, &[0x00, 0x24, 0x04]),
+    (192, &[0x00, 0x44]),
+    (200, &[0x80, 0xd7, 0x03]),
+    (216, &[4, 0, 0, 0, 0, 0, 0, 0, 0x00, 0x48]),
+    (232, &[8, 0, 0, 0, 0, 0, 0, 0, 0x00, 0x4a]),
+    (248, &[2]),
+    (512, &[0x80]),
+    (516, &[12]),
+    (524, &[0x9a, 0xda, 0x53, 0x0f]),
+    (0x4800, &[0x21, 0, 0, 0, 0, 0, 0, 0, 4]),
+    (0x4820, &[0x22, 0x01, 0, 0, 0, 0, 0, 0, 8]),
+    (0x4838, &[0x22, 0x01]),
+    (0x49e8, &[2, 15, 32, 0]),
+    (0x49f0, &[0x81, 0x81, 0x04, 0x48, 0x91, 0x90, 0xfc, 0x1c]),
+    (0x49f8, &[4]),
+    (0x4a00, &[4, 0, 0, 0, 0, 0, 0, 0, 0x00, 0x4c]),
+    (0x4a10, &[44, 0, 2]),
+    (0x4a18, &[8, 0, 0, 0, 0, 0, 0, 0, 0x40, 0x4c]),
+    (0x4a28, &[38, 0, 2]),
+    (0x4be8, &[2, 20, 24, 0]),
+    (0x4bf0, &[0x80, 0x80, 0x08, 0x4a, 0xf0, 0x16, 0x98, 0x2d]),
+    (0x4bf8, &[8]),
+];
+
+fn set(image: &mut [u8], at: usize, bytes: &[u8]) -> Result<(), Fail> {
+    for (i, byte) in bytes.iter().enumerate() {
+        let there = image.get_mut(at.saturating_add(i)).ok_or("past the end")?;
+        *there = *byte;
+    }
+    Ok(())
+}
+
+fn zeros(alloc: Global, len: usize) -> Result<Vec<u8>, AllocError> {
+    vec![in alloc; 0; len]
+}
+
+fn small_store(alloc: Global) -> Result<Vec<u8>, Fail> {
+    let mut image = zeros(alloc, LENGTH)?;
+    for (at, bytes) in BYTES {
+        set(&mut image, at, bytes)?;
+    }
+    Ok(image)
+}
+
+// The check value of some bytes, right for what stands there, is set at a place.
+fn seal(image: &mut [u8], from: usize, to: usize, at: usize) -> Result<(), Fail> {
+    let check = pst_crc::check(image.get(from..to).ok_or("too short")?);
+    set(image, at, &check.to_le_bytes())
+}
+
+fn seal_page(image: &mut [u8], at: usize) -> Result<(), Fail> {
+    let end = at.saturating_add(496);
+    seal(image, at, end, end.saturating_add(4))
+}
+
+// The reference of the page with this number behind PAGES.
+fn page_at(number: u64) -> Bref {
+    let ib = PAGES.saturating_add(number.saturating_mul(512));
+    Bref { bid: ib, ib }
+}
+
+fn page_type(kind: PageKind) -> u8 {
+    match kind {
+        PageKind::Bbt => 0x80,
+        PageKind::Nbt => 0x81,
+    }
+}
+
+// Writes a page whose entries are numbers of 8 bytes each.
+fn put_page<const N: usize>(
+    image: &mut [u8],
+    kind: PageKind,
+    bref: Bref,
+    level: u8,
+    entries: &[[u64; N]],
+) -> Result<(), Fail> {
+    let at = usize::try_from(bref.ib)?;
+    let width = N.saturating_mul(8);
+    for (i, entry) in entries.iter().enumerate() {
+        for (j, number) in entry.iter().enumerate() {
+            let offset = i.saturating_mul(width).saturating_add(j.saturating_mul(8));
+            set(image, at.saturating_add(offset), &number.to_le_bytes())?;
+        }
+    }
+    let count = u8::try_from(entries.len())?;
+    let width = u8::try_from(width)?;
+    set(image, at.saturating_add(488), &[count, 15, width, level])?;
+    let page_type = page_type(kind);
+    set(image, at.saturating_add(496), &[page_type, page_type])?;
+    let signature = pst_crc::signature(bref.ib, bref.bid);
+    set(image, at.saturating_add(498), &signature.to_le_bytes())?;
+    set(image, at.saturating_add(504), &bref.bid.to_le_bytes())?;
+    seal_page(image, at)
+}
+
+// Sets the root of a tree in the header, and makes the header's check values right.
+fn set_root(image: &mut [u8], kind: PageKind, root: Bref) -> Result<(), Fail> {
+    let at = match kind {
+        PageKind::Bbt => 232,
+        PageKind::Nbt => 216,
+    };
+    set(image, at, &root.bid.to_le_bytes())?;
+    set(image, at.saturating_add(8), &root.ib.to_le_bytes())?;
+    seal(image, 8, 479, 4)?;
+    seal(image, 8, 524, 524)
+}
+
+// The entry of a branch: a key, and the page with this number.
+fn branch(key: u64, number: u64) -> [u64; 3] {
+    let bref = page_at(number);
+    [key, bref.bid, bref.ib]
+}
+
+// The leaf entry of an empty block.
+fn empty_block(bid: u64) -> [u64; 3] {
+    [bid, 0, 0]
+}
+
+// The block B-tree of a file, where only the map pages are claimed; or the first fault.
+fn blocks_in<'a>(
+    alloc: Global,
+    image: Image<'a>,
+) -> Result<(BlockTree<'a>, Vec<BlockEntry>), Fault> {
+    let header = read_header(image)?;
+    let mut claims = Claims::new(alloc, &header)?;
+    walk_blocks(alloc, image, &header, &mut claims)
+}
+
+// The node B-tree of a file, likewise.
+fn nodes_in<'a>(alloc: Global, image: Image<'a>) -> Result<(NodeTree<'a>, Vec<NodeEntry>), Fault> {
+    let header = read_header(image)?;
+    let mut claims = Claims::new(alloc, &header)?;
+    walk_nodes(alloc, image, &header, &mut claims)
+}
+
+fn blocks_fault(alloc: Global, image: &[u8]) -> Option<Fault> {
+    blocks_in(alloc, Image::new(image)).err()
+}
+
+#[test]
+fn the_trees_of_a_small_store(rt: HostRuntime) -> Result<(), Fail> {
+    let bytes = small_store(rt.alloc())?;
+    let image = Image::new(&bytes);
+    let Ok(header) = read_header(image) else {
+        panic!(rt; "no header");
+    };
+    let mut claims = Claims::new(rt.alloc(), &header)?;
+    let Ok((blocks, entries)) = walk_blocks(rt.alloc(), image, &header, &mut claims) else {
+        panic!(rt; "no blocks");
+    };
+    let first = BlockEntry {
+        bid: 4,
+        ib: 0x4c00,
+        cb: 44,
+    };
+    let second = BlockEntry {
+        bid: 8,
+        ib: 0x4c40,
+        cb: 38,
+    };
+    assert_eq!(rt; entries.len(), 2);
+    assert_eq!(rt; entries.first().copied(), Some(first));
+    assert_eq!(rt; entries.get(1).copied(), Some(second));
+    assert_eq!(rt; blocks.pages(), 1);
+    assert!(rt; blocks.level() == 0);
+    assert_eq!(rt; blocks.find(4), Some(first));
+    assert_eq!(rt; blocks.find(9), Some(second));
+    assert_eq!(rt; blocks.find(6), None);
+    assert_eq!(rt; blocks.find_steps(8), (Some(second), 1));
+    // The page from 0x4A00 to 0x4BFF is claimed, and no more.
+    for (unit, claimed) in [
+        (16, false),
+        (23, false),
+        (24, true),
+        (31, true),
+        (32, false),
+    ] {
+        assert_eq!(rt; claims.is_claimed(unit), claimed, "unit {unit}");
+    }
+    let Ok((nodes, entries)) = walk_nodes(rt.alloc(), image, &header, &mut claims) else {
+        panic!(rt; "no nodes");
+    };
+    let store = NodeEntry {
+        nid: 0x21,
+        bid_data: 4,
+        bid_sub: 0,
+        parent: 0,
+    };
+    let folder = NodeEntry {
+        nid: 0x122,
+        bid_data: 8,
+        bid_sub: 0,
+        parent: 0x122,
+    };
+    assert_eq!(rt; entries.len(), 2);
+    assert_eq!(rt; nodes.pages(), 1);
+    assert!(rt; nodes.level() == 0);
+    assert_eq!(rt; nodes.find(0x21), Some(store));
+    assert_eq!(rt; nodes.find(0x23), None);
+    assert_eq!(rt; nodes.find_steps(0x122), (Some(folder), 1));
+    let mut all = nodes.nodes();
+    assert_eq!(rt; all.next(), Some(store));
+    assert_eq!(rt; all.next(), Some(folder));
+    assert_eq!(rt; all.next(), None);
+    assert!(rt; claims.is_claimed(16));
+    // Each page lies on itself.
+    let again = walk_blocks(rt.alloc(), image, &header, &mut claims).err();
+    assert_eq!(rt; again, Some(Fault::within(Kind::Overlap, 0x4a00, 8)));
+    let again = walk_nodes(rt.alloc(), image, &header, &mut claims).err();
+    assert_eq!(rt; again, Some(Fault::within(Kind::Overlap, 0x4800, 4)));
+    Ok(())
+}
+
+// Without bit 0, the keys 4 and 5 are the same.
+#[test]
+fn keys_of_blocks_rise_without_bit_zero(rt: HostRuntime) -> Result<(), Fail> {
+    let mut image = small_store(rt.alloc())?;
+    set(&mut image, 0x4a18, &[5])?;
+    seal_page(&mut image, 0x4a00)?;
+    let fault = Fault::within(Kind::KeyOrder, 0x4a18, 8);
+    assert_eq!(rt; blocks_fault(rt.alloc(), &image), Some(fault));
+    set(&mut image, 0x4a18, &[6])?;
+    seal_page(&mut image, 0x4a00)?;
+    assert_eq!(rt; blocks_fault(rt.alloc(), &image), None);
+    Ok(())
+}
+
+// A branch over three leaves, of which the second ends with this key. The third has the key 40 in the branch.
+fn three_leaves(alloc: Global, last: u64) -> Result<Vec<u8>, Fail> {
+    let mut image = small_store(alloc)?;
+    let root = [branch(4, 1), branch(20, 2), branch(40, 3)];
+    put_page(&mut image, PageKind::Bbt, page_at(0), 1, &root)?;
+    let leaves = [
+        [empty_block(4), empty_block(8)],
+        [empty_block(20), empty_block(last)],
+        [empty_block(40), empty_block(44)],
+    ];
+    for (number, leaf) in (1..).zip(leaves) {
+        put_page(&mut image, PageKind::Bbt, page_at(number), 0, &leaf)?;
+    }
+    set_root(&mut image, PageKind::Bbt, page_at(0))?;
+    Ok(image)
+}
+
+// The fault of three leaves, of which the second ends with this key.
+fn last_key(alloc: Global, last: u64) -> Result<Option<Fault>, Fail> {
+    let image = three_leaves(alloc, last)?;
+    Ok(blocks_fault(alloc, &image))
+}
+
+// The fault of three leaves, of which the second begins with this key.
+fn first_key(alloc: Global, first: u64) -> Result<Option<Fault>, Fail> {
+    let mut image = three_leaves(alloc, 36)?;
+    let leaf = [empty_block(first), empty_block(36)];
+    put_page(&mut image, PageKind::Bbt, page_at(2), 0, &leaf)?;
+    Ok(blocks_fault(alloc, &image))
+}
+
+#[test]
+fn keys_keep_the_bounds_of_the_pages_above(rt: HostRuntime) -> Result<(), Fail> {
+    let leaf = page_at(2);
+    let first = Fault::within(Kind::KeyOrder, leaf.ib, leaf.bid);
+    let second = Fault::within(Kind::KeyOrder, leaf.ib.saturating_add(24), leaf.bid);
+    assert_eq!(rt; last_key(rt.alloc(), 40)?, Some(second));
+    assert_eq!(rt; last_key(rt.alloc(), 36)?, None);
+    assert_eq!(rt; first_key(rt.alloc(), 16)?, Some(first));
+    assert_eq!(rt; first_key(rt.alloc(), 24)?, None);
+    Ok(())
+}
+
+#[test]
+fn a_page_has_one_place_in_its_tree(rt: HostRuntime) -> Result<(), Fail> {
+    let mut image = three_leaves(rt.alloc(), 36)?;
+    let root = [branch(4, 1), branch(20, 2), branch(40, 2)];
+    put_page(&mut image, PageKind::Bbt, page_at(0), 1, &root)?;
+    let leaf = page_at(2);
+    let fault = Fault::within(Kind::Overlap, leaf.ib, leaf.bid);
+    assert_eq!(rt; blocks_fault(rt.alloc(), &image), Some(fault));
+    // A page on an allocation map, whose own bytes are never looked at.
+    set_root(
+        &mut image,
+        PageKind::Bbt,
+        Bref {
+            bid: 12,
+            ib: 0x4440,
+        },
+    )?;
+    let fault = Fault::within(Kind::Overlap, 0x4440, 12);
+    assert_eq!(rt; blocks_fault(rt.alloc(), &image), Some(fault));
+    Ok(())
+}
+
+// The fault where the second of three leaves has other bytes at an offset. The third is wrong, too, but comes later.
+fn leaf_with(alloc: Global, offset: u64, bytes: &[u8]) -> Result<Option<Fault>, Fail> {
+    let mut image = three_leaves(alloc, 36)?;
+    let leaf = usize::try_from(page_at(2).ib)?;
+    let offset = usize::try_from(offset)?;
+    set(&mut image, leaf.saturating_add(offset), bytes)?;
+    seal_page(&mut image, leaf)?;
+    set(&mut image, usize::try_from(page_at(3).ib)?, &[1])?;
+    Ok(blocks_fault(alloc, &image))
+}
+
+#[test]
+fn the_first_wrong_page_is_named(rt: HostRuntime) -> Result<(), Fail> {
+    let leaf = page_at(2);
+    let rows: [(u64, &[u8], Kind); 4] = [
+        (488, &[2, 15, 23], Kind::PageShape),
+        (488, &[0, 15, 24, 1], Kind::PageShape),
+        (488, &[2, 15, 24, 1], Kind::PageShape),
+        (496, &[0x81], Kind::PageTrailer),
+    ];
+    for (offset, bytes, kind) in rows {
+        let fault = leaf_with(rt.alloc(), offset, bytes)?;
+        assert_eq!(rt; fault, Some(Fault::within(kind, leaf.ib, leaf.bid)));
+    }
+    Ok(())
+}
+
+// The fault of a walk of the block B-tree, and which of these units are claimed after it.
+fn claimed_after(
+    alloc: Global,
+    image: &[u8],
+    units: &[u64],
+) -> Result<(Option<Fault>, Vec<bool>), Fault> {
+    let image = Image::new(image);
+    let header = read_header(image)?;
+    let mut claims = Claims::new(alloc, &header)?;
+    let fault = walk_blocks(alloc, image, &header, &mut claims).err();
+    let claimed = units
+        .iter()
+        .map(|unit| claims.is_claimed(*unit))
+        .collect(alloc)?;
+    Ok((fault, claimed))
+}
+
+// A branch whose second child lies at no place for a page: the branch, at unit (0x8000 - 0x4400) / 64 = 240, and the
+// first leaf stay claimed, and no more.
+#[test]
+fn pages_before_a_fault_are_claimed(rt: HostRuntime) -> Result<(), Fail> {
+    let mut image = three_leaves(rt.alloc(), 36)?;
+    let root = [branch(4, 1), [20, 9, 0x8020], branch(40, 3)];
+    put_page(&mut image, PageKind::Bbt, page_at(0), 1, &root)?;
+    let Ok((fault, claimed)) = claimed_after(rt.alloc(), &image, &[239, 240, 255, 256]) else {
+        panic!(rt; "no header");
+    };
+    assert_eq!(rt; fault, Some(Fault::within(Kind::PagePlace, 0x8020, 9)));
+    assert_eq!(rt; claimed.as_slice(), [false, true, true, false].as_slice());
+    Ok(())
+}
+
+// Empty blocks with the identifiers 4, 8, .. up to four times as many as these; 20 entries a page, all levels needed.
+fn many_blocks(alloc: Global, count: u64) -> Result<Vec<u8>, Fail> {
+    let mut image = small_store(alloc)?;
+    let mut entries = Vec::new(alloc);
+    for n in 0..count {
+        entries.push(empty_block(n.saturating_mul(4).saturating_add(4)))?;
+    }
+    let mut number = 0;
+    for level in 0..16 {
+        let mut above = Vec::new(alloc);
+        for page in entries.chunks(20) {
+            let key = page.first().ok_or("no entries")?[0];
+            put_page(&mut image, PageKind::Bbt, page_at(number), level, page)?;
+            above.push(branch(key, number))?;
+            number = number.saturating_add(1);
+        }
+        if above.len() == 1 {
+            break;
+        }
+        entries = above;
+    }
+    set_root(&mut image, PageKind::Bbt, page_at(number.saturating_sub(1)))?;
+    Ok(image)
+}
+
+// The entry with a key, by a look at all of them: what a look-up means.
+fn scanned(entries: &[BlockEntry], key: u64) -> Option<BlockEntry> {
+    entries
+        .iter()
+        .find(|entry| entry.bid - entry.bid % 2 == key)
+        .copied()
+}
+
+// 401 entries take 21 leaves, 2 branches and a root.
+#[test]
+fn a_look_up_goes_down_one_path(rt: HostRuntime) -> Result<(), Fail> {
+    let bytes = many_blocks(rt.alloc(), 401)?;
+    let Ok((tree, entries)) = blocks_in(rt.alloc(), Image::new(&bytes)) else {
+        panic!(rt; "no blocks");
+    };
+    assert_eq!(rt; entries.len(), 401);
+    assert_eq!(rt; tree.pages(), 24);
+    assert!(rt; tree.level() == 2);
+    for bid in 0..1616 {
+        let (entry, steps) = tree.find_steps(bid);
+        assert_eq!(rt; entry, scanned(&entries, bid - bid % 2), "block {bid}");
+        assert_eq!(rt; entry, tree.find(bid), "block {bid}");
+        assert!(rt;
+            steps <= 3 && (entry.is_none() || steps == 3),
+            "block {bid}"
+        );
+    }
+    assert_eq!(rt;
+        tree.find(1604),
+        Some(BlockEntry {
+            bid: 1604,
+            ib: 0,
+            cb: 0
+        })
+    );
+    assert_eq!(rt; tree.find_steps(u64::MAX).0, None);
+    Ok(())
+}
+
+// A branch over a branch over three leaves, of which the second has no entry.
+#[test]
+fn nodes_come_in_order(rt: HostRuntime) -> Result<(), Fail> {
+    let mut bytes = small_store(rt.alloc())?;
+    let kind = PageKind::Nbt;
+    put_page(&mut bytes, kind, page_at(0), 2, &[branch(0x21, 1)])?;
+    let below = [branch(0x21, 2), branch(0x60, 3), branch(0x122, 4)];
+    put_page(&mut bytes, kind, page_at(1), 1, &below)?;
+    // The high 32 bits of a key say nothing.
+    let first = [[0x21, 4, 0, 0], [0x5_0000_0022, 8, 12, 0]];
+    put_page(&mut bytes, kind, page_at(2), 0, &first)?;
+    let none: [[u64; 4]; 0] = [];
+    put_page(&mut bytes, kind, page_at(3), 0, &none)?;
+    put_page(&mut bytes, kind, page_at(4), 0, &[[0x122, 8, 0, 0x122]])?;
+    set_root(&mut bytes, kind, page_at(0))?;
+    let Ok((tree, entries)) = nodes_in(rt.alloc(), Image::new(&bytes)) else {
+        panic!(rt; "no nodes");
+    };
+    assert_eq!(rt; tree.pages(), 5);
+    assert!(rt; tree.level() == 2);
+    let mut nids = Vec::new(rt.alloc());
+    for node in tree.nodes() {
+        assert_eq!(rt; tree.find(node.nid), Some(node));
+        nids.push(node.nid)?;
+    }
+    assert_eq!(rt; nids.as_slice(), [0x21, 0x22, 0x122].as_slice());
+    assert_eq!(rt; entries.get(1).map(|node| node.bid_sub), Some(12));
+    assert_eq!(rt; tree.find_steps(0x60).0, None);
+    assert_eq!(rt; tree.find(0), None);
+    Ok(())
+}

@@ -1,0 +1,77 @@
+//! The walk of a whole tree.
+
+ghost use Rattle.std.specs.Prelude.{◌≡◌, ◌+◌, ◌<◌, ◌≤◌, length, Some, None, IfOk, All};
+ghost use Rattle.pst_bytes.specs.Image.{bytes_of};
+ghost use Rattle.pst_header.specs.Head.{Head};
+ghost use Rattle.pst_header.specs.Header.{end_of};
+ghost use Rattle.pst_page.specs.Page.{level_at};
+ghost use Rattle.pst_page.specs.Entry.{entry_size};
+ghost use Rattle.pst_space.specs.Claimed.{claim_all, unit_total};
+ghost use Rattle.pst_space.specs.Step.{GivesBy, ClaimsSome};
+ghost use Rattle.pst_btree.specs.Tree.{IsTree, tree_spans, spans_at};
+ghost use Rattle.pst_btree.specs.View.{tree_of, entries};
+ghost use Rattle.pst_btree.specs.Walk.{tree_walk, found_so_far};
+
+use crate::tree::TreeView;
+use crate::walk::{Tally, walk_page};
+use pst_bytes::Image;
+use pst_fault::Fault;
+use pst_header::{Bref, Header};
+use pst_page::{PageKind, page_place};
+use pst_space::Claims;
+use std::alloc::Global;
+
+// The level that the page at a place of the file says.
+#[tactic(auto, unfolding(pst_page::specs::Page::level_at))]
+fn level_of(image: Image, ib: u64) -> u8
+    requires { ib + 512 ≤ length (bytes_of image) }
+    ensures { result ≡ level_at (bytes_of image.entry) ib }
+{
+    image.number8(ib + 491)
+}
+
+/// Walks the tree under a root, claims its pages, and notes the places of its entries.
+#[tactic(auto, using(pst_header::proofs::Head::head_end, crate::proofs::TreeLaws::walked, crate::proofs::WalkLemmas::walk_no_place, crate::proofs::SomeLemmas::some_none, crate::proofs::InsideLemmas::entries_inside), unfolding(crate::specs::Tree::spans_at))]
+pub fn walk<'a>(
+    alloc: Global,
+    image: Image<'a>,
+    header: &Header,
+    kind: PageKind,
+    root: Bref,
+    claims: &mut Claims,
+) -> Result<(TreeView<'a>, Vec<u64>), Fault>
+    requires head { Head (bytes_of image) header.now }
+    requires units { length claims.old ≡ unit_total header.now }
+    ensures same { length claims.new ≡ length claims.old }
+    ensures exact { GivesBy (λ x. found_so_far claims.new (entries x.0) x.0.pages) result claims.new (tree_walk kind (bytes_of image.entry) (end_of header.now) claims.old root) }
+    ensures image { IfOk result (λ x. x.0.image ≡ image.entry) }
+    ensures end { IfOk result (λ x. x.0.end ≡ end_of header.now) }
+    ensures kind { IfOk result (λ x. x.0.kind ≡ kind) }
+    ensures root { IfOk result (λ x. x.0.root ≡ root) }
+    ensures level { IfOk result (λ x. x.0.level ≡ level_at (bytes_of image.entry) root.ib) }
+    ensures tree { IfOk result (λ x. IsTree kind (bytes_of image.entry) (end_of header.now) root x.0.level (tree_of x.0)) }
+    ensures places { IfOk result (λ x. x.1.items ≡ entries x.0) }
+    ensures inside { IfOk result (λ x. All (λ at. at + entry_size kind 0 ≤ length (bytes_of image.entry)) x.1.items) }
+    ensures claims { IfOk result (λ x. claim_all claims.old (tree_spans (tree_of x.0)) ≡ Some claims.new) }
+    ensures some { ClaimsSome claims.old claims.new (spans_at kind (bytes_of image.entry) (level_at (bytes_of image.entry) root.ib) root) }
+{
+    page_place(header, root)?;
+    let level = level_of(image, root.ib);
+    let end = header.end();
+    let mut tally = Tally {
+        places: Vec::new(alloc),
+        pages: 0,
+    };
+    walk_page(
+        image, header, kind, level, root, 0, None, claims, &mut tally,
+    )?;
+    let view = TreeView {
+        image,
+        end,
+        kind,
+        level,
+        root,
+        pages: tally.pages,
+    };
+    Ok((view, tally.places))
+}

@@ -1,0 +1,199 @@
+//! The walks of the two B-trees.
+
+ghost use Rattle.std.specs.Prelude.{◌≡◌, ℕ, ◌+◌, ◌≤◌, length, map, Some, IfOk, IfErr, All};
+ghost use Rattle.pst_bytes.specs.Image.{bytes_of};
+ghost use Rattle.pst_fault.specs.Fault.{no_memory};
+ghost use Rattle.pst_header.specs.Head.{Head};
+ghost use Rattle.pst_header.specs.Header.{end_of};
+ghost use Rattle.pst_page.specs.declared.kind.PageKind.TheVariants.{Bbt, Nbt};
+ghost use Rattle.pst_page.specs.Entry.{block_entry_at as block_at, node_entry_at as node_at};
+ghost use Rattle.pst_page.specs.Page.{level_at};
+ghost use Rattle.pst_space.specs.Claimed.{Claimed, claim_all, unit_total};
+ghost use Rattle.pst_space.specs.Step.{GivesBy, ClaimsSome};
+ghost use Rattle.pst_btree.specs.Tree.{Tree, IsTree, tree_spans, spans_at};
+ghost use Rattle.pst_btree.specs.Trees.{block_view, block_entries, node_view, node_entries};
+ghost use Rattle.pst_btree.specs.View.{tree_of, found_in};
+ghost use Rattle.pst_btree.specs.Walk.{tree_walk};
+
+use crate::block_tree::BlockTree;
+use crate::node_tree::NodeTree;
+use crate::walked::walk;
+use pst_bytes::Image;
+use pst_fault::Fault;
+use pst_header::Header;
+use pst_page::{BlockEntry, NodeEntry, PageKind, block_entry_at, node_entry_at};
+use pst_space::Claims;
+use std::alloc::{AllocError, Global};
+
+// The entries of the block B-tree at some places.
+fn blocks_at(alloc: Global, image: Image, places: &[u64]) -> Result<Vec<BlockEntry>, AllocError>
+    requires { All (λ at. at + 24 ≤ length (bytes_of image)) places.now }
+    ensures { IfOk result (λ v. v.items ≡ map (block_at (bytes_of image.entry)) places.now) }
+{
+    places
+        .iter()
+        .map(|at| block_entry_at(image, *at))
+        .collect(alloc)
+}
+
+// The entries of the node B-tree at some places.
+fn nodes_at(alloc: Global, image: Image, places: &[u64]) -> Result<Vec<NodeEntry>, AllocError>
+    requires { All (λ at. at + 32 ≤ length (bytes_of image)) places.now }
+    ensures { IfOk result (λ v. v.items ≡ map (node_at (bytes_of image.entry)) places.now) }
+{
+    places
+        .iter()
+        .map(|at| node_entry_at(image, *at))
+        .collect(alloc)
+}
+
+// The walk, with the fault that it gives.
+fn blocks_exact<'a>(
+    alloc: Global,
+    image: Image<'a>,
+    header: &Header,
+    claims: &mut Claims,
+) -> Result<(BlockTree<'a>, Vec<BlockEntry>), Fault>
+    requires head { Head (bytes_of image) header.now }
+    requires units { length claims.old ≡ unit_total header.now }
+    ensures same_units { length claims.new ≡ length claims.old }
+
+    // Whether there is a tree, what it is, and what is claimed; or which fault it is, and what is claimed by then.
+    ensures exact { GivesBy (λ x. found_in claims.new (block_view x.0)) result claims.new (tree_walk Bbt (bytes_of image.entry) (end_of header.now) claims.old header.now.bbt) }
+
+    // What is answered is a tree that the image spells, whose keys keep their bounds. Its entries are these, and its pages
+    // are claimed.
+    ensures tree { IfOk result (λ x. IsTree Bbt (bytes_of image.entry) (end_of header.now) header.now.bbt (block_view x.0).level (tree_of (block_view x.0))) }
+    ensures entries { IfOk result (λ x. x.1.items ≡ block_entries x.0) }
+    ensures claims { IfOk result (λ x. claim_all claims.old (tree_spans (tree_of (block_view x.0))) ≡ Some claims.new) }
+
+    // Whatever the answer, the pages from the first up to some one are claimed.
+    ensures some { ClaimsSome claims.old claims.new (spans_at Bbt (bytes_of image.entry) (level_at (bytes_of image.entry) header.now.bbt.ib) header.now.bbt) }
+
+    // Which tree it is.
+    ensures image { IfOk result (λ x. (block_view x.0).image ≡ image.entry) }
+    ensures end { IfOk result (λ x. (block_view x.0).end ≡ end_of header.now) }
+    ensures kind { IfOk result (λ x. (block_view x.0).kind ≡ Bbt) }
+    ensures root { IfOk result (λ x. (block_view x.0).root ≡ header.now.bbt) }
+    ensures level { IfOk result (λ x. (block_view x.0).level ≡ level_at (bytes_of image.entry) header.now.bbt.ib) }
+{
+    let (view, places) = walk(alloc, image, header, PageKind::Bbt, header.bbt, claims)?;
+    let entries = blocks_at(alloc, image, &places)?;
+    Ok((BlockTree { view }, entries))
+}
+
+/// Walks the block B-tree of a file whose header is this one, claims its pages, and gives it with its entries from left to
+/// right. The claims have to be of the same file. Each page comes before its children, and children from left to right.
+///
+/// The first fault is told at the page, with the identifier of the reference that names it: PagePlace; Overlap, where the
+/// page has a byte in common with what is claimed; PageTrailer; PageShape, also where a child is not one level below its
+/// parent ([MS-PST] 2.2.2.7.7.1). Then KeyOrder, at the entry, with the identifier of its page: keys rise strictly, and
+/// those below an entry of a branch are at least its key and below the next one's. NoMemory where memory is refused.
+///
+/// After a fault the pages that came before it are claimed, too.
+pub fn walk_blocks<'a>(
+    alloc: Global,
+    image: Image<'a>,
+    header: &Header,
+    claims: &mut Claims,
+) -> Result<(BlockTree<'a>, Vec<BlockEntry>), Fault>
+    requires head { Head (bytes_of image) header.now }
+    requires units { length claims.old ≡ unit_total header.now }
+    ensures same_units { length claims.new ≡ length claims.old }
+
+    // Whether there is a tree, what it is, and what is claimed; or which fault it is, and what is claimed by then.
+    ensures exact { GivesBy (λ x. found_in claims.new (block_view x.0)) result claims.new (tree_walk Bbt (bytes_of image.entry) (end_of header.now) claims.old header.now.bbt) }
+
+    // What is answered is a tree that the image spells, whose keys keep their bounds. Its entries are these, and its pages
+    // are claimed.
+    ensures tree { IfOk result (λ x. IsTree Bbt (bytes_of image.entry) (end_of header.now) header.now.bbt (block_view x.0).level (tree_of (block_view x.0))) }
+    ensures entries { IfOk result (λ x. x.1.items ≡ block_entries x.0) }
+    ensures claims { IfOk result (λ x. claim_all claims.old (tree_spans (tree_of (block_view x.0))) ≡ Some claims.new) }
+
+    // Whatever the answer, the pages from the first up to some one are claimed.
+    ensures some { ClaimsSome claims.old claims.new (spans_at Bbt (bytes_of image.entry) (level_at (bytes_of image.entry) header.now.bbt.ib) header.now.bbt) }
+
+    // Which tree it is.
+    ensures image { IfOk result (λ x. (block_view x.0).image ≡ image.entry) }
+    ensures end { IfOk result (λ x. (block_view x.0).end ≡ end_of header.now) }
+    ensures kind { IfOk result (λ x. (block_view x.0).kind ≡ Bbt) }
+    ensures root { IfOk result (λ x. (block_view x.0).root ≡ header.now.bbt) }
+    ensures level { IfOk result (λ x. (block_view x.0).level ≡ level_at (bytes_of image.entry) header.now.bbt.ib) }
+
+    // A tree whose pages can be claimed is answered, unless memory ran out.
+    ensures only { (level : ℕ) (tree : Tree) (new : Claimed) → IsTree Bbt (bytes_of image.entry) (end_of header.now) header.now.bbt level tree → claim_all claims.old (tree_spans tree) ≡ Some new → IfErr result (λ f. f ≡ no_memory) }
+{
+    blocks_exact(alloc, image, header, claims)
+}
+
+// The walk, with the fault that it gives.
+fn nodes_exact<'a>(
+    alloc: Global,
+    image: Image<'a>,
+    header: &Header,
+    claims: &mut Claims,
+) -> Result<(NodeTree<'a>, Vec<NodeEntry>), Fault>
+    requires head { Head (bytes_of image) header.now }
+    requires units { length claims.old ≡ unit_total header.now }
+    ensures same_units { length claims.new ≡ length claims.old }
+
+    // Whether there is a tree, what it is, and what is claimed; or which fault it is, and what is claimed by then.
+    ensures exact { GivesBy (λ x. found_in claims.new (node_view x.0)) result claims.new (tree_walk Nbt (bytes_of image.entry) (end_of header.now) claims.old header.now.nbt) }
+
+    // What is answered is a tree that the image spells, whose keys keep their bounds. Its entries are these, and its pages
+    // are claimed.
+    ensures tree { IfOk result (λ x. IsTree Nbt (bytes_of image.entry) (end_of header.now) header.now.nbt (node_view x.0).level (tree_of (node_view x.0))) }
+    ensures entries { IfOk result (λ x. x.1.items ≡ node_entries x.0) }
+    ensures claims { IfOk result (λ x. claim_all claims.old (tree_spans (tree_of (node_view x.0))) ≡ Some claims.new) }
+
+    // Whatever the answer, the pages from the first up to some one are claimed.
+    ensures some { ClaimsSome claims.old claims.new (spans_at Nbt (bytes_of image.entry) (level_at (bytes_of image.entry) header.now.nbt.ib) header.now.nbt) }
+
+    // Which tree it is.
+    ensures image { IfOk result (λ x. (node_view x.0).image ≡ image.entry) }
+    ensures end { IfOk result (λ x. (node_view x.0).end ≡ end_of header.now) }
+    ensures kind { IfOk result (λ x. (node_view x.0).kind ≡ Nbt) }
+    ensures root { IfOk result (λ x. (node_view x.0).root ≡ header.now.nbt) }
+    ensures level { IfOk result (λ x. (node_view x.0).level ≡ level_at (bytes_of image.entry) header.now.nbt.ib) }
+{
+    let (view, places) = walk(alloc, image, header, PageKind::Nbt, header.nbt, claims)?;
+    let entries = nodes_at(alloc, image, &places)?;
+    Ok((NodeTree { view }, entries))
+}
+
+/// Walks the node B-tree of a file whose header is this one, claims its pages, and gives it with its entries from left to
+/// right; or its first fault, as `walk_blocks`.
+pub fn walk_nodes<'a>(
+    alloc: Global,
+    image: Image<'a>,
+    header: &Header,
+    claims: &mut Claims,
+) -> Result<(NodeTree<'a>, Vec<NodeEntry>), Fault>
+    requires head { Head (bytes_of image) header.now }
+    requires units { length claims.old ≡ unit_total header.now }
+    ensures same_units { length claims.new ≡ length claims.old }
+
+    // Whether there is a tree, what it is, and what is claimed; or which fault it is, and what is claimed by then.
+    ensures exact { GivesBy (λ x. found_in claims.new (node_view x.0)) result claims.new (tree_walk Nbt (bytes_of image.entry) (end_of header.now) claims.old header.now.nbt) }
+
+    // What is answered is a tree that the image spells, whose keys keep their bounds. Its entries are these, and its pages
+    // are claimed.
+    ensures tree { IfOk result (λ x. IsTree Nbt (bytes_of image.entry) (end_of header.now) header.now.nbt (node_view x.0).level (tree_of (node_view x.0))) }
+    ensures entries { IfOk result (λ x. x.1.items ≡ node_entries x.0) }
+    ensures claims { IfOk result (λ x. claim_all claims.old (tree_spans (tree_of (node_view x.0))) ≡ Some claims.new) }
+
+    // Whatever the answer, the pages from the first up to some one are claimed.
+    ensures some { ClaimsSome claims.old claims.new (spans_at Nbt (bytes_of image.entry) (level_at (bytes_of image.entry) header.now.nbt.ib) header.now.nbt) }
+
+    // Which tree it is.
+    ensures image { IfOk result (λ x. (node_view x.0).image ≡ image.entry) }
+    ensures end { IfOk result (λ x. (node_view x.0).end ≡ end_of header.now) }
+    ensures kind { IfOk result (λ x. (node_view x.0).kind ≡ Nbt) }
+    ensures root { IfOk result (λ x. (node_view x.0).root ≡ header.now.nbt) }
+    ensures level { IfOk result (λ x. (node_view x.0).level ≡ level_at (bytes_of image.entry) header.now.nbt.ib) }
+
+    // A tree whose pages can be claimed is answered, unless memory ran out.
+    ensures only { (level : ℕ) (tree : Tree) (new : Claimed) → IsTree Nbt (bytes_of image.entry) (end_of header.now) header.now.nbt level tree → claim_all claims.old (tree_spans tree) ≡ Some new → IfErr result (λ f. f ≡ no_memory) }
+{
+    nodes_exact(alloc, image, header, claims)
+}
