@@ -1,3 +1,5 @@
 pub mod LineLemmas
+pub mod ListingLemmas
 pub mod Loading
+pub mod NodeLemmas
 pub mod WordLemmas

@@ -9,8 +9,8 @@ use Rattle.clap.specs.declared.parser.matches.ArgMatches.TheViews.{out-ArgMatche
 use Rattle.clap.proofs.OnLiterals.{clap_on_literals}
 use Rattle.clap.proofs.WalkLemmas.{first_value-rows}
 use Rattle.pst_show.specs.declared.words.Ask.{Ask}
-use Rattle.pst_show.specs.declared.words.Ask.TheVariants.{Head}
-use Rattle.pst_show.specs.Words.{IsAsked, HeadLaw, ask_of, asked, asked_of, named, show_app}
+use Rattle.pst_show.specs.declared.words.Ask.TheVariants.{Head, Nodes}
+use Rattle.pst_show.specs.Words.{IsAsked, HeadLaw, NodesLaw, ask_of, asked, asked_of, named, show_app}
 
 abbrev paired : {Z : Type 0} → (Z → Text) → (Z → List Row) → Z → Text × List Row
 paired f g b = (f b, g b)
@@ -45,7 +45,7 @@ pub asked_is : (words : List Text) (m : ArgMatches) → HasMatchesOf show_app wo
 unfolding asked
 asked_is words m h = ap (option_and_then named) (sym (h is_simple_show).1)
 
--- `head` and a file's name, by its first byte
+-- a command and a file's name, by its first byte
 accepts_name : (b : ℕ) (rest : List ℕ) → nat_eq b 45 ≡ false → fault_of show_app (codes "head" ∷ (b ∷ rest) ∷ []) ≡ []
 unfolding clap_on_literals
 accepts_name b rest other = simp other
@@ -63,3 +63,21 @@ head_law [] no_option = empty_name
 head_law (b ∷ rest) no_option =
     let other = ne_eqb b 45 no_option in
     record { accepted = accepts_name b rest other; is = asks_name b rest other }
+
+accepts_nodes : (b : ℕ) (rest : List ℕ) → nat_eq b 45 ≡ false → fault_of show_app (codes "nodes" ∷ (b ∷ rest) ∷ []) ≡ []
+unfolding clap_on_literals
+accepts_nodes b rest other = simp other
+
+asks_nodes : (b : ℕ) (rest : List ℕ) → nat_eq b 45 ≡ false → asked (codes "nodes" ∷ (b ∷ rest) ∷ []) ≡ Some (asked_of Nodes (b ∷ rest))
+unfolding clap_on_literals asked
+asks_nodes b rest other = simp other
+
+empty_nodes : IsAsked (codes "nodes" ∷ [] ∷ []) (asked_of Nodes [])
+unfolding clap_on_literals asked
+empty_nodes = record { accepted = refl; is = refl }
+
+pub nodes_law : NodesLaw
+nodes_law [] no_option = empty_nodes
+nodes_law (b ∷ rest) no_option =
+    let other = ne_eqb b 45 no_option in
+    record { accepted = accepts_nodes b rest other; is = asks_nodes b rest other }

@@ -5,7 +5,7 @@ use Rattle.serde_json.specs.Data.{Data, number, unsigned, object, member, no_mem
 use Rattle.pst_header.specs.declared.header.Header.{Header}
 use Rattle.pst_header.specs.declared.header.Bref.{Bref}
 
-abbrev count : ℕ → Data
+abbrev pub count : ℕ → Data
 count n = number (unsigned n)
 
 abbrev pub bref_data : Bref → Data

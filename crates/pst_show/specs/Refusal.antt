@@ -1,18 +1,30 @@
 -- Refusals: what they come from, and the status that each ends with.
-use Rattle.std.specs.Prelude.{ℕ}
+use Rattle.std.specs.Prelude.{ℕ, Bool, true, false, if◌then◌else◌}
+use Rattle.pst_fault.specs.declared.fault.Fault.{Fault}
+use Rattle.pst_fault.specs.declared.kind.Kind.{Kind}
+use Rattle.pst_fault.specs.declared.kind.Kind.TheVariants.{NoMemory}
 use Rattle.pst_show.specs.declared.refusal.Refusal.{Refusal}
-use Rattle.pst_show.specs.declared.refusal.Refusal.TheVariants.{Fault, Input, Output, Memory}
+use Rattle.pst_show.specs.declared.refusal.Refusal.TheVariants as refusal
+
+-- the kind says that memory was refused, and nothing of the file
+abbrev pub is_memory : Kind → Bool
+is_memory NoMemory = true
+is_memory kind = false
+
+-- what comes of a fault: want of memory is no fault of the file
+abbrev pub refusal_of : Fault → Refusal
+refusal_of f = if is_memory f.kind then refusal.Memory else refusal.Fault f
 
 -- what may come from reading
 abbrev pub IsOfInput : Refusal → Type 0
-IsOfInput (Fault f) = ⊥
-IsOfInput Input = Unit {0}
-IsOfInput Output = ⊥
-IsOfInput Memory = Unit {0}
+IsOfInput (refusal.Fault f) = ⊥
+IsOfInput refusal.Input = Unit {0}
+IsOfInput refusal.Output = ⊥
+IsOfInput refusal.Memory = Unit {0}
 
 -- the status with which a run ends that is refused
 abbrev pub status_of : Refusal → ℕ
-status_of (Fault f) = 1
-status_of Input = 3
-status_of Output = 3
-status_of Memory = 4
+status_of (refusal.Fault f) = 1
+status_of refusal.Input = 3
+status_of refusal.Output = 3
+status_of refusal.Memory = 4

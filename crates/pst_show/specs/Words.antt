@@ -11,7 +11,7 @@ use Rattle.pst_show.specs.declared.words.NoOrder.{NoOrder}
 use Rattle.pst_show.specs.declared.words.NoOrder.TheVariants.{Words, Nothing}
 use Rattle.pst_show.specs.declared.words.Order.{Order}
 use Rattle.pst_show.specs.declared.words.Ask.{Ask}
-use Rattle.pst_show.specs.declared.words.Ask.TheVariants.{Head}
+use Rattle.pst_show.specs.declared.words.Ask.TheVariants.{Head, Nodes}
 
 abbrev pub texts : List (String Global) → List Text
 texts = map string_bytes
@@ -36,7 +36,7 @@ base = let a = new_app (codes "pst_show") in record a { top = record a.top { has
 
 -- the command line of the program
 abbrev pub show_app : App
-show_app = with_subcommand base (file_app (codes "head")).top
+show_app = with_subcommand (with_subcommand base (file_app (codes "head")).top) (file_app (codes "nodes")).top
 
 -- ---- what is asked for
 
@@ -50,7 +50,7 @@ asked_of ask file = record { ask = ask; file = file }
 
 -- what the command of this name asks for
 abbrev pub ask_of : Text → Option Ask
-ask_of name = if bytes_eq name (codes "head") then Some Head else None
+ask_of name = if bytes_eq name (codes "head") then Some Head else if bytes_eq name (codes "nodes") then Some Nodes else None
 
 -- what the rows of the command of this name ask for
 abbrev pub named : Text × List Row → Option Asked
@@ -73,6 +73,10 @@ IsNoOption (b ∷ rest) = b ≢ 45
 -- the words `head` and any other word that begins with no hyphen are accepted, and ask for the header of that file
 abbrev pub HeadLaw : Type 0
 HeadLaw = (file : Text) → IsNoOption file → IsAsked (codes "head" ∷ file ∷ []) (asked_of Head file)
+
+-- the words `nodes` and such a word are accepted, and ask for the nodes of that file
+abbrev pub NodesLaw : Type 0
+NodesLaw = (file : Text) → IsNoOption file → IsAsked (codes "nodes" ∷ file ∷ []) (asked_of Nodes file)
 
 abbrev pub order_of : Order → Asked
 order_of order = asked_of order.ask order.file.now

@@ -5,6 +5,7 @@ mod answer;
 mod head;
 mod input;
 mod laws;
+mod nodes;
 mod output;
 mod refusal;
 mod run;

@@ -2,18 +2,18 @@
 
 ghost use Rattle.std.specs.Prelude.{◌≡◌};
 ghost use Rattle.pst_show.specs.declared.refusal.Refusal.TheVariants as refusal;
-ghost use Rattle.pst_show.specs.Refusal.{IsOfInput, status_of};
+ghost use Rattle.pst_show.specs.Refusal.{IsOfInput, refusal_of, status_of};
 
 use crate::input::LoadFault;
 use crate::output::EmitFault;
-use pst_fault::Fault;
+use pst_fault::{Fault, Kind};
 use std::alloc::AllocError;
 use thiserror::Error;
 
 /// Why a run shows nothing. Its text is the line on the standard error, without a line feed.
 #[derive(Clone, Copy, Debug, PartialEq, Eq, Error)]
 pub enum Refusal {
-    /// The file is not what it has to be.
+    /// The file is not what it has to be. The kind is not NoMemory.
     #[error("{0}")]
     Fault(Fault),
     /// The file cannot be read, or is too long.
@@ -40,11 +40,15 @@ impl Refusal {
     }
 }
 
+/// The fault NoMemory says nothing of the file.
 impl From<Fault> for Refusal {
-    ghost from_gives = { λ f r. r ≡ refusal.Fault f };
+    ghost from_gives = { λ f r. r ≡ refusal_of f };
 
     fn from(fault: Fault) -> Refusal {
-        Refusal::Fault(fault)
+        match fault.kind {
+            Kind::NoMemory => Refusal::Memory,
+            _ => Refusal::Fault(fault),
+        }
     }
 }
 

@@ -1,5 +1,7 @@
 //! Runs over small images and failing readers and writers, from the words to the status.
 
+mod nodes;
+
 use crate::input::{LoadFault, load};
 use crate::output::{EmitFault, emit};
 use crate::run::run;
@@ -88,6 +90,26 @@ fn words_of(alloc: Global, words: &[&str]) -> Result<Vec<String>, Fail> {
     Ok(all)
 }
 
+// Runs a command over a reader, and compares the status and both outputs.
+fn outcome_of<R: Abort + AllocGlobal, I: Read>(
+    rt: &R,
+    command: &str,
+    input: &mut I,
+    status: u8,
+    out: &str,
+    err: &str,
+) -> Result<(), Fail> {
+    let alloc = rt.alloc();
+    let words = words_of(alloc, &[command, "store.pst"])?;
+    let mut written = Vec::new(alloc);
+    let mut said = Vec::new(alloc);
+    let got = run(alloc, &words, input, &mut written, &mut said);
+    assert_eq!(rt; said.as_slice(), err.as_bytes());
+    assert_eq!(rt; written.as_slice(), out.as_bytes());
+    assert_eq!(rt; got, status);
+    Ok(())
+}
+
 // Runs `head` over a reader, and compares the status and both outputs.
 fn head_of<R: Abort + AllocGlobal, I: Read>(
     rt: &R,
@@ -96,15 +118,7 @@ fn head_of<R: Abort + AllocGlobal, I: Read>(
     out: &str,
     err: &str,
 ) -> Result<(), Fail> {
-    let alloc = rt.alloc();
-    let words = words_of(alloc, &["head", "store.pst"])?;
-    let mut written = Vec::new(alloc);
-    let mut said = Vec::new(alloc);
-    let got = run(alloc, &words, input, &mut written, &mut said);
-    assert_eq!(rt; said.as_slice(), err.as_bytes());
-    assert_eq!(rt; written.as_slice(), out.as_bytes());
-    assert_eq!(rt; got, status);
-    Ok(())
+    outcome_of(rt, "head", input, status, out, err)
 }
 
 // Runs `head` over an image that is refused, and compares the line.
@@ -391,10 +405,12 @@ fn an_error_output_that_fails(rt: HostRuntime) -> Result<(), Fail> {
 #[test]
 fn words_that_are_refused(rt: HostRuntime) -> Result<(), Fail> {
     let alloc = rt.alloc();
-    let rows: [&[&str]; 6] = [
+    let rows: [&[&str]; 8] = [
         &[],
         &["head"],
+        &["nodes"],
         &["head", "a.pst", "b.pst"],
+        &["nodes", "a.pst", "b.pst"],
         &["tail", "a.pst"],
         &["--loud", "head", "a.pst"],
         &["head", "--loud", "a.pst"],
@@ -415,7 +431,7 @@ fn words_that_are_refused(rt: HostRuntime) -> Result<(), Fail> {
 #[test]
 fn help_and_the_version_are_shown(rt: HostRuntime) -> Result<(), Fail> {
     let alloc = rt.alloc();
-    let rows: [(&[&str], &[u8]); 6] = [
+    let rows: [(&[&str], &[u8]); 8] = [
         (
             &["--help"],
             b"Shows what stands in a Personal Folders File (.pst)\n",
@@ -426,6 +442,8 @@ fn help_and_the_version_are_shown(rt: HostRuntime) -> Result<(), Fail> {
         ),
         (&["help", "head"], b"Shows the fields of the header\n"),
         (&["head", "--help"], b"Shows the fields of the header\n"),
+        (&["help", "nodes"], b"Lists the nodes\n"),
+        (&["nodes", "--help"], b"Lists the nodes\n"),
         (&["--version"], b"pst_show 0.1.0\n"),
         (&["-V"], b"pst_show 0.1.0\n"),
     ];

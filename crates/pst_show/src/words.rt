@@ -15,6 +15,8 @@ const VERSION: &str = "0.1.0";
 pub enum Ask {
     /// The fields of its header.
     Head,
+    /// The entries of its node B-tree.
+    Nodes,
 }
 
 /// What the words ask for.
@@ -57,13 +59,15 @@ fn command_line<'a>(alloc: Global) -> Result<Command<'a>, AllocError>
     ensures { IfOk result (λ c. app_of c ≡ show_app) }
 {
     let head = file_command(alloc, "head", "Shows the fields of the header")?;
+    let nodes = file_command(alloc, "nodes", "Lists the nodes")?;
     Command::new(alloc, "pst_show")
         .bin_name("pst_show")?
         .about("Shows what stands in a Personal Folders File (.pst)")
         .version(VERSION)
         .no_binary_name(true)
         .subcommand_required(true)
-        .subcommand(head)
+        .subcommand(head)?
+        .subcommand(nodes)
 }
 
 // The matches of the words.
@@ -81,6 +85,8 @@ fn ask_in(name: &str) -> Option<Ask>
 {
     if name == "head" {
         Some(Ask::Head)
+    } else if name == "nodes" {
+        Some(Ask::Nodes)
     } else {
         None
     }
