@@ -3,7 +3,7 @@ use pst_btree::walk_blocks;
 use pst_bytes::{Image, Span};
 use pst_fault::{Fault, Kind, Place};
 use pst_header::{Header, read_header};
-use pst_make::{m0, seal_block, seal_page};
+use pst_make::{m0, seal_block, seal_header, seal_page};
 use pst_space::Claims;
 use std::alloc::Global;
 use std::process::Abort;
@@ -281,4 +281,31 @@ fn a_refusal_keeps_the_claims_before_it(rt: HostRuntime) -> Result<(), Fail> {
     claimed_after(&rt, rt.alloc(), &bytes, [true, false, false])?;
     flip(&mut bytes, 0x4c34)?;
     claimed_after(&rt, rt.alloc(), &bytes, [true, false, false])
+}
+
+// Fronts of the file, with an end of file that says so: the first block that does not lie in what is left is told.
+#[test]
+fn fronts_that_cut_the_blocks(rt: HostRuntime) -> Result<(), Fail> {
+    let whole = m0(rt.alloc())?;
+    for (len, cut) in [
+        (19_456_usize, Some(FIRST)),
+        (19_520, Some(SECOND)),
+        (19_584, None),
+        (271_296, None),
+    ] {
+        let front = whole.get(..len).ok_or("too short")?;
+        let mut bytes = Vec::from_slice(rt.alloc(), front)?;
+        set(&mut bytes, 184, &(len as u64).to_le_bytes())?;
+        if bytes.len() < 564 {
+            return Err(Fail::from("too short"));
+        }
+        seal_header(&mut bytes);
+        let fault = cut.map(|entry| fault_of(Kind::BlockPlace, entry));
+        assert_eq!(rt;
+            blocks_in(rt.alloc(), Image::new(&bytes)).err(),
+            fault,
+            "of {len}"
+        );
+    }
+    Ok(())
 }
