@@ -8,7 +8,7 @@ use Rattle.pst_btree.specs.Entries.{block_key, block_with, first_with}
 use Rattle.pst_block.specs.Block.{bid_key}
 use Rattle.pst_block.specs.Fault.{block_fault}
 use Rattle.pst_block.specs.Good.{GoodBlock}
-use Rattle.pst_block.specs.Table.{Table, entry_of, IsWithin}
+use Rattle.pst_block.specs.Table.{Table, entry_of, IsWithin, AreWithin}
 use Rattle.pst_block.specs.Walk.{blocks_fault}
 use Rattle.pst_block.proofs.BlockLaws.{block_law}
 use Rattle.pst_block.proofs.BlockLemmas.{size_large}
@@ -54,3 +54,7 @@ found_same t end bid (Some e) none is =
 pub entry_is : (t : Table) (bid : ℕ) (r : Option BlockEntry) → r ≡ block_with (bid_key bid) t.entries → r ≡ entry_of t bid
 unfolding entry_of
 entry_is t bid r is = is
+
+pub all_within : (t : Table) (end : ℕ) → end ≤ length t.image → blocks_fault end t.image t.entries ≡ None → AreWithin t
+unfolding entry_of
+all_within t end inside none bid e is = within end t.image e inside ((block_law t.image end e).1 (found end t.image t.entries (bid_key bid) e none is).0)

@@ -1,5 +1,5 @@
 -- The blocks of a file as a table: the file's bytes, and the entries of its block B-tree.
-use Rattle.std.specs.Prelude.{ℕ, ◌+◌, ◌≤◌, List, length, Option}
+use Rattle.std.specs.Prelude.{ℕ, ◌+◌, ◌≤◌, ◌≡◌, List, length, Option, Some}
 use Rattle.pst_bytes.specs.Image.{bytes_at}
 use Rattle.pst_page.specs.declared.entry.BlockEntry.{BlockEntry}
 use Rattle.pst_btree.specs.Entries.{block_with}
@@ -23,3 +23,7 @@ body_of t e = bytes_at t.image (body_span e)
 -- the body lies in the file
 abbrev pub IsWithin : List ℕ → BlockEntry → Type 0
 IsWithin I e = e.ib + e.cb ≤ length I
+
+-- the body of each block lies in the file
+abbrev pub AreWithin : Table → Type 0
+AreWithin t = (bid : ℕ) (e : BlockEntry) → entry_of t bid ≡ Some e → IsWithin t.image e

@@ -28,7 +28,7 @@ impl<'a> Blocks<'a> {
     ghost use Rattle.pst_bytes.specs.Image.{bytes_of, bytes_at, IsInside, IsPartOf};
     ghost use Rattle.pst_block.specs.Block.{body_span};
     ghost use Rattle.pst_block.specs.Good.{GoodBlock};
-    ghost use Rattle.pst_block.specs.Table.{entry_of, body_of, IsWithin};
+    ghost use Rattle.pst_block.specs.Table.{entry_of, body_of, IsWithin, AreWithin};
     ghost use Rattle.pst_block.specs.Blocks.{table_of, image_of, mapped_end};
 
     /// The file.
@@ -50,6 +50,11 @@ impl<'a> Blocks<'a> {
         self.tree.find(bid)
     }
 
+    /// A law of all blocks: the body of each lies in the file.
+    pub fn lie_within(&self)
+        ensures { AreWithin (table_of self.now) }
+    {}
+
     /// Where the body of a block lies; None exactly where the block B-tree has no such block.
     pub fn span(&self, bid: u64) -> Option<Span>
         ensures value { result ≡ option_map body_span (entry_of (table_of self.now) bid) }
@@ -62,6 +67,7 @@ impl<'a> Blocks<'a> {
     /// The body of a block, in the file's own memory; None exactly where the block B-tree has no such block.
     pub fn body(&self, bid: u64) -> Option<&'a [u8]>
         ensures value { option_map (λ s. s.now) result ≡ option_map (body_of (table_of self.now)) (entry_of (table_of self.now) bid) }
+        ensures own { IfSome result (λ s. IfSome (entry_of (table_of self.now) bid) (λ e. IsPartOf (image_of self.now) (body_span e) s)) }
     {
         let entry = self.entry(bid)?;
         Some(self.body_at(entry))

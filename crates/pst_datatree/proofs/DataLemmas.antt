@@ -1,0 +1,151 @@
+-- What a data tree without fault has.
+use Rattle.std.proofs.Common.{◌≡◌, ℕ, zero, suc, ◌+◌, ◌*◌, ◌<◌, ◌≤◌, Bool, true, false, List, length, Option, Some, None, refl, ap, ◌∙◌, arith, length-append, subst}
+use Rattle.std.specs.Prelude.{slice_get, nat_eq, if◌then◌else◌, cond}
+use Rattle.std.proofs.lemmas.Bool.Decides.{nat_tests}
+use Rattle.pst_fault.specs.declared.fault.Fault.{Fault}
+use Rattle.pst_fault.specs.First.{◌then◌, holds_or, first_below, join_below}
+use Rattle.pst_fault.proofs.FirstLemmas.{none_then, none_below, first_below_front, slice_get-join, holds_or_none}
+use Rattle.pst_page.specs.declared.entry.BlockEntry.{BlockEntry}
+use Rattle.pst_block.specs.Table.{Table, entry_of, body_of}
+use Rattle.pst_datatree.specs.Bid.{is_internal}
+use Rattle.pst_datatree.specs.List.{count_in, total_in, bid_in, is_block_list, has_level_two}
+use Rattle.pst_datatree.specs.Data.{size_of, fault_or, block_missing, bad_tree, leaf_spans, leaf_fault, xblock_spans, xblock_fault, child_fault, xxblock_spans, xxblock_fault, tree_spans, tree_fault}
+
+pub list_fits : (level : ℕ) (body : List ℕ) → is_block_list level body ≡ true → 8 + 8 * count_in body ≤ length body
+unfolding is_block_list
+list_fits level body e = grind (arith, nat_tests)
+
+-- an XBLOCK without fault
+pub record IsSound (fault : ℕ → Option Fault) (t : Table) (e : BlockEntry) : Type 0 where
+  pub fits : 8 + 8 * count_in (body_of t e) ≤ length (body_of t e)
+  pub parts : first_below fault (count_in (body_of t e)) ≡ None
+
+pub sound_xblock : (t : Table) (e : BlockEntry) → xblock_fault t e ≡ None → IsSound (leaf_fault t e) t e
+unfolding xblock_fault
+sound_xblock t e h =
+    let body = body_of t e in
+    let p = none_then (holds_or (is_block_list 1 body) (bad_tree e)) _ h in
+    let q = none_then (first_below (leaf_fault t e) (count_in body)) _ p.1 in
+    record { fits = list_fits 1 body (holds_or_none _ _ p.0); parts = q.0 }
+
+-- an XXBLOCK without fault
+pub sound_xxblock : (t : Table) (e : BlockEntry) → xxblock_fault t e ≡ None → IsSound (child_fault t e) t e
+unfolding xxblock_fault
+sound_xxblock t e h =
+    let body = body_of t e in
+    let p = none_then (holds_or (is_block_list 2 body) (bad_tree e)) _ h in
+    let q = none_then (first_below (child_fault t e) (count_in body)) _ p.1 in
+    record { fits = list_fits 2 body (holds_or_none _ _ p.0); parts = q.0 }
+
+-- a block without fault is there
+pub fault_or_none : (f : Fault) (part : BlockEntry → Option Fault) (o : Option BlockEntry) → fault_or f part o ≡ None → (x : BlockEntry) × (o ≡ Some x) × (part x ≡ None)
+fault_or_none f part None h = cc
+fault_or_none f part (Some x) h = (x, refl, h)
+
+-- a data block that an XBLOCK names
+pub one_leaf : (t : Table) (e : BlockEntry) (i : ℕ) → leaf_fault t e i ≡ None → length (leaf_spans t (body_of t e) i) ≡ 1
+unfolding leaf_fault leaf_spans
+one_leaf t e i h =
+    let bid = bid_in (body_of t e) i in
+    let w = fault_or_none (block_missing bid) (λ _. if is_internal bid then Some (bad_tree e) else None) (entry_of t bid) h in
+    rw w.1 refl
+
+-- the XBLOCK that an XXBLOCK names
+pub one_child : (t : Table) (e : BlockEntry) (i : ℕ) → child_fault t e i ≡ None → (x : BlockEntry) × (entry_of t (bid_in (body_of t e) i) ≡ Some x) × (xblock_fault t x ≡ None)
+unfolding child_fault
+one_child t e i h =
+    let bid = bid_in (body_of t e) i in
+    let w = fault_or_none (block_missing bid) (λ e'. if is_internal bid then xblock_fault t e' else Some (bad_tree e)) (entry_of t bid) h in
+    (w.0, w.1, from_test (is_internal bid) (xblock_fault t w.0) (bad_tree e) w.2)
+  where
+    from_test : (b : Bool) (o : Option Fault) (f : Fault) → cond b o (Some f) ≡ None → o ≡ None
+    from_test true o f h = h
+    from_test false o f h = cc
+
+pub length_leaves : (t : Table) (e : BlockEntry) (n : ℕ) → first_below (leaf_fault t e) n ≡ None → length (join_below (leaf_spans t (body_of t e)) n) ≡ n
+length_leaves t e zero h = refl
+length_leaves t e (suc n) h =
+    let both = none_then (first_below (leaf_fault t e) n) (leaf_fault t e n) h in
+    omega (arith, length-append (join_below (leaf_spans t (body_of t e)) n) (leaf_spans t (body_of t e) n), length_leaves t e n both.0, one_leaf t e n both.1)
+
+-- ---- the spans of an XBLOCK by their numbers
+
+pub length_xblock : (t : Table) (e : BlockEntry) → xblock_fault t e ≡ None → length (xblock_spans t e) ≡ count_in (body_of t e)
+unfolding xblock_spans
+length_xblock t e h = length_leaves t e (count_in (body_of t e)) (sound_xblock t e h).parts
+
+pub xblock_fits : (t : Table) (e : BlockEntry) → xblock_fault t e ≡ None → 8 + 8 * count_in (body_of t e) ≤ length (body_of t e)
+xblock_fits t e h = (sound_xblock t e h).fits
+
+pub xblock_head : (t : Table) (e : BlockEntry) → xblock_fault t e ≡ None → 8 ≤ length (body_of t e)
+xblock_head t e h = omega (arith, xblock_fits t e h)
+
+pub xblock_room : (t : Table) (e : BlockEntry) (i : ℕ) → xblock_fault t e ≡ None → i < length (xblock_spans t e) → 16 + 8 * i ≤ length (body_of t e)
+xblock_room t e i h lt = omega (arith, xblock_fits t e h, length_xblock t e h)
+
+pub leaf_of_xblock : (t : Table) (e : BlockEntry) (i : ℕ) → xblock_fault t e ≡ None → i < length (xblock_spans t e) → leaf_fault t e i ≡ None
+leaf_of_xblock t e i h lt = none_below (leaf_fault t e) (count_in (body_of t e)) i (sound_xblock t e h).parts (omega (arith, length_xblock t e h))
+
+span_in_xblock : (t : Table) (e : BlockEntry) (i : ℕ) → xblock_fault t e ≡ None → i < count_in (body_of t e) → slice_get (xblock_spans t e) i ≡ slice_get (leaf_spans t (body_of t e) i) 0
+unfolding xblock_spans
+span_in_xblock t e i h lt =
+    let s = sound_xblock t e h in
+    let none = none_below (leaf_fault t e) (count_in (body_of t e)) i s.parts lt in
+    let one = one_leaf t e i none in
+    let before = length_leaves t e i (first_below_front (leaf_fault t e) (count_in (body_of t e)) i s.parts (omega arith)) in
+    let at = slice_get-join (leaf_spans t (body_of t e)) (count_in (body_of t e)) i 0 lt (omega arith) in
+    ap (slice_get (join_below (leaf_spans t (body_of t e)) (count_in (body_of t e)))) (omega (arith, before)) ∙ at
+
+pub span_of_xblock : (t : Table) (e : BlockEntry) (i : ℕ) → xblock_fault t e ≡ None → i < length (xblock_spans t e) → slice_get (xblock_spans t e) i ≡ slice_get (leaf_spans t (body_of t e) i) 0
+span_of_xblock t e i h lt = span_in_xblock t e i h (omega (arith, length_xblock t e h))
+
+-- ---- the XBLOCKs of an XXBLOCK
+
+pub sound_child : (t : Table) (e x : BlockEntry) (i : ℕ) → entry_of t (bid_in (body_of t e) i) ≡ Some x → child_fault t e i ≡ None → xblock_fault t x ≡ None
+sound_child t e x i h none = let w = one_child t e i none in let same : w.0 ≡ x = cc in subst (λ y. xblock_fault t y ≡ None) same w.2
+
+pub xxblock_fits : (t : Table) (e : BlockEntry) → xxblock_fault t e ≡ None → 8 + 8 * count_in (body_of t e) ≤ length (body_of t e)
+xxblock_fits t e h = (sound_xxblock t e h).fits
+
+pub xxblock_head : (t : Table) (e : BlockEntry) → xxblock_fault t e ≡ None → 8 ≤ length (body_of t e)
+xxblock_head t e h = omega (arith, xxblock_fits t e h)
+
+pub child_of_xxblock : (t : Table) (e : BlockEntry) → xxblock_fault t e ≡ None → (i : ℕ) → i < count_in (body_of t e) → child_fault t e i ≡ None
+child_of_xxblock t e h i lt = none_below (child_fault t e) (count_in (body_of t e)) i (sound_xxblock t e h).parts lt
+
+-- ---- how many bytes an internal block has
+
+number_of_test : (a b : ℕ) → nat_eq a b ≡ true → a ≡ b
+number_of_test a b h = grind (arith, nat_tests)
+
+total_of_xblock : (t : Table) (e : BlockEntry) → xblock_fault t e ≡ None → size_of (xblock_spans t e) ≡ total_in (body_of t e)
+unfolding xblock_fault
+total_of_xblock t e h =
+    let body = body_of t e in
+    let p = none_then (holds_or (is_block_list 1 body) (bad_tree e)) _ h in
+    let q = none_then (first_below (leaf_fault t e) (count_in body)) _ p.1 in
+    number_of_test _ _ (holds_or_none _ _ q.1)
+
+total_of_xxblock : (t : Table) (e : BlockEntry) → xxblock_fault t e ≡ None → size_of (xxblock_spans t e) ≡ total_in (body_of t e)
+unfolding xxblock_fault
+total_of_xxblock t e h =
+    let body = body_of t e in
+    let p = none_then (holds_or (is_block_list 2 body) (bad_tree e)) _ h in
+    let q = none_then (first_below (child_fault t e) (count_in body)) _ p.1 in
+    number_of_test _ _ (holds_or_none _ _ q.1)
+
+pub tree_total : (t : Table) (e : BlockEntry) → tree_fault t e ≡ None → size_of (tree_spans t e) ≡ total_in (body_of t e)
+unfolding tree_fault tree_spans
+tree_total t e h = by_level (has_level_two (body_of t e)) h
+  where
+    by_level : (b : Bool) → cond b (xxblock_fault t e) (xblock_fault t e) ≡ None → size_of (cond b (xxblock_spans t e) (xblock_spans t e)) ≡ total_in (body_of t e)
+    by_level true none = total_of_xxblock t e none
+    by_level false none = total_of_xblock t e none
+
+pub tree_head : (t : Table) (e : BlockEntry) → tree_fault t e ≡ None → 8 ≤ length (body_of t e)
+unfolding tree_fault
+tree_head t e h = by_level (has_level_two (body_of t e)) h
+  where
+    by_level : (b : Bool) → cond b (xxblock_fault t e) (xblock_fault t e) ≡ None → 8 ≤ length (body_of t e)
+    by_level true none = xxblock_head t e none
+    by_level false none = xblock_head t e none

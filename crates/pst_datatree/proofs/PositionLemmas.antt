@@ -1,0 +1,168 @@
+-- What is left of a data tree, from one position to the next.
+use Rattle.std.proofs.Common.{◌≡◌, Bool, true, false, ℕ, zero, suc, ◌+◌, ◌-◌, ◌<◌, ◌≤◌, List, [], ◌∷◌, ◌++◌, length, drop, Option, Some, None, refl, sym, ap, ◌∙◌, arith, add-one}
+use Rattle.std.specs.Prelude.{slice_get, cond}
+use Rattle.std.proofs.lemmas.List.{drop_all, append-nil, append_assoc}
+use Rattle.pst_bytes.specs.declared.span.Span.{Span}
+use Rattle.pst_fault.specs.First.{join_below}
+use Rattle.pst_page.specs.declared.entry.BlockEntry.{BlockEntry}
+use Rattle.pst_block.specs.Block.{body_span}
+use Rattle.pst_block.specs.Table.{Table, entry_of, body_of}
+use Rattle.pst_datatree.specs.declared.position.Position.{Position}
+use Rattle.pst_datatree.specs.Bid.{is_internal, is_no_block}
+use Rattle.pst_datatree.specs.List.{count_in, has_level_two}
+use Rattle.pst_datatree.specs.Data.{spans_at, data_block_spans, leaf_spans, xblock_spans, xblock_fault, child_spans, xxblock_spans, tree_spans, block_spans, data_spans}
+use Rattle.pst_datatree.specs.Position.{join_from, xblock_left, xxblock_left, tree_left, block_left, data_left}
+use Rattle.pst_datatree.proofs.DataLemmas.{span_of_xblock}
+
+-- ---- lists
+
+-- an element, and what is behind it
+drop_suc : {X : Type 0} (xs : List X) (n : ℕ) (x : X) → slice_get xs n ≡ Some x → drop n xs ≡ x ∷ drop (suc n) xs
+drop_suc [] n x h = cc
+drop_suc (y ∷ xs) zero x h = cc
+drop_suc (y ∷ xs) (suc n) x h = drop_suc xs n x h
+
+pub drop_next : {X : Type 0} (xs : List X) (n : ℕ) (x : X) → slice_get xs n ≡ Some x → drop n xs ≡ x ∷ drop (n + 1) xs
+drop_next xs n x h = rw add-one (drop_suc xs n x h)
+
+get_left : {X : Type 0} (xs ys : List X) (i : ℕ) (x : X) → slice_get xs i ≡ Some x → slice_get (xs ++ ys) i ≡ Some x
+get_left [] ys i x h = cc
+get_left (y ∷ xs) ys zero x h = h
+get_left (y ∷ xs) ys (suc i) x h = get_left xs ys i x h
+
+drop_past : {X : Type 0} (xs ys : List X) (n : ℕ) → length xs ≤ n → drop n (xs ++ ys) ≡ drop (n - length xs) ys
+drop_past [] ys n h = ap (λ m. drop m ys) (omega arith)
+drop_past (x ∷ xs) ys zero h = absurd (omega arith)
+drop_past (x ∷ xs) ys (suc n) h = let same : n - length xs ≡ suc n - length (x ∷ xs) = omega arith in rw (← same) (drop_past xs ys n (omega arith))
+
+-- ---- parts from a number on
+
+from_step : {X : Type 0} (part : ℕ → List X) (i n : ℕ) → i < n → join_from part i (n - i) ≡ part i ++ join_from part (i + 1) (n - (i + 1))
+unfolding join_from
+from_step part i n h = let more : n - i ≡ suc (n - (i + 1)) = omega arith in rw more refl
+
+from_end : {X : Type 0} (part : ℕ → List X) (i n : ℕ) → n ≤ i → join_from part i (n - i) ≡ []
+unfolding join_from
+from_end part i n h = let none : n - i ≡ 0 = omega arith in rw none refl
+
+-- the parts below a number, and those from it on
+front_and_rest : {X : Type 0} (part : ℕ → List X) (i n : ℕ) → join_below part i ++ join_from part i n ≡ join_below part (i + n)
+unfolding join_from
+front_and_rest part i zero = let same : i ≡ i + 0 = omega arith in append-nil (join_below part i) ∙ ap (λ m. join_below part m) same
+front_and_rest part i (suc n) =
+    let one : join_below part (i + 1) ≡ join_below part i ++ part i = rw add-one refl in
+    let same : i + 1 + n ≡ i + suc n = omega arith in
+    sym (append_assoc (join_below part i) (part i) (join_from part (i + 1) n))
+    ∙ ap (λ xs. xs ++ join_from part (i + 1) n) (sym one)
+    ∙ front_and_rest part (i + 1) n
+    ∙ ap (λ m. join_below part m) same
+
+-- ---- an XBLOCK
+
+pub xblock_next : (t : Table) (e : BlockEntry) (at : Position) (s : Span) → xblock_fault t e ≡ None → at.leaf < length (xblock_spans t e) → leaf_spans t (body_of t e) at.leaf ≡ s ∷ [] → xblock_left t e at ≡ s ∷ xblock_left t e (record { child = at.child; leaf = at.leaf + 1 })
+unfolding xblock_left
+xblock_next t e at s h lt one = drop_next (xblock_spans t e) at.leaf s (span_of_xblock t e at.leaf h lt ∙ ap (λ xs. slice_get xs 0) one)
+
+pub xblock_end : (t : Table) (e : BlockEntry) (at : Position) → length (xblock_spans t e) ≤ at.leaf → xblock_left t e at ≡ []
+unfolding xblock_left
+xblock_end t e at h = drop_all at.leaf (xblock_spans t e) h
+
+-- ---- an XXBLOCK
+
+-- a span of the XBLOCK at the position
+pub xxblock_next : (t : Table) (e x : BlockEntry) (at : Position) (s : Span) → at.child < count_in (body_of t e) → child_spans t (body_of t e) at.child ≡ xblock_spans t x → xblock_fault t x ≡ None → at.leaf < length (xblock_spans t x) → leaf_spans t (body_of t x) at.leaf ≡ s ∷ [] → xxblock_left t e at ≡ s ∷ xxblock_left t e (record { child = at.child; leaf = at.leaf + 1 })
+unfolding xxblock_left
+xxblock_next t e x at s lt is h below one =
+    let part = child_spans t (body_of t e) in
+    let n = count_in (body_of t e) in
+    let here : slice_get (part at.child) at.leaf ≡ Some s = ap (λ xs. slice_get xs at.leaf) is ∙ (span_of_xblock t x at.leaf h below ∙ ap (λ xs. slice_get xs 0) one) in
+    let split = from_step part at.child n lt in
+    drop_next (join_from part at.child (n - at.child)) at.leaf s (ap (λ xs. slice_get xs at.leaf) split ∙ get_left (part at.child) (join_from part (at.child + 1) (n - (at.child + 1))) at.leaf s here)
+
+-- no more span of it: the next XBLOCK
+pub xxblock_pass : (t : Table) (e x : BlockEntry) (at : Position) → at.child < count_in (body_of t e) → child_spans t (body_of t e) at.child ≡ xblock_spans t x → length (xblock_spans t x) ≤ at.leaf → xxblock_left t e at ≡ xxblock_left t e (record { child = at.child + 1; leaf = at.leaf - length (xblock_spans t x) })
+unfolding xxblock_left
+xxblock_pass t e x at lt is past =
+    let part = child_spans t (body_of t e) in
+    let n = count_in (body_of t e) in
+    let rest = join_from part (at.child + 1) (n - (at.child + 1)) in
+    ap (drop at.leaf) (from_step part at.child n lt ∙ ap (λ xs. xs ++ rest) is)
+    ∙ drop_past (xblock_spans t x) rest at.leaf past
+
+pub xxblock_end : (t : Table) (e : BlockEntry) (at : Position) → count_in (body_of t e) ≤ at.child → xxblock_left t e at ≡ []
+unfolding xxblock_left
+xxblock_end t e at h = ap (drop at.leaf) (from_end (child_spans t (body_of t e)) at.child (count_in (body_of t e)) h) ∙ drop_all at.leaf [] (omega arith)
+
+-- from the first XBLOCK on
+pub xxblock_from : (t : Table) (e : BlockEntry) (n : ℕ) → xxblock_left t e (record { child = 0; leaf = n }) ≡ drop n (xxblock_spans t e)
+unfolding xxblock_left xxblock_spans
+xxblock_from t e n =
+    let part = child_spans t (body_of t e) in
+    let count = count_in (body_of t e) in
+    let same : 0 + (count - 0) ≡ count = omega arith in
+    let all : join_from part 0 (count - 0) ≡ join_below part count = front_and_rest part 0 (count - 0) ∙ ap (λ m. join_below part m) same in
+    ap (drop n) all
+
+-- ---- a data block
+
+pub data_block_next : (t : Table) (e : BlockEntry) (at : Position) → at.leaf ≡ 0 → drop at.leaf (data_block_spans e) ≡ body_span e ∷ drop (at.leaf + 1) (data_block_spans e)
+data_block_next t e at h = rw h refl
+
+pub data_block_end : (e : BlockEntry) (at : Position) → 0 < at.leaf → drop at.leaf (data_block_spans e) ≡ []
+data_block_end e at h = drop_all at.leaf (data_block_spans e) (omega arith)
+
+-- ---- a block identifier, from its first block on
+
+tree_from : (t : Table) (e : BlockEntry) (n : ℕ) → tree_left t e (record { child = 0; leaf = n }) ≡ drop n (tree_spans t e)
+unfolding tree_left tree_spans xblock_left
+tree_from t e n = by_level (has_level_two (body_of t e))
+  where
+    at : Position
+    at = record { child = 0; leaf = n }
+
+    by_level : (b : Bool) → cond b (xxblock_left t e at) (xblock_left t e at) ≡ drop n (cond b (xxblock_spans t e) (xblock_spans t e))
+    by_level true = xxblock_from t e n
+    by_level false = refl
+
+block_from : (t : Table) (e : BlockEntry) (n : ℕ) → block_left t e (record { child = 0; leaf = n }) ≡ drop n (block_spans t e)
+unfolding block_left block_spans
+block_from t e n = by_kind (is_internal e.bid)
+  where
+    at : Position
+    at = record { child = 0; leaf = n }
+
+    by_kind : (b : Bool) → cond b (tree_left t e at) (drop n (data_block_spans e)) ≡ drop n (cond b (tree_spans t e) (data_block_spans e))
+    by_kind true = tree_from t e n
+    by_kind false = refl
+
+pub data_from : (t : Table) (bid n : ℕ) → data_left t bid (record { child = 0; leaf = n }) ≡ drop n (data_spans t bid)
+unfolding data_left data_spans
+data_from t bid n = by_name (is_no_block bid)
+  where
+    at : Position
+    at = record { child = 0; leaf = n }
+
+    by_entry : (o : Option BlockEntry) → spans_at (λ e. block_left t e at) o ≡ drop n (spans_at (block_spans t) o)
+    by_entry None = sym (drop_all n [] (omega arith))
+    by_entry (Some e) = block_from t e n
+
+    by_name : (b : Bool) → cond b [] (spans_at (λ e. block_left t e at) (entry_of t bid)) ≡ drop n (cond b [] (spans_at (block_spans t) (entry_of t bid)))
+    by_name true = sym (drop_all n [] (omega arith))
+    by_name false = by_entry (entry_of t bid)
+
+-- the first of what is left is the element with that number
+pub get_of_drop : {X : Type 0} (xs : List X) (n : ℕ) → slice_get (drop n xs) 0 ≡ slice_get xs n
+get_of_drop [] zero = refl
+get_of_drop [] (suc n) = refl
+get_of_drop (x ∷ xs) zero = refl
+get_of_drop (x ∷ xs) (suc n) = get_of_drop xs n
+
+pub leaf_some : (t : Table) (bid n : ℕ) (s : Span) (rest : List Span) → data_left t bid (record { child = 0; leaf = n }) ≡ s ∷ rest → slice_get (data_spans t bid) n ≡ Some s
+leaf_some t bid n s rest h = sym (get_of_drop (data_spans t bid) n) ∙ ap (λ xs. slice_get xs 0) (sym (data_from t bid n) ∙ h)
+
+pub leaf_none : (t : Table) (bid n : ℕ) → data_left t bid (record { child = 0; leaf = n }) ≡ [] → slice_get (data_spans t bid) n ≡ None
+leaf_none t bid n h = sym (get_of_drop (data_spans t bid) n) ∙ ap (λ xs. slice_get xs 0) (sym (data_from t bid n) ∙ h)
+
+-- nothing is passed over
+pub data_from_start : (t : Table) (bid : ℕ) → data_left t bid (record { child = 0; leaf = 0 }) ≡ data_spans t bid
+data_from_start t bid = data_from t bid 0

@@ -1,0 +1,48 @@
+-- What an iterator over the pieces of a value has left.
+use Rattle.std.specs.Prelude.{⊤, ℕ, List, Option, Some, None}
+use Rattle.std.specs.Borrow.{Bor}
+use Rattle.std.specs.Iterator.{YieldsFirstRef}
+use Rattle.pst_bytes.specs.declared.Image.{Image}
+use Rattle.pst_bytes.specs.declared.span.Span.{Span}
+use Rattle.pst_bytes.specs.Image.{bytes_of, IsPartOf}
+use Rattle.pst_block.specs.Table.{Table}
+use Rattle.pst_block.specs.Blocks.{table_of, image_of}
+use Rattle.pst_datatree.specs.declared.pieces.Pieces.{Pieces}
+use Rattle.pst_datatree.specs.declared.position.Position.{Position}
+use Rattle.pst_datatree.specs.Position.{data_left}
+use Rattle.pst_datatree.specs.Cut.{shown}
+use Rattle.pst_datatree.specs.Spans.{slices_of, first_span}
+
+-- the file that the bytes lie in
+abbrev pub file_of : Pieces → Image
+file_of p = image_of p.blocks
+
+-- the table of blocks, the block identifier of the data tree, and the position in it
+abbrev pub table_left : Pieces → Table
+table_left p = table_of p.blocks
+
+abbrev pub bid_left : Pieces → ℕ
+bid_left p = p.bid
+
+abbrev pub position_left : Pieces → Position
+position_left p = p.at
+
+-- all spans of the data tree from a position on
+abbrev pub spans_from : Pieces → Position → List Span
+spans_from p at = data_left (table_left p) (bid_left p) at
+
+-- the spans that are left
+abbrev pub spans_left : Pieces → List Span
+spans_left p = shown p.whole p.skip p.left (spans_from p (position_left p))
+
+-- their bytes
+abbrev pub slices_left : Pieces → List (List ℕ)
+slices_left p = slices_of (bytes_of (file_of p)) (spans_left p)
+
+-- The first slice of what is left, taken: it is the file's own memory, where its span lies.
+abbrev pub LendsFirst : Pieces → Option (Bor (List ℕ)) → Type 0
+LendsFirst p None = ⊤
+LendsFirst p (Some slice) = IsPartOf (file_of p) (first_span (spans_left p)) slice
+
+abbrev pub TakesSlice : Pieces → Option (Bor (List ℕ)) → Pieces → Type 0
+TakesSlice old slice new = YieldsFirstRef slices_left old slice new × LendsFirst old slice

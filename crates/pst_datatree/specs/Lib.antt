@@ -1,0 +1,11 @@
+pub mod Bid
+pub mod List
+pub mod Data
+pub mod Seen
+pub mod Relation
+pub mod Spans
+pub mod Cut
+pub mod Position
+pub mod Left
+pub mod After
+pub mod Shown

@@ -1,0 +1,244 @@
+//! The check of a data tree, and how many bytes it has.
+
+ghost use Rattle.std.specs.Prelude.{◌≡◌, ◌+◌, ◌*◌, ◌^◌, ◌<◌, ◌≤◌, List, length, option_map, IfErr, IfOk, None, OnOk};
+ghost use Rattle.pst_bytes.specs.declared.span.Span.{Span};
+ghost use Rattle.pst_fault.specs.Fault.{at_node, no_memory};
+ghost use Rattle.pst_fault.specs.First.{answer, Tells, first_below, join_below};
+ghost use Rattle.pst_block.specs.Table.{body_of, IsWithin};
+ghost use Rattle.pst_block.specs.Blocks.{table_of};
+ghost use Rattle.pst_datatree.specs.Data.{size_of, leaf_spans, leaf_fault, xblock_spans, xblock_fault, child_spans, child_fault, xxblock_spans, xxblock_fault, tree_spans, tree_fault, block_spans, block_fault, data_spans, data_fault, block_missing, bad_tree};
+ghost use Rattle.pst_datatree.specs.Relation.{HasData};
+ghost use Rattle.pst_datatree.specs.Seen.{expansions_of, raised};
+
+use crate::bid::{is_internal, is_no_block};
+use crate::list::{bid_at, body_in, is_list, is_xxblock};
+use crate::seen::Seen;
+use pst_block::{BlockEntry, Blocks};
+use pst_fault::{Fault, Kind};
+use std::alloc::Global;
+
+/// The fault of a block that is named and that the block B-tree lacks.
+pub fn missing_block(bid: u64) -> Fault
+    ensures { result ≡ block_missing bid }
+{
+    Fault::within(Kind::BlockMissing, 0, bid)
+}
+
+// The fault of a breach in an internal block.
+fn tree_breach(entry: BlockEntry) -> Fault
+    ensures { result ≡ bad_tree entry }
+{
+    Fault::within(Kind::DataTree, entry.ib, entry.bid)
+}
+
+// How many bytes the data block has that an XBLOCK names with a number.
+#[tactic(auto, unfolding(crate::specs::Data::leaf_spans, crate::specs::Data::leaf_fault))]
+fn leaf_len(blocks: &Blocks, holder: BlockEntry, i: u16) -> Result<u64, Fault>
+    requires within { IsWithin (table_of blocks.now).image holder }
+    requires fits { 16 + 8 * i ≤ length (body_of (table_of blocks.now) holder) }
+    ensures value { let t = table_of blocks.now in
+        result ≡ answer (leaf_fault t holder i) (size_of (leaf_spans t (body_of t holder) i)) }
+    ensures small { IfOk result (λ n. n < 65536) }
+{
+    let bid = bid_at(body_in(blocks, holder), i);
+    let Some(entry) = blocks.entry(bid) else {
+        return Err(missing_block(bid));
+    };
+    if is_internal(bid) {
+        return Err(tree_breach(holder));
+    }
+    Ok(u64::from(entry.cb))
+}
+
+// How many bytes the first data blocks have that an XBLOCK names.
+fn leaves_len(blocks: &Blocks, holder: BlockEntry, count: u16) -> Result<u64, Fault>
+    requires within { IsWithin (table_of blocks.now).image holder }
+    requires fits { 8 + 8 * count ≤ length (body_of (table_of blocks.now) holder) }
+    ensures value { let t = table_of blocks.now in
+        result ≡ answer (first_below (leaf_fault t holder) count) (size_of (join_below (leaf_spans t (body_of t holder)) count)) }
+    ensures small { IfOk result (λ n. n ≤ 65536 * count) }
+{
+    let mut total = 0u64;
+    for i in 0..count {
+        total += leaf_len(blocks, holder, i)?;
+    }
+    Ok(total)
+}
+
+// How many bytes an XBLOCK has.
+#[tactic(auto, unfolding(crate::specs::Data::xblock_spans, crate::specs::Data::xblock_fault))]
+fn xblock_len(blocks: &Blocks, entry: BlockEntry, seen: &mut Seen) -> Result<u64, Fault>
+    requires within { IsWithin (table_of blocks.now).image entry }
+    ensures value { let t = table_of blocks.now in
+        result ≡ answer (xblock_fault t entry) (size_of (xblock_spans t entry)) }
+    ensures small { IfOk result (λ n. n < 2 ^ 32) }
+    ensures grows { expansions_of seen.old ≤ expansions_of seen.new }
+    ensures counts { OnOk result (expansions_of seen.new ≡ raised (expansions_of seen.old) 1) }
+{
+    let body = body_in(blocks, entry);
+    if !is_list(1, body) {
+        return Err(tree_breach(entry));
+    }
+    seen.expand();
+    let total = leaves_len(blocks, entry, body.number16(2))?;
+    if total != u64::from(body.number32(4)) {
+        return Err(tree_breach(entry));
+    }
+    Ok(total)
+}
+
+// How many bytes the XBLOCK has that an XXBLOCK names with a number.
+#[tactic(auto, unfolding(crate::specs::Data::child_spans, crate::specs::Data::child_fault))]
+fn child_len(blocks: &Blocks, holder: BlockEntry, i: u16, seen: &mut Seen) -> Result<u64, Fault>
+    requires within { IsWithin (table_of blocks.now).image holder }
+    requires fits { 16 + 8 * i ≤ length (body_of (table_of blocks.now) holder) }
+    ensures value { let t = table_of blocks.now in
+        result ≡ answer (child_fault t holder i) (size_of (child_spans t (body_of t holder) i)) }
+    ensures small { IfOk result (λ n. n < 2 ^ 32) }
+    ensures grows { expansions_of seen.old ≤ expansions_of seen.new }
+    ensures counts { OnOk result (expansions_of seen.new ≡ raised (expansions_of seen.old) 1) }
+{
+    let bid = bid_at(body_in(blocks, holder), i);
+    let Some(entry) = blocks.entry(bid) else {
+        return Err(missing_block(bid));
+    };
+    if !is_internal(bid) {
+        return Err(tree_breach(holder));
+    }
+    xblock_len(blocks, entry, seen)
+}
+
+// How many bytes the first XBLOCKs have that an XXBLOCK names.
+fn children_len(
+    blocks: &Blocks,
+    holder: BlockEntry,
+    count: u16,
+    seen: &mut Seen,
+) -> Result<u64, Fault>
+    requires within { IsWithin (table_of blocks.now).image holder }
+    requires fits { 8 + 8 * count ≤ length (body_of (table_of blocks.now) holder) }
+    ensures value { let t = table_of blocks.now in
+        result ≡ answer (first_below (child_fault t holder) count) (size_of (join_below (child_spans t (body_of t holder)) count)) }
+    ensures grows { expansions_of seen.old ≤ expansions_of seen.new }
+    ensures counts { OnOk result (expansions_of seen.new ≡ raised (expansions_of seen.old) count) }
+{
+    let mut total = 0u64;
+    for i in 0..count {
+        total += child_len(blocks, holder, i, seen)?;
+    }
+    Ok(total)
+}
+
+// How many bytes an XXBLOCK has.
+#[tactic(auto, unfolding(crate::specs::Data::xxblock_spans, crate::specs::Data::xxblock_fault))]
+fn xxblock_len(blocks: &Blocks, entry: BlockEntry, seen: &mut Seen) -> Result<u64, Fault>
+    requires within { IsWithin (table_of blocks.now).image entry }
+    ensures value { let t = table_of blocks.now in
+        result ≡ answer (xxblock_fault t entry) (size_of (xxblock_spans t entry)) }
+    ensures small { IfOk result (λ n. n < 2 ^ 32) }
+    ensures grows { expansions_of seen.old ≤ expansions_of seen.new }
+{
+    let body = body_in(blocks, entry);
+    if !is_list(2, body) {
+        return Err(tree_breach(entry));
+    }
+    seen.expand();
+    let total = children_len(blocks, entry, body.number16(2), seen)?;
+    if total != u64::from(body.number32(4)) {
+        return Err(tree_breach(entry));
+    }
+    Ok(total)
+}
+
+// How many bytes an internal block has.
+#[tactic(auto, unfolding(crate::specs::Data::tree_spans, crate::specs::Data::tree_fault))]
+fn tree_len(blocks: &Blocks, entry: BlockEntry, seen: &mut Seen) -> Result<u64, Fault>
+    requires within { IsWithin (table_of blocks.now).image entry }
+    ensures value { let t = table_of blocks.now in
+        result ≡ answer (tree_fault t entry) (size_of (tree_spans t entry)) }
+    ensures grows { expansions_of seen.old ≤ expansions_of seen.new }
+{
+    if is_xxblock(body_in(blocks, entry)) {
+        xxblock_len(blocks, entry, seen)
+    } else {
+        xblock_len(blocks, entry, seen)
+    }
+}
+
+// How many bytes a block has.
+#[tactic(auto, unfolding(crate::specs::Data::block_spans, crate::specs::Data::block_fault))]
+fn block_len(blocks: &Blocks, entry: BlockEntry, seen: &mut Seen) -> Result<u64, Fault>
+    requires within { IsWithin (table_of blocks.now).image entry }
+    ensures value { let t = table_of blocks.now in
+        result ≡ answer (block_fault t entry) (size_of (block_spans t entry)) }
+    ensures grows { expansions_of seen.old ≤ expansions_of seen.new }
+{
+    if is_internal(entry.bid) {
+        tree_len(blocks, entry, seen)
+    } else {
+        Ok(u64::from(entry.cb))
+    }
+}
+
+// How many bytes the data tree of a block identifier has.
+#[tactic(auto, unfolding(crate::specs::Data::data_spans, crate::specs::Data::data_fault))]
+fn data_len(blocks: &Blocks, bid: u64, seen: &mut Seen) -> Result<u64, Fault>
+    ensures value { let t = table_of blocks.now in
+        result ≡ answer (data_fault t bid) (size_of (data_spans t bid)) }
+    ensures grows { expansions_of seen.old ≤ expansions_of seen.new }
+{
+    if is_no_block(bid) {
+        return Ok(0);
+    }
+    let Some(entry) = blocks.entry(bid) else {
+        return Err(missing_block(bid));
+    };
+    block_len(blocks, entry, seen)
+}
+
+// The data tree of a block identifier, with its fault told of a node.
+#[tactic(auto, using(crate::proofs::CheckLemmas::answered_none))]
+fn checked(blocks: &Blocks, bid: u64, nid: u32, seen: &mut Seen) -> Result<(), Fault>
+    ensures first { result ≡ answer (option_map (at_node nid) (data_fault (table_of blocks.now) bid)) tt }
+    ensures sound { OnOk result (data_fault (table_of blocks.now) bid ≡ None) }
+    ensures grows { expansions_of seen.old ≤ expansions_of seen.new }
+{
+    match data_len(blocks, bid, seen) {
+        Ok(_) => Ok(()),
+        Err(fault) => Err(fault.at_node(nid)),
+    }
+}
+
+/// Checks the data tree of a node's data, by the identifier that the node has for it ([MS-PST] 2.2.2.8.3). In order, with
+/// `nid` as the node:
+///
+/// - BlockMissing, with the identifier as it is written, where the block B-tree lacks a block that is named;
+/// - DataTree, at the internal block with the breach and with the identifier of its entry: btype is not 1, cLevel is
+///   neither 1 nor 2 or not 1 below an XXBLOCK, the identifiers do not fit in the body, a block that an XBLOCK names is
+///   internal or one that an XXBLOCK names is not (told of the naming block), or lcbTotal is not the number of all bytes
+///   below. An XBLOCK that an XXBLOCK names is checked whole before the next one.
+///
+/// An identifier that is 0 but for its bit 0 names no block, and has no fault.
+#[tactic(auto, using(crate::proofs::CheckLemmas::tells, crate::proofs::CheckLemmas::has_data, crate::proofs::CheckLemmas::only_memory_refuses))]
+pub fn check_data(
+    _alloc: Global,
+    blocks: &Blocks,
+    bid: u64,
+    nid: u32,
+    seen: &mut Seen,
+) -> Result<(), Fault>
+    // No fault, or the first one; or that memory ran out.
+    ensures first { Tells result (option_map (at_node nid) (data_fault (table_of blocks.now) bid)) tt }
+
+    // Where there is none, the identifier has a data tree, with the spans that look-ups give.
+    ensures sound { OnOk result (data_fault (table_of blocks.now) bid ≡ None) }
+    ensures found { OnOk result (HasData (table_of blocks.now) bid (data_spans (table_of blocks.now) bid)) }
+
+    // An identifier that has a data tree is refused for want of memory alone.
+    ensures only { (spans : List Span) → HasData (table_of blocks.now) bid spans → IfErr result (λ f. f ≡ no_memory) }
+
+    // What is counted never falls.
+    ensures grows { expansions_of seen.old ≤ expansions_of seen.new }
+{
+    checked(blocks, bid, nid, seen)
+}

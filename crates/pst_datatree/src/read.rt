@@ -1,0 +1,103 @@
+//! What a value answers.
+
+ghost use Rattle.std.specs.Prelude.{◌≡◌, slice_get};
+ghost use Rattle.std.specs.List.{concat};
+ghost use Rattle.pst_datatree.specs.Left.{spans_left, slices_left};
+ghost use Rattle.pst_datatree.specs.Spans.{nonempty, first_span};
+
+use crate::bytes::Value;
+use crate::make::value_of;
+use crate::pieces::Pieces;
+
+// The byte with a number among those that are left.
+fn byte_in(pieces: Pieces, i: u64) -> Option<u8>
+    ensures { result ≡ slice_get (concat (slices_left pieces.entry)) i }
+{
+    let mut left = i;
+    for piece in pieces {
+        let len = piece.len() as u64;
+        if left < len {
+            return Some(piece[left as usize]);
+        }
+        left -= len;
+    }
+    None
+}
+
+// Where the first byte lies, 0 where there is none.
+fn place_of(pieces: Pieces) -> u64
+    ensures { result ≡ (first_span (nonempty (spans_left pieces.entry))).at }
+{
+    let mut rest = pieces;
+    while let Some(span) = rest.next_span() {
+        if span.len > 0 {
+            return span.at;
+        }
+    }
+    0
+}
+
+impl<'a> Value<'a> {
+    ghost use Rattle.std.specs.Prelude.{◌≤◌, ◌↔◌, IsSome, IsTrue, IfSome, slice_range};
+    ghost use Rattle.pst_datatree.specs.Shown.{bytes_in, size_in, place_in, IsPart};
+
+    /// How many bytes the value has.
+    pub fn len(&self) -> u64
+        ensures { result ≡ size_in self.now }
+    {
+        match self {
+            Value::Whole(_, slice) => slice.len() as u64,
+            Value::Pieces(pieces) => pieces.size(),
+        }
+    }
+
+    /// Whether the value has no byte.
+    pub fn is_empty(&self) -> bool
+        ensures { IsTrue result ↔ (size_in self.now ≡ 0) }
+    {
+        self.len() == 0
+    }
+
+    /// Where the first byte lies in the file; 0 where there is none.
+    pub fn at(&self) -> u64
+        ensures { result ≡ place_in self.now }
+    {
+        match self {
+            Value::Whole(at, _) => *at,
+            Value::Pieces(pieces) => place_of(*pieces),
+        }
+    }
+
+    /// The byte with a number, from 0 on; None exactly from `len` on.
+    pub fn byte(&self, i: u64) -> Option<u8>
+        ensures { result ≡ slice_get (bytes_in self.now) i }
+    {
+        match self {
+            Value::Whole(_, slice) => slice.get(i as usize).copied(),
+            Value::Pieces(pieces) => byte_in(*pieces, i),
+        }
+    }
+
+    /// The bytes from one number up to another; Some exactly where `from <= to <= len`.
+    #[tactic(auto, using(crate::proofs::ValueLemmas::bytes_of_pieces))]
+    pub fn part(&self, from: u64, to: u64) -> Option<Value<'a>>
+        ensures there { IsSome result ↔ ((from ≤ to) × (to ≤ size_in self.now)) }
+        ensures bytes { IfSome result (λ part. bytes_in part ≡ slice_range (bytes_in self.now) from to) }
+        ensures part { IfSome result (IsPart from to self.now) }
+    {
+        if from > to || to > self.len() {
+            return None;
+        }
+        Some(match self {
+            Value::Whole(at, slice) => {
+                let place = if from < to {
+                    at.saturating_add(from)
+                } else {
+                    0
+                };
+                Value::Whole(place, &slice[from as usize..to as usize])
+            }
+            Value::Pieces(pieces) => value_of(pieces.part(from, to)),
+        })
+    }
+}

@@ -1,0 +1,125 @@
+//! One step through a data tree that has no fault.
+
+ghost use Rattle.std.specs.Prelude.{◌≡◌, ◌+◌, ◌<◌, IfSome, None, option_map, slice_get};
+ghost use Rattle.pst_bytes.specs.Image.{IsInside};
+ghost use Rattle.pst_block.specs.Table.{IsWithin};
+ghost use Rattle.pst_block.specs.Blocks.{table_of};
+ghost use Rattle.pst_datatree.specs.Data.{xblock_fault, xxblock_fault, tree_fault, block_fault, data_spans, data_fault};
+ghost use Rattle.pst_datatree.specs.Position.{Splits, xblock_left, xxblock_left, tree_left, block_left, data_left};
+
+use crate::bid::{is_internal, is_no_block};
+use crate::list::{body_in, is_xxblock};
+use crate::look::{child_count, child_entry, leaf_span, span_of, xblock_count};
+use crate::position::Position;
+use pst_block::{BlockEntry, Blocks};
+use pst_bytes::Span;
+
+// The same place, behind one more data block.
+fn behind(at: Position) -> Position
+    requires { at.leaf + 1 < 18446744073709551616 }
+    ensures { result ≡ record { child = at.child; leaf = at.leaf + 1 } }
+{
+    Position {
+        child: at.child,
+        leaf: at.leaf + 1,
+    }
+}
+
+// The next span of an XBLOCK, and what is behind it.
+#[tactic(auto, using(crate::proofs::DataLemmas::xblock_room, crate::proofs::DataLemmas::leaf_of_xblock, crate::proofs::PositionLemmas::xblock_next, crate::proofs::PositionLemmas::xblock_end))]
+fn next_of_xblock(blocks: &Blocks, entry: BlockEntry, at: Position) -> Option<(Span, Position)>
+    requires within { IsWithin (table_of blocks.now).image entry }
+    requires sound { xblock_fault (table_of blocks.now) entry ≡ None }
+    ensures next { Splits (xblock_left (table_of blocks.now) entry) at result }
+    ensures inside { IfSome result (λ n. IsInside (table_of blocks.now).image n.0) }
+{
+    if at.leaf >= u64::from(xblock_count(blocks, entry)) {
+        return None;
+    }
+    let span = leaf_span(blocks, entry, at.leaf as u16);
+    Some((span, behind(at)))
+}
+
+// The next span of an XXBLOCK, and what is behind it.
+#[tactic(auto, using(crate::proofs::DataLemmas::xblock_room, crate::proofs::DataLemmas::leaf_of_xblock, crate::proofs::PositionLemmas::xxblock_next, crate::proofs::PositionLemmas::xxblock_pass, crate::proofs::PositionLemmas::xxblock_end))]
+fn next_of_xxblock(blocks: &Blocks, entry: BlockEntry, at: Position) -> Option<(Span, Position)>
+    requires within { IsWithin (table_of blocks.now).image entry }
+    requires sound { xxblock_fault (table_of blocks.now) entry ≡ None }
+    ensures next { Splits (xxblock_left (table_of blocks.now) entry) at result }
+    ensures inside { IfSome result (λ n. IsInside (table_of blocks.now).image n.0) }
+{
+    let count = child_count(blocks, entry);
+    let mut place = at;
+    while place.child < count {
+        let holder = child_entry(blocks, entry, place.child);
+        let len = u64::from(xblock_count(blocks, holder));
+        if place.leaf < len {
+            let span = leaf_span(blocks, holder, place.leaf as u16);
+            return Some((span, behind(place)));
+        }
+        place = Position {
+            child: place.child + 1,
+            leaf: place.leaf - len,
+        };
+    }
+    None
+}
+
+// The next span of an internal block, and what is behind it.
+#[tactic(auto, unfolding(crate::specs::Position::tree_left, crate::specs::Data::tree_fault))]
+fn next_of_tree(blocks: &Blocks, entry: BlockEntry, at: Position) -> Option<(Span, Position)>
+    requires within { IsWithin (table_of blocks.now).image entry }
+    requires sound { tree_fault (table_of blocks.now) entry ≡ None }
+    ensures next { Splits (tree_left (table_of blocks.now) entry) at result }
+    ensures inside { IfSome result (λ n. IsInside (table_of blocks.now).image n.0) }
+{
+    if is_xxblock(body_in(blocks, entry)) {
+        next_of_xxblock(blocks, entry, at)
+    } else {
+        next_of_xblock(blocks, entry, at)
+    }
+}
+
+// The next span of a block, and what is behind it.
+#[tactic(auto, using(crate::proofs::PositionLemmas::data_block_next, crate::proofs::PositionLemmas::data_block_end), unfolding(crate::specs::Position::block_left, crate::specs::Data::block_fault))]
+fn next_of_block(blocks: &Blocks, entry: BlockEntry, at: Position) -> Option<(Span, Position)>
+    requires within { IsWithin (table_of blocks.now).image entry }
+    requires sound { block_fault (table_of blocks.now) entry ≡ None }
+    ensures next { Splits (block_left (table_of blocks.now) entry) at result }
+    ensures inside { IfSome result (λ n. IsInside (table_of blocks.now).image n.0) }
+{
+    if is_internal(entry.bid) {
+        next_of_tree(blocks, entry, at)
+    } else if at.leaf == 0 {
+        Some((span_of(entry), behind(at)))
+    } else {
+        None
+    }
+}
+
+// The next span of a block identifier, and what is behind it.
+#[tactic(auto, unfolding(crate::specs::Position::data_left, crate::specs::Data::data_fault))]
+pub(crate) fn next_of(blocks: &Blocks, bid: u64, at: Position) -> Option<(Span, Position)>
+    requires { data_fault (table_of blocks.now) bid ≡ None }
+    ensures next { Splits (data_left (table_of blocks.now) bid) at result }
+    ensures inside { IfSome result (λ n. IsInside (table_of blocks.now).image n.0) }
+{
+    if is_no_block(bid) {
+        return None;
+    }
+    let Some(entry) = blocks.entry(bid) else {
+        unreachable!()
+    };
+    next_of_block(blocks, entry, at)
+}
+
+/// The span with a number of a block identifier's data tree, from 0 on; None exactly from `leaf_count` on.
+#[tactic(auto, using(crate::proofs::PositionLemmas::leaf_some, crate::proofs::PositionLemmas::leaf_none))]
+pub fn leaf(blocks: &Blocks, bid: u64, n: u64) -> Option<Span>
+    requires { data_fault (table_of blocks.now) bid ≡ None }
+    ensures value { result ≡ slice_get (data_spans (table_of blocks.now) bid) n }
+    ensures inside { IfSome result (IsInside (table_of blocks.now).image) }
+{
+    let (span, _) = next_of(blocks, bid, Position { child: 0, leaf: n })?;
+    Some(span)
+}
