@@ -1,0 +1,6 @@
+pub mod DatabaseLaws
+pub mod MarkLaws
+pub mod NodeLemmas
+pub mod SpaceLaws
+pub mod SpaceLemmas
+pub mod UnitLemmas

@@ -1,0 +1,106 @@
+-- The nodes one after another.
+use Rattle.std.proofs.Common.{◌≡◌, ℕ, List, [], ◌∷◌, Bool, true, false, cond, eqb, Option, Some, None, refl, sym, ap, ◌∙◌}
+use Rattle.std.specs.Prelude.{option_map}
+use Rattle.std.proofs.lemmas.Bool.{eqb-true}
+use Rattle.pst_header.specs.declared.header.Header.{Header}
+use Rattle.pst_header.specs.Header.{header_fault, fields}
+use Rattle.pst_header.specs.Head.{Head}
+use Rattle.pst_header.proofs.Head.{header_law}
+use Rattle.pst_btree.specs.Entries.{first_with, node_with}
+use Rattle.pst_fault.specs.Fault.{at_node}
+use Rattle.pst_datatree.specs.Data.{data_fault}
+use Rattle.pst_subnode.specs.declared.height.TheConstants.{LISTS}
+use Rattle.pst_subnode.specs.Tree.{sub_fault, at_top}
+use Rattle.pst_ndb.specs.Entries.{block_table, node_list}
+use Rattle.pst_fault.specs.declared.fault.Fault.{Fault}
+use Rattle.pst_fault.specs.First.{IsFirst}
+use Rattle.pst_fault.proofs.FirstLemmas.{then_none, none_then, both_none, is_first_then}
+use Rattle.pst_page.specs.declared.entry.NodeEntry.{NodeEntry}
+use Rattle.pst_block.specs.Table.{Table}
+use Rattle.pst_ndb.specs.Fault.{node_fault, nodes_fault, file_fault, ndb_fault}
+use Rattle.pst_ndb.specs.Space.{space_fault}
+
+-- one more node without a fault
+pub nodes_next : (t : Table) (e : NodeEntry) (entries rest : List NodeEntry) (total : Option Fault) → entries ≡ e ∷ rest → node_fault t e ≡ None → nodes_fault t entries ≡ total → nodes_fault t rest ≡ total
+unfolding nodes_fault
+nodes_next t e entries rest total is passed so_far =
+    sym (then_none (node_fault t e) (nodes_fault t rest) passed) ∙ (rw is at so_far)
+
+-- a node with a fault
+pub nodes_refused : (t : Table) (e : NodeEntry) (entries rest : List NodeEntry) (total : Option Fault) (f : Fault) → entries ≡ e ∷ rest → IsFirst (node_fault t e) f → nodes_fault t entries ≡ total → IsFirst total f
+unfolding nodes_fault
+nodes_refused t e entries rest total f is failed so_far =
+    rw (← (rw is at so_far)) (is_first_then (node_fault t e) (nodes_fault t rest) f failed)
+
+-- no node is left
+pub nodes_done : (t : Table) (entries : List NodeEntry) (total : Option Fault) → entries ≡ [] → nodes_fault t entries ≡ total → total ≡ None
+unfolding nodes_fault
+nodes_done t entries total is so_far = sym (rw is at so_far)
+
+-- ---- nodes without fault
+
+mapped_none : {A B : Type 0} (f : A → B) (o : Option A) → o ≡ None → option_map f o ≡ None
+mapped_none f o e = rw e refl
+
+none_mapped : {A B : Type 0} (f : A → B) (o : Option A) → option_map f o ≡ None → o ≡ None
+none_mapped f None e = refl
+none_mapped f (Some a) e = absurd cc
+
+-- a node has no fault exactly where its data has none and its subnodes have none
+pub node_none : (t : Table) (e : NodeEntry) → data_fault t e.bid_data ≡ None → sub_fault t LISTS e.bid_sub ≡ None → node_fault t e ≡ None
+unfolding node_fault
+node_none t e content subs = both_none _ _ (mapped_none (at_node e.nid) (data_fault t e.bid_data) content) (mapped_none (at_top e.bid_sub e.nid) (sub_fault t LISTS e.bid_sub) subs)
+
+none_both : (t : Table) (e : NodeEntry) → node_fault t e ≡ None → (option_map (at_node e.nid) (data_fault t e.bid_data) ≡ None) × (option_map (at_top e.bid_sub e.nid) (sub_fault t LISTS e.bid_sub) ≡ None)
+unfolding node_fault
+none_both t e none = none_then _ _ none
+
+pub none_data : (t : Table) (e : NodeEntry) → node_fault t e ≡ None → data_fault t e.bid_data ≡ None
+none_data t e none = none_mapped (at_node e.nid) (data_fault t e.bid_data) (none_both t e none).0
+
+pub none_subs : (t : Table) (e : NodeEntry) → node_fault t e ≡ None → sub_fault t LISTS e.bid_sub ≡ None
+none_subs t e none = none_mapped (at_top e.bid_sub e.nid) (sub_fault t LISTS e.bid_sub) (none_both t e none).1
+
+pub first_sound : (t : Table) (e : NodeEntry) (entries rest : List NodeEntry) → nodes_fault t entries ≡ None → entries ≡ e ∷ rest → node_fault t e ≡ None
+unfolding nodes_fault
+first_sound t e entries rest none is = (none_then (node_fault t e) (nodes_fault t rest) (rw is at none)).0
+
+pub rest_sound : (t : Table) (e : NodeEntry) (entries rest : List NodeEntry) → nodes_fault t entries ≡ None → entries ≡ e ∷ rest → nodes_fault t rest ≡ None
+unfolding nodes_fault
+rest_sound t e entries rest none is = (none_then (node_fault t e) (nodes_fault t rest) (rw is at none)).1
+
+-- a node that is found has none
+pub found_sound : (t : Table) (entries : List NodeEntry) (nid : ℕ) (e : NodeEntry) → nodes_fault t entries ≡ None → node_with nid entries ≡ Some e → node_fault t e ≡ None
+unfolding nodes_fault first_with
+found_sound t [] nid e none found = absurd cc
+found_sound t (x ∷ rest) nid e none found =
+    let both = none_then (node_fault t x) (nodes_fault t rest) none in
+    by_test (eqb x.nid nid) both.0 (λ h. found_sound t rest nid e both.1 h) found
+  where
+    by_test : (here : Bool) → node_fault t x ≡ None → (node_with nid rest ≡ Some e → node_fault t e ≡ None) → cond here (Some x) (node_with nid rest) ≡ Some e → node_fault t e ≡ None
+    by_test true this later h = let same : x ≡ e = cc in ap (node_fault t) (sym same) ∙ this
+    by_test false this later h = later h
+
+-- ---- a file without fault
+
+pub file_sound : (I : List ℕ) (h : Header) → Head I h → file_fault I h ≡ None → ndb_fault I ≡ None
+unfolding ndb_fault
+file_sound I h head none = let header = (header_law I h).0 head in both_none (header_fault I) (file_fault I (fields I)) header.0 (ap (file_fault I) (sym header.1) ∙ none)
+
+pub file_fields : (I : List ℕ) (h : Header) → Head I h → h ≡ fields I
+file_fields I h head = ((header_law I h).0 head).1
+
+pub file_trees : (I : List ℕ) (h : Header) (t : Table) (entries : List NodeEntry) → file_fault I h ≡ None → t ≡ block_table I h → entries ≡ node_list I h → nodes_fault t entries ≡ None
+unfolding file_fault
+file_trees I h t entries none table is = rw (table, is) (none_then (space_fault I h) (nodes_fault (block_table I h) (node_list I h)) none).1
+
+-- ---- what is found has the key
+
+pub first_keyed : {X : Type 0} (key_in : X → ℕ) (key : ℕ) (xs : List X) (x : X) → first_with key_in key xs ≡ Some x → key_in x ≡ key
+unfolding first_with
+first_keyed key_in key [] x found = absurd cc
+first_keyed key_in key (y ∷ rest) x found = by_test (eqb (key_in y) key) (λ e. eqb-true (key_in y) key e) (λ h. first_keyed key_in key rest x h) found
+  where
+    by_test : (here : Bool) → (here ≡ true → key_in y ≡ key) → (first_with key_in key rest ≡ Some x → key_in x ≡ key) → cond here (Some y) (first_with key_in key rest) ≡ Some x → key_in x ≡ key
+    by_test true this later h = let same : y ≡ x = cc in ap key_in (sym same) ∙ this refl
+    by_test false this later h = later h

@@ -1,0 +1,134 @@
+-- Pages and blocks take whole units of the mapped part.
+use Rattle.std.proofs.Common.{◌≡◌, ℕ, suc, zero, ◌+◌, ◌-◌, ◌*◌, ◌/◌, ◌%◌, ◌≤◌, Bool, true, false, cond, eqb, List, [], ◌∷◌, ◌++◌, length, map, Option, Some, None, refl, sym, ap, subst, ◌∙◌, arith}
+use Rattle.std.specs.Prelude.{option_and_then}
+use Rattle.std.proofs.Math.Nat.{min-le_left}
+use Rattle.std.proofs.lemmas.List.{map-append}
+use Rattle.std.proofs.lemmas.Bool.{eqb-true}
+use Rattle.pst_bytes.specs.declared.span.Span.{Span}
+use Rattle.pst_header.specs.declared.header.Header.{Header}
+use Rattle.pst_header.specs.declared.header.Bref.{Bref}
+use Rattle.pst_header.specs.Header.{end_of, amap_place, amap_count_of}
+use Rattle.pst_header.specs.Head.{IsLastMap}
+use Rattle.pst_page.specs.declared.kind.PageKind.{PageKind}
+use Rattle.pst_page.specs.declared.kind.PageKind.TheVariants.{Bbt, Nbt}
+use Rattle.pst_page.specs.declared.entry.BlockEntry.{BlockEntry}
+use Rattle.pst_page.specs.Page.{entries_at}
+use Rattle.pst_page.specs.Good.{IsPlace}
+use Rattle.pst_space.specs.Claimed.{Claimed, IsUnits, unit_total, page_at, map_pages_at, map_pages_below, map_pages, MapsFit, claim_of, claim_all}
+use Rattle.pst_space.specs.Apart.{AreUnits}
+use Rattle.pst_space.proofs.MapLemmas.{maps_fit, length_with_span}
+use Rattle.pst_btree.specs.Tree.{Tree, leaf, branch, Forest, none, more, pages_of, forest_pages, span_of, tree_spans, Spells, SpellsEach, IsTree}
+use Rattle.pst_btree.specs.Marked.{marked}
+use Rattle.pst_btree.proofs.MarkedLemmas.{marked_most, marked_page}
+use Rattle.pst_block.specs.Block.{block_span}
+use Rattle.pst_block.specs.Good.{GoodBlock}
+use Rattle.pst_block.specs.Walk.{AreGood, block_spans}
+use Rattle.pst_block.proofs.BlockLemmas.{size_large, size_whole}
+
+pub units_append : (m : Claimed) (xs ys : List Span) → AreUnits m xs → AreUnits m ys → AreUnits m (xs ++ ys)
+units_append m [] ys a b = b
+units_append m (x ∷ xs) ys a b = (a.0, units_append m xs ys a.1 b)
+
+-- ---- pages of trees
+
+page_units : (end : ℕ) (m : Claimed) (page : Bref) → length m ≡ (end - 17408) / 64 → IsPlace end page.ib → IsUnits m (span_of page)
+page_units end m page long p = record {
+  mapped = p.mapped;
+  whole = p.whole_units;
+  whole_len = refl;
+  some = omega arith;
+  inside = omega (arith, long, p.mapped, p.whole_units, p.inside);
+}
+
+mutual
+  pub tree_units : (kind : PageKind) (I : List ℕ) (end level : ℕ) (m : Claimed) (tree : Tree) → length m ≡ (end - 17408) / 64 → Spells kind I end level tree → AreUnits m (tree_spans tree)
+  tree_units kind I end zero m (leaf page entries) long s = (page_units end m page long s.0.good.place, tt)
+  tree_units kind I end zero m (branch page children) long s = absurd s
+  tree_units kind I end (suc level) m (leaf page entries) long s = absurd s
+  tree_units kind I end (suc level) m (branch page children) long s = (page_units end m page long s.0.good.place, forest_units kind I end level m children (entries_at I page.ib) long s.1)
+
+  forest_units : (kind : PageKind) (I : List ℕ) (end level : ℕ) (m : Claimed) (forest : Forest) (places : List ℕ) → length m ≡ (end - 17408) / 64 → SpellsEach kind I end level forest places → AreUnits m (map span_of (forest_pages forest))
+  forest_units kind I end level m none places long s = tt
+  forest_units kind I end level m (more key tree rest) [] long s = absurd s
+  forest_units kind I end level m (more key tree rest) (at ∷ places) long s =
+      subst (AreUnits m) (sym (map-append span_of (pages_of tree) (forest_pages rest)))
+      (units_append m (map span_of (pages_of tree)) (map span_of (forest_pages rest)) (tree_units kind I end level m tree long s.2) (forest_units kind I end level m rest places long s.3))
+
+-- ---- blocks
+
+block_units : (I : List ℕ) (end : ℕ) (m : Claimed) (e : BlockEntry) → length m ≡ (end - 17408) / 64 → GoodBlock I end e → IsUnits m (block_span e)
+block_units I end m e long g =
+    let large = size_large e.cb in
+    let whole = size_whole e.cb in
+    record {
+      mapped = g.place.mapped;
+      whole = g.place.whole_units;
+      whole_len = whole;
+      some = omega (arith, large);
+      inside = omega (arith, long, whole, g.place.mapped, g.place.whole_units, g.place.inside);
+    }
+
+pub blocks_units : (I : List ℕ) (end : ℕ) (m : Claimed) (entries : List BlockEntry) → length m ≡ (end - 17408) / 64 → AreGood I end entries → AreUnits m (block_spans entries)
+blocks_units I end m [] long g = tt
+blocks_units I end m (e ∷ entries) long g = (block_units I end m e long g.0, blocks_units I end m entries long g.1)
+
+-- ---- map pages
+
+map_units : (m : Claimed) (j : ℕ) → MapsFit j (length m) → AreUnits m (map_pages_at j)
+map_units m j fit = by_eighth (eqb (j % 8) 0) (λ e. fit.1 (eqb-true (j % 8) 0 e))
+  where
+    amap : IsUnits m (page_at (amap_place j))
+    amap = record { mapped = omega arith; whole = omega arith; whole_len = refl; some = omega arith; inside = omega (arith, fit.0) }
+
+    by_eighth : (eighth : Bool) → (eighth ≡ true → 3968 * j + 16 ≤ length m) → (let spans : List Span = cond eighth (page_at (amap_place j) ∷ page_at (amap_place j + 512) ∷ []) (page_at (amap_place j) ∷ []) in AreUnits m spans)
+    by_eighth true room = let more = room refl in (amap, (record { mapped = omega arith; whole = omega arith; whole_len = refl; some = omega arith; inside = omega (arith, more) }, tt))
+    by_eighth false room = (amap, tt)
+
+maps_below_units : (h : Header) (m : Claimed) (n : ℕ) → IsLastMap h.last_amap h.eof → length m ≡ unit_total h → n ≤ amap_count_of h → AreUnits m (map_pages_below n)
+maps_below_units h m zero last long le = tt
+maps_below_units h m (suc n) last long le =
+    let fit : MapsFit n (length m) = subst (MapsFit n) (sym long) (maps_fit h n last (omega arith)) in
+    units_append m (map_pages_below n) (map_pages_at n) (maps_below_units h m n last long (omega arith)) (map_units m n fit)
+
+pub maps_units : (h : Header) (m : Claimed) → IsLastMap h.last_amap h.eof → length m ≡ unit_total h → AreUnits m (map_pages h)
+unfolding map_pages
+maps_units h m last long = maps_below_units h m (amap_count_of h) last long (omega arith)
+
+-- ---- how many pages
+
+units_same : (m n : Claimed) (spans : List Span) → length m ≡ length n → AreUnits m spans → AreUnits n spans
+units_same m n [] same u = tt
+units_same m n (s ∷ spans) same u =
+    (record { mapped = u.0.mapped; whole = u.0.whole; whole_len = u.0.whole_len; some = u.0.some; inside = omega (arith, same, u.0.inside) }, units_same m n spans same u.1)
+
+claim_made : (b : Bool) (x y : Claimed) → cond b (Some x) None ≡ Some y → x ≡ y
+claim_made true x y e = cc
+claim_made false x y e = absurd cc
+
+length_claimed : (old new : Claimed) (span : Span) → claim_of old span ≡ Some new → length new ≡ length old
+unfolding claim_of
+length_claimed old new span e = ap length (sym (claim_made _ _ _ e)) ∙ length_with_span old span
+
+-- each page that is claimed claims 8 units
+pages_marked : (old new : Claimed) (pages : List Bref) → AreUnits old (map span_of pages) → claim_all old (map span_of pages) ≡ Some new → (marked new ≡ marked old + 8 * length pages) × (length new ≡ length old)
+pages_marked old new [] u e = let same = claim_made true old new e in (omega (arith, ap marked same), ap length (sym same))
+pages_marked old new (p ∷ pages) u e = by_claim (claim_of old (span_of p)) refl (λ c v h. pages_marked c new pages v h) e
+  where
+    by_claim : (o : Option Claimed) → claim_of old (span_of p) ≡ o → ((c : Claimed) → AreUnits c (map span_of pages) → claim_all c (map span_of pages) ≡ Some new → (marked new ≡ marked c + 8 * length pages) × (length new ≡ length c))
+        → option_and_then (λ (c : Claimed). claim_all c (map span_of pages)) o ≡ Some new → (marked new ≡ marked old + 8 * length (p ∷ pages)) × (length new ≡ length old)
+    by_claim None is ih h = absurd cc
+    by_claim (Some c) is ih h =
+        let same : length c ≡ length old = length_claimed old c (span_of p) is in
+        let rest = ih c (units_same old c (map span_of pages) (sym same) u.1) h in
+        let one = marked_page old c p u.0 is in
+        (omega (arith, one, rest.0), rest.1 ∙ same)
+
+-- two trees that are claimed one after the other have no more pages than the file has bytes
+pub pages_few : (I : List ℕ) (h : Header) (old one two : Claimed) (level other : ℕ) (blocks nodes : Tree) → length old ≡ unit_total h → IsTree Bbt I (end_of h) h.bbt level blocks → IsTree Nbt I (end_of h) h.nbt other nodes
+    → claim_all old (tree_spans blocks) ≡ Some one → claim_all one (tree_spans nodes) ≡ Some two → length (pages_of blocks) + length (pages_of nodes) ≤ h.eof
+pages_few I h old one two level other blocks nodes long b n eb en =
+    let first = pages_marked old one (pages_of blocks) (tree_units Bbt I (end_of h) level old blocks long b.spells) eb in
+    let second = pages_marked one two (pages_of nodes) (tree_units Nbt I (end_of h) other one nodes (first.1 ∙ long) n.spells) en in
+    let most = marked_most two in
+    let least : end_of h ≤ h.eof = min-le_left h.eof (h.last_amap + 253952) in
+    omega (arith, first.0, second.0, second.1, first.1, long, most, least)

@@ -1,0 +1,7 @@
+pub mod Database
+pub mod Entries
+pub mod Fault
+pub mod Marks
+pub mod Node
+pub mod Space
+pub mod Views

@@ -1,0 +1,138 @@
+//! The check of a file up to its nodes.
+
+ghost use Rattle.std.specs.Prelude.{◌≡◌, None, length, IfOk, IfErr, OnOk};
+ghost use Rattle.pst_bytes.specs.Image.{bytes_of};
+ghost use Rattle.pst_fault.specs.Fault.{no_memory};
+ghost use Rattle.pst_fault.specs.First.{IsFirst};
+ghost use Rattle.pst_header.specs.declared.header.Header.{Header};
+ghost use Rattle.pst_header.specs.Head.{Head};
+ghost use Rattle.pst_header.specs.Header.{fields};
+ghost use Rattle.pst_page.specs.declared.kind.PageKind.TheVariants.{Bbt, Nbt};
+ghost use Rattle.pst_btree.specs.Tree.{Tree};
+ghost use Rattle.pst_amap.specs.declared.report.BitOrder.{BitOrder};
+ghost use Rattle.pst_amap.specs.Report.{IsReport};
+ghost use Rattle.pst_ndb.specs.Database.{Database};
+ghost use Rattle.pst_ndb.specs.Entries.{tree_under, page_total, block_list, node_list, block_table};
+ghost use Rattle.pst_ndb.specs.Fault.{file_fault, ndb_fault};
+ghost use Rattle.pst_ndb.specs.Marks.{MapsMark};
+ghost use Rattle.pst_ndb.specs.Space.{space_claimed};
+ghost use Rattle.pst_ndb.specs.Views.{image_of_ndb, header_of, table_of_ndb, nodes_of};
+
+use crate::ndb::Ndb;
+use crate::nodes::check_nodes;
+use crate::space::check_maps;
+use pst_amap::MapReport;
+use pst_bytes::Image;
+use pst_fault::Fault;
+use pst_header::{Header, read_header};
+use std::alloc::Global;
+
+/// How much work a check was. A count stays at its greatest value once it is there.
+#[derive(Clone, Copy, Debug, PartialEq, Eq)]
+pub struct Work {
+    /// How many pages of the B-trees were decoded by walks.
+    pub pages: u64,
+    /// How many blocks were check-summed.
+    pub sums: u64,
+    /// How many internal blocks were expanded: their entries were followed.
+    pub expansions: u64,
+    /// How many contexts were checked.
+    pub contexts: u64,
+}
+
+/// What a check finds in a file without fault.
+#[derive(Drop)]
+pub struct Checked<'a> {
+    /// Its node database.
+    pub ndb: Ndb<'a>,
+    /// What the allocation maps say beside what is in use.
+    pub map: MapReport,
+    /// How much work it was.
+    pub work: Work,
+}
+
+// A file with this header.
+#[tactic(auto, unfolding(crate::specs::Fault::file_fault))]
+fn check_file<'a>(alloc: Global, image: Image<'a>, header: &Header) -> Result<Checked<'a>, Fault>
+    requires { Head (bytes_of image) header.now }
+    ensures first { IfErr result (IsFirst (file_fault (bytes_of image.entry) header.now)) }
+    ensures none { OnOk result (file_fault (bytes_of image.entry) header.now ≡ None) }
+    ensures image { IfOk result (λ c. image_of_ndb c.ndb ≡ image.entry) }
+    ensures header { IfOk result (λ c. header_of c.ndb ≡ header.now) }
+    ensures table { IfOk result (λ c. table_of_ndb c.ndb ≡ block_table (bytes_of image.entry) header.now) }
+    ensures nodes { IfOk result (λ c. nodes_of c.ndb ≡ node_list (bytes_of image.entry) header.now) }
+    ensures report { IfOk result (λ c. IsReport (bytes_of image.entry) header.now (space_claimed (bytes_of image.entry) header.now) c.map) }
+    ensures marks { IfOk result (λ c. MapsMark (bytes_of image.entry) header.now c.map) }
+    ensures pages { IfOk result (λ c. c.work.pages ≡ page_total (bytes_of image.entry) header.now) }
+    ensures sums { IfOk result (λ c. c.work.sums ≡ length (block_list (bytes_of image.entry) header.now)) }
+    ensures contexts { IfOk result (λ c. c.work.contexts ≡ 0) }
+{
+    let (space, map) = check_maps(alloc, image, header)?;
+    let expansions = check_nodes(alloc, &space.blocks, &space.nodes)?;
+    let ndb = Ndb::known(header, space.blocks, space.nodes);
+    let work = Work {
+        pages: space.pages,
+        sums: space.sums,
+        expansions,
+        contexts: 0,
+    };
+    Ok(Checked { ndb, map, work })
+}
+
+// The check, with the fault that it gives.
+#[tactic(auto, unfolding(crate::specs::Fault::ndb_fault))]
+fn check_exactly<'a>(alloc: Global, image: Image<'a>) -> Result<Checked<'a>, Fault>
+    ensures first { IfErr result (IsFirst (ndb_fault (bytes_of image.entry))) }
+    ensures none { OnOk result (ndb_fault (bytes_of image.entry) ≡ None) }
+    ensures image { IfOk result (λ c. image_of_ndb c.ndb ≡ image.entry) }
+    ensures header { IfOk result (λ c. header_of c.ndb ≡ fields (bytes_of image.entry)) }
+    ensures table { IfOk result (λ c. table_of_ndb c.ndb ≡ block_table (bytes_of image.entry) (fields (bytes_of image.entry))) }
+    ensures nodes { IfOk result (λ c. nodes_of c.ndb ≡ node_list (bytes_of image.entry) (fields (bytes_of image.entry))) }
+    ensures report { IfOk result (λ c. IsReport (bytes_of image.entry) (fields (bytes_of image.entry)) (space_claimed (bytes_of image.entry) (fields (bytes_of image.entry))) c.map) }
+    ensures marks { IfOk result (λ c. MapsMark (bytes_of image.entry) (fields (bytes_of image.entry)) c.map) }
+    ensures pages { IfOk result (λ c. c.work.pages ≡ page_total (bytes_of image.entry) (fields (bytes_of image.entry))) }
+    ensures sums { IfOk result (λ c. c.work.sums ≡ length (block_list (bytes_of image.entry) (fields (bytes_of image.entry)))) }
+    ensures contexts { IfOk result (λ c. c.work.contexts ≡ 0) }
+{
+    let header = read_header(image)?;
+    check_file(alloc, image, &header)
+}
+
+/// Checks a file up to its nodes, and gives its node database; or its first fault, in this order:
+///
+/// 1. of the header, as `read_header` says;
+/// 2. the block B-tree, as `walk_blocks` says, once all allocation map and page map pages are claimed;
+/// 3. the node B-tree, as `walk_nodes` says;
+/// 4. the blocks in order of their keys, as `check_blocks` says;
+/// 5. the allocation maps, as `compare` says;
+/// 6. node by node, their identifiers rising: the data tree, as `check_data` says, and then the subnodes, as `check_sub`
+///    says.
+///
+/// NoMemory where memory is refused.
+pub fn check_ndb<'a>(alloc: Global, image: Image<'a>) -> Result<Checked<'a>, Fault>
+    // Which fault it is, and that there is none where a node database is given.
+    ensures first { IfErr result (IsFirst (ndb_fault (bytes_of image.entry))) }
+    ensures none { OnOk result (ndb_fault (bytes_of image.entry) ≡ None) }
+
+    // What is given is what the bytes spell; and what they spell is given, unless memory ran out.
+    ensures found { IfOk result (λ c. Database (bytes_of image.entry) (header_of c.ndb) (tree_under Bbt (bytes_of image.entry) (header_of c.ndb).bbt) (tree_under Nbt (bytes_of image.entry) (header_of c.ndb).nbt) c.map.order) }
+    ensures only { (h : Header) (blocks nodes : Tree) (order : BitOrder) → Database (bytes_of image.entry) h blocks nodes order → IfErr result (λ f. f ≡ no_memory) }
+
+    // Its file, header, blocks and nodes.
+    ensures image { IfOk result (λ c. image_of_ndb c.ndb ≡ image.entry) }
+    ensures header { IfOk result (λ c. header_of c.ndb ≡ fields (bytes_of image.entry)) }
+    ensures table { IfOk result (λ c. table_of_ndb c.ndb ≡ block_table (bytes_of image.entry) (fields (bytes_of image.entry))) }
+    ensures nodes { IfOk result (λ c. nodes_of c.ndb ≡ node_list (bytes_of image.entry) (fields (bytes_of image.entry))) }
+
+    // What is reported of the maps: the order of bits, the lost runs and the old map pages; the maps mark these and the
+    // space in use, and nothing else.
+    ensures report { IfOk result (λ c. IsReport (bytes_of image.entry) (fields (bytes_of image.entry)) (space_claimed (bytes_of image.entry) (fields (bytes_of image.entry))) c.map) }
+    ensures marks { IfOk result (λ c. MapsMark (bytes_of image.entry) (fields (bytes_of image.entry)) c.map) }
+
+    // The work: each page of the trees and each block once.
+    ensures pages { IfOk result (λ c. c.work.pages ≡ page_total (bytes_of image.entry) (fields (bytes_of image.entry))) }
+    ensures sums { IfOk result (λ c. c.work.sums ≡ length (block_list (bytes_of image.entry) (fields (bytes_of image.entry)))) }
+    ensures contexts { IfOk result (λ c. c.work.contexts ≡ 0) }
+{
+    check_exactly(alloc, image)
+}

@@ -1,0 +1,58 @@
+//! All nodes, one after another.
+
+ghost use Rattle.std.specs.Prelude.{◌≡◌, None};
+ghost use Rattle.pst_block.specs.Blocks.{table_of};
+ghost use Rattle.pst_btree.specs.Nodes.{nodes_left};
+ghost use Rattle.pst_ndb.specs.Fault.{nodes_fault};
+
+use crate::node::Node;
+use pst_block::Blocks;
+use pst_btree::{NodeTree, Nodes as Entries};
+
+/// The nodes that are left, their identifiers rising: a `Node` each. Each step goes down the node B-tree once more, and no
+/// memory is taken.
+#[derive(Clone, Copy)]
+pub struct Nodes<'a> {
+    blocks: Blocks<'a>,
+    rest: Entries<'a>,
+    ghost sound: { nodes_fault (table_of blocks) (nodes_left rest) ≡ None },
+}
+
+impl<'a> Iterator for Nodes<'a> {
+    ghost use Rattle.std.specs.Iterator.{YieldsFirstBy, item_count};
+    ghost use Rattle.pst_ndb.specs.Views.{parts_of, parts_left};
+
+    type Item = Node<'a>;
+
+    ghost next_gives = { YieldsFirstBy parts_of parts_left };
+
+    ghost remaining = { item_count parts_left };
+
+    #[tactic(auto, using(crate::proofs::NodeLemmas::first_sound, crate::proofs::NodeLemmas::rest_sound))]
+    fn next(&mut self) -> Option<Node<'a>> {
+        let mut rest = self.rest;
+        let entry = rest.next()?;
+        self.rest = rest;
+        Some(Node::of_entry(self.blocks, entry))
+    }
+}
+
+impl<'a> Nodes<'a> {
+    ghost use Rattle.std.specs.Prelude.{◌≡◌, None, map};
+    ghost use Rattle.pst_block.specs.Blocks.{table_of, image_of};
+    ghost use Rattle.pst_btree.specs.Trees.{node_entries};
+    ghost use Rattle.pst_ndb.specs.Fault.{nodes_fault};
+    ghost use Rattle.pst_ndb.specs.Node.{entry_parts};
+    ghost use Rattle.pst_ndb.specs.Views.{parts_left};
+
+    // All nodes of a tree.
+    pub(crate) fn all(blocks: Blocks<'a>, tree: NodeTree<'a>) -> Nodes<'a>
+        requires { nodes_fault (table_of blocks) (node_entries tree) ≡ None }
+        ensures { parts_left result ≡ map (entry_parts (image_of blocks.entry) (table_of blocks.entry)) (node_entries tree.entry) }
+    {
+        Nodes {
+            blocks,
+            rest: tree.nodes(),
+        }
+    }
+}

@@ -1,0 +1,8 @@
+//! Laws of the node database, each the contract of a function that does nothing.
+
+ghost use Rattle.pst_ndb.specs.Database.{DatabaseLaw};
+
+/// A file has a node database exactly where it has no first fault up to its nodes; and it has one at most.
+pub fn database_decides()
+    ensures { DatabaseLaw }
+{}

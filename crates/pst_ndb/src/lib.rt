@@ -1,0 +1,20 @@
+//! The node database of a file ([MS-PST] 2.2): one check of all that the header, the two B-trees, the blocks, the allocation
+//! maps and the trees of each node's blocks have to be, and the nodes as views that cannot fail.
+#![tactic(auto)]
+
+mod check;
+mod each;
+mod laws;
+mod ndb;
+mod node;
+mod nodes;
+mod space;
+
+pub use check::{Checked, Work, check_ndb};
+pub use each::Nodes;
+pub use laws::database_decides;
+pub use ndb::Ndb;
+pub use node::Node;
+
+#[cfg(test)]
+mod tests;

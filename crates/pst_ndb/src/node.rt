@@ -1,0 +1,150 @@
+//! A node, and what it has.
+
+ghost use Rattle.std.specs.Prelude.{◌≡◌, None};
+ghost use Rattle.pst_block.specs.Blocks.{table_of};
+ghost use Rattle.pst_datatree.specs.Data.{data_fault};
+ghost use Rattle.pst_subnode.specs.declared.height.TheConstants.{LISTS};
+ghost use Rattle.pst_subnode.specs.Tree.{sub_fault};
+
+use pst_block::Blocks;
+use pst_btree::NodeEntry;
+use pst_bytes::{Image, Span};
+use pst_datatree::{Value, leaf, leaf_count, value};
+use pst_subnode::{Subs, find_sub, subs};
+
+/// A node of a checked file, or a subnode of one: its data and its subnodes are known to be without fault.
+#[derive(Clone, Copy)]
+pub struct Node<'a> {
+    blocks: Blocks<'a>,
+    top: u32,
+    nid: u32,
+    bid_data: u64,
+    bid_sub: u64,
+    ghost content: { data_fault (table_of blocks) bid_data ≡ None },
+    ghost subs: { sub_fault (table_of blocks) LISTS bid_sub ≡ None },
+}
+
+impl<'a> Node<'a> {
+    ghost use Rattle.std.specs.Prelude.{◌≡◌, None, IfSome, length, slice_get, option_map};
+    ghost use Rattle.pst_bytes.specs.Image.{bytes_of, IsInside};
+    ghost use Rattle.pst_block.specs.Blocks.{table_of, image_of};
+    ghost use Rattle.pst_datatree.specs.Data.{data_spans, data_fault, size_of};
+    ghost use Rattle.pst_datatree.specs.Spans.{nonempty, first_span, joined_bytes};
+    ghost use Rattle.pst_datatree.specs.Shown.{Shows, bytes_in, size_in, place_in};
+    ghost use Rattle.pst_btree.specs.Entries.{first_with};
+    ghost use Rattle.pst_subnode.specs.declared.height.TheConstants.{LISTS};
+    ghost use Rattle.pst_subnode.specs.List.{nid_of as sub_nid, subs_of};
+    ghost use Rattle.pst_subnode.specs.Left.{subs_left};
+    ghost use Rattle.pst_subnode.specs.Tree.{sub_fault};
+    ghost use Rattle.pst_ndb.specs.Fault.{node_fault};
+    ghost use Rattle.pst_ndb.specs.Node.{entry_parts, sub_parts};
+    ghost use Rattle.pst_ndb.specs.Views.{image_of_node, table_of_node, top_of, nid_of, data_bid_of, sub_bid_of, parts_of};
+
+    /// The node of an entry of the node B-tree.
+    #[tactic(auto, using(crate::proofs::NodeLemmas::none_data, crate::proofs::NodeLemmas::none_subs))]
+    pub(crate) fn of_entry(blocks: Blocks<'a>, entry: NodeEntry) -> Node<'a>
+        requires { node_fault (table_of blocks) entry ≡ None }
+        ensures { parts_of result ≡ entry_parts (image_of blocks.entry) (table_of blocks.entry) entry }
+    {
+        Node {
+            blocks,
+            top: entry.nid,
+            nid: entry.nid,
+            bid_data: entry.bid_data,
+            bid_sub: entry.bid_sub,
+        }
+    }
+
+    /// What is known of every node: neither its data nor its subnodes have a fault.
+    pub fn is_sound(&self)
+        ensures content { data_fault (table_of_node self.now) (data_bid_of self.now) ≡ None }
+        ensures subs { sub_fault (table_of_node self.now) LISTS (sub_bid_of self.now) ≡ None }
+    {}
+
+    /// The file.
+    pub fn image(&self) -> Image<'a>
+        ensures same { result ≡ image_of_node self.now }
+        ensures bytes { bytes_of result ≡ (table_of_node self.now).image }
+    {
+        self.blocks.image()
+    }
+
+    /// The identifier of the node ([MS-PST] 2.2.2.1).
+    pub fn nid(&self) -> u32
+        ensures { result ≡ nid_of self.now }
+    {
+        self.nid
+    }
+
+    /// The identifier of the node of the node B-tree from which it was reached: its own for a node of the tree.
+    pub fn top(&self) -> u32
+        ensures { result ≡ top_of self.now }
+    {
+        self.top
+    }
+
+    /// The block identifier of its data, as it is written; 0 where it has none.
+    pub fn bid_data(&self) -> u64
+        ensures { result ≡ data_bid_of self.now }
+    {
+        self.bid_data
+    }
+
+    /// The block identifier of its subnodes, as it is written; 0 where it has none.
+    pub fn bid_sub(&self) -> u64
+        ensures { result ≡ sub_bid_of self.now }
+    {
+        self.bid_sub
+    }
+
+    /// The bytes of its data.
+    pub fn bytes(&self) -> Value<'a>
+        ensures shows { Shows (image_of_node self.now) (data_spans (table_of_node self.now) (data_bid_of self.now)) result }
+        ensures bytes { bytes_in result ≡ joined_bytes (table_of_node self.now).image (data_spans (table_of_node self.now) (data_bid_of self.now)) }
+        ensures size { size_in result ≡ size_of (data_spans (table_of_node self.now) (data_bid_of self.now)) }
+        ensures place { place_in result ≡ (first_span (nonempty (data_spans (table_of_node self.now) (data_bid_of self.now)))).at }
+    {
+        value(&self.blocks, self.bid_data)
+    }
+
+    /// The span with a number of its data, from 0 on; None exactly from `leaf_count` on.
+    pub fn leaf(&self, n: u64) -> Option<Span>
+        ensures value { result ≡ slice_get (data_spans (table_of_node self.now) (data_bid_of self.now)) n }
+        ensures inside { IfSome result (IsInside (table_of_node self.now).image) }
+    {
+        leaf(&self.blocks, self.bid_data, n)
+    }
+
+    /// How many spans its data has: one for each data block, as often as it is named.
+    pub fn leaf_count(&self) -> u64
+        ensures { result ≡ length (data_spans (table_of_node self.now) (data_bid_of self.now)) }
+    {
+        leaf_count(&self.blocks, self.bid_data)
+    }
+
+    /// Its subnodes, in the order of their list ([MS-PST] 2.2.2.8.3.3).
+    pub fn subs(&self) -> Subs<'a>
+        ensures { subs_left result ≡ subs_of (table_of_node self.now) (sub_bid_of self.now) }
+    {
+        subs(&self.blocks, self.bid_sub)
+    }
+
+    /// The subnode with an identifier; None exactly where the list has none. It is reached from where this node was.
+    #[tactic(auto, using(pst_subnode::proofs::MapLaws::found_data, pst_subnode::proofs::MapLaws::found_subs, crate::proofs::NodeLemmas::first_keyed))]
+    pub fn sub(&self, nid: u32) -> Option<Node<'a>>
+        ensures value { option_map parts_of result ≡ option_map (sub_parts (parts_of self.now)) (first_with sub_nid nid (subs_of (table_of_node self.now) (sub_bid_of self.now))) }
+        ensures image { IfSome result (λ n. image_of_node n ≡ image_of_node self.now) }
+        ensures table { IfSome result (λ n. table_of_node n ≡ table_of_node self.now) }
+        ensures top { IfSome result (λ n. top_of n ≡ top_of self.now) }
+        ensures nid { IfSome result (λ n. nid_of n ≡ nid) }
+    {
+        let found = find_sub(&self.blocks, self.bid_sub, nid)?;
+        Some(Node {
+            blocks: self.blocks,
+            top: self.top,
+            nid: found.nid,
+            bid_data: found.bid_data,
+            bid_sub: found.bid_sub,
+        })
+    }
+}

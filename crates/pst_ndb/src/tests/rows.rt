@@ -1,0 +1,350 @@
+//! Faults of each kind, and files that have none.
+
+use super::Change::{Block, Flip, Header, Page, Set};
+use super::*;
+use pst_bytes::Span;
+use pst_fault::{Fault, Kind, Place};
+use pst_make::m1;
+
+#[test]
+fn small_stores_are_good(rt: HostRuntime) -> Result<(), Fail> {
+    let small = m0(rt.alloc())?;
+    is_answered(&rt, rt.alloc(), &small, GOOD)?;
+    let larger = m1(rt.alloc())?;
+    let line = "yes: 2 pages 3 blocks 4 nodes High 0 lost 0 old";
+    is_answered(&rt, rt.alloc(), &larger, line)
+}
+
+// Each kind of fault up to the nodes, once and more.
+#[test]
+fn every_fault_is_told(rt: HostRuntime) -> Result<(), Fail> {
+    let small = m0(rt.alloc())?;
+    let front = small.get(..563).ok_or("too short")?;
+    is_answered(&rt, rt.alloc(), &[], "no: 1 Short at 0x0 bid 0x0 nid 0x0")?;
+    is_answered(&rt, rt.alloc(), front, "no: 1 Short at 0x0 bid 0x0 nid 0x0")?;
+    let front = small.get(..271_359).ok_or("too short")?;
+    is_answered(&rt, rt.alloc(), front, "no: 6 Root at 0xb8 bid 0x0 nid 0x0")?;
+    are_answered(&rt, rt.alloc(), &HEADERS)?;
+    are_answered(&rt, rt.alloc(), &PAGES)?;
+    are_answered(&rt, rt.alloc(), &BLOCKS)?;
+    are_answered(&rt, rt.alloc(), &MAPS)?;
+    are_answered(&rt, rt.alloc(), &NODES)
+}
+
+const HEADERS: [Row<'static>; 9] = [
+    (&[Set(0, &[0])], "no: 2 Magic at 0x0 bid 0x0 nid 0x0"),
+    (
+        &[Set(8, &[0]), Header],
+        "no: 2 Magic at 0x8 bid 0x0 nid 0x0",
+    ),
+    (
+        &[Set(10, &[15]), Header],
+        "no: 3 Version(15) at 0xa bid 0x0 nid 0x0",
+    ),
+    (
+        &[Set(513, &[1]), Header],
+        "no: 4 Encoded(1) at 0x201 bid 0x0 nid 0x0",
+    ),
+    (&[Flip(300)], "no: 5 HeaderCheck at 0x4 bid 0x0 nid 0x0"),
+    (&[Flip(520)], "no: 5 HeaderCheck at 0x20c bid 0x0 nid 0x0"),
+    (
+        &[Set(184, &[1]), Header],
+        "no: 6 Root at 0xb8 bid 0x0 nid 0x0",
+    ),
+    (
+        &[Set(192, &[1]), Header],
+        "no: 6 Root at 0xc0 bid 0x0 nid 0x0",
+    ),
+    (
+        &[Set(248, &[0]), Header],
+        "no: 7 MapsInvalid at 0xf8 bid 0x0 nid 0x0",
+    ),
+];
+
+const PAGES: [Row<'static>; 9] = [
+    // A root that lies on no multiple of 64; a leaf that is read as a branch.
+    (
+        &[Set(224, &[0x01]), Header],
+        "no: 8 PagePlace at 0x4801 bid 0x4 nid 0x0",
+    ),
+    (
+        &[Set(0x49eb, &[1]), Page(0x4800)],
+        "no: 8 PagePlace at 0x0 bid 0x4 nid 0x0",
+    ),
+    // Pages of another type, or with another check value.
+    (
+        &[Set(0x49f0, &[0x80, 0x80]), Page(0x4800)],
+        "no: 9 PageTrailer at 0x4800 bid 0x4 nid 0x0",
+    ),
+    (
+        &[Flip(0x4bf4)],
+        "no: 9 PageTrailer at 0x4a00 bid 0x8 nid 0x0",
+    ),
+    // A level over 15.
+    (
+        &[Set(0x49eb, &[16]), Page(0x4800)],
+        "no: 10 PageShape at 0x4800 bid 0x4 nid 0x0",
+    ),
+    // Keys that do not rise: bit 0 of a block's says nothing.
+    (
+        &[Set(0x4a18, &[5]), Page(0x4a00)],
+        "no: 11 KeyOrder at 0x4a18 bid 0x8 nid 0x0",
+    ),
+    (
+        &[Set(0x4820, &[0x21, 0]), Page(0x4800)],
+        "no: 11 KeyOrder at 0x4820 bid 0x4 nid 0x0",
+    ),
+    // Both trees have one root; a root lies on a map page.
+    (
+        &[Set(240, &[0x00, 0x48]), Header],
+        "no: 9 PageTrailer at 0x4800 bid 0x8 nid 0x0",
+    ),
+    (
+        &[Set(240, &[0x00, 0x44]), Header],
+        "no: 12 Overlap at 0x4400 bid 0x8 nid 0x0",
+    ),
+];
+
+const BLOCKS: [Row<'static>; 6] = [
+    // On another block, on a map page, on a page of a tree.
+    (
+        &[Set(0x4a20, &[0x00, 0x4c]), Page(0x4a00)],
+        "no: 12 Overlap at 0x4c00 bid 0x8 nid 0x0",
+    ),
+    (
+        &[Set(0x4a20, &[0x00, 0x46]), Page(0x4a00)],
+        "no: 12 Overlap at 0x4600 bid 0x8 nid 0x0",
+    ),
+    (
+        &[Set(0x4a20, &[0xc0, 0x49]), Page(0x4a00)],
+        "no: 12 Overlap at 0x49c0 bid 0x8 nid 0x0",
+    ),
+    (
+        &[Set(0x4a28, &[0xf1, 0x1f]), Page(0x4a00)],
+        "no: 13 BlockPlace at 0x4c40 bid 0x8 nid 0x0",
+    ),
+    (
+        &[Flip(0x4c74)],
+        "no: 14 BlockTrailer at 0x4c40 bid 0x8 nid 0x0",
+    ),
+    // The first of two bad blocks.
+    (
+        &[Flip(0x4c74), Flip(0x4c34)],
+        "no: 14 BlockTrailer at 0x4c00 bid 0x4 nid 0x0",
+    ),
+];
+
+const MAPS: [Row<'static>; 2] = [
+    (&[Flip(0x45f4)], "no: 19 MapPage at 0x4400 bid 0x0 nid 0x0"),
+    (
+        &[Set(0x4404, &[0x80]), Page(0x4400)],
+        "no: 20 MapMissing at 0x4c40 bid 0x0 nid 0x0",
+    ),
+];
+
+const NODES: [Row<'static>; 2] = [
+    (
+        &[Set(0x4808, &[0x0c]), Page(0x4800)],
+        "no: 15 BlockMissing at 0x0 bid 0xc nid 0x21",
+    ),
+    // The second block is an internal one, by its identifier; its body is none.
+    (
+        &[
+            Set(0x4a18, &[0x0a]),
+            Page(0x4a00),
+            Set(0x4c78, &[0x0a]),
+            Block(0x4c40, 38),
+            Set(0x4828, &[0x0a]),
+            Page(0x4800),
+        ],
+        "no: 16 DataTree at 0x4c40 bid 0xa nid 0x122",
+    ),
+];
+
+#[test]
+fn what_lies_behind_the_end_says_nothing(rt: HostRuntime) -> Result<(), Fail> {
+    let mut image = m0(rt.alloc())?;
+    for _ in 0..64 {
+        image.push(0xff)?;
+    }
+    is_answered(&rt, rt.alloc(), &image, GOOD)
+}
+
+#[test]
+fn page_maps_are_claimed_and_no_more(rt: HostRuntime) -> Result<(), Fail> {
+    are_answered(
+        &rt,
+        rt.alloc(),
+        &[(&[Flip(0x47f0), Flip(0x47f4), Flip(0x4600)], GOOD)],
+    )
+}
+
+#[test]
+fn lost_runs_are_no_fault(rt: HostRuntime) -> Result<(), Fail> {
+    let rows: [Row; 3] = [
+        (
+            &[Set(0x4404, &[0xe0]), Page(0x4400)],
+            "yes: 2 pages 2 blocks 2 nodes High 1 lost 0 old",
+        ),
+        (
+            &[Set(0x4404, &[0x03]), Page(0x4400)],
+            "yes: 2 pages 2 blocks 2 nodes Low 0 lost 0 old",
+        ),
+        (
+            &[Set(0x4404, &[0xc1]), Page(0x4400)],
+            "yes: 2 pages 2 blocks 2 nodes High 1 lost 0 old",
+        ),
+    ];
+    are_answered(&rt, rt.alloc(), &rows)?;
+    let mut image = m0(rt.alloc())?;
+    change_all(&mut image, &[Set(0x4404, &[0xe0]), Page(0x4400)])?;
+    let Ok(checked) = check_ndb(rt.alloc(), Image::new(&image)) else {
+        panic!(rt; "refused");
+    };
+    assert_eq!(rt;
+        checked.map.lost.first(),
+        Some(&Span { at: 19584, len: 64 })
+    );
+    assert_eq!(rt; checked.work.contexts, 0);
+    Ok(())
+}
+
+// The small store, and a region more, with an old map page behind its allocation map, whose units are marked or not.
+#[test]
+fn an_old_map_page_is_claimed(rt: HostRuntime) -> Result<(), Fail> {
+    for (marks, line) in [
+        (0xff, "yes: 2 pages 2 blocks 2 nodes High 0 lost 1 old"),
+        (0x00, "yes: 2 pages 2 blocks 2 nodes High 0 lost 0 old"),
+        (0x7f, "yes: 2 pages 2 blocks 2 nodes High 1 lost 0 old"),
+    ] {
+        let mut image = m0(rt.alloc())?;
+        for _ in 0..253_952 {
+            image.push(0)?;
+        }
+        change_all(
+            &mut image,
+            &[
+                Set(184, &[0x00, 0x04, 0x08]),
+                Set(192, &[0x00, 0x24, 0x04]),
+                Header,
+                Set(271_360, &[0xff, 0x00, marks]),
+                Set(271_856, &[0x84, 0x84, 0, 0, 0, 0, 0, 0, 0x00, 0x24, 0x04]),
+                Page(271_360),
+                Set(272_880, &[0x82, 0x82, 0, 0, 0, 0, 0, 0, 0x00, 0x28, 0x04]),
+                Page(272_384),
+            ],
+        )?;
+        is_answered(&rt, rt.alloc(), &image, line)?;
+    }
+    Ok(())
+}
+
+fn fault(kind: Kind, at: u64, bid: u64) -> Option<Fault> {
+    let place = Place { at, bid, nid: 0 };
+    Some(Fault { kind, place })
+}
+
+// The fronts of the small store, as they are: the header says where the file ends.
+#[test]
+fn a_file_that_was_cut(rt: HostRuntime) -> Result<(), Fail> {
+    let image = m0(rt.alloc())?;
+    for n in 0..4240_usize {
+        let front = image.get(..64 * n).ok_or("too short")?;
+        let answer = check_ndb(rt.alloc(), Image::new(front)).err();
+        let wanted = if n <= 8 {
+            fault(Kind::Short, 0, 0)
+        } else {
+            fault(Kind::Root, 0xb8, 0)
+        };
+        assert_eq!(rt; answer, wanted, "{n} units");
+    }
+    Ok(())
+}
+
+// The fronts of the small store, where the header says that the file ends there.
+#[test]
+fn a_file_that_ends_early(rt: HostRuntime) -> Result<(), Fail> {
+    let mut image = m0(rt.alloc())?;
+    for n in 0..=4240_usize {
+        let len = 64 * n;
+        if len >= 576 {
+            set(&mut image, 184, &(len as u64).to_le_bytes())?;
+            seal_first(&mut image)?;
+        }
+        let front = image.get(..len).ok_or("too short")?;
+        let answer = check_ndb(rt.alloc(), Image::new(front)).err();
+        let wanted = match len {
+            0..=512 => fault(Kind::Short, 0, 0),
+            513..=18_368 => fault(Kind::Root, 0xc0, 0),
+            18_369..=19_392 => fault(Kind::PagePlace, 0x4a00, 8),
+            19_393..=19_456 => fault(Kind::BlockPlace, 0x4c00, 4),
+            19_457..=19_520 => fault(Kind::BlockPlace, 0x4c40, 8),
+            _ => None,
+        };
+        assert_eq!(rt; answer, wanted, "{len} bytes");
+    }
+    Ok(())
+}
+
+// Each field of each trailer of a store, with its lowest bit flipped.
+#[test]
+fn each_field_of_each_trailer_counts(rt: HostRuntime) -> Result<(), Fail> {
+    let whole = "yes: 2 pages 3 blocks 4 nodes High 0 lost 0 old";
+    for (at, line) in [
+        (0x4800_usize, "no: 9 PageTrailer at 0x4800 bid 0x4 nid 0x0"),
+        (0x4a00, "no: 9 PageTrailer at 0x4a00 bid 0x8 nid 0x0"),
+        (0x4400, "no: 19 MapPage at 0x4400 bid 0x0 nid 0x0"),
+        (0x4600, whole),
+    ] {
+        for field in [496, 497, 498, 500, 504] {
+            let mut image = m1(rt.alloc())?;
+            flip(&mut image, at.saturating_add(field))?;
+            is_answered(&rt, rt.alloc(), &image, line)?;
+        }
+    }
+    for (at, line) in [
+        (
+            0x4c30_usize,
+            "no: 14 BlockTrailer at 0x4c00 bid 0x4 nid 0x0",
+        ),
+        (0x4c70, "no: 14 BlockTrailer at 0x4c40 bid 0x8 nid 0x0"),
+        (0x4cf0, "no: 14 BlockTrailer at 0x4c80 bid 0xc nid 0x0"),
+    ] {
+        for field in [0, 2, 4, 8] {
+            let mut image = m1(rt.alloc())?;
+            flip(&mut image, at.saturating_add(field))?;
+            is_answered(&rt, rt.alloc(), &image, line)?;
+        }
+    }
+    let mut image = m1(rt.alloc())?;
+    change_all(&mut image, &[Flip(0x4cf8), Block(0x4c80, 90)])?;
+    is_answered(&rt, rt.alloc(), &image, whole)
+}
+
+// A block B-tree of a branch over three leaves: a key of the second leaf is as high as the third leaf's.
+#[test]
+fn keys_keep_the_bounds_of_the_branch(rt: HostRuntime) -> Result<(), Fail> {
+    let mut plan = Plan {
+        blocks: Vec::new(rt.alloc()),
+        nodes: Vec::new(rt.alloc()),
+    };
+    for n in 1..=41_u64 {
+        let body = Vec::new(rt.alloc());
+        plan.blocks.push(BlockPlan { bid: 4 * n, body })?;
+    }
+    let mut image = build(rt.alloc(), &plan).map_err(|_| Fail::from("not made"))?;
+    change_all(&mut image, &[Set(0x4dc8, &[164]), Page(0x4c00)])?;
+    is_answered(
+        &rt,
+        rt.alloc(),
+        &image,
+        "no: 11 KeyOrder at 0x4dc8 bid 0xc nid 0x0",
+    )?;
+    change_all(&mut image, &[Set(0x4dc8, &[160]), Page(0x4c00)])?;
+    is_answered(
+        &rt,
+        rt.alloc(),
+        &image,
+        "yes: 5 pages 41 blocks 0 nodes High 0 lost 0 old",
+    )
+}

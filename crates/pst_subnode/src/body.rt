@@ -1,0 +1,74 @@
+//! The bodies of SLBLOCKs and SIBLOCKs ([MS-PST] 2.2.2.8.3.3).
+
+ghost use Rattle.std.specs.Prelude.{◌≡◌, ◌+◌, ◌*◌, ◌≤◌, IsTrue, length};
+ghost use Rattle.pst_bytes.specs.Image.{bytes_of};
+ghost use Rattle.pst_block.specs.Table.{body_of, IsWithin};
+ghost use Rattle.pst_block.specs.Blocks.{table_of};
+ghost use Rattle.pst_subnode.specs.Body.{count_in, sub_in, bid_in, is_slblock as slblock, is_siblock as siblock, has_level_one as level_one};
+
+use crate::sub::Sub;
+use pst_block::{BlockEntry, Blocks};
+use pst_bytes::Image;
+use pst_page::PageKind;
+
+// The body of a block, as bytes to read numbers of.
+pub(crate) fn body_in<'a>(blocks: &Blocks<'a>, entry: BlockEntry) -> Image<'a>
+    requires { IsWithin (table_of blocks.now).image entry }
+    ensures { bytes_of result ≡ body_of (table_of blocks.now) entry }
+{
+    Image::new(blocks.body_at(entry))
+}
+
+// Whether a body is an SLBLOCK's, whose entries fit.
+#[tactic(auto, unfolding(crate::specs::Body::is_slblock))]
+pub(crate) fn is_slblock(body: Image) -> bool
+    ensures value { result ≡ slblock (bytes_of body.entry) }
+    ensures fits { IsTrue result → 8 + 24 * count_in (bytes_of body.entry) ≤ length (bytes_of body.entry) }
+{
+    body.len() >= 8
+        && body.number8(0) == 2
+        && body.number8(1) == 0
+        && 8 + 24 * u64::from(body.number16(2)) <= body.len()
+}
+
+// Whether a body is an SIBLOCK's, whose entries fit.
+#[tactic(auto, unfolding(crate::specs::Body::is_siblock))]
+pub(crate) fn is_siblock(body: Image) -> bool
+    ensures value { result ≡ siblock (bytes_of body.entry) }
+    ensures fits { IsTrue result → 8 + 16 * count_in (bytes_of body.entry) ≤ length (bytes_of body.entry) }
+{
+    body.len() >= 8
+        && body.number8(0) == 2
+        && body.number8(1) == 1
+        && 8 + 16 * u64::from(body.number16(2)) <= body.len()
+}
+
+// Whether the level of a block is 1, an SIBLOCK's.
+#[tactic(auto, unfolding(crate::specs::Body::has_level_one))]
+pub(crate) fn has_level_one(body: Image) -> bool
+    ensures { result ≡ level_one (bytes_of body.entry) }
+{
+    body.len() >= 2 && body.number8(1) == 1
+}
+
+// The SLENTRY with a number.
+#[tactic(auto, unfolding(crate::specs::Body::sub_in, pst_page::specs::Entry::key_of))]
+pub(crate) fn sub_at(body: Image, i: u16) -> Sub
+    requires { 32 + 24 * i ≤ length (bytes_of body) }
+    ensures { result ≡ sub_in (bytes_of body.entry) i }
+{
+    let at = 8 + 24 * u64::from(i);
+    Sub {
+        nid: PageKind::Nbt.key_of(body.number64(at)) as u32,
+        bid_data: body.number64(at + 8),
+        bid_sub: body.number64(at + 16),
+    }
+}
+
+// The block identifier of the SIENTRY with a number.
+pub(crate) fn bid_at(body: Image, i: u16) -> u64
+    requires { 24 + 16 * i ≤ length (bytes_of body) }
+    ensures { result ≡ bid_in (bytes_of body.entry) i }
+{
+    body.number64(16 + 16 * u64::from(i))
+}

@@ -1,0 +1,134 @@
+//! The check of a subnode list: of its own blocks, and that no subnode stands in it twice.
+
+ghost use Rattle.std.specs.Prelude.{◌≡◌, ◌+◌, ◌*◌, ◌≤◌, length, map, IfOk, IfErr};
+ghost use Rattle.pst_fault.specs.Fault.{no_memory};
+ghost use Rattle.pst_fault.specs.First.{answer, Tells, first_below};
+ghost use Rattle.pst_block.specs.Table.{body_of, IsWithin};
+ghost use Rattle.pst_block.specs.Blocks.{table_of};
+ghost use Rattle.pst_subnode.specs.List.{bad_list, slblock_fault, leaf_fault, siblock_fault, shape_fault, block_fault, list_fault, are_distinct as distinct, nid_of};
+ghost use Rattle.pst_subnode.specs.Left.{subs_left};
+
+use crate::body::{bid_at, body_in, has_level_one, is_siblock, is_slblock};
+use crate::entries::Subs;
+use pst_block::{BlockEntry, Blocks};
+use pst_datatree::{is_internal, missing_block};
+use pst_fault::{Fault, Kind};
+use std::alloc::Global;
+use std::collections::BTreeSet;
+
+// The fault of a breach in a block of a list.
+fn list_breach(entry: BlockEntry) -> Fault
+    ensures { result ≡ bad_list entry }
+{
+    Fault::within(Kind::Subnode, entry.ib, entry.bid)
+}
+
+// An SLBLOCK.
+#[tactic(auto, unfolding(crate::specs::List::slblock_fault))]
+fn check_slblock(blocks: &Blocks, entry: BlockEntry) -> Result<(), Fault>
+    requires { IsWithin (table_of blocks.now).image entry }
+    ensures { result ≡ answer (slblock_fault (table_of blocks.now) entry) tt }
+{
+    if !is_slblock(body_in(blocks, entry)) {
+        return Err(list_breach(entry));
+    }
+    Ok(())
+}
+
+// The SLBLOCK that an SIBLOCK names with a number.
+#[tactic(auto, unfolding(crate::specs::List::leaf_fault))]
+fn check_leaf(blocks: &Blocks, holder: BlockEntry, i: u16) -> Result<(), Fault>
+    requires within { IsWithin (table_of blocks.now).image holder }
+    requires fits { 24 + 16 * i ≤ length (body_of (table_of blocks.now) holder) }
+    ensures { result ≡ answer (leaf_fault (table_of blocks.now) holder i) tt }
+{
+    let bid = bid_at(body_in(blocks, holder), i);
+    let Some(entry) = blocks.entry(bid) else {
+        return Err(missing_block(bid));
+    };
+    if !is_internal(bid) {
+        return Err(list_breach(holder));
+    }
+    check_slblock(blocks, entry)
+}
+
+// The first SLBLOCKs that an SIBLOCK names.
+#[tactic(auto, using(pst_fault::proofs::FirstLemmas::first_more))]
+fn check_leaves(blocks: &Blocks, holder: BlockEntry, count: u16) -> Result<(), Fault>
+    requires within { IsWithin (table_of blocks.now).image holder }
+    requires fits { 8 + 16 * count ≤ length (body_of (table_of blocks.now) holder) }
+    ensures { result ≡ answer (first_below (leaf_fault (table_of blocks.now) holder) count) tt }
+{
+    for i in 0..count {
+        check_leaf(blocks, holder, i)?;
+    }
+    Ok(())
+}
+
+// An SIBLOCK.
+#[tactic(auto, unfolding(crate::specs::List::siblock_fault))]
+fn check_siblock(blocks: &Blocks, entry: BlockEntry) -> Result<(), Fault>
+    requires { IsWithin (table_of blocks.now).image entry }
+    ensures { result ≡ answer (siblock_fault (table_of blocks.now) entry) tt }
+{
+    let body = body_in(blocks, entry);
+    if !is_siblock(body) {
+        return Err(list_breach(entry));
+    }
+    check_leaves(blocks, entry, body.number16(2))
+}
+
+// The shape of a block.
+#[tactic(auto, unfolding(crate::specs::List::shape_fault))]
+fn check_shape(blocks: &Blocks, entry: BlockEntry) -> Result<(), Fault>
+    requires { IsWithin (table_of blocks.now).image entry }
+    ensures { result ≡ answer (shape_fault (table_of blocks.now) entry) tt }
+{
+    if has_level_one(body_in(blocks, entry)) {
+        check_siblock(blocks, entry)
+    } else {
+        check_slblock(blocks, entry)
+    }
+}
+
+// Whether no subnode stands twice among entries; or memory ran out.
+fn are_distinct(alloc: Global, subs: Subs) -> Result<bool, Fault>
+    ensures value { IfOk result (λ b. b ≡ distinct (map nid_of (subs_left subs.entry))) }
+    ensures memory { IfErr result (λ f. f ≡ no_memory) }
+{
+    let mut met = BTreeSet::new(alloc);
+    let mut rest = subs;
+    while let Some(sub) = rest.next() {
+        if !met.insert(sub.nid)? {
+            return Ok(false);
+        }
+    }
+    Ok(true)
+}
+
+// A block of a list, all of it.
+#[tactic(auto, unfolding(crate::specs::List::block_fault))]
+fn check_block(alloc: Global, blocks: &Blocks, entry: BlockEntry) -> Result<(), Fault>
+    requires { IsWithin (table_of blocks.now).image entry }
+    ensures { Tells result (block_fault (table_of blocks.now) entry) tt }
+{
+    check_shape(blocks, entry)?;
+    if !are_distinct(alloc, Subs::of_block(blocks, entry))? {
+        return Err(list_breach(entry));
+    }
+    Ok(())
+}
+
+// The list of a block identifier that names a block.
+#[tactic(auto, unfolding(crate::specs::List::list_fault))]
+pub(crate) fn check_list(alloc: Global, blocks: &Blocks, bid: u64) -> Result<(), Fault>
+    ensures { Tells result (list_fault (table_of blocks.now) bid) tt }
+{
+    let Some(entry) = blocks.entry(bid) else {
+        return Err(missing_block(bid));
+    };
+    if !is_internal(bid) {
+        return Err(list_breach(entry));
+    }
+    check_block(alloc, blocks, entry)
+}

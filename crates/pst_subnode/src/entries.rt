@@ -1,0 +1,244 @@
+//! The entries of a subnode list, one after another.
+
+ghost use Rattle.std.specs.Prelude.{◌≡◌, ◌+◌, ◌*◌, ◌<◌, ◌≤◌, length};
+ghost use Rattle.pst_bytes.specs.Image.{bytes_of};
+ghost use Rattle.pst_subnode.specs.Body.{count_in};
+
+use crate::body::{bid_at, body_in, has_level_one, is_siblock, is_slblock, sub_at};
+use crate::sub::Sub;
+use pst_block::{BlockEntry, Blocks};
+use pst_bytes::Image;
+use pst_datatree::is_no_block;
+
+// The entries of a block that are left: from one on, so many.
+#[derive(Clone, Copy)]
+struct Rest<'a> {
+    body: Image<'a>,
+    next: u16,
+    left: u16,
+}
+
+impl<'a> Rest<'a> {
+    // Nothing is left.
+    fn none() -> Rest<'a>
+        ensures { result.left ≡ 0 }
+    {
+        Rest {
+            body: Image::new(&[]),
+            next: 0,
+            left: 0,
+        }
+    }
+
+    // All entries of a body.
+    fn all(body: Image<'a>) -> Rest<'a>
+        requires { 8 ≤ length (bytes_of body) }
+        ensures body { result.body ≡ body.entry }
+        ensures next { result.next ≡ 0 }
+        ensures left { result.left ≡ count_in (bytes_of body.entry) }
+    {
+        Rest {
+            body,
+            next: 0,
+            left: body.number16(2),
+        }
+    }
+
+    // What is left after the first.
+    fn behind(self) -> Rest<'a>
+        requires some { 0 < self.left }
+        requires few { self.next + self.left < 65536 }
+        ensures body { result.body ≡ self.entry.body }
+        ensures next { result.next ≡ self.entry.next + 1 }
+        ensures left { result.left + 1 ≡ self.entry.left }
+    {
+        Rest {
+            body: self.body,
+            next: self.next + 1,
+            left: self.left - 1,
+        }
+    }
+}
+
+/// The entries of a subnode list that are left, in order: a `Sub` each. It keeps its places in an SIBLOCK and in the SLBLOCK
+/// that is open, and takes no memory.
+#[derive(Clone, Copy)]
+pub struct Subs<'a> {
+    blocks: Blocks<'a>,
+    // Of the SLBLOCK that is open.
+    entries: Rest<'a>,
+    // Of the SIBLOCK: the SLBLOCKs that come after it.
+    leaves: Rest<'a>,
+    ghost entries_few: { entries.next + entries.left < 65536 },
+    ghost leaves_few: { leaves.next + leaves.left < 65536 },
+    ghost entries_fit: { 0 < entries.left → 8 + 24 * (entries.next + entries.left) ≤ length (bytes_of entries.body) },
+    ghost leaves_fit: { 0 < leaves.left → 8 + 16 * (leaves.next + leaves.left) ≤ length (bytes_of leaves.body) },
+}
+
+impl<'a> Subs<'a> {
+    ghost use Rattle.std.specs.Prelude.{◌≡◌, ◌+◌, ◌<◌, [], ◌∷◌};
+    ghost use Rattle.pst_block.specs.Table.{IsWithin, entry_of};
+    ghost use Rattle.pst_block.specs.Blocks.{table_of};
+    ghost use Rattle.pst_subnode.specs.List.{subs_at, slblock_subs, siblock_subs, block_subs, subs_of};
+    ghost use Rattle.pst_subnode.specs.Body.{sub_in};
+    ghost use Rattle.pst_subnode.specs.Left.{subs_left};
+
+    // No entries.
+    #[tactic(auto, using(crate::proofs::LeftLemmas::none_left))]
+    fn none(blocks: &Blocks<'a>) -> Subs<'a>
+        ensures left { subs_left result ≡ [] }
+        ensures blocks { result.blocks ≡ blocks.now }
+        ensures leaves { result.leaves.left ≡ 0 }
+    {
+        Subs {
+            blocks: *blocks,
+            entries: Rest::none(),
+            leaves: Rest::none(),
+        }
+    }
+
+    // The entries of an SLBLOCK, and none of another block.
+    #[tactic(auto, using(crate::proofs::LeftLemmas::first_left), unfolding(crate::specs::List::slblock_subs, crate::specs::Body::subs_in))]
+    fn of_slblock(blocks: &Blocks<'a>, entry: BlockEntry) -> Subs<'a>
+        requires { IsWithin (table_of blocks.now).image entry }
+        ensures left { subs_left result ≡ slblock_subs (table_of blocks.now) entry }
+        ensures blocks { result.blocks ≡ blocks.now }
+        ensures leaves { result.leaves.left ≡ 0 }
+    {
+        let body = body_in(blocks, entry);
+        if !is_slblock(body) {
+            return Subs::none(blocks);
+        }
+        Subs {
+            blocks: *blocks,
+            entries: Rest::all(body),
+            leaves: Rest::none(),
+        }
+    }
+
+    // The entries of the SLBLOCKs of an SIBLOCK, and none of another block.
+    #[tactic(auto, using(crate::proofs::LeftLemmas::second_left), unfolding(crate::specs::List::siblock_subs))]
+    fn of_siblock(blocks: &Blocks<'a>, entry: BlockEntry) -> Subs<'a>
+        requires { IsWithin (table_of blocks.now).image entry }
+        ensures { subs_left result ≡ siblock_subs (table_of blocks.now) entry }
+    {
+        let body = body_in(blocks, entry);
+        if !is_siblock(body) {
+            return Subs::none(blocks);
+        }
+        Subs {
+            blocks: *blocks,
+            entries: Rest::none(),
+            leaves: Rest::all(body),
+        }
+    }
+
+    // The entries of a block.
+    #[tactic(auto, unfolding(crate::specs::List::block_subs))]
+    pub(crate) fn of_block(blocks: &Blocks<'a>, entry: BlockEntry) -> Subs<'a>
+        requires { IsWithin (table_of blocks.now).image entry }
+        ensures { subs_left result ≡ block_subs (table_of blocks.now) entry }
+    {
+        if has_level_one(body_in(blocks, entry)) {
+            Subs::of_siblock(blocks, entry)
+        } else {
+            Subs::of_slblock(blocks, entry)
+        }
+    }
+
+    // The entries of a block identifier.
+    #[tactic(auto, unfolding(crate::specs::List::subs_of))]
+    pub(crate) fn of_bid(blocks: &Blocks<'a>, bid: u64) -> Subs<'a>
+        ensures { subs_left result ≡ subs_of (table_of blocks.now) bid }
+    {
+        if is_no_block(bid) {
+            return Subs::none(blocks);
+        }
+        match blocks.entry(bid) {
+            Some(entry) => Subs::of_block(blocks, entry),
+            None => Subs::none(blocks),
+        }
+    }
+
+    // How many SLBLOCKs are still to be opened.
+    pub(crate) fn leaf_count(self) -> u16
+        ensures { result ≡ self.entry.leaves.left }
+    {
+        self.leaves.left
+    }
+
+    // The entries of an SLBLOCK, by its identifier.
+    fn of_leaf(blocks: &Blocks<'a>, bid: u64) -> Subs<'a>
+        ensures left { subs_left result ≡ subs_at (slblock_subs (table_of blocks.now)) (entry_of (table_of blocks.now) bid) }
+        ensures blocks { result.blocks ≡ blocks.now }
+        ensures leaves { result.leaves.left ≡ 0 }
+    {
+        match blocks.entry(bid) {
+            Some(entry) => Subs::of_slblock(blocks, entry),
+            None => Subs::none(blocks),
+        }
+    }
+
+    // The same entries, where those of the open SLBLOCK are used up: the next SLBLOCK is opened.
+    fn with_next_leaf(self) -> Subs<'a>
+        requires used { self.entries.left ≡ 0 }
+        requires more { 0 < self.leaves.left }
+        ensures same { subs_left result ≡ subs_left self.entry }
+        ensures fewer { result.leaves.left + 1 ≡ self.entry.leaves.left }
+    {
+        let bid = bid_at(self.leaves.body, self.leaves.next);
+        let leaf = Subs::of_leaf(&self.blocks, bid);
+        Subs {
+            blocks: self.blocks,
+            entries: leaf.entries,
+            leaves: self.leaves.behind(),
+        }
+    }
+
+    // The same entries, the first of them in the open SLBLOCK, if there are any.
+    #[tactic(auto, using(crate::proofs::LeftLemmas::none_left))]
+    fn opened(self) -> Subs<'a>
+        ensures same { subs_left result ≡ subs_left self.entry }
+        ensures open { result.entries.left ≡ 0 → subs_left result ≡ [] }
+    {
+        let mut subs = self;
+        while subs.entries.left == 0 && subs.leaves.left > 0 {
+            subs = subs.with_next_leaf();
+        }
+        subs
+    }
+
+    // The entries behind the first one, which is in the open SLBLOCK.
+    fn behind_first(self) -> Subs<'a>
+        requires { 0 < self.entries.left }
+        ensures { subs_left self.entry ≡ sub_in (bytes_of self.entry.entries.body) self.entry.entries.next ∷ subs_left result }
+    {
+        Subs {
+            blocks: self.blocks,
+            entries: self.entries.behind(),
+            leaves: self.leaves,
+        }
+    }
+}
+
+impl<'a> Iterator for Subs<'a> {
+    ghost use Rattle.std.specs.Prelude.{◌≡◌};
+    ghost use Rattle.std.specs.Iterator.{YieldsFirst, item_count};
+    ghost use Rattle.pst_subnode.specs.Left.{subs_left};
+
+    type Item = Sub;
+
+    ghost next_gives = { YieldsFirst subs_left };
+
+    ghost remaining = { item_count subs_left };
+
+    fn next(&mut self) -> Option<Sub> {
+        let open = self.opened();
+        if open.entries.left == 0 {
+            return None;
+        }
+        let sub = sub_at(open.entries.body, open.entries.next);
+        *self = open.behind_first();
+        Some(sub)
+    }
+}

@@ -1,0 +1,33 @@
+//! Look-ups in subnode lists.
+
+ghost use Rattle.std.specs.Prelude.{◌≡◌};
+ghost use Rattle.pst_block.specs.Blocks.{table_of};
+ghost use Rattle.pst_btree.specs.Entries.{first_with};
+ghost use Rattle.pst_subnode.specs.List.{nid_of, subs_of};
+ghost use Rattle.pst_subnode.specs.Left.{subs_left};
+
+use crate::entries::Subs;
+use crate::sub::Sub;
+use pst_block::Blocks;
+
+/// The entries of the subnode list of a block identifier, in order, those of an SIBLOCK's SLBLOCKs one after another
+/// ([MS-PST] 2.2.2.8.3.3). An identifier that names no block, or a block that is no list, has none.
+pub fn subs<'a>(blocks: &Blocks<'a>, bid: u64) -> Subs<'a>
+    ensures { subs_left result ≡ subs_of (table_of blocks.now) bid }
+{
+    Subs::of_bid(blocks, bid)
+}
+
+/// The entry of a subnode in the list of a block identifier: the first one with this identifier.
+#[tactic(auto, using(crate::proofs::FindLemmas::found_here, crate::proofs::FindLemmas::found_later, crate::proofs::FindLemmas::found_nowhere))]
+pub fn find_sub(blocks: &Blocks, bid: u64, nid: u32) -> Option<Sub>
+    ensures { result ≡ first_with nid_of nid (subs_of (table_of blocks.now) bid) }
+{
+    let mut rest = subs(blocks, bid);
+    while let Some(sub) = rest.next() {
+        if sub.nid == nid {
+            return Some(sub);
+        }
+    }
+    None
+}

@@ -1,0 +1,177 @@
+//! The check of subnodes and of the subnodes of each of them, and how many lists nest.
+
+ghost use Rattle.std.specs.Prelude.{◌≡◌, ℕ, ◌+◌, ◌≤◌, IfOk, IfErr, List, option_map};
+ghost use Rattle.pst_fault.specs.Fault.{no_memory};
+ghost use Rattle.pst_fault.specs.First.{Tells};
+ghost use Rattle.pst_block.specs.Blocks.{table_of};
+ghost use Rattle.pst_datatree.specs.Data.{data_fault};
+ghost use Rattle.pst_datatree.specs.Seen.{expansions_of as data_expansions};
+ghost use Rattle.pst_subnode.specs.declared.sub.Sub.{Sub};
+ghost use Rattle.pst_subnode.specs.List.{subs_of};
+ghost use Rattle.pst_subnode.specs.Tree.{first_among, most_among, entry_fault, entry_height, nesting, sub_fault, sub_height, at_top};
+ghost use Rattle.pst_subnode.specs.Heights.{expansions_of};
+ghost use Rattle.pst_subnode.specs.Left.{subs_left};
+ghost use Rattle.pst_subnode.specs.Relation.{HasSubs};
+
+use crate::check::check_list;
+use crate::entries::Subs;
+use crate::find::subs;
+use crate::heights::Heights;
+use crate::sub::Sub;
+use pst_block::Blocks;
+use pst_datatree::{Seen, check_data, is_no_block};
+use pst_fault::{Fault, Kind, Place};
+use std::alloc::Global;
+
+/// How many lists may nest.
+pub const LISTS: u32 = 64;
+
+// The fault of one list too many.
+fn nesting_fault() -> Fault
+    ensures { result ≡ nesting }
+{
+    Fault::at(Kind::Nesting, 0)
+}
+
+// The data of an entry, under no node.
+#[tactic(auto, using(crate::proofs::NodeLemmas::data_no_node))]
+fn check_entry_data(alloc: Global, blocks: &Blocks, sub: Sub, seen: &mut Seen) -> Result<(), Fault>
+    ensures first { Tells result (data_fault (table_of blocks.now) sub.bid_data) tt }
+    ensures grows { data_expansions seen.old ≤ data_expansions seen.new }
+{
+    check_data(alloc, blocks, sub.bid_data, 0, seen)
+}
+
+// The height of the subnodes of an entry, once its data is checked.
+#[cycle(sub)]
+#[tactic(auto, unfolding(crate::specs::Tree::entry_fault, crate::specs::Tree::entry_height))]
+fn height_of_entry(
+    alloc: Global,
+    blocks: &Blocks,
+    sub: Sub,
+    limit: u32,
+    seen: &mut Seen,
+    heights: &mut Heights,
+) -> Result<u32, Fault>
+    ensures first { let t = table_of blocks.now in
+        Tells result (entry_fault t (sub_fault t limit) sub) (entry_height (sub_height t limit) sub) }
+    ensures small { IfOk result (λ h. h ≤ limit) }
+    ensures seen_grows { data_expansions seen.old ≤ data_expansions seen.new }
+    ensures heights_grow { expansions_of heights.old ≤ expansions_of heights.new }
+{
+    check_entry_data(alloc, blocks, sub, seen)?;
+    height_of(alloc, blocks, sub.bid_sub, limit, seen, heights)
+}
+
+// The greatest height of the subnodes of entries.
+#[cycle(sub)]
+fn height_of_entries(
+    alloc: Global,
+    blocks: &Blocks,
+    subs: Subs,
+    limit: u32,
+    seen: &mut Seen,
+    heights: &mut Heights,
+) -> Result<u32, Fault>
+    ensures first { let t = table_of blocks.now in
+        Tells result (first_among (entry_fault t (sub_fault t limit)) (subs_left subs.entry)) (most_among (entry_height (sub_height t limit)) (subs_left subs.entry)) }
+    ensures small { IfOk result (λ h. h ≤ limit) }
+    ensures seen_grows { data_expansions seen.old ≤ data_expansions seen.new }
+    ensures heights_grow { expansions_of heights.old ≤ expansions_of heights.new }
+{
+    let mut most = 0;
+    let mut rest = subs;
+    while let Some(sub) = rest.next() {
+        most = most.max(height_of_entry(alloc, blocks, sub, limit, seen, heights)?);
+    }
+    Ok(most)
+}
+
+// The height of the subnodes of a block identifier, where so many lists may nest.
+#[cycle(sub)]
+#[tactic(auto, using(crate::proofs::SubLemmas::sub_fault_none, crate::proofs::SubLemmas::sub_height_none))]
+fn height_of(
+    alloc: Global,
+    blocks: &Blocks,
+    bid: u64,
+    limit: u32,
+    seen: &mut Seen,
+    heights: &mut Heights,
+) -> Result<u32, Fault>
+    ensures first { let t = table_of blocks.now in Tells result (sub_fault t limit bid) (sub_height t limit bid) }
+    ensures small { IfOk result (λ h. h ≤ limit) }
+    ensures seen_grows { data_expansions seen.old ≤ data_expansions seen.new }
+    ensures heights_grow { expansions_of heights.old ≤ expansions_of heights.new }
+{
+    if is_no_block(bid) {
+        return Ok(0);
+    }
+    if limit == 0 {
+        return Err(nesting_fault());
+    }
+    check_list(alloc, blocks, bid)?;
+    let list = subs(blocks, bid);
+    heights.expand(1 + u64::from(list.leaf_count()));
+    let most = height_of_entries(alloc, blocks, list, limit - 1, seen, heights)?;
+    Ok(most + 1)
+}
+
+// A fault, under the node whose subnodes begin with a block identifier.
+fn fault_at_top(fault: Fault, bid: u64, nid: u32) -> Fault
+    ensures { result ≡ at_top bid nid fault }
+{
+    match fault.kind {
+        Kind::NoMemory => fault,
+        Kind::Nesting => Fault {
+            kind: fault.kind,
+            place: Place {
+                bid,
+                nid,
+                ..fault.place
+            },
+        },
+        _ => fault.at_node(nid),
+    }
+}
+
+/// Checks the subnodes of a node, by the identifier that the node has for them ([MS-PST] 2.2.2.8.3.3), and answers their
+/// height: how many lists nest. In order, with `nid` as the node:
+///
+/// - Nesting, with the identifier of the node's subnodes as it is written, where a list would begin below 64 others; it
+///   is not looked up;
+/// - BlockMissing, with the identifier as it is written, where the block B-tree lacks a block that is named;
+/// - Subnode, at the block of the list with the breach and with the identifier of its entry: the block is external, btype
+///   is not 2, cLevel is neither 0 nor 1 or not 0 below an SIBLOCK, the entries do not fit in the body, a block that an
+///   SIBLOCK names is external (told of the SIBLOCK), or a subnode stands twice in the list (told of the block that the
+///   identifier names);
+/// - then entry by entry the faults of its data, and those of its own subnodes.
+///
+/// An identifier that is 0 but for its bit 0 names no block: it has no fault, and the height is 0. Memory is taken to tell
+/// whether a subnode stands twice; where it is refused, that is NoMemory at once.
+pub fn check_sub(
+    alloc: Global,
+    blocks: &Blocks,
+    bid: u64,
+    nid: u32,
+    seen: &mut Seen,
+    heights: &mut Heights,
+) -> Result<u32, Fault>
+    // The height, or the first fault; or that memory ran out.
+    ensures first { Tells result (option_map (at_top bid nid) (sub_fault (table_of blocks.now) LISTS bid)) (sub_height (table_of blocks.now) LISTS bid) }
+    ensures small { IfOk result (λ h. h ≤ LISTS) }
+
+    // The identifier has the list of this height, as the format says.
+    ensures found { IfOk result (λ h. HasSubs (table_of blocks.now) bid h (subs_of (table_of blocks.now) bid)) }
+
+    // Where it has a list whose height is within the limit, only memory is refused.
+    ensures only { (h : ℕ) (list : List Sub) → HasSubs (table_of blocks.now) bid h list → h ≤ LISTS → IfErr result (λ f. f ≡ no_memory) }
+
+    // What is counted never falls.
+    ensures seen_grows { data_expansions seen.old ≤ data_expansions seen.new }
+    ensures heights_grow { expansions_of heights.old ≤ expansions_of heights.new }
+{
+    match height_of(alloc, blocks, bid, LISTS, seen, heights) {
+        Ok(height) => Ok(height),
+        Err(fault) => Err(fault_at_top(fault, bid, nid)),
+    }
+}

@@ -1,0 +1,33 @@
+//! Laws of subnodes, each the contract of a function that does nothing.
+
+ghost use Rattle.pst_subnode.specs.Laws.{SubLaw, OneLaw, MoreLaw, EntryLaw, FoundLaw, MapLaw};
+
+/// A block identifier has a list of a height within the limit exactly where it has no first fault, and then these are they.
+pub fn sub_decides()
+    ensures { SubLaw }
+{}
+
+/// A block identifier has at most one list, of one height.
+pub fn sub_is_one()
+    ensures { OneLaw }
+{}
+
+/// What may nest so deep may nest deeper.
+pub fn deeper_has_none()
+    ensures { MoreLaw }
+{}
+
+/// Below a list without fault each entry has none, neither its data nor its own subnodes.
+pub fn entries_have_none()
+    ensures { EntryLaw }
+{}
+
+/// What is found in a list without fault has none under the same limit.
+pub fn found_has_none()
+    ensures { FoundLaw }
+{}
+
+/// In a list without fault an entry is found under a nid exactly where it is there and has that nid.
+pub fn subs_are_a_map()
+    ensures { MapLaw }
+{}

@@ -1,0 +1,24 @@
+//! Subnodes ([MS-PST] 2.2.2.8.3.3): the list of the subnodes of a node, and of the subnodes of each of them, checked once and
+//! then looked up.
+#![tactic(auto)]
+
+mod body;
+mod check;
+mod entries;
+mod find;
+mod height;
+mod heights;
+mod laws;
+mod sub;
+
+pub use entries::Subs;
+pub use find::{find_sub, subs};
+pub use height::{LISTS, check_sub};
+pub use heights::Heights;
+pub use laws::{
+    deeper_has_none, entries_have_none, found_has_none, sub_decides, sub_is_one, subs_are_a_map,
+};
+pub use sub::Sub;
+
+#[cfg(test)]
+mod tests;

@@ -1,0 +1,350 @@
+use super::*;
+use pst_block::{Blocks, check_blocks};
+use pst_btree::walk_blocks;
+use pst_bytes::Image;
+use pst_datatree::Seen;
+use pst_fault::{Fault, Kind, Place};
+use pst_header::read_header;
+use pst_make::{BlockPlan, Plan, build};
+use pst_space::Claims;
+use std::alloc::Global;
+use std::process::Abort;
+use std::test::Fail;
+
+// The node under which all is checked.
+const NODE: u32 = 0x21;
+
+// Where the first block lies, and the second where the first has at most 48 bytes.
+const FIRST: u64 = 0x4c00;
+
+const SECOND: u64 = 0x4c40;
+
+// A body of a list: btype, cLevel, cEnt, padding, then numbers of 8 bytes.
+fn list(alloc: Global, level: u8, count: u8, numbers: &[u64]) -> Result<Vec<u8>, Fail> {
+    let mut body = Vec::from_slice(alloc, &[2, level, count, 0, 0, 0, 0, 0])?;
+    for number in numbers {
+        body.extend_from_slice(&number.to_le_bytes())?;
+    }
+    Ok(body)
+}
+
+fn add(blocks: &mut Vec<BlockPlan>, bid: u64, body: Vec<u8>) -> Result<(), Fail> {
+    blocks.push(BlockPlan { bid, body })?;
+    Ok(())
+}
+
+// A store of these blocks.
+fn image_of(alloc: Global, blocks: Vec<BlockPlan>) -> Result<Vec<u8>, Fail> {
+    let nodes = Vec::new(alloc);
+    let Ok(bytes) = build(alloc, &Plan { blocks, nodes }) else {
+        return Err(Fail::from("not made"));
+    };
+    Ok(bytes)
+}
+
+// All blocks of a store.
+fn blocks_in<'a>(alloc: Global, image: Image<'a>) -> Result<Blocks<'a>, Fault> {
+    let header = read_header(image)?;
+    let mut claims = Claims::new(alloc, &header)?;
+    let (tree, entries) = walk_blocks(alloc, image, &header, &mut claims)?;
+    check_blocks(image, &header, tree, &entries, &mut claims)
+}
+
+// What the check answers of these blocks, and how many it expanded.
+fn answer_of(
+    alloc: Global,
+    plan: Vec<BlockPlan>,
+    bid: u64,
+) -> Result<(Result<u32, Fault>, u64), Fail> {
+    let bytes = image_of(alloc, plan)?;
+    let Ok(blocks) = blocks_in(alloc, Image::new(&bytes)) else {
+        return Err(Fail::from("no blocks"));
+    };
+    let mut seen = Seen::new(alloc);
+    let mut heights = Heights::new(alloc);
+    let answer = check_sub(alloc, &blocks, bid, NODE, &mut seen, &mut heights);
+    Ok((answer, heights.expansions()))
+}
+
+fn fault_of(kind: Kind, at: u64, bid: u64) -> Fault {
+    let place = Place { at, bid, nid: NODE };
+    Fault { kind, place }
+}
+
+fn is_refused<R: Abort>(
+    rt: &R,
+    alloc: Global,
+    plan: Vec<BlockPlan>,
+    bid: u64,
+    fault: Fault,
+) -> Result<(), Fail> {
+    let (answer, _) = answer_of(alloc, plan, bid)?;
+    assert_eq!(rt; answer, Err(fault));
+    Ok(())
+}
+
+// Lists that nest, each but the last with the next one below its only entry.
+fn chain(alloc: Global, lists: u64) -> Result<Vec<BlockPlan>, Fail> {
+    let mut plan = Vec::new(alloc);
+    for k in 1..=lists {
+        let bid = k.saturating_mul(4).saturating_add(2);
+        let below = if k == lists { 0 } else { bid.saturating_add(4) };
+        add(&mut plan, bid, list(alloc, 0, 1, &[0x671, 0, below])?)?;
+    }
+    Ok(plan)
+}
+
+#[test]
+fn lists_nest_64_deep(rt: HostRuntime) -> Result<(), Fail> {
+    let alloc = rt.alloc();
+    let (answer, expansions) = answer_of(alloc, chain(alloc, 64)?, 6)?;
+    assert_eq!(rt; answer, Ok(64));
+    assert_eq!(rt; expansions, 64);
+    assert_eq!(rt; LISTS, 64);
+    is_refused(
+        &rt,
+        alloc,
+        chain(alloc, 65)?,
+        6,
+        fault_of(Kind::Nesting, 0, 6),
+    )
+}
+
+// The identifier is told as the node has it, with its bit 0.
+#[test]
+fn a_list_below_itself(rt: HostRuntime) -> Result<(), Fail> {
+    let alloc = rt.alloc();
+    for bid in [6, 7] {
+        let mut plan = Vec::new(alloc);
+        add(&mut plan, 6, list(alloc, 0, 1, &[0x671, 0, 6])?)?;
+        is_refused(&rt, alloc, plan, bid, fault_of(Kind::Nesting, 0, bid))?;
+    }
+    Ok(())
+}
+
+// The data of an entry comes before its subnodes, and an entry before the next one.
+#[test]
+fn two_faults_of_one_list(rt: HostRuntime) -> Result<(), Fail> {
+    let alloc = rt.alloc();
+    let missing = fault_of(Kind::BlockMissing, 0, 0x100);
+    let nesting = fault_of(Kind::Nesting, 0, 6);
+    for (numbers, fault) in [
+        ([0x671, 0x100, 0, 0x692, 0, 6], missing),
+        ([0x692, 0, 6, 0x671, 0x100, 0], nesting),
+        ([0x671, 0x100, 6, 0x692, 0, 6], missing),
+    ] {
+        let mut plan = Vec::new(alloc);
+        add(&mut plan, 6, list(alloc, 0, 2, &numbers)?)?;
+        is_refused(&rt, alloc, plan, 6, fault)?;
+    }
+    Ok(())
+}
+
+// All below an entry comes before the next entry.
+#[test]
+fn depth_comes_first(rt: HostRuntime) -> Result<(), Fail> {
+    let alloc = rt.alloc();
+    let mut plan = Vec::new(alloc);
+    add(
+        &mut plan,
+        6,
+        list(alloc, 0, 2, &[0x671, 0, 10, 0x692, 0x100, 0])?,
+    )?;
+    add(&mut plan, 10, list(alloc, 0, 1, &[0x8025, 0, 14])?)?;
+    add(&mut plan, 14, list(alloc, 0, 1, &[0x8045, 0x200, 0])?)?;
+    is_refused(&rt, alloc, plan, 6, fault_of(Kind::BlockMissing, 0, 0x200))
+}
+
+// An SIBLOCK of two SLBLOCKs, the first of two entries and the second of one, below which a list nests.
+fn two_leaves(alloc: Global) -> Result<Vec<BlockPlan>, Fail> {
+    let mut plan = Vec::new(alloc);
+    add(&mut plan, 4, Vec::from_slice(alloc, b"data")?)?;
+    add(&mut plan, 6, list(alloc, 1, 2, &[0x671, 10, 0x8025, 14])?)?;
+    add(
+        &mut plan,
+        10,
+        list(alloc, 0, 2, &[0x671, 4, 0, 0x692, 5, 0])?,
+    )?;
+    add(
+        &mut plan,
+        14,
+        list(alloc, 0, 1, &[0xffff_ffff_0000_8025, 4, 18])?,
+    )?;
+    add(&mut plan, 18, list(alloc, 0, 0, &[])?)?;
+    Ok(plan)
+}
+
+#[test]
+fn a_list_of_two_leaves(rt: HostRuntime) -> Result<(), Fail> {
+    let alloc = rt.alloc();
+    let (answer, expansions) = answer_of(alloc, two_leaves(alloc)?, 6)?;
+    assert_eq!(rt; answer, Ok(2));
+    assert_eq!(rt; expansions, 4);
+    let bytes = image_of(alloc, two_leaves(alloc)?)?;
+    let Ok(blocks) = blocks_in(alloc, Image::new(&bytes)) else {
+        panic!(rt; "no blocks");
+    };
+    let wanted = [(0x671, 4, 0), (0x692, 5, 0), (0x8025, 4, 18)];
+    let mut list = subs(&blocks, 6);
+    for (nid, bid_data, bid_sub) in wanted {
+        let sub = Sub {
+            nid,
+            bid_data,
+            bid_sub,
+        };
+        assert_eq!(rt; list.next(), Some(sub));
+        assert_eq!(rt; find_sub(&blocks, 7, nid), Some(sub));
+    }
+    assert_eq!(rt; list.next(), None);
+    assert_eq!(rt; find_sub(&blocks, 6, 0x8045), None);
+    Ok(())
+}
+
+#[test]
+fn no_block_has_no_subnodes(rt: HostRuntime) -> Result<(), Fail> {
+    let alloc = rt.alloc();
+    for bid in [0, 1] {
+        assert_eq!(rt; answer_of(alloc, two_leaves(alloc)?, bid)?, (Ok(0), 0));
+        let bytes = image_of(alloc, two_leaves(alloc)?)?;
+        let Ok(blocks) = blocks_in(alloc, Image::new(&bytes)) else {
+            panic!(rt; "no blocks");
+        };
+        assert_eq!(rt; subs(&blocks, bid).next(), None);
+        assert_eq!(rt; find_sub(&blocks, bid, 0x671), None);
+    }
+    Ok(())
+}
+
+#[test]
+fn a_list_without_entries(rt: HostRuntime) -> Result<(), Fail> {
+    let alloc = rt.alloc();
+    for level in [0, 1] {
+        let mut plan = Vec::new(alloc);
+        add(&mut plan, 6, list(alloc, level, 0, &[])?)?;
+        assert_eq!(rt; answer_of(alloc, plan, 6)?, (Ok(1), 1));
+    }
+    Ok(())
+}
+
+// A block that is no list: external, of btype 1 or 3, of level 2, with entries that do not fit, without a whole head.
+#[test]
+fn blocks_that_are_no_list(rt: HostRuntime) -> Result<(), Fail> {
+    let alloc = rt.alloc();
+    let entry = [0x671, 0, 0];
+    for (bid, place, value, len) in [
+        (8, 0, 2, 32),
+        (10, 0, 1, 32),
+        (10, 0, 3, 32),
+        (10, 1, 2, 32),
+        (10, 2, 2, 32),
+        (10, 0, 2, 31),
+        (10, 0, 2, 7),
+        (10, 0, 2, 0),
+    ] {
+        let mut body = list(alloc, 0, 1, &entry)?;
+        *body.get_mut(place).ok_or("past the end")? = value;
+        body.truncate(len);
+        let mut plan = Vec::new(alloc);
+        add(&mut plan, 4, Vec::from_slice(alloc, b"data")?)?;
+        add(&mut plan, bid, body)?;
+        is_refused(&rt, alloc, plan, bid, fault_of(Kind::Subnode, SECOND, bid))?;
+    }
+    Ok(())
+}
+
+// Of the SIBLOCK: the two entries do not fit, the first names no block, a block that is missing, a data block. Of the block
+// that it names: it is an SIBLOCK.
+#[test]
+fn leaves_at_fault(rt: HostRuntime) -> Result<(), Fail> {
+    let alloc = rt.alloc();
+    let here = fault_of(Kind::Subnode, FIRST, 6);
+    for (count, named, fault) in [
+        (3, 10, here),
+        (2, 0, fault_of(Kind::BlockMissing, 0, 0)),
+        (2, 0x102, fault_of(Kind::BlockMissing, 0, 0x102)),
+        (2, 0x101, fault_of(Kind::BlockMissing, 0, 0x101)),
+        (2, 8, here),
+        (2, 11, fault_of(Kind::Subnode, 0x4c80, 10)),
+    ] {
+        let mut plan = Vec::new(alloc);
+        add(
+            &mut plan,
+            6,
+            list(alloc, 1, count, &[0x671, named, 0x692, 14])?,
+        )?;
+        add(&mut plan, 8, Vec::from_slice(alloc, b"data")?)?;
+        add(&mut plan, 10, list(alloc, 1, 0, &[])?)?;
+        is_refused(&rt, alloc, plan, 6, fault)?;
+    }
+    Ok(())
+}
+
+// The nid of the second leaf is that of the first leaf's second entry, but for the half that says nothing; and it is told
+// before the data, which is missing.
+#[test]
+fn a_subnode_that_stands_twice(rt: HostRuntime) -> Result<(), Fail> {
+    let alloc = rt.alloc();
+    let mut plan = Vec::new(alloc);
+    add(&mut plan, 4, Vec::from_slice(alloc, b"data")?)?;
+    add(&mut plan, 6, list(alloc, 1, 2, &[0x671, 10, 0x692, 14])?)?;
+    add(
+        &mut plan,
+        10,
+        list(alloc, 0, 2, &[0x671, 0x100, 0, 0x692, 0, 0])?,
+    )?;
+    add(&mut plan, 14, list(alloc, 0, 1, &[0x1_0000_0692, 4, 0])?)?;
+    is_refused(&rt, alloc, plan, 6, fault_of(Kind::Subnode, SECOND, 6))?;
+    let mut plan = Vec::new(alloc);
+    add(
+        &mut plan,
+        6,
+        list(alloc, 0, 2, &[0x671, 0x100, 0, 0x671, 0, 0])?,
+    )?;
+    is_refused(&rt, alloc, plan, 7, fault_of(Kind::Subnode, FIRST, 6))
+}
+
+#[test]
+fn lists_that_are_missing(rt: HostRuntime) -> Result<(), Fail> {
+    let alloc = rt.alloc();
+    for bid in [0x100, 0x103] {
+        is_refused(
+            &rt,
+            alloc,
+            chain(alloc, 1)?,
+            bid,
+            fault_of(Kind::BlockMissing, 0, bid),
+        )?;
+    }
+    Ok(())
+}
+
+// The data of an entry is an XBLOCK of one block of 4 bytes, and says that it has 5.
+#[test]
+fn data_at_fault(rt: HostRuntime) -> Result<(), Fail> {
+    let alloc = rt.alloc();
+    let mut plan = Vec::new(alloc);
+    add(&mut plan, 4, Vec::from_slice(alloc, b"data")?)?;
+    let tree = [1, 1, 1, 0, 5, 0, 0, 0, 4, 0, 0, 0, 0, 0, 0, 0];
+    add(&mut plan, 6, Vec::from_slice(alloc, &tree)?)?;
+    add(&mut plan, 10, list(alloc, 0, 1, &[0x671, 6, 0])?)?;
+    is_refused(&rt, alloc, plan, 10, fault_of(Kind::DataTree, SECOND, 6))?;
+    // Known as a data tree, it is no list all the same.
+    let mut plan = Vec::new(alloc);
+    add(&mut plan, 4, Vec::from_slice(alloc, b"data")?)?;
+    let tree = [1, 1, 1, 0, 4, 0, 0, 0, 4, 0, 0, 0, 0, 0, 0, 0];
+    add(&mut plan, 6, Vec::from_slice(alloc, &tree)?)?;
+    add(&mut plan, 10, list(alloc, 0, 1, &[0x671, 6, 6])?)?;
+    is_refused(&rt, alloc, plan, 10, fault_of(Kind::Subnode, SECOND, 6))
+}
+
+#[test]
+fn laws_are_there(rt: HostRuntime) -> Result<(), Fail> {
+    sub_decides();
+    sub_is_one();
+    deeper_has_none();
+    entries_have_none();
+    found_has_none();
+    subs_are_a_map();
+    assert_eq!(rt; Heights::new(rt.alloc()).expansions(), 0);
+    Ok(())
+}
