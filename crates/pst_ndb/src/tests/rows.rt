@@ -142,7 +142,7 @@ const MAPS: [Row<'static>; 2] = [
     ),
 ];
 
-const NODES: [Row<'static>; 2] = [
+const NODES: [Row<'static>; 4] = [
     (
         &[Set(0x4808, &[0x0c]), Page(0x4800)],
         "no: 15 BlockMissing at 0x0 bid 0xc nid 0x21",
@@ -159,6 +159,30 @@ const NODES: [Row<'static>; 2] = [
         ],
         "no: 16 DataTree at 0x4c40 bid 0xa nid 0x122",
     ),
+    // A data block as the list of subnodes; a list that is below itself.
+    (
+        &[Set(0x4830, &[4]), Page(0x4800)],
+        "no: 17 Subnode at 0x4c00 bid 0x4 nid 0x122",
+    ),
+    (
+        &[
+            Set(0x4a18, &[0x0a]),
+            Page(0x4a00),
+            Set(0x4c40, &LIST_OF_ITSELF),
+            Set(0x4c78, &[0x0a]),
+            Block(0x4c40, 38),
+            Set(0x4828, &[0]),
+            Set(0x4830, &[0x0a]),
+            Page(0x4800),
+        ],
+        "no: 18 Nesting at 0x0 bid 0xa nid 0x122",
+    ),
+];
+
+// A list of one subnode without data, whose own subnodes are this list.
+const LIST_OF_ITSELF: [u8; 32] = [
+    2, 0, 1, 0, 0, 0, 0, 0, 0x41, 0, 0, 0, 0, 0, 0, 0, 0, 0, 0, 0, 0, 0, 0, 0, 0x0a, 0, 0, 0, 0, 0,
+    0, 0,
 ];
 
 #[test]
