@@ -1,4 +1,5 @@
 pub mod AnswerLemmas
+pub mod ExactLaws
 pub mod LostLemmas
 pub mod MapLemmas
 pub mod MapsLaws

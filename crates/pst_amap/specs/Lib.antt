@@ -1,3 +1,4 @@
+pub mod Exact
 pub mod Lost
 pub mod Map
 pub mod Marks

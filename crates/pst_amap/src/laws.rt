@@ -1,5 +1,6 @@
 //! Laws of the comparison, each the contract of a function that does nothing.
 
+ghost use Rattle.pst_amap.specs.Exact.{ExactLaw};
 ghost use Rattle.pst_amap.specs.Lost.{RunsLaw};
 ghost use Rattle.pst_amap.specs.Report.{MapsLaw};
 
@@ -12,4 +13,9 @@ pub fn maps_decide()
 /// The lost runs are runs of lost units as long as can be, in order, and each lost unit lies in one.
 pub fn runs_are_whole()
     ensures { RunsLaw }
+{}
+
+/// Maps without fault mark exactly what is claimed, the old map pages, and the lost runs of their report.
+pub fn marks_are_exact()
+    ensures { ExactLaw }
 {}

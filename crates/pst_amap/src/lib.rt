@@ -10,7 +10,7 @@ mod old;
 mod report;
 
 pub use comparison::compare;
-pub use laws::{maps_decide, runs_are_whole};
+pub use laws::{maps_decide, marks_are_exact, runs_are_whole};
 pub use report::{BitOrder, MapReport};
 
 #[cfg(test)]

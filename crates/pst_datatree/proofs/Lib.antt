@@ -6,3 +6,4 @@ pub mod ValueLemmas
 pub mod PartLemmas
 pub mod InsideLemmas
 pub mod CheckLemmas
+pub mod NodeLemmas

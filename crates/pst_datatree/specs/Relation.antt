@@ -1,6 +1,7 @@
 -- The grammar of data trees ([MS-PST] 2.2.2.8.3): which list of spans a block identifier has. It speaks of no fault.
-use Rattle.std.specs.Prelude.{◌≡◌, ℕ, ◌<◌, true, false, Some, None, List, [], ◌∷◌, ◌⊎◌, ◌↔◌}
+use Rattle.std.specs.Prelude.{◌≡◌, ℕ, ◌<◌, true, false, Some, None, List, [], ◌∷◌, ◌⊎◌, ◌↔◌, option_map}
 use Rattle.pst_bytes.specs.declared.span.Span.{Span}
+use Rattle.pst_fault.specs.Fault.{at_node}
 use Rattle.pst_fault.specs.First.{join_below}
 use Rattle.pst_page.specs.declared.entry.BlockEntry.{BlockEntry}
 use Rattle.pst_block.specs.Block.{body_span}
@@ -55,3 +56,7 @@ HasData t bid spans = ((is_no_block bid ≡ true) × (spans ≡ [])) ⊎ NamesTr
 -- A block identifier has a data tree exactly where it has no first fault, and then its spans are these.
 abbrev pub DataLaw : Type 0
 DataLaw = (t : Table) (bid : ℕ) (spans : List Span) → HasData t bid spans ↔ ((data_fault t bid ≡ None) × (spans ≡ data_spans t bid))
+
+-- The first fault of a data tree is told of no node.
+abbrev pub NodeLaw : Type 0
+NodeLaw = (t : Table) (bid : ℕ) → option_map (at_node 0) (data_fault t bid) ≡ data_fault t bid

@@ -1,7 +1,6 @@
 pub mod LeftLemmas
 pub mod FindLemmas
 pub mod DistinctLemmas
-pub mod NodeLemmas
 pub mod SubLemmas
 pub mod TopLemmas
 pub mod ListLaws

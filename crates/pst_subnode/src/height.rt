@@ -34,7 +34,7 @@ fn nesting_fault() -> Fault
 }
 
 // The data of an entry, under no node.
-#[tactic(auto, using(crate::proofs::NodeLemmas::data_no_node))]
+#[tactic(auto, using(pst_datatree::proofs::NodeLemmas::data_no_node))]
 fn check_entry_data(alloc: Global, blocks: &Blocks, sub: Sub, seen: &mut Seen) -> Result<(), Fault>
     ensures first { Tells result (data_fault (table_of blocks.now) sub.bid_data) tt }
     ensures grows { data_expansions seen.old ≤ data_expansions seen.new }
