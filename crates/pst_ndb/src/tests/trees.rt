@@ -83,6 +83,22 @@ fn data_trees_that_are_none(rt: HostRuntime) -> Result<(), Fail> {
     Ok(())
 }
 
+// Where one of two blocks is empty, the bytes are one slice.
+#[test]
+fn an_empty_block_is_no_piece(rt: HostRuntime) -> Result<(), Fail> {
+    let image = two_blocks(rt.alloc(), &[1, 1, 2, 0, 0xf0, 0x1f, 0, 0], &[4, 12])?;
+    let Ok(checked) = check_ndb(rt.alloc(), Image::new(&image)) else {
+        panic!(rt; "refused");
+    };
+    let node = checked.ndb.node(0x21).ok_or("no node")?;
+    let Value::Whole(at, slice) = node.bytes() else {
+        panic!(rt; "in pieces");
+    };
+    assert_eq!(rt; (at, node.leaf_count()), (0x4c00, 2));
+    assert_eq!(rt; Some(slice), image.get(0x4c00..0x6bf0));
+    Ok(())
+}
+
 // An XXBLOCK that names one XBLOCK 1,021 times, which names one block of one byte.
 #[test]
 fn a_block_may_be_named_often(rt: HostRuntime) -> Result<(), Fail> {
