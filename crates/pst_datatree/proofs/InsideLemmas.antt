@@ -8,11 +8,12 @@ use Rattle.pst_block.specs.Table.{Table, entry_of, body_of, AreWithin}
 use Rattle.pst_datatree.specs.declared.position.Position.{Position}
 use Rattle.pst_datatree.specs.Bid.{is_internal, is_no_block}
 use Rattle.pst_datatree.specs.List.{count_in, bid_in, has_level_two}
-use Rattle.pst_datatree.specs.Data.{spans_at, data_block_spans, leaf_spans, xblock_spans, child_spans}
+use Rattle.pst_datatree.specs.Data.{spans_at, data_block_spans, leaf_spans, xblock_spans, child_spans, data_spans}
 use Rattle.pst_datatree.specs.Spans.{AreInside}
 use Rattle.pst_datatree.specs.Cut.{cut, shown}
 use Rattle.pst_datatree.specs.Position.{join_from, xblock_left, xxblock_left, tree_left, block_left, data_left}
 use Rattle.pst_datatree.proofs.CutLemmas.{cut_with, cut_without, cut_nil}
+use Rattle.pst_datatree.proofs.PositionLemmas.{data_from_start}
 
 both_inside : (I : List ℕ) (xs ys : List Span) → AreInside I xs → AreInside I ys → AreInside I (xs ++ ys)
 both_inside I [] ys h k = k
@@ -95,3 +96,7 @@ data_inside t bid at within = by_name (is_no_block bid)
 pub shown_inside : (t : Table) (bid : ℕ) (at : Position) (whole : Bool) (skip left : ℕ) → AreWithin t → AreInside t.image (shown whole skip left (data_left t bid at))
 shown_inside t bid at true skip left within = data_inside t bid at within
 shown_inside t bid at false skip left within = cut_inside t.image skip (skip + left) (data_left t bid at) (data_inside t bid at within)
+
+-- all spans of a data tree
+pub data_spans_inside : (t : Table) (bid : ℕ) → AreWithin t → AreInside t.image (data_spans t bid)
+data_spans_inside t bid within = rw (← data_from_start t bid) (data_inside t bid (record { child = 0; leaf = 0 }) within)

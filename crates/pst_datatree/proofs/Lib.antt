@@ -7,3 +7,4 @@ pub mod PartLemmas
 pub mod InsideLemmas
 pub mod CheckLemmas
 pub mod NodeLemmas
+pub mod KeyLemmas

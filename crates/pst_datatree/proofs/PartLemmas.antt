@@ -1,14 +1,16 @@
 -- The bytes of a part are that part of the bytes.
-use Rattle.std.proofs.Common.{◌≡◌, ℕ, zero, suc, ◌+◌, ◌-◌, ◌<◌, ◌≤◌, min, List, [], ◌∷◌, ◌++◌, length, take, drop, refl, sym, ap, ◌∙◌, arith, inl, inr, length-drop}
+use Rattle.std.proofs.Common.{◌≡◌, ℕ, zero, suc, ◌+◌, ◌-◌, ◌<◌, ◌≤◌, min, List, [], ◌∷◌, ◌++◌, length, take, drop, refl, sym, ap, ◌∙◌, arith, inl, inr, length-drop, length-append}
 use Rattle.std.specs.Prelude.{slice_range}
+use Rattle.std.specs.List.{concat}
 use Rattle.std.proofs.lemmas.Bool.{cases_lt}
 use Rattle.std.proofs.lemmas.Grind.{common_steps}
 use Rattle.std.proofs.lemmas.List.{drop_all}
 use Rattle.pst_bytes.specs.declared.span.Span.{Span}
 use Rattle.pst_bytes.specs.Image.{bytes_at}
-use Rattle.pst_datatree.specs.Spans.{joined_bytes, AreInside}
+use Rattle.pst_datatree.specs.Data.{size_of}
+use Rattle.pst_datatree.specs.Spans.{joined_bytes, slices_of, AreInside}
 use Rattle.pst_datatree.specs.Cut.{cut}
-use Rattle.pst_datatree.proofs.CutLemmas.{cut_with, cut_without, cut_nil}
+use Rattle.pst_datatree.proofs.CutLemmas.{cut_with, cut_without, cut_nil, size_of_cons}
 use Rattle.pst_datatree.proofs.ValueLemmas.{length_bytes}
 
 drop_nil : {X : Type 0} (n : ℕ) → drop {A = X} n [] ≡ []
@@ -86,3 +88,9 @@ bytes_of_cut I from to (x ∷ rest) h =
           rw (cut_without from to x rest le)
           (tail ∙ sym (whole ∙ ap (λ bs. bs ++ slice_range others (from - x.len) (to - x.len)) (no_part bytes from to x.len len le)))
     ]
+
+-- the slices of spans that lie in the file have as many bytes as the spans
+pub length_of_slices : (I : List ℕ) (xs : List Span) → AreInside I xs → length (concat (slices_of I xs)) ≡ size_of xs
+length_of_slices I [] h = refl
+length_of_slices I (x ∷ rest) h =
+    omega (arith, length-append (bytes_at I x) (concat (slices_of I rest)), length_bytes I x h.0, length_of_slices I rest h.1, size_of_cons x rest)

@@ -1,10 +1,10 @@
 -- What an iterator over the pieces of a value has left.
-use Rattle.std.specs.Prelude.{⊤, ℕ, List, Option, Some, None}
+use Rattle.std.specs.Prelude.{◌≡◌, ℕ, List, [], ◌∷◌, Option, Some, None}
 use Rattle.std.specs.Borrow.{Bor}
 use Rattle.std.specs.Iterator.{YieldsFirstRef}
 use Rattle.pst_bytes.specs.declared.Image.{Image}
 use Rattle.pst_bytes.specs.declared.span.Span.{Span}
-use Rattle.pst_bytes.specs.Image.{bytes_of, IsPartOf}
+use Rattle.pst_bytes.specs.Image.{bytes_of, bytes_at, IsPartOf}
 use Rattle.pst_block.specs.Table.{Table}
 use Rattle.pst_block.specs.Blocks.{table_of, image_of}
 use Rattle.pst_datatree.specs.declared.pieces.Pieces.{Pieces}
@@ -39,10 +39,13 @@ spans_left p = shown p.whole p.skip p.left (spans_from p (position_left p))
 abbrev pub slices_left : Pieces → List (List ℕ)
 slices_left p = slices_of (bytes_of (file_of p)) (spans_left p)
 
--- The first slice of what is left, taken: it is the file's own memory, where its span lies.
-abbrev pub LendsFirst : Pieces → Option (Bor (List ℕ)) → Type 0
-LendsFirst p None = ⊤
-LendsFirst p (Some slice) = IsPartOf (file_of p) (first_span (spans_left p)) slice
+-- The first slice of what is left, taken: it is the file's own memory at the first span that is left. The other spans are
+-- left behind it, of the same file.
+abbrev pub LendsFirst : Pieces → Option (Bor (List ℕ)) → Pieces → Type 0
+LendsFirst old None new = (spans_left old ≡ []) × (spans_left new ≡ [])
+LendsFirst old (Some slice) new =
+    let span = first_span (spans_left old) in
+    (spans_left old ≡ span ∷ spans_left new) × (slice.now ≡ bytes_at (bytes_of (file_of old)) span) × IsPartOf (file_of old) span slice
 
 abbrev pub TakesSlice : Pieces → Option (Bor (List ℕ)) → Pieces → Type 0
-TakesSlice old slice new = YieldsFirstRef slices_left old slice new × LendsFirst old slice
+TakesSlice old slice new = YieldsFirstRef slices_left old slice new × LendsFirst old slice new × (file_of new ≡ file_of old)

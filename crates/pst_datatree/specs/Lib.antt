@@ -9,3 +9,4 @@ pub mod Position
 pub mod Left
 pub mod After
 pub mod Shown
+pub mod Laws

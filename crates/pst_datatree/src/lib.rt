@@ -17,7 +17,7 @@ mod step;
 pub use bid::{is_internal, is_no_block};
 pub use bytes::Value;
 pub use check::{check_data, missing_block};
-pub use laws::{data_decides, data_names_no_node};
+pub use laws::{data_decides, data_is_of_key, data_lies_inside, data_names_no_node};
 pub use look::leaf_count;
 pub use make::{spans, value};
 pub use pieces::Pieces;

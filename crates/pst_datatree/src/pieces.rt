@@ -34,14 +34,15 @@ pub struct Pieces<'a> {
 }
 
 impl<'a> Pieces<'a> {
-    ghost use Rattle.std.specs.Prelude.{◌-◌, ◌≤◌, IfSome, IsOk, Option, [], ◌∷◌, true, false, slice_range};
+    ghost use Rattle.std.specs.Prelude.{◌-◌, ◌≤◌, IfSome, IsOk, Option, [], ◌∷◌, true, false, length, slice_range};
     ghost use Rattle.std.specs.Iterator.{YieldsFirst};
+    ghost use Rattle.std.specs.List.{concat};
     ghost use Rattle.pst_bytes.specs.Image.{bytes_of, bytes_at, IsInside, IsPartOf};
     ghost use Rattle.pst_block.specs.Blocks.{image_of};
     ghost use Rattle.pst_datatree.specs.Data.{data_spans};
     ghost use Rattle.pst_datatree.specs.Cut.{cut};
     ghost use Rattle.pst_datatree.specs.Spans.{joined_bytes, AreInside};
-    ghost use Rattle.pst_datatree.specs.Left.{spans_left, file_of};
+    ghost use Rattle.pst_datatree.specs.Left.{spans_left, slices_left, file_of};
     ghost use Rattle.pst_datatree.specs.After.{IsAfter};
 
     // All slices of a data tree.
@@ -128,8 +129,8 @@ impl<'a> Pieces<'a> {
         }
     }
 
-    // The next span.
-    pub(crate) fn next_span(&mut self) -> Option<Span>
+    /// The next span, whose slice `next` would give.
+    pub fn next_span(&mut self) -> Option<Span>
         ensures steps { YieldsFirst spans_left self.old result self.new }
         ensures file { file_of self.new ≡ file_of self.old }
         ensures inside { IfSome result (IsInside (bytes_of (file_of self.old))) }
@@ -159,9 +160,12 @@ impl<'a> Pieces<'a> {
     {}
 
     // How many bytes are left.
+    #[tactic(auto, using(crate::proofs::PartLemmas::length_of_slices))]
     pub(crate) fn size(&self) -> u64
-        ensures { result ≡ size_of (spans_left self.now) }
+        ensures size { result ≡ size_of (spans_left self.now) }
+        ensures bytes { result ≡ length (concat (slices_left self.now)) }
     {
+        self.lie_inside();
         self.left
     }
 

@@ -38,12 +38,13 @@ fn place_of(pieces: Pieces) -> u64
 }
 
 impl<'a> Value<'a> {
-    ghost use Rattle.std.specs.Prelude.{◌≤◌, ◌↔◌, IsSome, IsTrue, IfSome, slice_range};
+    ghost use Rattle.std.specs.Prelude.{◌≤◌, ◌↔◌, IsSome, IsTrue, IfSome, length, slice_range};
     ghost use Rattle.pst_datatree.specs.Shown.{bytes_in, size_in, place_in, IsPart};
 
     /// How many bytes the value has.
     pub fn len(&self) -> u64
-        ensures { result ≡ size_in self.now }
+        ensures size { result ≡ size_in self.now }
+        ensures bytes { result ≡ length (bytes_in self.now) }
     {
         match self {
             Value::Whole(_, slice) => slice.len() as u64,
