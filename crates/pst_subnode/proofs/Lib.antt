@@ -6,3 +6,4 @@ pub mod TopLemmas
 pub mod ListLaws
 pub mod TreeLaws
 pub mod MapLaws
+pub mod HeightLaws

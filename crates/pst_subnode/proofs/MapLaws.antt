@@ -26,7 +26,7 @@ is_later : (x s : Sub) (rest : List Sub) → Contains rest s → Contains (x ∷
 is_later x s rest w = (suc w.0, omega (arith, w.1), w.2)
 
 -- what is found is there
-found_there : (nid : ℕ) (xs : List Sub) (s : Sub) → first_with nid_of nid xs ≡ Some s → Contains xs s × (s.nid ≡ nid)
+pub found_there : (nid : ℕ) (xs : List Sub) (s : Sub) → first_with nid_of nid xs ≡ Some s → Contains xs s × (s.nid ≡ nid)
 unfolding first_with
 found_there nid [] s h = cc
 found_there nid (x ∷ rest) s h = by_test (nat_eq x.nid nid) refl h (found_there nid rest s)

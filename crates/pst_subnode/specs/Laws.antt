@@ -1,6 +1,7 @@
 -- Laws of subnodes.
-use Rattle.std.specs.Prelude.{◌≡◌, ℕ, suc, ◌≤◌, ◌↔◌, List, None, Some}
+use Rattle.std.specs.Prelude.{◌≡◌, ℕ, suc, ◌-◌, ◌<◌, ◌≤◌, ◌↔◌, List, [], None, Some}
 use Rattle.std.specs.List.{Contains}
+use Rattle.pst_block.specs.Block.{bid_key}
 use Rattle.pst_block.specs.Table.{Table}
 use Rattle.pst_btree.specs.Entries.{first_with}
 use Rattle.pst_datatree.specs.Data.{data_fault}
@@ -42,3 +43,39 @@ abbrev pub MapLaw : Type 0
 MapLaw =
     (t : Table) (limit bid nid : ℕ) (s : Sub) → sub_fault t limit bid ≡ None →
     (first_with nid_of nid (subs_of t bid) ≡ Some s) ↔ (Contains (subs_of t bid) s × (s.nid ≡ nid))
+
+-- What is found in a list without fault may nest one fewer.
+abbrev pub BelowLaw : Type 0
+BelowLaw =
+    (t : Table) (limit bid nid : ℕ) (s : Sub) → sub_fault t limit bid ≡ None → first_with nid_of nid (subs_of t bid) ≡ Some s →
+    (0 < limit) × (sub_fault t (limit - 1) s.bid_sub ≡ None)
+
+-- An entry's own list is less high than the list that it stands in.
+abbrev pub LowerLaw : Type 0
+LowerLaw =
+    (t : Table) (limit bid : ℕ) (s : Sub) → sub_fault t limit bid ≡ None → Contains (subs_of t bid) s →
+    sub_height t limit s.bid_sub < sub_height t limit bid
+
+-- A list without fault is no higher than the limit, and has none under any limit that is not below its height, which is the
+-- same there.
+abbrev pub HeightLaw : Type 0
+HeightLaw =
+    (t : Table) (limit bid : ℕ) → sub_fault t limit bid ≡ None →
+    (sub_height t limit bid ≤ limit)
+    × ((other : ℕ) → sub_height t limit bid ≤ other → (sub_fault t other bid ≡ None) × (sub_height t other bid ≡ sub_height t limit bid))
+
+-- The limit says nothing of the height, where there is no fault under either.
+abbrev pub LimitLaw : Type 0
+LimitLaw = (t : Table) (limit other bid : ℕ) → sub_fault t limit bid ≡ None → sub_fault t other bid ≡ None → sub_height t limit bid ≡ sub_height t other bid
+
+-- A list without fault and of no height has no entries.
+abbrev pub NoHeightLaw : Type 0
+NoHeightLaw = (t : Table) (limit bid : ℕ) → sub_fault t limit bid ≡ None → sub_height t limit bid ≡ 0 → subs_of t bid ≡ []
+
+-- Bit 0 of a block identifier says nothing of its list (but in the fault of a block that is missing).
+abbrev pub SameSubLaw : Type 0
+SameSubLaw =
+    (t : Table) (a b : ℕ) → bid_key a ≡ bid_key b →
+    (subs_of t a ≡ subs_of t b)
+    × ((limit : ℕ) → (sub_fault t limit a ≡ None) ↔ (sub_fault t limit b ≡ None))
+    × ((limit : ℕ) → sub_height t limit a ≡ sub_height t limit b)

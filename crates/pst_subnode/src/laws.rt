@@ -1,6 +1,6 @@
 //! Laws of subnodes, each the contract of a function that does nothing.
 
-ghost use Rattle.pst_subnode.specs.Laws.{SubLaw, OneLaw, MoreLaw, EntryLaw, FoundLaw, MapLaw};
+ghost use Rattle.pst_subnode.specs.Laws.{SubLaw, OneLaw, MoreLaw, EntryLaw, FoundLaw, MapLaw, BelowLaw, LowerLaw, HeightLaw, LimitLaw, NoHeightLaw, SameSubLaw};
 
 /// A block identifier has a list of a height within the limit exactly where it has no first fault, and then these are they.
 pub fn sub_decides()
@@ -30,4 +30,34 @@ pub fn found_has_none()
 /// In a list without fault an entry is found under a nid exactly where it is there and has that nid.
 pub fn subs_are_a_map()
     ensures { MapLaw }
+{}
+
+/// What is found in a list without fault may nest one fewer.
+pub fn found_nests_fewer()
+    ensures { BelowLaw }
+{}
+
+/// An entry's own list is less high than the list that it stands in.
+pub fn entries_are_lower()
+    ensures { LowerLaw }
+{}
+
+/// A list without fault has none under any limit that is not below its height.
+pub fn height_is_enough()
+    ensures { HeightLaw }
+{}
+
+/// The limit says nothing of the height, where there is no fault under either.
+pub fn limit_says_nothing()
+    ensures { LimitLaw }
+{}
+
+/// A list without fault and of no height has no entries.
+pub fn no_height_no_entries()
+    ensures { NoHeightLaw }
+{}
+
+/// Block identifiers that differ in bit 0 alone have the same entries and height, and the one has a fault exactly where the other has.
+pub fn subs_are_of_key()
+    ensures { SameSubLaw }
 {}
