@@ -104,3 +104,9 @@ first_keyed key_in key (y ∷ rest) x found = by_test (eqb (key_in y) key) (λ e
     by_test : (here : Bool) → (here ≡ true → key_in y ≡ key) → (first_with key_in key rest ≡ Some x → key_in x ≡ key) → cond here (Some y) (first_with key_in key rest) ≡ Some x → key_in x ≡ key
     by_test true this later h = let same : y ≡ x = cc in ap key_in (sym same) ∙ this refl
     by_test false this later h = later h
+
+-- ---- the header of a file without fault
+
+pub sound_head : (I : List ℕ) (h : Header) → ndb_fault I ≡ None → h ≡ fields I → Head I h
+unfolding ndb_fault
+sound_head I h none is = (header_law I h).1 ((none_then (header_fault I) (file_fault I (fields I)) none).0, is)

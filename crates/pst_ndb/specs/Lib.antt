@@ -3,5 +3,6 @@ pub mod Entries
 pub mod Fault
 pub mod Marks
 pub mod Node
+pub mod Roots
 pub mod Space
 pub mod Views

@@ -1,5 +1,6 @@
 -- What a contract sees of the views.
-use Rattle.std.specs.Prelude.{ℕ, List, map}
+use Rattle.std.specs.Prelude.{◌≡◌, ℕ, Option, IfSome, List, map}
+use Rattle.std.specs.Iterator.{YieldsFirstBy}
 use Rattle.pst_bytes.specs.declared.Image.{Image}
 use Rattle.pst_header.specs.declared.header.Header.{Header}
 use Rattle.pst_page.specs.declared.entry.NodeEntry.{NodeEntry}
@@ -11,6 +12,9 @@ use Rattle.pst_ndb.specs.declared.ndb.Ndb.{Ndb}
 use Rattle.pst_ndb.specs.declared.node.Node.{Node}
 use Rattle.pst_ndb.specs.declared.each.Nodes.{Nodes}
 use Rattle.pst_ndb.specs.Node.{NodeParts, entry_parts}
+use Rattle.pst_ndb.specs.Roots.{Roots, all_roots}
+use Rattle.pst_subnode.specs.declared.height.TheConstants.{LISTS}
+use Rattle.pst_subnode.specs.Tree.{sub_height}
 
 -- ---- of a node database: the file, its header, its blocks, and the entries of its nodes
 
@@ -50,7 +54,34 @@ sub_bid_of node = node.bid_sub
 abbrev pub parts_of : Node → NodeParts
 parts_of node = record { image = image_of_node node; table = table_of_node node; top = top_of node; nid = nid_of node; bid_data = data_bid_of node; bid_sub = sub_bid_of node }
 
--- ---- the nodes that an iterator has left
+-- what contexts and messages are read from
+abbrev pub roots_of : Node → Roots
+roots_of node = record { top = top_of node; bid_data = data_bid_of node; bid_sub = sub_bid_of node }
+
+-- how many lists nest below it
+abbrev pub height_of : Node → ℕ
+height_of node = sub_height (table_of_node node) LISTS (sub_bid_of node)
+
+-- ---- the nodes that an iterator has left: of which file and blocks, and which
 
 abbrev pub parts_left : Nodes → List NodeParts
 parts_left nodes = map (entry_parts (image_of nodes.blocks) (table_of nodes.blocks)) (nodes_left nodes.rest)
+
+abbrev pub image_left : Nodes → Image
+image_left nodes = image_of nodes.blocks
+
+abbrev pub table_left : Nodes → Table
+table_left nodes = table_of nodes.blocks
+
+abbrev pub roots_left : Nodes → List Roots
+roots_left nodes = all_roots (nodes_left nodes.rest)
+
+-- a node of the same file and blocks is taken, and those that are left are of them, too
+abbrev pub TakesNode : Nodes → Option Node → Nodes → Type 0
+TakesNode old found new =
+    YieldsFirstBy parts_of parts_left old found new
+    × YieldsFirstBy roots_of roots_left old found new
+    × (table_left new ≡ table_left old)
+    × (image_left new ≡ image_left old)
+    × IfSome found (λ n. table_of_node n ≡ table_left old)
+    × IfSome found (λ n. image_of_node n ≡ image_left old)

@@ -19,12 +19,12 @@ pub struct Nodes<'a> {
 }
 
 impl<'a> Iterator for Nodes<'a> {
-    ghost use Rattle.std.specs.Iterator.{YieldsFirstBy, item_count};
-    ghost use Rattle.pst_ndb.specs.Views.{parts_of, parts_left};
+    ghost use Rattle.std.specs.Iterator.{item_count};
+    ghost use Rattle.pst_ndb.specs.Views.{parts_left, TakesNode};
 
     type Item = Node<'a>;
 
-    ghost next_gives = { YieldsFirstBy parts_of parts_left };
+    ghost next_gives = { TakesNode };
 
     ghost remaining = { item_count parts_left };
 
@@ -43,12 +43,16 @@ impl<'a> Nodes<'a> {
     ghost use Rattle.pst_btree.specs.Trees.{node_entries};
     ghost use Rattle.pst_ndb.specs.Fault.{nodes_fault};
     ghost use Rattle.pst_ndb.specs.Node.{entry_parts};
-    ghost use Rattle.pst_ndb.specs.Views.{parts_left};
+    ghost use Rattle.pst_ndb.specs.Roots.{all_roots};
+    ghost use Rattle.pst_ndb.specs.Views.{parts_left, roots_left, table_left, image_left};
 
     // All nodes of a tree.
     pub(crate) fn all(blocks: Blocks<'a>, tree: NodeTree<'a>) -> Nodes<'a>
         requires { nodes_fault (table_of blocks) (node_entries tree) ≡ None }
-        ensures { parts_left result ≡ map (entry_parts (image_of blocks.entry) (table_of blocks.entry)) (node_entries tree.entry) }
+        ensures parts { parts_left result ≡ map (entry_parts (image_of blocks.entry) (table_of blocks.entry)) (node_entries tree.entry) }
+        ensures roots { roots_left result ≡ all_roots (node_entries tree.entry) }
+        ensures table { table_left result ≡ table_of blocks.entry }
+        ensures image { image_left result ≡ image_of blocks.entry }
     {
         Nodes {
             blocks,

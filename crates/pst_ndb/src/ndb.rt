@@ -29,7 +29,9 @@ pub struct Ndb<'a> {
 }
 
 impl<'a> Ndb<'a> {
-    ghost use Rattle.std.specs.Prelude.{◌≡◌, None, IfSome, map, option_map};
+    ghost use Rattle.std.specs.Prelude.{◌≡◌, ℕ, ◌↔◌, None, Some, IfSome, map, option_map};
+    ghost use Rattle.std.specs.List.{Contains};
+    ghost use Rattle.pst_page.specs.declared.entry.NodeEntry.{NodeEntry};
     ghost use Rattle.pst_bytes.specs.Image.{bytes_of};
     ghost use Rattle.pst_header.specs.Head.{Head};
     ghost use Rattle.pst_header.specs.Header.{fields};
@@ -38,9 +40,10 @@ impl<'a> Ndb<'a> {
     ghost use Rattle.pst_btree.specs.Trees.{node_entries};
     ghost use Rattle.pst_block.specs.Blocks.{table_of, image_of};
     ghost use Rattle.pst_ndb.specs.Entries.{block_table, node_list};
-    ghost use Rattle.pst_ndb.specs.Fault.{file_fault, ndb_fault};
+    ghost use Rattle.pst_ndb.specs.Fault.{file_fault, ndb_fault, nodes_fault};
     ghost use Rattle.pst_ndb.specs.Node.{entry_parts};
-    ghost use Rattle.pst_ndb.specs.Views.{image_of_ndb, header_of, table_of_ndb, nodes_of, image_of_node, table_of_node, top_of, nid_of, parts_of, parts_left};
+    ghost use Rattle.pst_ndb.specs.Roots.{node_in, all_roots};
+    ghost use Rattle.pst_ndb.specs.Views.{image_of_ndb, header_of, table_of_ndb, nodes_of, image_of_node, table_of_node, top_of, nid_of, parts_of, roots_of, parts_left, roots_left, table_left, image_left};
 
     // The node database of a file with this header, which was checked.
     #[tactic(auto, using(crate::proofs::NodeLemmas::file_sound, crate::proofs::NodeLemmas::file_fields, crate::proofs::NodeLemmas::file_trees))]
@@ -63,12 +66,24 @@ impl<'a> Ndb<'a> {
 
     /// What is known of every node database: its file has no fault up to its nodes, and what it shows is the file's header,
     /// blocks and nodes.
+    #[tactic(auto, using(crate::proofs::NodeLemmas::sound_head))]
     pub fn is_sound(&self)
         ensures sound { ndb_fault (bytes_of (image_of_ndb self.now)) ≡ None }
         ensures header { header_of self.now ≡ fields (bytes_of (image_of_ndb self.now)) }
         ensures table { table_of_ndb self.now ≡ block_table (bytes_of (image_of_ndb self.now)) (header_of self.now) }
         ensures nodes { nodes_of self.now ≡ node_list (bytes_of (image_of_ndb self.now)) (header_of self.now) }
+        ensures head { Head (bytes_of (image_of_ndb self.now)) (header_of self.now) }
+        ensures image { (table_of_ndb self.now).image ≡ bytes_of (image_of_ndb self.now) }
+        ensures trees { nodes_fault (table_of_ndb self.now) (nodes_of self.now) ≡ None }
     {}
+
+    /// What is known of every node database: a node is found under an identifier exactly where it is there and has that
+    /// identifier.
+    pub fn nodes_are_found(&self)
+        ensures { (nid : ℕ) (e : NodeEntry) → (node_with nid (nodes_of self.now) ≡ Some e) ↔ (Contains (nodes_of self.now) e × (e.nid ≡ nid)) }
+    {
+        self.nodes_rise();
+    }
 
     /// What is known of every node database: the identifiers of its nodes rise.
     pub fn nodes_rise(&self)
@@ -92,9 +107,10 @@ impl<'a> Ndb<'a> {
     }
 
     /// The node with an identifier; None exactly where the node B-tree has none.
-    #[tactic(auto, using(crate::proofs::NodeLemmas::found_sound, crate::proofs::NodeLemmas::first_keyed))]
+    #[tactic(auto, using(crate::proofs::NodeLemmas::found_sound, crate::proofs::NodeLemmas::first_keyed), unfolding(crate::specs::Roots::node_in))]
     pub fn node(&self, nid: u32) -> Option<Node<'a>>
         ensures value { option_map parts_of result ≡ option_map (entry_parts (image_of_ndb self.now) (table_of_ndb self.now)) (node_with nid (nodes_of self.now)) }
+        ensures roots { option_map roots_of result ≡ node_in (nodes_of self.now) nid }
         ensures image { IfSome result (λ n. image_of_node n ≡ image_of_ndb self.now) }
         ensures table { IfSome result (λ n. table_of_node n ≡ table_of_ndb self.now) }
         ensures top { IfSome result (λ n. top_of n ≡ nid) }
@@ -106,7 +122,10 @@ impl<'a> Ndb<'a> {
 
     /// All nodes, their identifiers rising.
     pub fn nodes(&self) -> Nodes<'a>
-        ensures { parts_left result ≡ map (entry_parts (image_of_ndb self.now) (table_of_ndb self.now)) (nodes_of self.now) }
+        ensures parts { parts_left result ≡ map (entry_parts (image_of_ndb self.now) (table_of_ndb self.now)) (nodes_of self.now) }
+        ensures roots { roots_left result ≡ all_roots (nodes_of self.now) }
+        ensures table { table_left result ≡ table_of_ndb self.now }
+        ensures image { image_left result ≡ image_of_ndb self.now }
     {
         Nodes::all(self.blocks, self.nodes)
     }

@@ -9,8 +9,8 @@ ghost use Rattle.pst_subnode.specs.Tree.{sub_fault};
 use pst_block::Blocks;
 use pst_btree::NodeEntry;
 use pst_bytes::{Image, Span};
-use pst_datatree::{Value, leaf, leaf_count, value};
-use pst_subnode::{Subs, find_sub, subs};
+use pst_datatree::{Value, data_lies_inside, leaf, leaf_count, value};
+use pst_subnode::{Sub, Subs, find_sub, subs};
 
 /// A node of a checked file, or a subnode of one: its data and its subnodes are known to be without fault.
 #[derive(Clone, Copy)]
@@ -25,11 +25,12 @@ pub struct Node<'a> {
 }
 
 impl<'a> Node<'a> {
-    ghost use Rattle.std.specs.Prelude.{◌≡◌, None, IfSome, length, slice_get, option_map};
+    ghost use Rattle.std.specs.Prelude.{◌≡◌, ◌-◌, ◌<◌, ◌≤◌, None, IfSome, length, slice_get, option_map};
+    ghost use Rattle.std.specs.List.{Contains};
     ghost use Rattle.pst_bytes.specs.Image.{bytes_of, IsInside};
     ghost use Rattle.pst_block.specs.Blocks.{table_of, image_of};
     ghost use Rattle.pst_datatree.specs.Data.{data_spans, data_fault, size_of};
-    ghost use Rattle.pst_datatree.specs.Spans.{nonempty, first_span, joined_bytes};
+    ghost use Rattle.pst_datatree.specs.Spans.{nonempty, first_span, joined_bytes, AreInside};
     ghost use Rattle.pst_datatree.specs.Shown.{Shows, bytes_in, size_in, place_in};
     ghost use Rattle.pst_btree.specs.Entries.{first_with};
     ghost use Rattle.pst_subnode.specs.declared.height.TheConstants.{LISTS};
@@ -38,7 +39,8 @@ impl<'a> Node<'a> {
     ghost use Rattle.pst_subnode.specs.Tree.{sub_fault};
     ghost use Rattle.pst_ndb.specs.Fault.{node_fault};
     ghost use Rattle.pst_ndb.specs.Node.{entry_parts, sub_parts};
-    ghost use Rattle.pst_ndb.specs.Views.{image_of_node, table_of_node, top_of, nid_of, data_bid_of, sub_bid_of, parts_of};
+    ghost use Rattle.pst_ndb.specs.Roots.{subnode_of, sub_roots};
+    ghost use Rattle.pst_ndb.specs.Views.{image_of_node, table_of_node, top_of, nid_of, data_bid_of, sub_bid_of, parts_of, roots_of, height_of};
 
     /// The node of an entry of the node B-tree.
     #[tactic(auto, using(crate::proofs::NodeLemmas::none_data, crate::proofs::NodeLemmas::none_subs))]
@@ -55,11 +57,18 @@ impl<'a> Node<'a> {
         }
     }
 
-    /// What is known of every node: neither its data nor its subnodes have a fault.
+    /// What is known of every node: neither its data nor its subnodes have a fault, all spans of its data lie in the file,
+    /// and no more lists nest below it than may.
+    #[tactic(auto, using(pst_subnode::proofs::HeightLaws::height_low))]
     pub fn is_sound(&self)
         ensures content { data_fault (table_of_node self.now) (data_bid_of self.now) ≡ None }
         ensures subs { sub_fault (table_of_node self.now) LISTS (sub_bid_of self.now) ≡ None }
-    {}
+        ensures image { (table_of_node self.now).image ≡ bytes_of (image_of_node self.now) }
+        ensures inside { AreInside (table_of_node self.now).image (data_spans (table_of_node self.now) (data_bid_of self.now)) }
+        ensures low { height_of self.now ≤ LISTS }
+    {
+        data_lies_inside(&self.blocks, self.bid_data);
+    }
 
     /// The file.
     pub fn image(&self) -> Image<'a>
@@ -130,21 +139,37 @@ impl<'a> Node<'a> {
     }
 
     /// The subnode with an identifier; None exactly where the list has none. It is reached from where this node was.
-    #[tactic(auto, using(pst_subnode::proofs::MapLaws::found_data, pst_subnode::proofs::MapLaws::found_subs, crate::proofs::NodeLemmas::first_keyed))]
+    #[tactic(auto, using(pst_subnode::proofs::HeightLaws::found_entry, crate::proofs::NodeLemmas::first_keyed), unfolding(crate::specs::Roots::subnode_of))]
     pub fn sub(&self, nid: u32) -> Option<Node<'a>>
         ensures value { option_map parts_of result ≡ option_map (sub_parts (parts_of self.now)) (first_with sub_nid nid (subs_of (table_of_node self.now) (sub_bid_of self.now))) }
+        ensures roots { option_map roots_of result ≡ subnode_of (table_of_node self.now) (roots_of self.now) nid }
         ensures image { IfSome result (λ n. image_of_node n ≡ image_of_node self.now) }
         ensures table { IfSome result (λ n. table_of_node n ≡ table_of_node self.now) }
         ensures top { IfSome result (λ n. top_of n ≡ top_of self.now) }
         ensures nid { IfSome result (λ n. nid_of n ≡ nid) }
+        // Its own subnodes nest one list fewer at least.
+        ensures lower { IfSome result (λ n. height_of n < height_of self.now) }
+        ensures below { IfSome result (λ n. sub_fault (table_of_node n) (LISTS - 1) (sub_bid_of n) ≡ None) }
     {
         let found = find_sub(&self.blocks, self.bid_sub, nid)?;
-        Some(Node {
+        Some(self.child(found))
+    }
+
+    /// The subnode of an entry of its list.
+    #[tactic(auto, using(pst_subnode::proofs::HeightLaws::entry_data, pst_subnode::proofs::HeightLaws::entry_subs, pst_subnode::proofs::HeightLaws::entry_below, pst_subnode::proofs::HeightLaws::lower_law))]
+    pub fn child(&self, entry: Sub) -> Node<'a>
+        requires { Contains (subs_of (table_of_node self.now) (sub_bid_of self.now)) entry }
+        ensures parts { parts_of result ≡ sub_parts (parts_of self.now) entry }
+        ensures roots { roots_of result ≡ sub_roots (roots_of self.now) entry }
+        ensures lower { height_of result < height_of self.now }
+        ensures below { sub_fault (table_of_node result) (LISTS - 1) (sub_bid_of result) ≡ None }
+    {
+        Node {
             blocks: self.blocks,
             top: self.top,
-            nid: found.nid,
-            bid_data: found.bid_data,
-            bid_sub: found.bid_sub,
-        })
+            nid: entry.nid,
+            bid_data: entry.bid_data,
+            bid_sub: entry.bid_sub,
+        }
     }
 }

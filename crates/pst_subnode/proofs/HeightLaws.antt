@@ -12,7 +12,7 @@ use Rattle.pst_block.specs.Block.{bid_key}
 use Rattle.pst_block.specs.Table.{Table, entry_of}
 use Rattle.pst_btree.specs.Entries.{first_with}
 use Rattle.pst_datatree.specs.Bid.{is_no_block, is_internal}
-use Rattle.pst_datatree.specs.Data.{fault_or, block_missing}
+use Rattle.pst_datatree.specs.Data.{fault_or, block_missing, data_fault}
 use Rattle.pst_datatree.proofs.KeyLemmas.{none_same, entry_same}
 use Rattle.pst_subnode.specs.declared.sub.Sub.{Sub}
 use Rattle.pst_subnode.specs.List.{nid_of, bad_list, block_fault, list_fault, subs_of}
@@ -20,7 +20,7 @@ use Rattle.pst_subnode.specs.Tree.{first_among, most_among, entry_fault, entry_h
 use Rattle.pst_subnode.specs.Laws.{BelowLaw, LowerLaw, HeightLaw, LimitLaw, NoHeightLaw, SameSubLaw}
 use Rattle.pst_subnode.proofs.SubLemmas.{sub_fault_none, sub_fault_below, sub_fault_list, sub_height_none, sub_height_suc}
 use Rattle.pst_subnode.proofs.TreeLaws.{no_subs, has_within, has_agrees, entry_law, one_law}
-use Rattle.pst_subnode.proofs.MapLaws.{found_there}
+use Rattle.pst_subnode.proofs.MapLaws.{found_there, found_below}
 
 -- ---- limits
 
@@ -41,7 +41,7 @@ some_limit t zero bid s h w = by_test (is_no_block bid) refl
     by_test false e = let bad : Some nesting ≡ None = sym (sub_fault_below t 0 bid refl e) ∙ h in cc
 some_limit t (suc limit) bid s h w = omega arith
 
-entry_below : (t : Table) (limit bid : ℕ) (s : Sub) → sub_fault t limit bid ≡ None → Contains (subs_of t bid) s → sub_fault t (limit - 1) s.bid_sub ≡ None
+pub entry_below : (t : Table) (limit bid : ℕ) (s : Sub) → sub_fault t limit bid ≡ None → Contains (subs_of t bid) s → sub_fault t (limit - 1) s.bid_sub ≡ None
 entry_below t zero bid s h w = let bad : 0 < 0 = some_limit t 0 bid s h w in absurd (omega (arith, bad))
 entry_below t (suc limit) bid s h w = let same : suc limit - 1 ≡ limit = omega arith in rw same (entry_law t limit bid s h w).1
 
@@ -131,3 +131,17 @@ same_sub_law t a b e = (
   (λ n. (none_same_by t n a b e, none_same_by t n b a (sym e))),
   (λ n. height_same t n a b e),
 )
+
+-- ---- one by one, for what stands above
+
+pub height_low : (t : Table) (limit bid : ℕ) → sub_fault t limit bid ≡ None → sub_height t limit bid ≤ limit
+height_low t limit bid h = (height_law t limit bid h).0
+
+pub found_entry : (t : Table) (bid nid : ℕ) (s : Sub) → first_with nid_of nid (subs_of t bid) ≡ Some s → Contains (subs_of t bid) s
+found_entry t bid nid s is = (found_there nid (subs_of t bid) s is).0
+
+pub entry_data : (t : Table) (limit bid : ℕ) (s : Sub) → sub_fault t limit bid ≡ None → Contains (subs_of t bid) s → data_fault t s.bid_data ≡ None
+entry_data t limit bid s h w = (found_below t limit bid s h w).0
+
+pub entry_subs : (t : Table) (limit bid : ℕ) (s : Sub) → sub_fault t limit bid ≡ None → Contains (subs_of t bid) s → sub_fault t limit s.bid_sub ≡ None
+entry_subs t limit bid s h w = (found_below t limit bid s h w).1

@@ -92,7 +92,7 @@ map_law t limit bid nid s h = (
 
 -- ---- what is found has no fault
 
-found_below : (t : Table) (limit bid : ℕ) (s : Sub) → sub_fault t limit bid ≡ None → Contains (subs_of t bid) s → (data_fault t s.bid_data ≡ None) × (sub_fault t limit s.bid_sub ≡ None)
+pub found_below : (t : Table) (limit bid : ℕ) (s : Sub) → sub_fault t limit bid ≡ None → Contains (subs_of t bid) s → (data_fault t s.bid_data ≡ None) × (sub_fault t limit s.bid_sub ≡ None)
 found_below t zero bid s h w = by_test (is_no_block bid) refl
   where
     by_test : (v : Bool) → is_no_block bid ≡ v → (data_fault t s.bid_data ≡ None) × (sub_fault t 0 s.bid_sub ≡ None)
