@@ -118,7 +118,7 @@ child_of_xxblock t e h i lt = none_below (child_fault t e) (count_in (body_of t 
 number_of_test : (a b : ℕ) → nat_eq a b ≡ true → a ≡ b
 number_of_test a b h = grind (arith, nat_tests)
 
-total_of_xblock : (t : Table) (e : BlockEntry) → xblock_fault t e ≡ None → size_of (xblock_spans t e) ≡ total_in (body_of t e)
+pub total_of_xblock : (t : Table) (e : BlockEntry) → xblock_fault t e ≡ None → size_of (xblock_spans t e) ≡ total_in (body_of t e)
 unfolding xblock_fault
 total_of_xblock t e h =
     let body = body_of t e in

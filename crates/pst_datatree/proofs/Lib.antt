@@ -8,3 +8,4 @@ pub mod InsideLemmas
 pub mod CheckLemmas
 pub mod NodeLemmas
 pub mod KeyLemmas
+pub mod PassLemmas

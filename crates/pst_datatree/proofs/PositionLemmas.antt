@@ -37,7 +37,7 @@ drop_past (x ∷ xs) ys (suc n) h = let same : n - length xs ≡ suc n - length 
 
 -- ---- parts from a number on
 
-from_step : {X : Type 0} (part : ℕ → List X) (i n : ℕ) → i < n → join_from part i (n - i) ≡ part i ++ join_from part (i + 1) (n - (i + 1))
+pub from_step : {X : Type 0} (part : ℕ → List X) (i n : ℕ) → i < n → join_from part i (n - i) ≡ part i ++ join_from part (i + 1) (n - (i + 1))
 unfolding join_from
 from_step part i n h = let more : n - i ≡ suc (n - (i + 1)) = omega arith in rw more refl
 

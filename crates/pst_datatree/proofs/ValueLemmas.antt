@@ -21,10 +21,10 @@ bytes_of_pieces I (s ∷ rest) = ap (λ bs. bytes_at I s ++ bs) (bytes_of_pieces
 no_bytes : (I : List ℕ) (s : Span) → s.len ≤ 0 → bytes_at I s ≡ []
 no_bytes I s h = let z : s.len ≡ 0 = omega arith in rw z refl
 
-with_bytes : (s : Span) (rest : List Span) → 0 < s.len → nonempty (s ∷ rest) ≡ s ∷ nonempty rest
+pub with_bytes : (s : Span) (rest : List Span) → 0 < s.len → nonempty (s ∷ rest) ≡ s ∷ nonempty rest
 with_bytes s rest lt = let yes : nat_lt 0 s.len ≡ true = grind (arith, nat_tests) in rw yes refl
 
-without_bytes : (s : Span) (rest : List Span) → s.len ≤ 0 → nonempty (s ∷ rest) ≡ nonempty rest
+pub without_bytes : (s : Span) (rest : List Span) → s.len ≤ 0 → nonempty (s ∷ rest) ≡ nonempty rest
 without_bytes s rest le = let no : nat_lt 0 s.len ≡ false = grind (arith, nat_tests) in rw no refl
 
 -- empty spans add nothing

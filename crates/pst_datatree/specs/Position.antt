@@ -1,12 +1,13 @@
 -- What is left of a data tree from a position on: of the XBLOCKs that an XXBLOCK names, those from the child's number on,
 -- and of their data blocks (or of an XBLOCK's) all but so many first ones.
-use Rattle.std.specs.Prelude.{◌≡◌, ℕ, zero, suc, ◌+◌, ◌-◌, Option, Some, None, List, [], ◌∷◌, ◌++◌, drop, if◌then◌else◌}
+use Rattle.std.specs.Prelude.{◌≡◌, ℕ, zero, suc, ◌+◌, ◌-◌, ◌<◌, ◌≤◌, ⊤, Option, Some, None, List, [], ◌∷◌, ◌++◌, drop, length, if◌then◌else◌}
 use Rattle.pst_bytes.specs.declared.span.Span.{Span}
 use Rattle.pst_page.specs.declared.entry.BlockEntry.{BlockEntry}
 use Rattle.pst_block.specs.Table.{Table, entry_of, body_of}
 use Rattle.pst_datatree.specs.declared.position.Position.{Position}
 use Rattle.pst_datatree.specs.Bid.{is_internal, is_no_block}
 use Rattle.pst_datatree.specs.List.{count_in, has_level_two}
+use Rattle.pst_datatree.specs.Cut.{cut}
 use Rattle.pst_datatree.specs.Data.{spans_at, data_block_spans, xblock_spans, child_spans}
 
 -- n lists, that with the number i first, joined
@@ -34,3 +35,13 @@ data_left t bid at = if is_no_block bid then [] else spans_at (λ e. block_left 
 abbrev pub Splits : (Position → List Span) → Position → Option (Span × Position) → Type 0
 Splits left at None = left at ≡ []
 Splits left at (Some next) = left at ≡ next.0 ∷ left next.1
+
+-- Whole XBLOCKs are passed over: behind so many bytes from one position on there is the same as behind the others from
+-- another, further one.
+abbrev pub Passes : (Position → List Span) → Position → ℕ → Option (Position × ℕ) → Type 0
+Passes left at skip None = ⊤
+Passes left at skip (Some next) =
+    ((more : ℕ) → cut skip (skip + more) (left at) ≡ cut next.1 (next.1 + more) (left next.0))
+    × (next.1 ≤ skip)
+    × (length (left next.0) ≤ length (left at))
+    × (at.child < next.0.child)

@@ -8,6 +8,7 @@ mod laws;
 mod list;
 mod look;
 mod make;
+mod pass;
 mod pieces;
 mod position;
 mod read;

@@ -50,6 +50,16 @@ pub(crate) fn xblock_count(blocks: &Blocks, entry: BlockEntry) -> u16
     body_in(blocks, entry).number16(2)
 }
 
+// How many bytes an XBLOCK has: its lcbTotal.
+#[tactic(auto, using(crate::proofs::DataLemmas::xblock_head, crate::proofs::DataLemmas::total_of_xblock))]
+pub(crate) fn xblock_size(blocks: &Blocks, entry: BlockEntry) -> u64
+    requires within { IsWithin (table_of blocks.now).image entry }
+    requires sound { xblock_fault (table_of blocks.now) entry ≡ None }
+    ensures { result ≡ size_of (xblock_spans (table_of blocks.now) entry) }
+{
+    u64::from(body_in(blocks, entry).number32(4))
+}
+
 // The XBLOCK that an XXBLOCK names with a number.
 #[tactic(auto, using(crate::proofs::DataLemmas::sound_child), unfolding(crate::specs::Data::child_spans, crate::specs::Data::child_fault))]
 pub(crate) fn child_entry(blocks: &Blocks, holder: BlockEntry, i: u16) -> BlockEntry
