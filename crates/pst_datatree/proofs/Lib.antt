@@ -9,3 +9,4 @@ pub mod CheckLemmas
 pub mod NodeLemmas
 pub mod KeyLemmas
 pub mod PassLemmas
+pub mod ByteLemmas

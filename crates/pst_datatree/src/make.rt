@@ -18,17 +18,14 @@ fn only_span(pieces: Pieces) -> Option<Span>
     ensures only { OnlySpan (spans_left pieces.entry) result }
     ensures inside { IfSome result (IsInside (bytes_of (file_of pieces.entry))) }
 {
-    let mut rest = pieces;
-    let mut first = None;
-    while let Some(span) = rest.next_span() {
-        if span.len > 0 {
-            match first {
-                None => first = Some(span),
-                Some(_) => return None,
-            }
-        }
+    let mut rest = pieces.with_bytes();
+    let Some(first) = rest.next_span() else {
+        return Some(Span { at: 0, len: 0 });
+    };
+    if rest.next_span().is_some() {
+        return None;
     }
-    Some(first.unwrap_or(Span { at: 0, len: 0 }))
+    Some(first)
 }
 
 // The value whose spans are left.

@@ -8,6 +8,7 @@ ghost use Rattle.pst_datatree.specs.Position.{data_left};
 ghost use Rattle.pst_datatree.specs.Cut.{shown};
 
 use crate::look::data_size;
+use crate::pass::pass_all;
 use crate::position::Position;
 use crate::step::next_of;
 use pst_block::Blocks;
@@ -41,7 +42,7 @@ impl<'a> Pieces<'a> {
     ghost use Rattle.pst_block.specs.Blocks.{image_of};
     ghost use Rattle.pst_datatree.specs.Data.{data_spans};
     ghost use Rattle.pst_datatree.specs.Cut.{cut};
-    ghost use Rattle.pst_datatree.specs.Spans.{joined_bytes, AreInside};
+    ghost use Rattle.pst_datatree.specs.Spans.{joined_bytes, nonempty, AreInside};
     ghost use Rattle.pst_datatree.specs.Left.{spans_left, slices_left, file_of};
     ghost use Rattle.pst_datatree.specs.After.{IsAfter};
 
@@ -95,8 +96,7 @@ impl<'a> Pieces<'a> {
         if self.left == 0 {
             return None;
         }
-        let mut place = self.at;
-        let mut skip = self.skip;
+        let (mut place, mut skip) = pass_all(&self.blocks, self.bid, self.at, self.skip);
         while let Some((span, behind)) = next_of(&self.blocks, self.bid, place) {
             if skip < span.len {
                 let len = self.left.min(span.len - skip);
@@ -106,8 +106,9 @@ impl<'a> Pieces<'a> {
                 };
                 return Some((part, self.part_from(behind, 0, self.left - len)));
             }
-            skip -= span.len;
-            place = behind;
+            let (next, rest) = pass_all(&self.blocks, self.bid, behind, skip - span.len);
+            place = next;
+            skip = rest;
         }
         None
     }
@@ -167,6 +168,15 @@ impl<'a> Pieces<'a> {
     {
         self.lie_inside();
         self.left
+    }
+
+    // The spans with bytes among those that are left.
+    #[tactic(auto, using(crate::proofs::PassLemmas::nonempty_is_cut))]
+    pub(crate) fn with_bytes(&self) -> Pieces<'a>
+        ensures spans { spans_left result ≡ nonempty (spans_left self.now) }
+        ensures file { file_of result ≡ file_of self.now }
+    {
+        self.part(0, self.left)
     }
 
     // A part of the bytes that are left.

@@ -10,31 +10,26 @@ use crate::make::value_of;
 use crate::pieces::Pieces;
 
 // The byte with a number among those that are left.
+#[tactic(auto, using(crate::proofs::ByteLemmas::byte_of_part, crate::proofs::ByteLemmas::no_byte))]
 fn byte_in(pieces: Pieces, i: u64) -> Option<u8>
     ensures { result ≡ slice_get (concat (slices_left pieces.entry)) i }
 {
-    let mut left = i;
-    for piece in pieces {
-        let len = piece.len() as u64;
-        if left < len {
-            return Some(piece[left as usize]);
-        }
-        left -= len;
+    if i >= pieces.size() {
+        return None;
     }
-    None
+    let mut part = pieces.part(i, i + 1);
+    let span = part.next_span()?;
+    pieces.lend(span).first().copied()
 }
 
 // Where the first byte lies, 0 where there is none.
 fn place_of(pieces: Pieces) -> u64
     ensures { result ≡ (first_span (nonempty (spans_left pieces.entry))).at }
 {
-    let mut rest = pieces;
-    while let Some(span) = rest.next_span() {
-        if span.len > 0 {
-            return span.at;
-        }
+    match pieces.with_bytes().next_span() {
+        Some(span) => span.at,
+        None => 0,
     }
-    0
 }
 
 impl<'a> Value<'a> {
