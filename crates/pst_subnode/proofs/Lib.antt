@@ -7,3 +7,4 @@ pub mod ListLaws
 pub mod TreeLaws
 pub mod MapLaws
 pub mod HeightLaws
+pub mod GuessLemmas

@@ -1,12 +1,15 @@
 //! Look-ups in subnode lists.
 
-ghost use Rattle.std.specs.Prelude.{◌≡◌};
+ghost use Rattle.std.specs.Prelude.{◌≡◌, None};
 ghost use Rattle.pst_block.specs.Blocks.{table_of};
 ghost use Rattle.pst_btree.specs.Entries.{first_with};
 ghost use Rattle.pst_subnode.specs.List.{nid_of, subs_of};
 ghost use Rattle.pst_subnode.specs.Left.{subs_left};
+ghost use Rattle.pst_subnode.specs.Tree.{sub_fault};
+ghost use Rattle.pst_subnode.specs.declared.height.TheConstants.{LISTS};
 
 use crate::entries::Subs;
+use crate::guess::guess;
 use crate::sub::Sub;
 use pst_block::Blocks;
 
@@ -18,9 +21,9 @@ pub fn subs<'a>(blocks: &Blocks<'a>, bid: u64) -> Subs<'a>
     Subs::of_bid(blocks, bid)
 }
 
-/// The entry of a subnode in the list of a block identifier: the first one with this identifier.
+// The first entry with an identifier, of all entries one after another.
 #[tactic(auto, using(crate::proofs::FindLemmas::found_here, crate::proofs::FindLemmas::found_later, crate::proofs::FindLemmas::found_nowhere))]
-pub fn find_sub(blocks: &Blocks, bid: u64, nid: u32) -> Option<Sub>
+fn scan(blocks: &Blocks, bid: u64, nid: u32) -> Option<Sub>
     ensures { result ≡ first_with nid_of nid (subs_of (table_of blocks.now) bid) }
 {
     let mut rest = subs(blocks, bid);
@@ -30,4 +33,16 @@ pub fn find_sub(blocks: &Blocks, bid: u64, nid: u32) -> Option<Sub>
         }
     }
     None
+}
+
+/// The entry of a subnode in the list of a block identifier, which has no fault. It takes some ten steps where the
+/// identifiers rise, as writers let them; else, and where there is none, one for each entry.
+pub fn find_sub(blocks: &Blocks, bid: u64, nid: u32) -> Option<Sub>
+    requires { sub_fault (table_of blocks.now) LISTS bid ≡ None }
+    ensures { result ≡ first_with nid_of nid (subs_of (table_of blocks.now) bid) }
+{
+    match guess(blocks, bid, nid) {
+        Some(sub) => Some(sub),
+        None => scan(blocks, bid, nid),
+    }
 }

@@ -1,6 +1,6 @@
 //! The check of subnodes and of the subnodes of each of them, and how many lists nest.
 
-ghost use Rattle.std.specs.Prelude.{◌≡◌, ℕ, ◌+◌, ◌≤◌, IfOk, IfErr, List, option_map};
+ghost use Rattle.std.specs.Prelude.{◌≡◌, ℕ, ◌+◌, ◌≤◌, None, IfOk, IfErr, OnOk, List, option_map};
 ghost use Rattle.pst_fault.specs.Fault.{no_memory};
 ghost use Rattle.pst_fault.specs.First.{Tells};
 ghost use Rattle.pst_block.specs.Blocks.{table_of};
@@ -159,6 +159,8 @@ pub fn check_sub(
     // The height, or the first fault; or that memory ran out.
     ensures first { Tells result (option_map (at_top bid nid) (sub_fault (table_of blocks.now) LISTS bid)) (sub_height (table_of blocks.now) LISTS bid) }
     ensures small { IfOk result (λ h. h ≤ LISTS) }
+
+    ensures none { OnOk result (sub_fault (table_of blocks.now) LISTS bid ≡ None) }
 
     // The identifier has the list of this height, as the format says.
     ensures found { IfOk result (λ h. HasSubs (table_of blocks.now) bid h (subs_of (table_of blocks.now) bid)) }

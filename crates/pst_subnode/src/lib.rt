@@ -6,6 +6,7 @@ mod body;
 mod check;
 mod entries;
 mod find;
+mod guess;
 mod height;
 mod heights;
 mod laws;

@@ -3,7 +3,7 @@ use Rattle.pst_block.specs.Blocks.{table_of}
 use Rattle.pst_btree.specs.Entries.{first_with}
 use Rattle.pst_subnode.specs.List.{nid_of, subs_of}
 use Rattle.pst_subnode.specs.Left.{subs_left}
-use Rattle.pst_subnode.proofs.find.find_sub.Given as goal
+use Rattle.pst_subnode.proofs.find.scan.Given as goal
 
 abbrev pub invariant-loop-sub : goal.invariant-loop-sub
 invariant-loop-sub l = first_with nid_of l.nid (subs_left l.rest) ≡ first_with nid_of l.nid (subs_of (table_of l.blocks) l.bid)
