@@ -9,7 +9,7 @@ ghost use Rattle.pst_subnode.specs.Tree.{sub_fault};
 use pst_block::Blocks;
 use pst_btree::NodeEntry;
 use pst_bytes::{Image, Span};
-use pst_datatree::{Value, data_lies_inside, leaf, leaf_count, value};
+use pst_datatree::{Pieces, Value, data_lies_inside, leaf, leaf_count, spans, value};
 use pst_subnode::{Sub, Subs, find_sub, subs};
 
 /// A node of a checked file, or a subnode of one: its data and its subnodes are known to be without fault.
@@ -31,6 +31,7 @@ impl<'a> Node<'a> {
     ghost use Rattle.pst_block.specs.Blocks.{table_of, image_of};
     ghost use Rattle.pst_datatree.specs.Data.{data_spans, data_fault, size_of};
     ghost use Rattle.pst_datatree.specs.Spans.{nonempty, first_span, joined_bytes, AreInside};
+    ghost use Rattle.pst_datatree.specs.Left.{spans_left, file_of};
     ghost use Rattle.pst_datatree.specs.Shown.{Shows, bytes_in, size_in, place_in};
     ghost use Rattle.pst_btree.specs.Entries.{first_with};
     ghost use Rattle.pst_subnode.specs.declared.height.TheConstants.{LISTS};
@@ -114,6 +115,14 @@ impl<'a> Node<'a> {
         ensures place { place_in result ≡ (first_span (nonempty (data_spans (table_of_node self.now) (data_bid_of self.now)))).at }
     {
         value(&self.blocks, self.bid_data)
+    }
+
+    /// The slices of its data, one for each span, in order; and with `next_span` the spans.
+    pub fn spans(&self) -> Pieces<'a>
+        ensures spans { spans_left result ≡ data_spans (table_of_node self.now) (data_bid_of self.now) }
+        ensures file { file_of result ≡ image_of_node self.now }
+    {
+        spans(&self.blocks, self.bid_data)
     }
 
     /// The span with a number of its data, from 0 on; None exactly from `leaf_count` on.

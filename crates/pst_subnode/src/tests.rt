@@ -184,6 +184,11 @@ fn a_list_of_two_leaves(rt: HostRuntime) -> Result<(), Fail> {
     let Ok(blocks) = blocks_in(alloc, Image::new(&bytes)) else {
         panic!(rt; "no blocks");
     };
+    let mut seen = Seen::new(alloc);
+    let mut heights = Heights::new(alloc);
+    let Ok(_) = check_sub(alloc, &blocks, 7, NODE, &mut seen, &mut heights) else {
+        panic!(rt; "no list");
+    };
     let wanted = [(0x671, 4, 0), (0x692, 5, 0), (0x8025, 4, 18)];
     let mut list = subs(&blocks, 6);
     for (nid, bid_data, bid_sub) in wanted {
@@ -196,7 +201,47 @@ fn a_list_of_two_leaves(rt: HostRuntime) -> Result<(), Fail> {
         assert_eq!(rt; find_sub(&blocks, 7, nid), Some(sub));
     }
     assert_eq!(rt; list.next(), None);
-    assert_eq!(rt; find_sub(&blocks, 6, 0x8045), None);
+    // One that is behind all, one that is before all, and one between two.
+    for nid in [0x8045, 0x670, 0x672] {
+        assert_eq!(rt; find_sub(&blocks, 7, nid), None);
+    }
+    Ok(())
+}
+
+// Identifiers that fall, in and across the SLBLOCKs: each is found all the same.
+#[test]
+fn a_list_that_falls(rt: HostRuntime) -> Result<(), Fail> {
+    let alloc = rt.alloc();
+    let mut plan = Vec::new(alloc);
+    add(&mut plan, 6, list(alloc, 1, 2, &[0x8025, 10, 0x671, 14])?)?;
+    add(
+        &mut plan,
+        10,
+        list(alloc, 0, 2, &[0x8045, 0, 0, 0x8025, 0, 0])?,
+    )?;
+    add(
+        &mut plan,
+        14,
+        list(alloc, 0, 2, &[0x692, 0, 0, 0x671, 0, 0])?,
+    )?;
+    let bytes = image_of(alloc, plan)?;
+    let Ok(blocks) = blocks_in(alloc, Image::new(&bytes)) else {
+        panic!(rt; "no blocks");
+    };
+    let mut seen = Seen::new(alloc);
+    let mut heights = Heights::new(alloc);
+    let Ok(_) = check_sub(alloc, &blocks, 6, NODE, &mut seen, &mut heights) else {
+        panic!(rt; "no list");
+    };
+    for nid in [0x8045, 0x8025, 0x692, 0x671] {
+        let sub = Sub {
+            nid,
+            bid_data: 0,
+            bid_sub: 0,
+        };
+        assert_eq!(rt; find_sub(&blocks, 6, nid), Some(sub));
+    }
+    assert_eq!(rt; find_sub(&blocks, 6, 0x673), None);
     Ok(())
 }
 
@@ -210,6 +255,11 @@ fn no_block_has_no_subnodes(rt: HostRuntime) -> Result<(), Fail> {
             panic!(rt; "no blocks");
         };
         assert_eq!(rt; subs(&blocks, bid).next(), None);
+        let mut seen = Seen::new(alloc);
+        let mut heights = Heights::new(alloc);
+        let Ok(_) = check_sub(alloc, &blocks, bid, NODE, &mut seen, &mut heights) else {
+            panic!(rt; "no list");
+        };
         assert_eq!(rt; find_sub(&blocks, bid, 0x671), None);
     }
     Ok(())
