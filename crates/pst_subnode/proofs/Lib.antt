@@ -8,3 +8,4 @@ pub mod TreeLaws
 pub mod MapLaws
 pub mod HeightLaws
 pub mod GuessLemmas
+pub mod ScanLemmas

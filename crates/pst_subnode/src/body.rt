@@ -65,6 +65,15 @@ pub(crate) fn sub_at(body: Image, i: u16) -> Sub
     }
 }
 
+// The identifier of the subnode of the SLENTRY with a number.
+#[tactic(auto, unfolding(crate::specs::Body::sub_in, pst_page::specs::Entry::key_of))]
+pub(crate) fn nid_at(body: Image, i: u16) -> u32
+    requires { 32 + 24 * i ≤ length (bytes_of body) }
+    ensures { result ≡ (sub_in (bytes_of body.entry) i).nid }
+{
+    PageKind::Nbt.key_of(body.number64(8 + 24 * u64::from(i))) as u32
+}
+
 // The block identifier of the SIENTRY with a number.
 pub(crate) fn bid_at(body: Image, i: u16) -> u64
     requires { 24 + 16 * i ≤ length (bytes_of body) }

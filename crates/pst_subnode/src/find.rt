@@ -10,6 +10,7 @@ ghost use Rattle.pst_subnode.specs.declared.height.TheConstants.{LISTS};
 
 use crate::entries::Subs;
 use crate::guess::guess;
+use crate::scan::scan;
 use crate::sub::Sub;
 use pst_block::Blocks;
 
@@ -19,20 +20,6 @@ pub fn subs<'a>(blocks: &Blocks<'a>, bid: u64) -> Subs<'a>
     ensures { subs_left result ≡ subs_of (table_of blocks.now) bid }
 {
     Subs::of_bid(blocks, bid)
-}
-
-// The first entry with an identifier, of all entries one after another.
-#[tactic(auto, using(crate::proofs::FindLemmas::found_here, crate::proofs::FindLemmas::found_later, crate::proofs::FindLemmas::found_nowhere))]
-fn scan(blocks: &Blocks, bid: u64, nid: u32) -> Option<Sub>
-    ensures { result ≡ first_with nid_of nid (subs_of (table_of blocks.now) bid) }
-{
-    let mut rest = subs(blocks, bid);
-    while let Some(sub) = rest.next() {
-        if sub.nid == nid {
-            return Some(sub);
-        }
-    }
-    None
 }
 
 /// The entry of a subnode in the list of a block identifier, which has no fault. It takes some ten steps where the

@@ -10,6 +10,7 @@ mod guess;
 mod height;
 mod heights;
 mod laws;
+mod scan;
 mod sub;
 
 pub use entries::Subs;
