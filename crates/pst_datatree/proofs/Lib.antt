@@ -10,3 +10,4 @@ pub mod NodeLemmas
 pub mod KeyLemmas
 pub mod PassLemmas
 pub mod ByteLemmas
+pub mod SeenLemmas

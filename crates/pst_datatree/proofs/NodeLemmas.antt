@@ -1,68 +1,81 @@
--- A fault of a data tree is told of no node.
-use Rattle.std.proofs.Common.{◌≡◌, ℕ, zero, suc, Bool, true, false, Option, Some, None, refl}
+-- What holds of each fault that a data tree can have: it is told of no node, and is not that memory ran out.
+use Rattle.std.proofs.Common.{◌≡◌, ℕ, zero, suc, Bool, true, false, Option, Some, None, refl, inl, inr}
 use Rattle.std.specs.Prelude.{option_map, if◌then◌else◌, nat_eq}
 use Rattle.pst_fault.specs.declared.fault.Fault.{Fault}
-use Rattle.pst_fault.specs.Fault.{at_node}
-use Rattle.pst_fault.specs.First.{◌then◌, holds_or, first_below}
+use Rattle.pst_fault.specs.Fault.{at_node, no_memory}
+use Rattle.pst_fault.specs.First.{◌then◌, holds_or, first_below, IsFirst}
 use Rattle.pst_page.specs.declared.entry.BlockEntry.{BlockEntry}
 use Rattle.pst_block.specs.Table.{Table, entry_of, body_of}
 use Rattle.pst_datatree.specs.Bid.{is_internal, is_no_block}
 use Rattle.pst_datatree.specs.List.{count_in, total_in, bid_in, is_block_list, has_level_two}
-use Rattle.pst_datatree.specs.Data.{size_of, fault_or, block_missing, bad_tree, leaf_fault, xblock_spans, xblock_fault, child_fault, xxblock_spans, xxblock_fault, tree_fault, block_fault, data_fault}
+use Rattle.pst_datatree.specs.Data.{size_of, fault_or, block_missing, bad_tree, told_at, leaf_fault, xblock_spans, xblock_fault, child_fault, xxblock_spans, xxblock_fault, tree_fault, block_fault, data_fault}
 
-abbrev HasNoNode : Option Fault → Type 0
-HasNoNode first = option_map (at_node 0) first ≡ first
+-- a fact of the faults that a data tree can have
+module _ (Is : Option Fault → Type 0) (none : Is None) (missing : (bid : ℕ) → Is (Some (block_missing bid))) (bad : (e : BlockEntry) → Is (Some (bad_tree e))) where
+  then_is : (a b : Option Fault) → Is a → Is b → Is (a then b)
+  then_is None b h k = k
+  then_is (Some f) b h k = h
 
-then_no : (a b : Option Fault) → HasNoNode a → HasNoNode b → HasNoNode (a then b)
-then_no None b h k = k
-then_no (Some f) b h k = h
+  holds_is : (b : Bool) (e : BlockEntry) → Is (holds_or b (bad_tree e))
+  holds_is true e = none
+  holds_is false e = bad e
 
-holds_no : (b : Bool) (e : BlockEntry) → HasNoNode (holds_or b (bad_tree e))
-holds_no true e = refl
-holds_no false e = refl
+  below_is : (part : ℕ → Option Fault) (n : ℕ) → ((i : ℕ) → Is (part i)) → Is (first_below part n)
+  below_is part zero h = none
+  below_is part (suc n) h = then_is (first_below part n) (part n) (below_is part n h) (h n)
 
-below_no : (part : ℕ → Option Fault) (n : ℕ) → ((i : ℕ) → HasNoNode (part i)) → HasNoNode (first_below part n)
-below_no part zero h = refl
-below_no part (suc n) h = then_no (first_below part n) (part n) (below_no part n h) (h n)
+  or_is : (bid : ℕ) (part : BlockEntry → Option Fault) (o : Option BlockEntry) → ((e : BlockEntry) → Is (part e)) → Is (fault_or (block_missing bid) part o)
+  or_is bid part None h = missing bid
+  or_is bid part (Some e) h = h e
 
-or_no : (bid : ℕ) (part : BlockEntry → Option Fault) (o : Option BlockEntry) → ((e : BlockEntry) → HasNoNode (part e)) → HasNoNode (fault_or (block_missing bid) part o)
-or_no bid part None h = refl
-or_no bid part (Some e) h = h e
+  if_is : (b : Bool) (x y : Option Fault) → Is x → Is y → Is (if b then x else y)
+  if_is true x y h k = h
+  if_is false x y h k = k
 
-if_no : (b : Bool) (x y : Option Fault) → HasNoNode x → HasNoNode y → HasNoNode (if b then x else y)
-if_no true x y h k = h
-if_no false x y h k = k
+  leaf_is : (t : Table) (e : BlockEntry) (i : ℕ) → Is (leaf_fault t e i)
+  unfolding leaf_fault
+  leaf_is t e i = let bid = bid_in (body_of t e) i in or_is bid (λ _. if is_internal bid then Some (bad_tree e) else None) (entry_of t bid) (λ _. if_is (is_internal bid) (Some (bad_tree e)) None (bad e) none)
 
-leaf_no : (t : Table) (e : BlockEntry) (i : ℕ) → HasNoNode (leaf_fault t e i)
-unfolding leaf_fault
-leaf_no t e i = let bid = bid_in (body_of t e) i in or_no bid (λ _. if is_internal bid then Some (bad_tree e) else None) (entry_of t bid) (λ _. if_no (is_internal bid) (Some (bad_tree e)) None refl refl)
+  xblock_is : (t : Table) (e : BlockEntry) → Is (xblock_fault t e)
+  unfolding xblock_fault
+  xblock_is t e =
+      let body = body_of t e in
+      then_is (holds_or (is_block_list 1 body) (bad_tree e)) _ (holds_is (is_block_list 1 body) e)
+      (then_is (first_below (leaf_fault t e) (count_in body)) _ (below_is (leaf_fault t e) (count_in body) (leaf_is t e)) (holds_is (nat_eq (size_of (xblock_spans t e)) (total_in body)) e))
 
-xblock_no : (t : Table) (e : BlockEntry) → HasNoNode (xblock_fault t e)
-unfolding xblock_fault
-xblock_no t e =
-    let body = body_of t e in
-    then_no (holds_or (is_block_list 1 body) (bad_tree e)) _ (holds_no (is_block_list 1 body) e)
-    (then_no (first_below (leaf_fault t e) (count_in body)) _ (below_no (leaf_fault t e) (count_in body) (leaf_no t e)) (holds_no (nat_eq (size_of (xblock_spans t e)) (total_in body)) e))
+  child_is : (t : Table) (e : BlockEntry) (i : ℕ) → Is (child_fault t e i)
+  unfolding child_fault
+  child_is t e i =
+      let bid = bid_in (body_of t e) i in
+      or_is bid (λ e'. if is_internal bid then xblock_fault t e' else Some (bad_tree e)) (entry_of t bid) (λ e'. if_is (is_internal bid) (xblock_fault t e') (Some (bad_tree e)) (xblock_is t e') (bad e))
 
-child_no : (t : Table) (e : BlockEntry) (i : ℕ) → HasNoNode (child_fault t e i)
-unfolding child_fault
-child_no t e i =
-    let bid = bid_in (body_of t e) i in
-    or_no bid (λ e'. if is_internal bid then xblock_fault t e' else Some (bad_tree e)) (entry_of t bid) (λ e'. if_no (is_internal bid) (xblock_fault t e') (Some (bad_tree e)) (xblock_no t e') refl)
+  xxblock_is : (t : Table) (e : BlockEntry) → Is (xxblock_fault t e)
+  unfolding xxblock_fault
+  xxblock_is t e =
+      let body = body_of t e in
+      then_is (holds_or (is_block_list 2 body) (bad_tree e)) _ (holds_is (is_block_list 2 body) e)
+      (then_is (first_below (child_fault t e) (count_in body)) _ (below_is (child_fault t e) (count_in body) (child_is t e)) (holds_is (nat_eq (size_of (xxblock_spans t e)) (total_in body)) e))
 
-xxblock_no : (t : Table) (e : BlockEntry) → HasNoNode (xxblock_fault t e)
-unfolding xxblock_fault
-xxblock_no t e =
-    let body = body_of t e in
-    then_no (holds_or (is_block_list 2 body) (bad_tree e)) _ (holds_no (is_block_list 2 body) e)
-    (then_no (first_below (child_fault t e) (count_in body)) _ (below_no (child_fault t e) (count_in body) (child_no t e)) (holds_no (nat_eq (size_of (xxblock_spans t e)) (total_in body)) e))
+  block_is : (t : Table) (e : BlockEntry) → Is (block_fault t e)
+  unfolding block_fault tree_fault
+  block_is t e =
+      if_is (is_internal e.bid) (if has_level_two (body_of t e) then xxblock_fault t e else xblock_fault t e) None
+      (if_is (has_level_two (body_of t e)) (xxblock_fault t e) (xblock_fault t e) (xxblock_is t e) (xblock_is t e)) none
 
-block_no : (t : Table) (e : BlockEntry) → HasNoNode (block_fault t e)
-unfolding block_fault tree_fault
-block_no t e =
-    if_no (is_internal e.bid) (if has_level_two (body_of t e) then xxblock_fault t e else xblock_fault t e) None
-    (if_no (has_level_two (body_of t e)) (xxblock_fault t e) (xblock_fault t e) (xxblock_no t e) (xblock_no t e)) refl
+  data_is : (t : Table) (bid : ℕ) → Is (data_fault t bid)
+  unfolding data_fault
+  data_is t bid = if_is (is_no_block bid) None (fault_or (block_missing bid) (block_fault t) (entry_of t bid)) none (or_is bid (block_fault t) (entry_of t bid) (block_is t))
 
 pub data_no_node : (t : Table) (bid : ℕ) → option_map (at_node 0) (data_fault t bid) ≡ data_fault t bid
-unfolding data_fault
-data_no_node t bid = if_no (is_no_block bid) None (fault_or (block_missing bid) (block_fault t) (entry_of t bid)) refl (or_no bid (block_fault t) (entry_of t bid) (block_no t))
+data_no_node t bid = data_is (λ o. option_map (at_node 0) o ≡ o) refl (λ bid. refl) (λ e. refl) t bid
+
+data_told : (t : Table) (bid nid : ℕ) → option_map (told_at nid) (data_fault t bid) ≡ option_map (at_node nid) (data_fault t bid)
+data_told t bid nid = data_is (λ o. option_map (told_at nid) o ≡ option_map (at_node nid) o) refl (λ bid. refl) (λ e. refl) t bid
+
+first_told : (o : Option Fault) (nid : ℕ) (f : Fault) → option_map (told_at nid) o ≡ option_map (at_node nid) o → IsFirst o f → IsFirst (option_map (at_node nid) o) (told_at nid f)
+first_told o nid f same (inl memory) = inl (rw memory refl)
+first_told o nid f same (inr is) = inr (rw (← same) (rw is refl))
+
+-- the first fault, told of a node
+pub data_first_told : (t : Table) (bid nid : ℕ) (f : Fault) → IsFirst (data_fault t bid) f → IsFirst (option_map (at_node nid) (data_fault t bid)) (told_at nid f)
+data_first_told t bid nid f h = first_told (data_fault t bid) nid f (data_told t bid nid) h

@@ -5,8 +5,9 @@
 use Rattle.std.specs.Prelude.{ℕ, nat_eq, Option, Some, None, List, [], ◌∷◌, sum_by, if◌then◌else◌}
 use Rattle.pst_bytes.specs.declared.span.Span.{Span}
 use Rattle.pst_fault.specs.declared.fault.Fault.{Fault}
-use Rattle.pst_fault.specs.declared.kind.Kind.TheVariants.{BlockMissing, DataTree}
-use Rattle.pst_fault.specs.Fault.{fault_in}
+use Rattle.pst_fault.specs.declared.kind.Kind.{Kind}
+use Rattle.pst_fault.specs.declared.kind.Kind.TheVariants.{BlockMissing, DataTree, NoMemory}
+use Rattle.pst_fault.specs.Fault.{fault_in, at_node}
 use Rattle.pst_fault.specs.First.{◌then◌, holds_or, first_below, join_below}
 use Rattle.pst_page.specs.declared.entry.BlockEntry.{BlockEntry}
 use Rattle.pst_block.specs.Block.{body_span}
@@ -111,3 +112,13 @@ block_fault t e = if is_internal e.bid then tree_fault t e else None
 -- a block identifier: one that names no block has no fault
 unfoldable pub data_fault : Table → ℕ → Option Fault
 data_fault t bid = if is_no_block bid then None else fault_or (block_missing bid) (block_fault t) (entry_of t bid)
+
+-- ---- the same under a node
+
+-- a fault of this kind, told of a node; that memory ran out is told of none
+abbrev pub placed : Kind → ℕ → Fault → Fault
+placed NoMemory nid f = f
+placed _ nid f = at_node nid f
+
+abbrev pub told_at : ℕ → Fault → Fault
+told_at nid f = placed f.kind nid f

@@ -1,6 +1,13 @@
--- What is counted of data trees.
-use Rattle.std.specs.Prelude.{ℕ, ◌+◌, ◌-◌, ◌^◌, min}
+-- What is known of data trees, and what is counted.
+use Rattle.std.specs.Prelude.{◌≡◌, ℕ, ◌+◌, ◌-◌, ◌^◌, min, Bool, true, Some, None}
+use Rattle.std.specs.Ordering.{nat_cmp}
+use Rattle.std.specs.BTreeSet.{contains, btree_set_len}
+use Rattle.pst_page.specs.declared.entry.BlockEntry.{BlockEntry}
+use Rattle.pst_block.specs.Block.{bid_key}
+use Rattle.pst_block.specs.Table.{Table, entry_of, body_of}
 use Rattle.pst_datatree.specs.declared.seen.Seen.{Seen}
+use Rattle.pst_datatree.specs.List.{has_level_two}
+use Rattle.pst_datatree.specs.Data.{tree_fault}
 
 -- how many internal blocks have been expanded
 abbrev pub expansions_of : Seen → ℕ
@@ -9,3 +16,33 @@ expansions_of s = s.expansions
 -- a count of 64 bits, raised; it stays at its greatest value
 abbrev pub raised : ℕ → ℕ → ℕ
 raised count more = min (count + more) (2 ^ 64 - 1)
+
+-- the block of an identifier is known; its bit 0 says nothing
+unfoldable pub has : Seen → ℕ → Bool
+has s bid = contains nat_cmp s.trees (bid_key bid)
+
+-- What is known is true: an internal block that is known has no fault. So what is passed over hides none.
+pub record IsTrueOf (t : Table) (s : Seen) : Type 0 where
+  pub holds : (bid : ℕ) (e : BlockEntry) → entry_of t bid ≡ Some e → has s bid ≡ true → tree_fault t e ≡ None
+
+-- ---- what is counted
+
+-- how many blocks are known
+abbrev pub known_count : Seen → ℕ
+known_count s = btree_set_len s.trees
+
+-- so many blocks more were expanded than are known, each of these once
+abbrev pub IsAhead : ℕ → Seen → Type 0
+IsAhead k s = expansions_of s ≡ raised (known_count s) k
+
+-- each block that was expanded meanwhile is known since
+abbrev pub KeepsCount : Seen → Seen → Type 0
+KeepsCount old new = (k : ℕ) → IsAhead k old → IsAhead k new
+
+-- and one more was expanded
+abbrev pub RaisesCount : Seen → Seen → Type 0
+RaisesCount old new = (k : ℕ) → IsAhead k old → IsAhead (k + 1) new
+
+-- no XXBLOCK is known since
+abbrev pub NoNewTwo : Table → Seen → Seen → Type 0
+NoNewTwo t old new = (bid : ℕ) (e : BlockEntry) → entry_of t bid ≡ Some e → has_level_two (body_of t e) ≡ true → has new bid ≡ true → has old bid ≡ true

@@ -1,17 +1,19 @@
 //! The check of a data tree, and how many bytes it has.
 
-ghost use Rattle.std.specs.Prelude.{◌≡◌, ◌+◌, ◌*◌, ◌^◌, ◌<◌, ◌≤◌, List, length, option_map, IfErr, IfOk, None, OnOk};
+ghost use Rattle.std.specs.Prelude.{◌≡◌, ℕ, ◌+◌, ◌*◌, ◌^◌, ◌<◌, ◌≤◌, true, List, length, option_map, IfErr, IfOk, None, Some, OnOk};
 ghost use Rattle.pst_bytes.specs.declared.span.Span.{Span};
 ghost use Rattle.pst_fault.specs.Fault.{at_node, no_memory};
 ghost use Rattle.pst_fault.specs.First.{answer, Tells, first_below, join_below};
-ghost use Rattle.pst_block.specs.Table.{body_of, IsWithin};
+ghost use Rattle.pst_block.specs.Table.{Table, body_of, entry_of, IsWithin};
 ghost use Rattle.pst_block.specs.Blocks.{table_of};
-ghost use Rattle.pst_datatree.specs.Data.{size_of, leaf_spans, leaf_fault, xblock_spans, xblock_fault, child_spans, child_fault, xxblock_spans, xxblock_fault, tree_spans, tree_fault, block_spans, block_fault, data_spans, data_fault, block_missing, bad_tree};
+ghost use Rattle.pst_datatree.specs.Data.{size_of, leaf_spans, leaf_fault, xblock_spans, xblock_fault, child_spans, child_fault, xxblock_spans, xxblock_fault, tree_spans, tree_fault, block_spans, block_fault, data_spans, data_fault, block_missing, bad_tree, told_at};
 ghost use Rattle.pst_datatree.specs.Relation.{HasData};
-ghost use Rattle.pst_datatree.specs.Seen.{expansions_of, raised};
+ghost use Rattle.pst_datatree.specs.List.{has_level_two};
+ghost use Rattle.pst_datatree.specs.Seen.{expansions_of, has, IsTrueOf, KeepsCount, RaisesCount, NoNewTwo};
 
 use crate::bid::{is_internal, is_no_block};
 use crate::list::{bid_at, body_in, is_list, is_xxblock};
+use crate::look::tree_size;
 use crate::seen::Seen;
 use pst_block::{BlockEntry, Blocks};
 use pst_fault::{Fault, Kind};
@@ -65,15 +67,17 @@ fn leaves_len(blocks: &Blocks, holder: BlockEntry, count: u16) -> Result<u64, Fa
     Ok(total)
 }
 
-// How many bytes an XBLOCK has.
+// How many bytes an XBLOCK has, which is expanded for that.
 #[tactic(auto, unfolding(crate::specs::Data::xblock_spans, crate::specs::Data::xblock_fault))]
 fn xblock_len(blocks: &Blocks, entry: BlockEntry, seen: &mut Seen) -> Result<u64, Fault>
     requires within { IsWithin (table_of blocks.now).image entry }
     ensures value { let t = table_of blocks.now in
         result ≡ answer (xblock_fault t entry) (size_of (xblock_spans t entry)) }
     ensures small { IfOk result (λ n. n < 2 ^ 32) }
+    ensures known { (t : Table) → IsTrueOf t seen.old → IsTrueOf t seen.new }
+    ensures raises { OnOk result (RaisesCount seen.old seen.new) }
+    ensures same { (bid : ℕ) → has seen.new bid ≡ has seen.old bid }
     ensures grows { expansions_of seen.old ≤ expansions_of seen.new }
-    ensures counts { OnOk result (expansions_of seen.new ≡ raised (expansions_of seen.old) 1) }
 {
     let body = body_in(blocks, entry);
     if !is_list(1, body) {
@@ -87,16 +91,44 @@ fn xblock_len(blocks: &Blocks, entry: BlockEntry, seen: &mut Seen) -> Result<u64
     Ok(total)
 }
 
+// How many bytes an XBLOCK has, which is expanded unless it is known. An XXBLOCK is none, whether it is known or not.
+#[tactic(auto, using(crate::proofs::SeenLemmas::xblock_of_two, crate::proofs::SeenLemmas::tree_of_one, crate::proofs::SeenLemmas::spans_of_one))]
+fn xblock_once(blocks: &Blocks, entry: BlockEntry, seen: &mut Seen) -> Result<u64, Fault>
+    requires within { IsWithin (table_of blocks.now).image entry }
+    requires listed { entry_of (table_of blocks.now) entry.bid ≡ Some entry }
+    requires known { IsTrueOf (table_of blocks.now) seen.old }
+    ensures value { let t = table_of blocks.now in
+        Tells result (xblock_fault t entry) (size_of (xblock_spans t entry)) }
+    ensures small { IfOk result (λ n. n < 2 ^ 32) }
+    ensures known { IsTrueOf (table_of blocks.now) seen.new }
+    ensures counts { OnOk result (KeepsCount seen.old seen.new) }
+    ensures levels { NoNewTwo (table_of blocks.now) seen.old seen.new }
+    ensures grows { expansions_of seen.old ≤ expansions_of seen.new }
+{
+    if is_xxblock(body_in(blocks, entry)) {
+        return Err(tree_breach(entry));
+    }
+    if seen.knows(entry.bid) {
+        return Ok(tree_size(blocks, entry));
+    }
+    let total = xblock_len(blocks, entry, seen)?;
+    seen.put(entry.bid)?;
+    Ok(total)
+}
+
 // How many bytes the XBLOCK has that an XXBLOCK names with a number.
 #[tactic(auto, unfolding(crate::specs::Data::child_spans, crate::specs::Data::child_fault))]
 fn child_len(blocks: &Blocks, holder: BlockEntry, i: u16, seen: &mut Seen) -> Result<u64, Fault>
     requires within { IsWithin (table_of blocks.now).image holder }
     requires fits { 16 + 8 * i ≤ length (body_of (table_of blocks.now) holder) }
+    requires known { IsTrueOf (table_of blocks.now) seen.old }
     ensures value { let t = table_of blocks.now in
-        result ≡ answer (child_fault t holder i) (size_of (child_spans t (body_of t holder) i)) }
+        Tells result (child_fault t holder i) (size_of (child_spans t (body_of t holder) i)) }
     ensures small { IfOk result (λ n. n < 2 ^ 32) }
+    ensures known { IsTrueOf (table_of blocks.now) seen.new }
+    ensures counts { OnOk result (KeepsCount seen.old seen.new) }
+    ensures levels { NoNewTwo (table_of blocks.now) seen.old seen.new }
     ensures grows { expansions_of seen.old ≤ expansions_of seen.new }
-    ensures counts { OnOk result (expansions_of seen.new ≡ raised (expansions_of seen.old) 1) }
 {
     let bid = bid_at(body_in(blocks, holder), i);
     let Some(entry) = blocks.entry(bid) else {
@@ -105,7 +137,7 @@ fn child_len(blocks: &Blocks, holder: BlockEntry, i: u16, seen: &mut Seen) -> Re
     if !is_internal(bid) {
         return Err(tree_breach(holder));
     }
-    xblock_len(blocks, entry, seen)
+    xblock_once(blocks, entry, seen)
 }
 
 // How many bytes the first XBLOCKs have that an XXBLOCK names.
@@ -117,10 +149,13 @@ fn children_len(
 ) -> Result<u64, Fault>
     requires within { IsWithin (table_of blocks.now).image holder }
     requires fits { 8 + 8 * count ≤ length (body_of (table_of blocks.now) holder) }
+    requires known { IsTrueOf (table_of blocks.now) seen.old }
     ensures value { let t = table_of blocks.now in
-        result ≡ answer (first_below (child_fault t holder) count) (size_of (join_below (child_spans t (body_of t holder)) count)) }
+        Tells result (first_below (child_fault t holder) count) (size_of (join_below (child_spans t (body_of t holder)) count)) }
+    ensures known { IsTrueOf (table_of blocks.now) seen.new }
+    ensures counts { OnOk result (KeepsCount seen.old seen.new) }
+    ensures levels { NoNewTwo (table_of blocks.now) seen.old seen.new }
     ensures grows { expansions_of seen.old ≤ expansions_of seen.new }
-    ensures counts { OnOk result (expansions_of seen.new ≡ raised (expansions_of seen.old) count) }
 {
     let mut total = 0u64;
     for i in 0..count {
@@ -129,13 +164,17 @@ fn children_len(
     Ok(total)
 }
 
-// How many bytes an XXBLOCK has.
+// How many bytes an XXBLOCK has, which is expanded for that.
 #[tactic(auto, unfolding(crate::specs::Data::xxblock_spans, crate::specs::Data::xxblock_fault))]
 fn xxblock_len(blocks: &Blocks, entry: BlockEntry, seen: &mut Seen) -> Result<u64, Fault>
     requires within { IsWithin (table_of blocks.now).image entry }
+    requires known { IsTrueOf (table_of blocks.now) seen.old }
     ensures value { let t = table_of blocks.now in
-        result ≡ answer (xxblock_fault t entry) (size_of (xxblock_spans t entry)) }
+        Tells result (xxblock_fault t entry) (size_of (xxblock_spans t entry)) }
     ensures small { IfOk result (λ n. n < 2 ^ 32) }
+    ensures known { IsTrueOf (table_of blocks.now) seen.new }
+    ensures raises { OnOk result (RaisesCount seen.old seen.new) }
+    ensures levels { NoNewTwo (table_of blocks.now) seen.old seen.new }
     ensures grows { expansions_of seen.old ≤ expansions_of seen.new }
 {
     let body = body_in(blocks, entry);
@@ -150,18 +189,43 @@ fn xxblock_len(blocks: &Blocks, entry: BlockEntry, seen: &mut Seen) -> Result<u6
     Ok(total)
 }
 
+// How many bytes an XXBLOCK has, which is expanded unless it is known.
+#[tactic(auto, using(crate::proofs::SeenLemmas::tree_of_two, crate::proofs::SeenLemmas::spans_of_two))]
+fn xxblock_once(blocks: &Blocks, entry: BlockEntry, seen: &mut Seen) -> Result<u64, Fault>
+    requires within { IsWithin (table_of blocks.now).image entry }
+    requires listed { entry_of (table_of blocks.now) entry.bid ≡ Some entry }
+    requires level { has_level_two (body_of (table_of blocks.now) entry) ≡ true }
+    requires known { IsTrueOf (table_of blocks.now) seen.old }
+    ensures value { let t = table_of blocks.now in
+        Tells result (xxblock_fault t entry) (size_of (xxblock_spans t entry)) }
+    ensures known { IsTrueOf (table_of blocks.now) seen.new }
+    ensures counts { OnOk result (KeepsCount seen.old seen.new) }
+    ensures grows { expansions_of seen.old ≤ expansions_of seen.new }
+{
+    if seen.knows(entry.bid) {
+        return Ok(tree_size(blocks, entry));
+    }
+    let total = xxblock_len(blocks, entry, seen)?;
+    seen.put(entry.bid)?;
+    Ok(total)
+}
+
 // How many bytes an internal block has.
 #[tactic(auto, unfolding(crate::specs::Data::tree_spans, crate::specs::Data::tree_fault))]
 fn tree_len(blocks: &Blocks, entry: BlockEntry, seen: &mut Seen) -> Result<u64, Fault>
     requires within { IsWithin (table_of blocks.now).image entry }
+    requires listed { entry_of (table_of blocks.now) entry.bid ≡ Some entry }
+    requires known { IsTrueOf (table_of blocks.now) seen.old }
     ensures value { let t = table_of blocks.now in
-        result ≡ answer (tree_fault t entry) (size_of (tree_spans t entry)) }
+        Tells result (tree_fault t entry) (size_of (tree_spans t entry)) }
+    ensures known { IsTrueOf (table_of blocks.now) seen.new }
+    ensures counts { OnOk result (KeepsCount seen.old seen.new) }
     ensures grows { expansions_of seen.old ≤ expansions_of seen.new }
 {
     if is_xxblock(body_in(blocks, entry)) {
-        xxblock_len(blocks, entry, seen)
+        xxblock_once(blocks, entry, seen)
     } else {
-        xblock_len(blocks, entry, seen)
+        xblock_once(blocks, entry, seen)
     }
 }
 
@@ -169,8 +233,12 @@ fn tree_len(blocks: &Blocks, entry: BlockEntry, seen: &mut Seen) -> Result<u64, 
 #[tactic(auto, unfolding(crate::specs::Data::block_spans, crate::specs::Data::block_fault))]
 fn block_len(blocks: &Blocks, entry: BlockEntry, seen: &mut Seen) -> Result<u64, Fault>
     requires within { IsWithin (table_of blocks.now).image entry }
+    requires listed { entry_of (table_of blocks.now) entry.bid ≡ Some entry }
+    requires known { IsTrueOf (table_of blocks.now) seen.old }
     ensures value { let t = table_of blocks.now in
-        result ≡ answer (block_fault t entry) (size_of (block_spans t entry)) }
+        Tells result (block_fault t entry) (size_of (block_spans t entry)) }
+    ensures known { IsTrueOf (table_of blocks.now) seen.new }
+    ensures counts { OnOk result (KeepsCount seen.old seen.new) }
     ensures grows { expansions_of seen.old ≤ expansions_of seen.new }
 {
     if is_internal(entry.bid) {
@@ -183,8 +251,11 @@ fn block_len(blocks: &Blocks, entry: BlockEntry, seen: &mut Seen) -> Result<u64,
 // How many bytes the data tree of a block identifier has.
 #[tactic(auto, unfolding(crate::specs::Data::data_spans, crate::specs::Data::data_fault))]
 fn data_len(blocks: &Blocks, bid: u64, seen: &mut Seen) -> Result<u64, Fault>
+    requires known { IsTrueOf (table_of blocks.now) seen.old }
     ensures value { let t = table_of blocks.now in
-        result ≡ answer (data_fault t bid) (size_of (data_spans t bid)) }
+        Tells result (data_fault t bid) (size_of (data_spans t bid)) }
+    ensures known { IsTrueOf (table_of blocks.now) seen.new }
+    ensures counts { OnOk result (KeepsCount seen.old seen.new) }
     ensures grows { expansions_of seen.old ≤ expansions_of seen.new }
 {
     if is_no_block(bid) {
@@ -196,16 +267,29 @@ fn data_len(blocks: &Blocks, bid: u64, seen: &mut Seen) -> Result<u64, Fault>
     block_len(blocks, entry, seen)
 }
 
+// A fault of a data tree, told of a node; that memory ran out is told of none.
+fn fault_at(fault: Fault, nid: u32) -> Fault
+    ensures { result ≡ told_at nid fault }
+{
+    match fault.kind {
+        Kind::NoMemory => fault,
+        _ => fault.at_node(nid),
+    }
+}
+
 // The data tree of a block identifier, with its fault told of a node.
-#[tactic(auto, using(crate::proofs::CheckLemmas::answered_none))]
+#[tactic(auto, using(crate::proofs::NodeLemmas::data_first_told))]
 fn checked(blocks: &Blocks, bid: u64, nid: u32, seen: &mut Seen) -> Result<(), Fault>
-    ensures first { result ≡ answer (option_map (at_node nid) (data_fault (table_of blocks.now) bid)) tt }
+    requires known { IsTrueOf (table_of blocks.now) seen.old }
+    ensures first { Tells result (option_map (at_node nid) (data_fault (table_of blocks.now) bid)) tt }
     ensures sound { OnOk result (data_fault (table_of blocks.now) bid ≡ None) }
+    ensures known { IsTrueOf (table_of blocks.now) seen.new }
+    ensures counts { OnOk result (KeepsCount seen.old seen.new) }
     ensures grows { expansions_of seen.old ≤ expansions_of seen.new }
 {
     match data_len(blocks, bid, seen) {
         Ok(_) => Ok(()),
-        Err(fault) => Err(fault.at_node(nid)),
+        Err(fault) => Err(fault_at(fault, nid)),
     }
 }
 
@@ -219,7 +303,7 @@ fn checked(blocks: &Blocks, bid: u64, nid: u32, seen: &mut Seen) -> Result<(), F
 ///   below. An XBLOCK that an XXBLOCK names is checked whole before the next one.
 ///
 /// An identifier that is 0 but for its bit 0 names no block, and has no fault.
-#[tactic(auto, using(crate::proofs::CheckLemmas::tells, crate::proofs::CheckLemmas::has_data, crate::proofs::CheckLemmas::only_memory_refuses))]
+#[tactic(auto, using(crate::proofs::CheckLemmas::has_data, crate::proofs::CheckLemmas::only_memory_refuses))]
 pub fn check_data(
     _alloc: Global,
     blocks: &Blocks,
@@ -227,6 +311,10 @@ pub fn check_data(
     nid: u32,
     seen: &mut Seen,
 ) -> Result<(), Fault>
+    // What is known is true, and stays so.
+    requires known { IsTrueOf (table_of blocks.now) seen.old }
+    ensures known { IsTrueOf (table_of blocks.now) seen.new }
+
     // No fault, or the first one; or that memory ran out.
     ensures first { Tells result (option_map (at_node nid) (data_fault (table_of blocks.now) bid)) tt }
 
@@ -238,6 +326,7 @@ pub fn check_data(
     ensures only { (spans : List Span) → HasData (table_of blocks.now) bid spans → IfErr result (λ f. f ≡ no_memory) }
 
     // What is counted never falls.
+    ensures counts { OnOk result (KeepsCount seen.old seen.new) }
     ensures grows { expansions_of seen.old ≤ expansions_of seen.new }
 {
     checked(blocks, bid, nid, seen)

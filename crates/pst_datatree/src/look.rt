@@ -148,7 +148,7 @@ pub fn leaf_count(blocks: &Blocks, bid: u64) -> u64
 
 // How many bytes an internal block has: its lcbTotal.
 #[tactic(auto, using(crate::proofs::DataLemmas::tree_head, crate::proofs::DataLemmas::tree_total))]
-fn tree_size(blocks: &Blocks, entry: BlockEntry) -> u64
+pub(crate) fn tree_size(blocks: &Blocks, entry: BlockEntry) -> u64
     requires within { IsWithin (table_of blocks.now).image entry }
     requires sound { tree_fault (table_of blocks.now) entry ≡ None }
     ensures value { result ≡ size_of (tree_spans (table_of blocks.now) entry) }

@@ -206,7 +206,7 @@ fn a_body_named_often(rt: HostRuntime) -> Result<(), Fail> {
     let Ok(()) = check_data(alloc, &blocks, 0x0e, NODE, &mut seen) else {
         return Err(Fail::from("no data tree"));
     };
-    assert_eq!(rt; seen.expansions(), 1022);
+    assert_eq!(rt; seen.expansions(), 2);
     assert_eq!(rt; leaf_count(&blocks, 0x0e), 1021);
     let body = blocks.span(4).ok_or("no block")?;
     assert_eq!(rt; leaf(&blocks, 0x0e, 1020), Some(body));
@@ -340,5 +340,33 @@ fn bodies_of_no_list(rt: HostRuntime) -> Result<(), Fail> {
         let (fault, _) = checked(alloc, &image, 6)?;
         assert_eq!(rt; fault, fault_of(Kind::DataTree, at, 6));
     }
+    Ok(())
+}
+
+// 1,000 nodes whose data is one XXBLOCK, which names one XBLOCK 1,021 times, which names one body 1,021 times.
+#[test]
+fn shared_trees_are_expanded_once(rt: HostRuntime) -> Result<(), Fail> {
+    let alloc = rt.alloc();
+    let leaves = often(alloc, 4, 1021)?;
+    let named = often(alloc, 0x0a, 1021)?;
+    let image = store(
+        alloc,
+        &[(4, 0x63, 1)],
+        &[(0x0a, 1, 1021, &leaves), (0x0e, 2, 1_042_441, &named), (0x12, 2, 1_042_441, &[0x0e])],
+    )?;
+    let Ok(blocks) = blocks_in(alloc, Image::new(&image)) else {
+        return Err(Fail::from("no blocks"));
+    };
+    let mut seen = Seen::new(alloc);
+    for nid in 0..1000u32 {
+        let Ok(()) = check_data(alloc, &blocks, 0x0e, nid, &mut seen) else {
+            return Err(Fail::from("no data tree"));
+        };
+    }
+    assert_eq!(rt; seen.expansions(), 2);
+    // An XXBLOCK that an XXBLOCK names is none of its XBLOCKs, although it is known.
+    let fault = check_data(alloc, &blocks, 0x12, NODE, &mut seen).err();
+    assert_eq!(rt; fault.map(|f| (f.kind, f.place.bid)), Some((Kind::DataTree, 0x0e)));
+    assert_eq!(rt; seen.expansions(), 3);
     Ok(())
 }

@@ -4,3 +4,4 @@ pub mod NodeLemmas
 pub mod SpaceLaws
 pub mod SpaceLemmas
 pub mod UnitLemmas
+pub mod CountLemmas

@@ -6,3 +6,5 @@ pub mod Node
 pub mod Roots
 pub mod Space
 pub mod Views
+pub mod Known
+pub mod Counts

@@ -7,6 +7,7 @@ ghost use Rattle.pst_block.specs.Blocks.{table_of};
 ghost use Rattle.pst_subnode.specs.declared.height.TheConstants.{LISTS};
 ghost use Rattle.pst_subnode.specs.Tree.{sub_fault, at_top};
 ghost use Rattle.pst_ndb.specs.Fault.{node_fault, nodes_fault};
+ghost use Rattle.pst_ndb.specs.Known.{IsTrueOf};
 
 use pst_block::Blocks;
 use pst_btree::{NodeEntry, NodeTree};
@@ -23,8 +24,13 @@ struct Known {
 }
 
 impl Known {
+    ghost use Rattle.pst_block.specs.Table.{Table};
+    ghost use Rattle.pst_ndb.specs.Known.{IsTrueOf};
+
     // Nothing yet.
-    fn new(alloc: Global) -> Known {
+    fn new(alloc: Global) -> Known
+        ensures { (t : Table) → IsTrueOf t result }
+    {
         Known {
             seen: Seen::new(alloc),
             heights: Heights::new(alloc),
@@ -46,7 +52,9 @@ fn check_subs(
     entry: NodeEntry,
     known: &mut Known,
 ) -> Result<(), Fault>
-    ensures { Tells result (option_map (at_top entry.bid_sub entry.nid) (sub_fault (table_of blocks.now) LISTS entry.bid_sub)) tt }
+    requires { IsTrueOf (table_of blocks.now) known.old }
+    ensures known { IsTrueOf (table_of blocks.now) known.new }
+    ensures first { Tells result (option_map (at_top entry.bid_sub entry.nid) (sub_fault (table_of blocks.now) LISTS entry.bid_sub)) tt }
 {
     check_sub(
         alloc,
@@ -67,7 +75,9 @@ fn check_node(
     entry: NodeEntry,
     known: &mut Known,
 ) -> Result<(), Fault>
-    ensures { Tells result (node_fault (table_of blocks.now) entry) tt }
+    requires { IsTrueOf (table_of blocks.now) known.old }
+    ensures known { IsTrueOf (table_of blocks.now) known.new }
+    ensures first { Tells result (node_fault (table_of blocks.now) entry) tt }
 {
     check_data(alloc, blocks, entry.bid_data, entry.nid, &mut known.seen)?;
     check_subs(alloc, blocks, entry, known)
@@ -81,7 +91,9 @@ fn check_each(
     tree: &NodeTree,
     known: &mut Known,
 ) -> Result<(), Fault>
-    ensures { Tells result (nodes_fault (table_of blocks.now) (node_entries tree.now)) tt }
+    requires { IsTrueOf (table_of blocks.now) known.old }
+    ensures known { IsTrueOf (table_of blocks.now) known.new }
+    ensures first { Tells result (nodes_fault (table_of blocks.now) (node_entries tree.now)) tt }
 {
     for entry in tree.nodes() {
         check_node(alloc, blocks, entry, known)?;

@@ -9,3 +9,6 @@ pub mod MapLaws
 pub mod HeightLaws
 pub mod GuessLemmas
 pub mod ScanLemmas
+pub mod HeightLemmas
+pub mod MarkLemmas
+pub mod LeafLemmas

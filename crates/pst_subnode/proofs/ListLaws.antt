@@ -78,11 +78,11 @@ siblock_law t e xs =
           (is, law.1 (p.1, (rw is at w.1)))),
     )
 
-level_zero : (body : List ℕ) → is_slblock body ≡ true → has_level_one body ≡ false
+pub level_zero : (body : List ℕ) → is_slblock body ≡ true → has_level_one body ≡ false
 unfolding is_slblock has_level_one
 level_zero body h = grind (arith, nat_tests)
 
-level_one : (body : List ℕ) → is_siblock body ≡ true → has_level_one body ≡ true
+pub level_one : (body : List ℕ) → is_siblock body ≡ true → has_level_one body ≡ true
 unfolding is_siblock has_level_one
 level_one body h = grind (arith, nat_tests)
 

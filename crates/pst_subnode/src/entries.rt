@@ -160,13 +160,6 @@ impl<'a> Subs<'a> {
         }
     }
 
-    // How many SLBLOCKs are still to be opened.
-    pub(crate) fn leaf_count(self) -> u16
-        ensures { result ≡ self.entry.leaves.left }
-    {
-        self.leaves.left
-    }
-
     // The entries of an SLBLOCK, by its identifier.
     fn of_leaf(blocks: &Blocks<'a>, bid: u64) -> Subs<'a>
         ensures left { subs_left result ≡ subs_at (slblock_subs (table_of blocks.now)) (entry_of (table_of blocks.now) bid) }

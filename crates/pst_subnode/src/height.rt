@@ -1,24 +1,28 @@
 //! The check of subnodes and of the subnodes of each of them, and how many lists nest.
 
-ghost use Rattle.std.specs.Prelude.{◌≡◌, ℕ, ◌+◌, ◌≤◌, None, IfOk, IfErr, OnOk, List, option_map};
+ghost use Rattle.std.specs.Prelude.{◌≡◌, ℕ, ◌+◌, ◌*◌, ◌<◌, ◌≤◌, None, length, false, Ok, Err, IfOk, IfErr, OnOk, List, option_map};
 ghost use Rattle.pst_fault.specs.Fault.{no_memory};
 ghost use Rattle.pst_fault.specs.First.{Tells};
 ghost use Rattle.pst_block.specs.Blocks.{table_of};
 ghost use Rattle.pst_datatree.specs.Data.{data_fault};
-ghost use Rattle.pst_datatree.specs.Seen.{expansions_of as data_expansions};
+ghost use Rattle.pst_datatree.specs.Bid.{is_no_block as no_block};
+ghost use Rattle.pst_datatree.specs.Seen.{expansions_of as data_expansions, IsTrueOf as SeenIsTrue};
 ghost use Rattle.pst_subnode.specs.declared.sub.Sub.{Sub};
 ghost use Rattle.pst_subnode.specs.List.{subs_of};
 ghost use Rattle.pst_subnode.specs.Tree.{first_among, most_among, entry_fault, entry_height, nesting, sub_fault, sub_height, at_top};
-ghost use Rattle.pst_subnode.specs.Heights.{expansions_of};
+ghost use Rattle.pst_subnode.specs.Heights.{expansions_of, IsCounted, AreTrue, IsTrueOf, NoNewMarks, HaveCome, IsList, IsSiList, at_list, at_entries, at_entry, at_leaf, at_leaves, leaf_height, most_below};
+ghost use Rattle.pst_subnode.specs.Body.{count_in, bid_in};
+ghost use Rattle.pst_block.specs.Table.{body_of, IsWithin};
 ghost use Rattle.pst_subnode.specs.Left.{subs_left};
 ghost use Rattle.pst_subnode.specs.Relation.{HasSubs};
 
+use crate::body::{bid_at, body_in, has_level_one};
 use crate::check::check_list;
 use crate::entries::Subs;
 use crate::find::subs;
 use crate::heights::Heights;
 use crate::sub::Sub;
-use pst_block::Blocks;
+use pst_block::{BlockEntry, Blocks};
 use pst_datatree::{Seen, check_data, is_no_block};
 use pst_fault::{Fault, Kind, Place};
 use std::alloc::Global;
@@ -33,10 +37,23 @@ fn nesting_fault() -> Fault
     Fault::at(Kind::Nesting, 0)
 }
 
+// How many SLBLOCKs an SIBLOCK names.
+#[tactic(auto, using(crate::proofs::LeafLemmas::si_fits, crate::proofs::LeafLemmas::si_head))]
+fn leaf_count(blocks: &Blocks, bid: u64, entry: BlockEntry) -> u16
+    requires within { IsWithin (table_of blocks.now).image entry }
+    requires is_list { IsSiList (table_of blocks.now) bid entry }
+    ensures value { result ≡ count_in (body_of (table_of blocks.now) entry) }
+    ensures fits { 8 + 16 * result ≤ length (body_of (table_of blocks.now) entry) }
+{
+    body_in(blocks, entry).number16(2)
+}
+
 // The data of an entry, under no node.
 #[tactic(auto, using(pst_datatree::proofs::NodeLemmas::data_no_node))]
 fn check_entry_data(alloc: Global, blocks: &Blocks, sub: Sub, seen: &mut Seen) -> Result<(), Fault>
+    requires seen { SeenIsTrue (table_of blocks.now) seen.old }
     ensures first { Tells result (data_fault (table_of blocks.now) sub.bid_data) tt }
+    ensures seen { SeenIsTrue (table_of blocks.now) seen.new }
     ensures grows { data_expansions seen.old ≤ data_expansions seen.new }
 {
     check_data(alloc, blocks, sub.bid_data, 0, seen)
@@ -53,10 +70,17 @@ fn height_of_entry(
     seen: &mut Seen,
     heights: &mut Heights,
 ) -> Result<u32, Fault>
+    requires seen { SeenIsTrue (table_of blocks.now) seen.old }
+    requires known { AreTrue (table_of blocks.now) heights.old }
+    requires come { HaveCome (table_of blocks.now) heights.old (at_entry (table_of blocks.now) sub) limit }
     ensures first { let t = table_of blocks.now in
         Tells result (entry_fault t (sub_fault t limit) sub) (entry_height (sub_height t limit) sub) }
     ensures small { IfOk result (λ h. h ≤ limit) }
+    ensures seen { SeenIsTrue (table_of blocks.now) seen.new }
+    ensures known { AreTrue (table_of blocks.now) heights.new }
+    ensures marks { NoNewMarks heights.old heights.new }
     ensures seen_grows { data_expansions seen.old ≤ data_expansions seen.new }
+    ensures keeps { OnOk result (IsCounted heights.old → IsCounted heights.new) }
     ensures heights_grow { expansions_of heights.old ≤ expansions_of heights.new }
 {
     check_entry_data(alloc, blocks, sub, seen)?;
@@ -73,10 +97,17 @@ fn height_of_entries(
     seen: &mut Seen,
     heights: &mut Heights,
 ) -> Result<u32, Fault>
+    requires seen { SeenIsTrue (table_of blocks.now) seen.old }
+    requires known { AreTrue (table_of blocks.now) heights.old }
+    requires come { HaveCome (table_of blocks.now) heights.old (at_entries (table_of blocks.now) (subs_left subs)) limit }
     ensures first { let t = table_of blocks.now in
         Tells result (first_among (entry_fault t (sub_fault t limit)) (subs_left subs.entry)) (most_among (entry_height (sub_height t limit)) (subs_left subs.entry)) }
     ensures small { IfOk result (λ h. h ≤ limit) }
+    ensures seen { SeenIsTrue (table_of blocks.now) seen.new }
+    ensures known { AreTrue (table_of blocks.now) heights.new }
+    ensures marks { NoNewMarks heights.old heights.new }
     ensures seen_grows { data_expansions seen.old ≤ data_expansions seen.new }
+    ensures keeps { OnOk result (IsCounted heights.old → IsCounted heights.new) }
     ensures heights_grow { expansions_of heights.old ≤ expansions_of heights.new }
 {
     let mut most = 0;
@@ -85,6 +116,194 @@ fn height_of_entries(
         most = most.max(height_of_entry(alloc, blocks, sub, limit, seen, heights)?);
     }
     Ok(most)
+}
+
+// The height of an SLBLOCK that nothing is known of: it is expanded, and marked as long as that takes.
+#[cycle(sub)]
+#[tactic(auto, using(crate::proofs::MarkLemmas::begin_come))]
+fn height_of_slblock(
+    alloc: Global,
+    blocks: &Blocks,
+    bid: u64,
+    limit: u32,
+    seen: &mut Seen,
+    heights: &mut Heights,
+) -> Result<u32, Fault>
+    requires room { 0 < limit }
+    requires is_list { IsList (table_of blocks.now) bid }
+    requires seen { SeenIsTrue (table_of blocks.now) seen.old }
+    requires known { AreTrue (table_of blocks.now) heights.old }
+    requires come { HaveCome (table_of blocks.now) heights.old (at_list (table_of blocks.now) bid) limit }
+    ensures first { let t = table_of blocks.now in Tells result (sub_fault t limit bid) (sub_height t limit bid) }
+    ensures small { IfOk result (λ h. h ≤ limit) }
+    ensures seen { SeenIsTrue (table_of blocks.now) seen.new }
+    ensures known { AreTrue (table_of blocks.now) heights.new }
+    ensures marks { NoNewMarks heights.old heights.new }
+    ensures seen_grows { data_expansions seen.old ≤ data_expansions seen.new }
+    ensures keeps { OnOk result (IsCounted heights.old → IsCounted heights.new) }
+    ensures heights_grow { expansions_of heights.old ≤ expansions_of heights.new }
+{
+    let list = subs(blocks, bid);
+    heights.begin(bid)?;
+    match height_of_entries(alloc, blocks, list, limit - 1, seen, heights) {
+        Ok(most) => {
+            heights.settle(bid, most + 1)?;
+            Ok(most + 1)
+        }
+        Err(fault) => {
+            heights.forget(bid);
+            Err(fault)
+        }
+    }
+}
+
+// The height of the SLBLOCK that an SIBLOCK names with a number: it is a list of its own, wherever it is named.
+#[cycle(sub)]
+fn height_of_leaf(
+    alloc: Global,
+    blocks: &Blocks,
+    holder: BlockEntry,
+    i: u16,
+    limit: u32,
+    seen: &mut Seen,
+    heights: &mut Heights,
+) -> Result<u32, Fault>
+    requires room { 0 < limit }
+    requires within { IsWithin (table_of blocks.now).image holder }
+    requires fits { 24 + 16 * i ≤ length (body_of (table_of blocks.now) holder) }
+    requires is_list { IsList (table_of blocks.now) (bid_in (body_of (table_of blocks.now) holder) i) }
+    requires seen { SeenIsTrue (table_of blocks.now) seen.old }
+    requires known { AreTrue (table_of blocks.now) heights.old }
+    requires come { HaveCome (table_of blocks.now) heights.old (at_list (table_of blocks.now) (bid_in (body_of (table_of blocks.now) holder) i)) limit }
+    ensures first { let t = table_of blocks.now in Tells result (at_leaf t holder limit i) (leaf_height t holder limit i) }
+    ensures small { IfOk result (λ h. h ≤ limit) }
+    ensures seen { SeenIsTrue (table_of blocks.now) seen.new }
+    ensures known { AreTrue (table_of blocks.now) heights.new }
+    ensures marks { NoNewMarks heights.old heights.new }
+    ensures seen_grows { data_expansions seen.old ≤ data_expansions seen.new }
+    ensures keeps { OnOk result (IsCounted heights.old → IsCounted heights.new) }
+    ensures heights_grow { expansions_of heights.old ≤ expansions_of heights.new }
+{
+    let bid = bid_at(body_in(blocks, holder), i);
+    if let Some(height) = heights.state(bid) {
+        return height_known(height, limit);
+    }
+    height_of_slblock(alloc, blocks, bid, limit, seen, heights)
+}
+
+// The greatest height of the first SLBLOCKs of an SIBLOCK.
+#[cycle(sub)]
+fn height_of_leaves(
+    alloc: Global,
+    blocks: &Blocks,
+    holder: BlockEntry,
+    count: u16,
+    limit: u32,
+    seen: &mut Seen,
+    heights: &mut Heights,
+) -> Result<u32, Fault>
+    requires room { 0 < limit }
+    requires within { IsWithin (table_of blocks.now).image holder }
+    requires fits { 8 + 16 * count ≤ length (body_of (table_of blocks.now) holder) }
+    requires are_lists { (i : ℕ) → i < count → IsList (table_of blocks.now) (bid_in (body_of (table_of blocks.now) holder) i) }
+    requires seen { SeenIsTrue (table_of blocks.now) seen.old }
+    requires known { AreTrue (table_of blocks.now) heights.old }
+    requires come { HaveCome (table_of blocks.now) heights.old (at_leaves (table_of blocks.now) holder count) limit }
+    ensures first { let t = table_of blocks.now in Tells result (at_leaves t holder count limit) (most_below (leaf_height t holder limit) count) }
+    ensures small { IfOk result (λ h. h ≤ limit) }
+    ensures seen { SeenIsTrue (table_of blocks.now) seen.new }
+    ensures known { AreTrue (table_of blocks.now) heights.new }
+    ensures marks { NoNewMarks heights.old heights.new }
+    ensures seen_grows { data_expansions seen.old ≤ data_expansions seen.new }
+    ensures keeps { OnOk result (IsCounted heights.old → IsCounted heights.new) }
+    ensures heights_grow { expansions_of heights.old ≤ expansions_of heights.new }
+{
+    let mut most = 1;
+    for i in 0..count {
+        most = most.max(height_of_leaf(alloc, blocks, holder, i, limit, seen, heights)?);
+    }
+    Ok(most)
+}
+
+// The height of an SIBLOCK that nothing is known of. It needs no mark: below its SLBLOCKs, which are marked, it is not come to
+// again without one of them.
+#[cycle(sub)]
+fn height_of_siblock(
+    alloc: Global,
+    blocks: &Blocks,
+    bid: u64,
+    entry: BlockEntry,
+    limit: u32,
+    seen: &mut Seen,
+    heights: &mut Heights,
+) -> Result<u32, Fault>
+    requires room { 0 < limit }
+    requires within { IsWithin (table_of blocks.now).image entry }
+    requires is_list { IsSiList (table_of blocks.now) bid entry }
+    requires seen { SeenIsTrue (table_of blocks.now) seen.old }
+    requires known { AreTrue (table_of blocks.now) heights.old }
+    requires come { HaveCome (table_of blocks.now) heights.old (at_list (table_of blocks.now) bid) limit }
+    ensures first { let t = table_of blocks.now in Tells result (sub_fault t limit bid) (sub_height t limit bid) }
+    ensures small { IfOk result (λ h. h ≤ limit) }
+    ensures seen { SeenIsTrue (table_of blocks.now) seen.new }
+    ensures known { AreTrue (table_of blocks.now) heights.new }
+    ensures marks { NoNewMarks heights.old heights.new }
+    ensures seen_grows { data_expansions seen.old ≤ data_expansions seen.new }
+    ensures keeps { OnOk result (IsCounted heights.old → IsCounted heights.new) }
+    ensures heights_grow { expansions_of heights.old ≤ expansions_of heights.new }
+{
+    let count = leaf_count(blocks, bid, entry);
+    let most = height_of_leaves(alloc, blocks, entry, count, limit, seen, heights)?;
+    heights.settle(bid, most)?;
+    Ok(most)
+}
+
+// The height of a list that nothing is known of.
+#[cycle(sub)]
+#[tactic(auto, unfolding(crate::specs::List::list_fault))]
+fn height_of_list(
+    alloc: Global,
+    blocks: &Blocks,
+    bid: u64,
+    limit: u32,
+    seen: &mut Seen,
+    heights: &mut Heights,
+) -> Result<u32, Fault>
+    requires room { 0 < limit }
+    requires named { no_block bid ≡ false }
+    requires seen { SeenIsTrue (table_of blocks.now) seen.old }
+    requires known { AreTrue (table_of blocks.now) heights.old }
+    requires come { HaveCome (table_of blocks.now) heights.old (at_list (table_of blocks.now) bid) limit }
+    ensures first { let t = table_of blocks.now in Tells result (sub_fault t limit bid) (sub_height t limit bid) }
+    ensures small { IfOk result (λ h. h ≤ limit) }
+    ensures seen { SeenIsTrue (table_of blocks.now) seen.new }
+    ensures known { AreTrue (table_of blocks.now) heights.new }
+    ensures marks { NoNewMarks heights.old heights.new }
+    ensures seen_grows { data_expansions seen.old ≤ data_expansions seen.new }
+    ensures keeps { OnOk result (IsCounted heights.old → IsCounted heights.new) }
+    ensures heights_grow { expansions_of heights.old ≤ expansions_of heights.new }
+{
+    check_list(alloc, blocks, bid)?;
+    let Some(entry) = blocks.entry(bid) else {
+        unreachable!()
+    };
+    if has_level_one(body_in(blocks, entry)) {
+        height_of_siblock(alloc, blocks, bid, entry, limit, seen, heights)
+    } else {
+        height_of_slblock(alloc, blocks, bid, limit, seen, heights)
+    }
+}
+
+// What is known of a list, where so many lists may nest: a list that is being expanded would nest in itself.
+fn height_known(height: u32, limit: u32) -> Result<u32, Fault>
+    ensures marked { height ≡ 0 → result ≡ Err nesting }
+    ensures fits { 0 < height → height ≤ limit → result ≡ Ok height }
+    ensures high { limit < height → result ≡ Err nesting }
+{
+    if height == 0 || height > limit {
+        return Err(nesting_fault());
+    }
+    Ok(height)
 }
 
 // The height of the subnodes of a block identifier, where so many lists may nest.
@@ -98,9 +317,16 @@ fn height_of(
     seen: &mut Seen,
     heights: &mut Heights,
 ) -> Result<u32, Fault>
+    requires seen { SeenIsTrue (table_of blocks.now) seen.old }
+    requires known { AreTrue (table_of blocks.now) heights.old }
+    requires come { HaveCome (table_of blocks.now) heights.old (at_list (table_of blocks.now) bid) limit }
     ensures first { let t = table_of blocks.now in Tells result (sub_fault t limit bid) (sub_height t limit bid) }
     ensures small { IfOk result (λ h. h ≤ limit) }
+    ensures seen { SeenIsTrue (table_of blocks.now) seen.new }
+    ensures known { AreTrue (table_of blocks.now) heights.new }
+    ensures marks { NoNewMarks heights.old heights.new }
     ensures seen_grows { data_expansions seen.old ≤ data_expansions seen.new }
+    ensures keeps { OnOk result (IsCounted heights.old → IsCounted heights.new) }
     ensures heights_grow { expansions_of heights.old ≤ expansions_of heights.new }
 {
     if is_no_block(bid) {
@@ -109,11 +335,10 @@ fn height_of(
     if limit == 0 {
         return Err(nesting_fault());
     }
-    check_list(alloc, blocks, bid)?;
-    let list = subs(blocks, bid);
-    heights.expand(1 + u64::from(list.leaf_count()));
-    let most = height_of_entries(alloc, blocks, list, limit - 1, seen, heights)?;
-    Ok(most + 1)
+    if let Some(height) = heights.state(bid) {
+        return height_known(height, limit);
+    }
+    height_of_list(alloc, blocks, bid, limit, seen, heights)
 }
 
 // A fault, under the node whose subnodes begin with a block identifier.
@@ -156,6 +381,12 @@ pub fn check_sub(
     seen: &mut Seen,
     heights: &mut Heights,
 ) -> Result<u32, Fault>
+    // What is known is true, and stays so; no list is left marked.
+    requires seen { SeenIsTrue (table_of blocks.now) seen.old }
+    requires known { IsTrueOf (table_of blocks.now) heights.old }
+    ensures seen { SeenIsTrue (table_of blocks.now) seen.new }
+    ensures known { IsTrueOf (table_of blocks.now) heights.new }
+
     // The height, or the first fault; or that memory ran out.
     ensures first { Tells result (option_map (at_top bid nid) (sub_fault (table_of blocks.now) LISTS bid)) (sub_height (table_of blocks.now) LISTS bid) }
     ensures small { IfOk result (λ h. h ≤ LISTS) }
@@ -170,6 +401,7 @@ pub fn check_sub(
 
     // What is counted never falls.
     ensures seen_grows { data_expansions seen.old ≤ data_expansions seen.new }
+    ensures keeps { OnOk result (IsCounted heights.old → IsCounted heights.new) }
     ensures heights_grow { expansions_of heights.old ≤ expansions_of heights.new }
 {
     match height_of(alloc, blocks, bid, LISTS, seen, heights) {

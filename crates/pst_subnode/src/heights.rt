@@ -2,25 +2,36 @@
 
 ghost use Rattle.std.specs.Prelude.{◌≡◌, ◌≤◌};
 
+use pst_fault::Fault;
+use pst_page::PageKind;
 use std::alloc::Global;
+use std::collections::BTreeMap;
 
-/// What is already known of subnode lists. Nothing is remembered yet: each walk is made afresh, and counted.
+/// What is already known of subnode lists: the heights of those that were found without fault, which each walk passes over,
+/// and which lists are being expanded.
 #[derive(Drop)]
 pub struct Heights {
-    pub(crate) alloc: Global,
+    // By the keys of the lists: a height, or 0 for a list that is being expanded.
+    pub(crate) states: BTreeMap<u64, u32>,
     pub(crate) expansions: u64,
 }
 
 impl Heights {
-    ghost use Rattle.pst_datatree.specs.Seen.{raised};
-    ghost use Rattle.pst_subnode.specs.Heights.{expansions_of};
+    ghost use Rattle.std.specs.Prelude.{◌≡◌, ℕ, ◌+◌, ◌<◌, Some, None, cond, IfErr, OnOk, OnErr};
+    ghost use Rattle.std.specs.Ordering.{nat_cmp, eq_by_cmp};
+    ghost use Rattle.pst_fault.specs.Fault.{no_memory};
+    ghost use Rattle.pst_block.specs.Block.{bid_key};
+    ghost use Rattle.pst_block.specs.Table.{Table};
+    ghost use Rattle.pst_subnode.specs.Heights.{expansions_of, state_of, known_count, IsCounted, IsTrueOf};
 
     /// Nothing is known, and nothing has been expanded. No memory is taken.
     pub fn new(alloc: Global) -> Heights
-        ensures { expansions_of result ≡ 0 }
+        ensures counts { expansions_of result ≡ 0 }
+        ensures known { (t : Table) → IsTrueOf t result }
+        ensures none { known_count result ≡ 0 }
     {
         Heights {
-            alloc,
+            states: BTreeMap::new(alloc),
             expansions: 0,
         }
     }
@@ -33,11 +44,62 @@ impl Heights {
         self.expansions
     }
 
-    // So many blocks more are expanded.
-    pub(crate) fn expand(&mut self, blocks: u64)
-        ensures counts { expansions_of self.new ≡ raised (expansions_of self.old) blocks }
+    // What is known of a list.
+    #[tactic(auto, unfolding(crate::specs::Heights::state_of))]
+    pub(crate) fn state(&self, bid: u64) -> Option<u32>
+        ensures { result ≡ state_of self.now bid }
+    {
+        self.states.get(&PageKind::Bbt.key_of(bid)).copied()
+    }
+
+    // A list has this state from now on. It is counted as expanded where nothing was known of it.
+    #[tactic(auto, using(crate::proofs::MarkLemmas::new_counted, crate::proofs::MarkLemmas::old_counted), unfolding(crate::specs::Heights::state_of))]
+    fn put(&mut self, bid: u64, state: u32) -> Result<(), Fault>
+        ensures put { OnOk result ((q : ℕ) → state_of self.new q ≡ cond (eq_by_cmp nat_cmp (bid_key bid) (bid_key q)) (Some state) (state_of self.old q)) }
+        ensures same { OnErr result ((q : ℕ) → state_of self.new q ≡ state_of self.old q) }
+        ensures memory { IfErr result (λ f. f ≡ no_memory) }
+        ensures keeps { OnOk result (IsCounted self.old → IsCounted self.new) }
         ensures grows { expansions_of self.old ≤ expansions_of self.new }
     {
-        self.expansions = self.expansions.saturating_add(blocks);
+        let old = self.states.insert(PageKind::Bbt.key_of(bid), state)?;
+        if old.is_none() {
+            self.expansions = self.expansions.saturating_add(1);
+        }
+        Ok(())
+    }
+
+    // Nothing is known of a list any more.
+    #[tactic(auto, unfolding(crate::specs::Heights::state_of))]
+    pub(crate) fn forget(&mut self, bid: u64)
+        ensures put { (q : ℕ) → state_of self.new q ≡ cond (eq_by_cmp nat_cmp (bid_key bid) (bid_key q)) None (state_of self.old q) }
+        ensures counts { expansions_of self.new ≡ expansions_of self.old }
+    {
+        let _ = self.states.remove(&PageKind::Bbt.key_of(bid));
+    }
+
+    // A list of one block is being expanded, and marked.
+    pub(crate) fn begin(&mut self, bid: u64) -> Result<(), Fault>
+        ensures put { OnOk result ((q : ℕ) → state_of self.new q ≡ cond (eq_by_cmp nat_cmp (bid_key bid) (bid_key q)) (Some 0) (state_of self.old q)) }
+        ensures same { OnErr result ((q : ℕ) → state_of self.new q ≡ state_of self.old q) }
+        ensures memory { IfErr result (λ f. f ≡ no_memory) }
+        ensures keeps { OnOk result (IsCounted self.old → IsCounted self.new) }
+        ensures grows { expansions_of self.old ≤ expansions_of self.new }
+    {
+        self.put(bid, 0)
+    }
+
+    // A list has this height; or memory is refused, and nothing is known of it any more.
+    pub(crate) fn settle(&mut self, bid: u64, height: u32) -> Result<(), Fault>
+        ensures put { OnOk result ((q : ℕ) → state_of self.new q ≡ cond (eq_by_cmp nat_cmp (bid_key bid) (bid_key q)) (Some height) (state_of self.old q)) }
+        ensures forgotten { OnErr result ((q : ℕ) → state_of self.new q ≡ cond (eq_by_cmp nat_cmp (bid_key bid) (bid_key q)) None (state_of self.old q)) }
+        ensures memory { IfErr result (λ f. f ≡ no_memory) }
+        ensures keeps { OnOk result (IsCounted self.old → IsCounted self.new) }
+        ensures grows { expansions_of self.old ≤ expansions_of self.new }
+    {
+        if let Err(fault) = self.put(bid, height) {
+            self.forget(bid);
+            return Err(fault);
+        }
+        Ok(())
     }
 }

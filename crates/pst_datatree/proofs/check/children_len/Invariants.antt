@@ -3,7 +3,7 @@ use Rattle.pst_block.specs.Table.{body_of}
 use Rattle.pst_block.specs.Blocks.{table_of}
 use Rattle.pst_fault.specs.First.{first_below, join_below}
 use Rattle.pst_datatree.specs.Data.{size_of, child_spans, child_fault}
-use Rattle.pst_datatree.specs.Seen.{expansions_of, raised}
+use Rattle.pst_datatree.specs.Seen.{expansions_of, IsTrueOf, KeepsCount, NoNewTwo}
 use Rattle.pst_datatree.proofs.check.children_len.Given as goal
 
 abbrev pub invariant-loop-i : goal.invariant-loop-i
@@ -11,5 +11,8 @@ invariant-loop-i l = record {
   sound : first_below (child_fault (table_of l.blocks) l.holder) l.i ≡ None;
   counted : l.total ≡ size_of (join_below (child_spans (table_of l.blocks) (body_of (table_of l.blocks) l.holder)) l.i);
   small : l.total ≤ 4294967296 * l.i;
-  expanded : expansions_of l.seen ≡ raised (expansions_of l.fn.seen) l.i;
+  known : IsTrueOf (table_of l.blocks) l.seen;
+  counts : KeepsCount l.initial.seen l.seen;
+  levels : NoNewTwo (table_of l.blocks) l.initial.seen l.seen;
+  grows : expansions_of l.initial.seen ≤ expansions_of l.seen;
 }

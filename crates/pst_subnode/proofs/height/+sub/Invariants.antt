@@ -1,4 +1,4 @@
-use Rattle.std.proofs.Common.{◌≡◌, ◌+◌, ◌*◌, ◌≤◌, max, length}
+use Rattle.std.proofs.Common.{◌≡◌, ◌+◌, ◌*◌, ◌≤◌, max, length, None}
 use Rattle.pst_block.specs.Blocks.{table_of}
 use Rattle.pst_datatree.specs.Seen as seen
 use Rattle.pst_subnode.specs.Heights as heights
@@ -6,23 +6,57 @@ use Rattle.pst_subnode.specs.Left.{subs_left}
 use Rattle.pst_subnode.specs.Tree.{first_among, most_among, entry_fault, entry_height, sub_fault, sub_height}
 use Rattle.pst_subnode.proofs.height.+sub.Given as goal
 
-abbrev pub decreases-height_of : goal.decreases-height_of
-decreases-height_of l = 3 * l.limit
-
 abbrev pub decreases-height_of_entries : goal.decreases-height_of_entries
-decreases-height_of_entries l = 3 * l.limit + 2
+decreases-height_of_entries l = 8 * l.limit + 7
 
 abbrev pub decreases-height_of_entry : goal.decreases-height_of_entry
-decreases-height_of_entry l = 3 * l.limit + 1
+decreases-height_of_entry l = 8 * l.limit + 6
+
+abbrev pub decreases-height_of : goal.decreases-height_of
+decreases-height_of l = 8 * l.limit + 5
+
+abbrev pub decreases-height_of_list : goal.decreases-height_of_list
+decreases-height_of_list l = 8 * l.limit + 4
+
+abbrev pub decreases-height_of_siblock : goal.decreases-height_of_siblock
+decreases-height_of_siblock l = 8 * l.limit + 3
+
+abbrev pub decreases-height_of_leaves : goal.decreases-height_of_leaves
+decreases-height_of_leaves l = 8 * l.limit + 2
+
+abbrev pub decreases-height_of_leaf : goal.decreases-height_of_leaf
+decreases-height_of_leaf l = 8 * l.limit + 1
+
+abbrev pub decreases-height_of_slblock : goal.decreases-height_of_slblock
+decreases-height_of_slblock l = 8 * l.limit
 
 abbrev pub invariant-height_of_entries-loop-sub : goal.invariant-height_of_entries-loop-sub
 invariant-height_of_entries-loop-sub l = record {
   first : first_among (entry_fault (table_of l.blocks) (sub_fault (table_of l.blocks) l.limit)) (subs_left l.rest) ≡ first_among (entry_fault (table_of l.blocks) (sub_fault (table_of l.blocks) l.limit)) (subs_left l.subs);
   most : max l.most (most_among (entry_height (sub_height (table_of l.blocks) l.limit)) (subs_left l.rest)) ≡ most_among (entry_height (sub_height (table_of l.blocks) l.limit)) (subs_left l.subs);
   small : l.most ≤ l.limit;
+  trees : seen.IsTrueOf (table_of l.blocks) l.seen;
+  known : heights.AreTrue (table_of l.blocks) l.heights;
+  marks : heights.NoNewMarks l.initial.heights l.heights;
+  come : heights.HaveCome (table_of l.blocks) l.heights (heights.at_entries (table_of l.blocks) (subs_left l.rest)) l.limit;
   seen_grows : seen.expansions_of l.initial.seen ≤ seen.expansions_of l.seen;
+  keeps : heights.IsCounted l.initial.heights → heights.IsCounted l.heights;
   heights_grow : heights.expansions_of l.initial.heights ≤ heights.expansions_of l.heights;
 }
 
 abbrev pub decreases-height_of_entries-loop-sub : goal.decreases-height_of_entries-loop-sub
 decreases-height_of_entries-loop-sub l = length (subs_left l.rest)
+
+abbrev pub invariant-height_of_leaves-loop-i : goal.invariant-height_of_leaves-loop-i
+invariant-height_of_leaves-loop-i l = record {
+  first : heights.at_leaves (table_of l.blocks) l.holder l.i l.limit ≡ None;
+  most : l.most ≡ heights.most_below (heights.leaf_height (table_of l.blocks) l.holder l.limit) l.i;
+  small : l.most ≤ l.limit;
+  trees : seen.IsTrueOf (table_of l.blocks) l.seen;
+  known : heights.AreTrue (table_of l.blocks) l.heights;
+  marks : heights.NoNewMarks l.initial.heights l.heights;
+  come : heights.HaveCome (table_of l.blocks) l.heights (heights.at_leaves (table_of l.blocks) l.holder l.count) l.limit;
+  seen_grows : seen.expansions_of l.initial.seen ≤ seen.expansions_of l.seen;
+  keeps : heights.IsCounted l.initial.heights → heights.IsCounted l.heights;
+  heights_grow : heights.expansions_of l.initial.heights ≤ heights.expansions_of l.heights;
+}

@@ -1,0 +1,5 @@
+use Rattle.pst_datatree.proofs.SeenLemmas.{nothing_true}
+use Rattle.pst_datatree.proofs.seen.Seen.new.Goals as goal
+
+pub returns-clause-known : goal.returns-clause-known
+returns-clause-known c t = nothing_true t _ c.new.ensures.empty

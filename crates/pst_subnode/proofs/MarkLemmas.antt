@@ -1,0 +1,287 @@
+-- What is known of lists is true, and a list that is met while it is marked nests too deep.
+use Rattle.std.proofs.Common.{◌≡◌, ℕ, zero, suc, ◌+◌, ◌<◌, ◌≤◌, Bool, true, false, List, [], ◌∷◌, Option, Some, None, Result, Ok, Err, refl, sym, ap, ◌∙◌, arith, ◌⊎◌, inl, inr}
+use Rattle.std.specs.Prelude.{cond, if◌then◌else◌, ◌/◌}
+use Rattle.std.specs.Ordering.{nat_cmp, eq_by_cmp}
+use Rattle.std.proofs.lemmas.Map.Lookups.{exact_unsigned}
+use Rattle.std.proofs.lemmas.Map.Views.{tells_apart}
+use Rattle.std.specs.BTreeMap.{IsEmpty}
+use Rattle.pst_fault.specs.declared.fault.Fault.{Fault}
+use Rattle.std.proofs.lemmas.Bool.{cases_lt}
+use Rattle.pst_fault.specs.First.{◌then◌, Tells}
+use Rattle.pst_fault.proofs.FirstLemmas.{then_none, then_some, none_then, first_at, first_front}
+use Rattle.std.proofs.lemmas.Bool.Decides.{nat_tests}
+use Rattle.pst_page.specs.Entry.{key_of}
+use Rattle.pst_page.specs.declared.entry.BlockEntry.{BlockEntry}
+use Rattle.pst_block.specs.Block.{bid_key}
+use Rattle.pst_block.specs.Table.{Table, entry_of, body_of}
+use Rattle.pst_datatree.specs.Bid.{is_internal, is_no_block}
+use Rattle.pst_datatree.specs.Seen.{raised}
+use Rattle.pst_datatree.specs.Data.{data_fault, fault_or, block_missing}
+use Rattle.pst_subnode.specs.declared.sub.Sub.{Sub}
+use Rattle.pst_subnode.specs.declared.heights.Heights.{Heights}
+use Rattle.pst_subnode.specs.List.{subs_of, list_fault, block_fault, bad_list, subs_at, block_subs}
+use Rattle.pst_subnode.specs.Tree.{first_among, most_among, entry_fault, entry_height, nesting, sub_fault, sub_height}
+use Rattle.pst_subnode.specs.Heights.{state_of, limit_fault, HasHeight, AreTrue, NoMarks, NoNewMarks, IsTrueOf, at_list, at_entries, at_entry, at_leaf, at_leaves, IsSiList, LeadsTo, HaveCome}
+use Rattle.pst_subnode.specs.Body.{count_in, bid_in}
+use Rattle.pst_subnode.proofs.LeafLemmas.{si_fault}
+use Rattle.pst_subnode.proofs.SubLemmas.{sub_fault_below, sub_fault_list, among_more}
+use Rattle.pst_subnode.proofs.HeightLemmas.{list_or_deep, height_law, height_same, fits_yes, fits_no, entry_or_deep}
+
+-- ---- one state is changed
+
+abbrev pub IsPut : Heights → Heights → ℕ → Option ℕ → Type 0
+IsPut old new bid state = (q : ℕ) → state_of new q ≡ cond (eq_by_cmp nat_cmp (bid_key bid) (bid_key q)) state (state_of old q)
+
+abbrev pub IsSame : Heights → Heights → Type 0
+IsSame old new = (q : ℕ) → state_of new q ≡ state_of old q
+
+-- the state of an identifier is the new one, and its key is the same, or it is the old one
+pub put_cases : (old new : Heights) (bid : ℕ) (state : Option ℕ) (q : ℕ) → IsPut old new bid state → ((bid_key bid ≡ bid_key q) × (state_of new q ≡ state)) ⊎ (state_of new q ≡ state_of old q)
+put_cases old new bid state q put = by_test (eq_by_cmp nat_cmp (bid_key bid) (bid_key q)) refl (put q)
+  where
+    by_test : (v : Bool) → eq_by_cmp nat_cmp (bid_key bid) (bid_key q) ≡ v → state_of new q ≡ cond v state (state_of old q) → ((bid_key bid ≡ bid_key q) × (state_of new q ≡ state)) ⊎ (state_of new q ≡ state_of old q)
+    by_test true here is = inl (tells_apart exact_unsigned (bid_key bid) (bid_key q) here, is)
+    by_test false here is = inr is
+
+-- ---- bit 0 of an identifier says nothing
+
+same_entry : (t : Table) (a b : ℕ) → bid_key a ≡ bid_key b → entry_of t a ≡ entry_of t b
+unfolding entry_of
+same_entry t a b h = rw h refl
+
+small_same : (a b : ℕ) → bid_key a ≡ bid_key b → is_no_block a ≡ is_no_block b
+unfolding key_of is_no_block
+small_same a b e = grind (arith, nat_tests)
+
+internal_same : (a b : ℕ) → bid_key a ≡ bid_key b → is_internal a ≡ is_internal b
+unfolding key_of is_internal
+internal_same a b e = let half : a / 2 ≡ b / 2 = omega arith in rw half refl
+
+subs_same : (t : Table) (a b : ℕ) → bid_key a ≡ bid_key b → subs_of t a ≡ subs_of t b
+unfolding subs_of
+subs_same t a b e = rw (small_same a b e, same_entry t a b e) refl
+
+-- a list without fault is told of by no identifier
+list_same : (t : Table) (a b : ℕ) → bid_key a ≡ bid_key b → list_fault t a ≡ None → list_fault t b ≡ None
+unfolding list_fault
+list_same t a b e none = by_entry (entry_of t b) (rw (same_entry t a b e, internal_same a b e) at none)
+  where
+    by_entry : (o : Option BlockEntry) → fault_or (block_missing a) (λ x. if is_internal b then block_fault t x else Some (bad_list x)) o ≡ None → fault_or (block_missing b) (λ x. if is_internal b then block_fault t x else Some (bad_list x)) o ≡ None
+    by_entry None h = cc
+    by_entry (Some x) h = h
+
+pub fault_same : (t : Table) (k a b : ℕ) → bid_key a ≡ bid_key b → list_fault t a ≡ None → sub_fault t k a ≡ sub_fault t k b
+unfolding sub_fault
+fault_same t zero a b e none = rw (small_same a b e) refl
+fault_same t (suc k) a b e none = rw (small_same a b e, none, list_same t a b e none, subs_same t a b e) refl
+
+pub height_of_same : (t : Table) (k a b : ℕ) → bid_key a ≡ bid_key b → sub_height t k a ≡ sub_height t k b
+unfolding sub_height
+height_of_same t zero a b e = refl
+height_of_same t (suc k) a b e = rw (small_same a b e, subs_same t a b e) refl
+
+-- ---- from a place to the next
+
+abbrev Goes : (ℕ → Option Fault) → ℕ → (ℕ → Option Fault) → ℕ → Type 0
+Goes place limit next below =
+    (k : ℕ) → k ≤ limit →
+    (place k ≡ Some nesting) ⊎ ((l : ℕ) × (l ≤ k) × (l ≤ below) × ((f : Fault) → next l ≡ Some f → place k ≡ Some f))
+
+leads_on : (t : Table) (bid top : ℕ) (place next : ℕ → Option Fault) (limit below : ℕ) → Goes place limit next below → LeadsTo t bid top place limit → LeadsTo t bid top next below
+leads_on t bid top place next limit below goes leads low le =
+    elim (leads low le) [
+      | inl deep ↦ inl deep
+      | inr w ↦
+          elim (goes w.0 w.2) [
+            | inl deep ↦ inl (w.3 nesting deep)
+            | inr v ↦ inr (v.0, omega (arith, v.1, w.1), v.2, (λ f at. w.3 f (v.3 f at)))
+          ]
+    ]
+
+come_on : (t : Table) (old new : Heights) (place next : ℕ → Option Fault) (limit below : ℕ) → NoNewMarks old new → below ≤ limit → Goes place limit next below → HaveCome t old place limit → HaveCome t new next below
+come_on t old new place next limit below marks le goes come = record {
+  from = λ bid marked.
+      let w = come.from bid (marks bid marked) in
+      (w.0, omega (arith, w.1), leads_on t bid w.0 place next limit below goes w.2);
+}
+
+-- into a list
+into_list : (t : Table) (limit below bid : ℕ) → below + 1 ≡ limit → is_no_block bid ≡ false → list_fault t bid ≡ None → Goes (at_list t bid) limit (at_entries t (subs_of t bid)) below
+into_list t limit below bid more e none zero le = inl (sub_fault_below t 0 bid refl e)
+into_list t limit below bid more e none (suc k) le =
+    inr (k, omega arith, omega (arith, more), (λ f at. sub_fault_list t (suc k) k bid (omega arith) e ∙ (then_none _ _ none ∙ at)))
+
+-- to the first entry
+pub to_entry : (t : Table) (h : Heights) (limit : ℕ) (s : Sub) (xs rest : List Sub) → xs ≡ s ∷ rest → HaveCome t h (at_entries t xs) limit → HaveCome t h (at_entry t s) limit
+unfolding first_among
+to_entry t h limit s xs rest is come =
+    come_on t h h (at_entries t xs) (at_entry t s) limit limit (λ q marked. marked) (omega arith)
+    (λ k le. inr (k, omega arith, le, (λ f at. rw is (then_some _ _ f at)))) come
+
+-- to the entries behind the first, which has no fault
+pub past_entry : (t : Table) (old new : Heights) (limit : ℕ) (s : Sub) (xs rest : List Sub) → xs ≡ s ∷ rest → NoNewMarks old new → entry_fault t (sub_fault t limit) s ≡ None → HaveCome t old (at_entries t xs) limit → HaveCome t new (at_entries t rest) limit
+unfolding first_among
+past_entry t old new limit s xs rest is marks none come =
+    come_on t old new (at_entries t xs) (at_entries t rest) limit limit marks (omega arith)
+    (λ k le. elim (entry_or_deep t limit k s none) [
+      | inl also ↦ inr (k, omega arith, le, (λ f at. rw is (then_none _ _ also ∙ at)))
+      | inr deep ↦ inl (rw is (then_some _ _ nesting deep))
+    ]) come
+
+-- from an entry to its own subnodes
+pub to_below : (t : Table) (h : Heights) (limit : ℕ) (s : Sub) → data_fault t s.bid_data ≡ None → HaveCome t h (at_entry t s) limit → HaveCome t h (at_list t s.bid_sub) limit
+unfolding entry_fault
+to_below t h limit s none come =
+    come_on t h h (at_entry t s) (at_list t s.bid_sub) limit limit (λ q marked. marked) (omega arith)
+    (λ k le. inr (k, omega arith, le, (λ f at. then_none _ _ none ∙ at))) come
+
+-- into a list that is marked for that
+begun : (t : Table) (old new : Heights) (limit below bid : ℕ) → below + 1 ≡ limit → is_no_block bid ≡ false → list_fault t bid ≡ None → IsPut old new bid (Some 0) → HaveCome t old (at_list t bid) limit → HaveCome t new (at_entries t (subs_of t bid)) below
+begun t old new limit below bid more e none put come = record { from = each }
+  where
+    own : (q : ℕ) → bid_key bid ≡ bid_key q → LeadsTo t q limit (at_entries t (subs_of t bid)) below
+    own q key zero le = inl (sym (fault_same t 0 bid q key none) ∙ sub_fault_below t 0 bid refl e)
+    own q key (suc low) le =
+        inr (low, omega arith, omega (arith, more), (λ f at. sym (fault_same t (suc low) bid q key none) ∙ (sub_fault_list t (suc low) low bid (omega arith) e ∙ (then_none _ _ none ∙ at))))
+
+    each : (q : ℕ) → state_of new q ≡ Some 0 → (top : ℕ) × (below ≤ top) × LeadsTo t q top (at_entries t (subs_of t bid)) below
+    each q marked =
+        elim (put_cases old new bid (Some 0) q put) [
+          | inl key ↦ (limit, omega (arith, more), own q key.0)
+          | inr same ↦
+              let w = come.from q (sym same ∙ marked) in
+              (w.0, omega (arith, w.1, more), leads_on t q w.0 (at_list t bid) (at_entries t (subs_of t bid)) limit below (into_list t limit below bid more e none) w.2)
+        ]
+
+pub begin_come : (t : Table) (old new : Heights) (limit below bid : ℕ) (xs : List Sub) → xs ≡ subs_of t bid → below + 1 ≡ limit → is_no_block bid ≡ false → list_fault t bid ≡ None → IsPut old new bid (Some 0) → HaveCome t old (at_list t bid) limit → HaveCome t new (at_entries t xs) below
+begin_come t old new limit below bid xs are more e none put come = rw are (begun t old new limit below bid more e none put come)
+
+-- ---- a list that is met while it is marked
+
+deep : (fuel : ℕ) (t : Table) (bid top limit low : ℕ) → limit ≤ top → LeadsTo t bid top (at_list t bid) limit → low < fuel → low ≤ top → sub_fault t low bid ≡ Some nesting
+deep zero t bid top limit low fits leads lt le = absurd (omega arith)
+deep (suc fuel) t bid top limit low fits leads lt le =
+    elim (leads low le) [
+      | inl is ↦ is
+      | inr w ↦ w.3 nesting (deep fuel t bid top limit w.0 fits leads (omega (arith, w.1)) (omega (arith, w.2)))
+    ]
+
+-- it nests too deep, also where it is walked afresh
+pub marked_nests : (t : Table) (h : Heights) (bid limit : ℕ) → HaveCome t h (at_list t bid) limit → state_of h bid ≡ Some 0 → sub_fault t limit bid ≡ Some nesting
+marked_nests t h bid limit come marked =
+    let w = come.from bid marked in
+    deep (suc limit) t bid w.0 limit limit w.1 w.2 (omega arith) w.1
+
+-- ---- what is known stays true
+
+pub begin_true : (t : Table) (old new : Heights) (bid : ℕ) → IsPut old new bid (Some 0) → AreTrue t old → AreTrue t new
+begin_true t old new bid put are = record {
+  holds = λ q height more known.
+      elim (put_cases old new bid (Some 0) q put) [
+        | inl key ↦ let mark : Some height ≡ Some 0 = sym known ∙ key.1 in let is : height ≡ 0 = cc in absurd (omega (arith, is))
+        | inr same ↦ are.holds q height more (sym same ∙ known)
+      ];
+}
+
+pub same_true : (t : Table) (old new : Heights) → IsSame old new → AreTrue t old → AreTrue t new
+same_true t old new same are = record { holds = λ q height more known. are.holds q height more (sym (same q) ∙ known) }
+
+pub forget_true : (t : Table) (old new : Heights) (bid : ℕ) → IsPut old new bid None → AreTrue t old → AreTrue t new
+forget_true t old new bid put are = record {
+  holds = λ q height more known.
+      elim (put_cases old new bid None q put) [
+        | inl key ↦ let bad : Some height ≡ None = sym known ∙ key.1 in cc
+        | inr same ↦ are.holds q height more (sym same ∙ known)
+      ];
+}
+
+-- a height is put in
+pub settle_true : (t : Table) (old new : Heights) (bid limit height : ℕ) → list_fault t bid ≡ None → sub_fault t limit bid ≡ None → sub_height t limit bid ≡ height → IsPut old new bid (Some height) → AreTrue t old → AreTrue t new
+settle_true t old new bid limit height list none is put are = record {
+  holds = λ q other more known.
+      elim (put_cases old new bid (Some height) q put) [
+        | inl key ↦
+            let both : Some other ≡ Some height = sym known ∙ key.1 in
+            let same : other ≡ height = cc in
+            (limit, sym (fault_same t limit bid q key.0 list) ∙ none, sym (height_of_same t limit bid q key.0) ∙ (is ∙ sym same))
+        | inr same ↦ are.holds q other more (sym same ∙ known)
+      ];
+}
+
+pub known_height : (t : Table) (h : Heights) (bid height limit : ℕ) → AreTrue t h → state_of h bid ≡ Some height → 0 < height → height ≤ limit → (sub_fault t limit bid ≡ None) × (height ≡ sub_height t limit bid)
+known_height t h bid height limit are known more le =
+    let w = are.holds bid height more known in
+    let none : sub_fault t limit bid ≡ None = height_law t w.0 limit bid w.1 ∙ fits_yes _ limit (omega (arith, w.2)) in
+    (none, sym w.2 ∙ height_same t w.0 limit bid w.1 none)
+
+pub known_high : (t : Table) (h : Heights) (bid height limit : ℕ) → AreTrue t h → state_of h bid ≡ Some height → 0 < height → limit < height → sub_fault t limit bid ≡ Some nesting
+known_high t h bid height limit are known more lt =
+    let w = are.holds bid height more known in
+    height_law t w.0 limit bid w.1 ∙ fits_no _ limit (omega (arith, w.2))
+
+-- nothing is known
+pub nothing_known : (t : Table) (h : Heights) → IsEmpty h.states → IsTrueOf t h
+unfolding state_of
+nothing_known t h empty = record {
+  heights = record { holds = λ bid height more known. let bad : None ≡ Some height = (rw empty at known) in cc };
+  unmarked = λ bid marked. let bad : None ≡ Some 0 = (rw empty at marked) in cc;
+}
+
+-- a walk that begins has come from no mark
+pub first_come : (t : Table) (h : Heights) (place : ℕ → Option Fault) (limit : ℕ) → NoMarks h → HaveCome t h place limit
+first_come t h place limit none = record { from = λ bid marked. absurd (none bid marked) }
+
+-- what is known tells what the walk afresh would
+pub known_tells : (t : Table) (h : Heights) (bid height limit : ℕ) (r : Result ℕ Fault) → AreTrue t h → HaveCome t h (at_list t bid) limit → state_of h bid ≡ Some height → (height ≡ 0 → r ≡ Err nesting) → (0 < height → height ≤ limit → r ≡ Ok height) → (limit < height → r ≡ Err nesting) → Tells r (sub_fault t limit bid) (sub_height t limit bid)
+known_tells t h bid height limit r are come known marked fits high =
+    elim (cases_lt 0 height) [
+      | inl more ↦
+          elim (cases_lt limit height) [
+            | inl lt ↦ rw (high lt) (inr (known_high t h bid height limit are known more lt))
+            | inr le ↦ rw (fits more le) (known_height t h bid height limit are known more le)
+          ]
+      | inr least ↦ let mark : height ≡ 0 = omega arith in rw (marked mark) (inr (marked_nests t h bid limit come (rw mark at known)))
+    ]
+
+-- ---- into an SIBLOCK, whose SLBLOCKs are lists of their own
+
+-- the same place, after a walk that left no mark
+pub same_place : (t : Table) (old new : Heights) (place : ℕ → Option Fault) (limit : ℕ) → NoNewMarks old new → HaveCome t old place limit → HaveCome t new place limit
+same_place t old new place limit marks come = record { from = λ bid marked. come.from bid (marks bid marked) }
+
+pub to_leaves : (t : Table) (old new : Heights) (limit bid : ℕ) (e : BlockEntry) → 0 < limit → IsSiList t bid e → NoNewMarks old new → HaveCome t old (at_list t bid) limit → HaveCome t new (at_leaves t e (count_in (body_of t e))) limit
+to_leaves t old new limit bid e room is marks come =
+    come_on t old new (at_list t bid) (at_leaves t e (count_in (body_of t e))) limit limit marks (omega arith) goes come
+  where
+    goes : (k : ℕ) → k ≤ limit → (at_list t bid k ≡ Some nesting) ⊎ ((l : ℕ) × (l ≤ k) × (l ≤ limit) × ((f : Fault) → at_leaves t e (count_in (body_of t e)) l ≡ Some f → at_list t bid k ≡ Some f))
+    goes zero le = inl (sub_fault_below t 0 bid refl is.is_list.named)
+    goes (suc k) le = inr (suc k, omega arith, le, (λ f at. si_fault t bid e (suc k) k is (omega arith) ∙ at))
+
+leaves_or_deep : (t : Table) (e : BlockEntry) (limit k i : ℕ) → at_leaves t e i limit ≡ None → (at_leaves t e i k ≡ None) ⊎ (at_leaves t e i k ≡ Some nesting)
+leaves_or_deep t e limit k zero none = inl refl
+leaves_or_deep t e limit k (suc i) none =
+    let p = none_then (at_leaves t e i limit) (at_leaf t e limit i) none in
+    elim (leaves_or_deep t e limit k i p.0) [
+      | inr nests ↦ inr (then_some _ _ nesting nests)
+      | inl also ↦
+          elim (list_or_deep t limit k (bid_in (body_of t e) i) p.1) [
+            | inl one ↦ inl (then_none _ _ also ∙ one)
+            | inr nests ↦ inr (then_none _ _ also ∙ nests)
+          ]
+    ]
+
+pub to_leaf : (t : Table) (h : Heights) (limit count i : ℕ) (e : BlockEntry) → at_leaves t e i limit ≡ None → i < count → HaveCome t h (at_leaves t e count) limit → HaveCome t h (at_list t (bid_in (body_of t e) i)) limit
+to_leaf t h limit count i e before lt come =
+    come_on t h h (at_leaves t e count) (at_list t (bid_in (body_of t e) i)) limit limit (λ q marked. marked) (omega arith)
+    (λ k le. elim (leaves_or_deep t e limit k i before) [
+      | inl none ↦ inr (k, omega arith, le, (λ f at. first_at (at_leaf t e k) count i f none at lt))
+      | inr nests ↦ inl (first_front (at_leaf t e k) count i nesting nests (omega (arith, lt)))
+    ]) come
+
+-- ---- counts
+
+pub new_counted : (count old new next : ℕ) → new ≡ old + 1 → next ≡ raised count 1 → count ≡ raised old 0 → next ≡ raised new 0
+new_counted count old new next more one is = omega (arith, more, one, is)
+
+pub old_counted : (count old new : ℕ) → new ≡ old + 0 → count ≡ raised old 0 → count ≡ raised new 0
+old_counted count old new same is = omega (arith, same, is)

@@ -1,0 +1,5 @@
+use Rattle.pst_subnode.proofs.MarkLemmas.{nothing_known}
+use Rattle.pst_subnode.proofs.heights.Heights.new.Goals as goal
+
+pub returns-clause-known : goal.returns-clause-known
+returns-clause-known c t = nothing_known t _ c.new.ensures.empty
