@@ -1,1 +1,3 @@
+pub mod EachLemmas
 pub mod FirstLemmas
+pub mod ToldLemmas

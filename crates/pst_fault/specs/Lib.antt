@@ -1,3 +1,4 @@
+pub mod Each
 pub mod Fault
 pub mod First
 pub mod Kind
