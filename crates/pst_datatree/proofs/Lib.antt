@@ -11,3 +11,4 @@ pub mod KeyLemmas
 pub mod PassLemmas
 pub mod ByteLemmas
 pub mod SeenLemmas
+pub mod SliceLemmas

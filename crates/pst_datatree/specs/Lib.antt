@@ -10,3 +10,4 @@ pub mod Left
 pub mod After
 pub mod Shown
 pub mod Laws
+pub mod Slices

@@ -8,11 +8,13 @@ mod laws;
 mod list;
 mod look;
 mod make;
+mod number;
 mod pass;
 mod pieces;
 mod position;
 mod read;
 mod seen;
+mod slices;
 mod step;
 
 pub use bid::{is_internal, is_no_block};
@@ -20,10 +22,13 @@ pub use bytes::Value;
 pub use check::{check_data, missing_block};
 pub use laws::{data_decides, data_is_of_key, data_lies_inside, data_names_no_node};
 pub use look::leaf_count;
-pub use make::{spans, value};
+pub use make::{empty_value, spans, value, value_at};
 pub use pieces::Pieces;
 pub use seen::Seen;
+pub use slices::Slices;
 pub use step::leaf;
 
+#[cfg(test)]
+mod large_tests;
 #[cfg(test)]
 mod tests;

@@ -1,6 +1,6 @@
 //! Values of data trees and of their parts.
 
-ghost use Rattle.std.specs.Prelude.{◌≡◌, None, IfSome};
+ghost use Rattle.std.specs.Prelude.{◌≡◌, None, IfSome, [], ◌∷◌};
 ghost use Rattle.pst_bytes.specs.Image.{bytes_of, IsInside};
 ghost use Rattle.pst_block.specs.Blocks.{table_of, image_of};
 ghost use Rattle.pst_datatree.specs.Data.{data_spans, data_fault, size_of};
@@ -11,7 +11,7 @@ ghost use Rattle.pst_datatree.specs.Spans.{nonempty, first_span, joined_bytes, O
 use crate::bytes::Value;
 use crate::pieces::Pieces;
 use pst_block::Blocks;
-use pst_bytes::Span;
+use pst_bytes::{Image, Span};
 
 // The span that alone has bytes, an empty one where none has, and None where several have.
 fn only_span(pieces: Pieces) -> Option<Span>
@@ -61,4 +61,28 @@ pub fn spans<'a>(blocks: &Blocks<'a>, bid: u64) -> Pieces<'a>
     ensures file { file_of result ≡ image_of blocks.now }
 {
     Pieces::new(blocks, bid)
+}
+
+/// The value that has no span: an empty slice, at no place.
+pub fn empty_value(image: Image<'_>) -> Value<'_>
+    ensures shows { Shows image.entry [] result }
+    ensures bytes { bytes_in result ≡ [] }
+    ensures size { size_in result ≡ 0 }
+    ensures place { place_in result ≡ 0 }
+{
+    Value::Whole(0, image.slice(Span { at: 0, len: 0 }))
+}
+
+/// The value of one span of the file, without a copy.
+pub fn value_at(image: Image<'_>, span: Span) -> Value<'_>
+    requires { IsInside (bytes_of image) span }
+    ensures shows { Shows image.entry (span ∷ []) result }
+    ensures bytes { bytes_in result ≡ joined_bytes (bytes_of image.entry) (span ∷ []) }
+    ensures size { size_in result ≡ size_of (span ∷ []) }
+    ensures place { place_in result ≡ (first_span (nonempty (span ∷ []))).at }
+{
+    if span.len == 0 {
+        return empty_value(image);
+    }
+    Value::Whole(span.at, image.slice(span))
 }

@@ -15,7 +15,12 @@ use pst_block::{BlockEntry, Blocks};
 
 // The position behind the next XBLOCK of an XXBLOCK, where its data blocks are all used up or its bytes all passed over, and
 // how many bytes are to be passed over from there.
-fn pass_of_xxblock(blocks: &Blocks, entry: BlockEntry, at: Position, skip: u64) -> Option<(Position, u64)>
+fn pass_of_xxblock(
+    blocks: &Blocks,
+    entry: BlockEntry,
+    at: Position,
+    skip: u64,
+) -> Option<(Position, u64)>
     requires within { IsWithin (table_of blocks.now).image entry }
     requires sound { xxblock_fault (table_of blocks.now) entry ≡ None }
     ensures { Passes (xxblock_left (table_of blocks.now) entry) at skip result }
@@ -45,7 +50,12 @@ fn pass_of_xxblock(blocks: &Blocks, entry: BlockEntry, at: Position, skip: u64) 
 
 // The same of an internal block: an XBLOCK is none of its own.
 #[tactic(auto, unfolding(crate::specs::Position::tree_left, crate::specs::Data::tree_fault))]
-fn pass_of_tree(blocks: &Blocks, entry: BlockEntry, at: Position, skip: u64) -> Option<(Position, u64)>
+fn pass_of_tree(
+    blocks: &Blocks,
+    entry: BlockEntry,
+    at: Position,
+    skip: u64,
+) -> Option<(Position, u64)>
     requires within { IsWithin (table_of blocks.now).image entry }
     requires sound { tree_fault (table_of blocks.now) entry ≡ None }
     ensures { Passes (tree_left (table_of blocks.now) entry) at skip result }
@@ -59,7 +69,12 @@ fn pass_of_tree(blocks: &Blocks, entry: BlockEntry, at: Position, skip: u64) -> 
 
 // The same of a block.
 #[tactic(auto, unfolding(crate::specs::Position::block_left, crate::specs::Data::block_fault))]
-fn pass_of_block(blocks: &Blocks, entry: BlockEntry, at: Position, skip: u64) -> Option<(Position, u64)>
+fn pass_of_block(
+    blocks: &Blocks,
+    entry: BlockEntry,
+    at: Position,
+    skip: u64,
+) -> Option<(Position, u64)>
     requires within { IsWithin (table_of blocks.now).image entry }
     requires sound { block_fault (table_of blocks.now) entry ≡ None }
     ensures { Passes (block_left (table_of blocks.now) entry) at skip result }

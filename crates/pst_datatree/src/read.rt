@@ -8,6 +8,7 @@ ghost use Rattle.pst_datatree.specs.Spans.{nonempty, first_span};
 use crate::bytes::Value;
 use crate::make::value_of;
 use crate::pieces::Pieces;
+use crate::slices::Slices;
 
 // The byte with a number among those that are left.
 #[tactic(auto, using(crate::proofs::ByteLemmas::byte_of_part, crate::proofs::ByteLemmas::no_byte))]
@@ -35,6 +36,7 @@ fn place_of(pieces: Pieces) -> u64
 impl<'a> Value<'a> {
     ghost use Rattle.std.specs.Prelude.{◌≤◌, ◌↔◌, IsSome, IsTrue, IfSome, length, slice_range};
     ghost use Rattle.pst_datatree.specs.Shown.{bytes_in, size_in, place_in, IsPart};
+    ghost use Rattle.pst_datatree.specs.Slices.{value_slices, slices_in, AreOf};
 
     /// How many bytes the value has.
     pub fn len(&self) -> u64
@@ -95,5 +97,15 @@ impl<'a> Value<'a> {
             }
             Value::Pieces(pieces) => value_of(pieces.part(from, to)),
         })
+    }
+
+    /// Its slices in order: the one slice of a whole value, else one for each span.
+    #[tactic(auto, using(crate::proofs::SliceLemmas::value_bytes))]
+    pub fn slices(&self) -> Slices<'a>
+        ensures slices { slices_in result ≡ value_slices self.now }
+        ensures bytes { concat (slices_in result) ≡ bytes_in self.now }
+        ensures own { AreOf self.now result }
+    {
+        Slices::new(self)
     }
 }
