@@ -42,8 +42,7 @@ looks_inside order I end at e =
     let a = and_parts _ _ e in
     let b = and_parts _ _ a.0 in
     let c = and_parts _ _ b.0 in
-    let d = and_parts _ _ c.0 in
-    leb-true _ _ d.0
+    leb-true _ _ c.0
 
 pub old_no : (order : BitOrder) (I : List ℕ) (end at n : ℕ) (claimed : Claimed) → looks_old order I end at ≡ false → old_step order I end (record { claimed = claimed; count = n }) at ≡ record { claimed = claimed; count = n + 0 }
 unfolding old_step

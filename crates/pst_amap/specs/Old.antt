@@ -8,9 +8,10 @@ use Rattle.pst_amap.specs.declared.report.BitOrder.{BitOrder}
 use Rattle.pst_amap.specs.Map.{has_map_trailer}
 use Rattle.pst_amap.specs.Marks.{is_marked}
 
--- a free map (82) or free page map (85)
-abbrev pub is_old_type : ℕ → Bool
-is_old_type n = nat_eq n 0x82 || nat_eq n 0x85
+-- The two type bytes of a page (2.2.2.7.1) say one type twice: a free map (82) or a free page map (85). Either may lie at
+-- either of the two places; a page that says one type and then the other is no map page.
+abbrev pub is_old_type : ℕ → ℕ → Bool
+is_old_type ptype repeated = (nat_eq ptype 0x82 || nat_eq ptype 0x85) && nat_eq repeated ptype
 
 -- so many units from one on are marked
 abbrev pub are_marked : BitOrder → List ℕ → ℕ → ℕ → Bool
@@ -20,7 +21,7 @@ are_marked order I unit (suc n) = is_marked order I unit && are_marked order I (
 -- what lies there is an old map page, and all of its units are marked
 unfoldable pub looks_old : BitOrder → List ℕ → ℕ → ℕ → Bool
 looks_old order I end at =
-    nat_le (at + 512) end && is_old_type (num I (at + 496) 1) && is_old_type (num I (at + 497) 1) && has_map_trailer I at
+    nat_le (at + 512) end && is_old_type (num I (at + 496) 1) (num I (at + 497) 1) && has_map_trailer I at
     && are_marked order I ((at - 17408) / 64) 8
 
 -- it is claimed, where it is on nothing that is

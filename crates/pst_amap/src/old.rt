@@ -14,10 +14,11 @@ use pst_bytes::{Image, Span};
 use pst_header::Header;
 use pst_space::Claims;
 
-fn is_old_type(kind: u8) -> bool
-    ensures { result ≡ old_type kind }
+// Whether the two type bytes of a page are those of an old map page.
+fn is_old_type(ptype: u8, repeated: u8) -> bool
+    ensures { result ≡ old_type ptype repeated }
 {
-    kind == 0x82 || kind == 0x85
+    (ptype == 0x82 || ptype == 0x85) && repeated == ptype
 }
 
 // Whether so many units from one on are marked.
@@ -45,8 +46,7 @@ fn looks_old(image: Image, header: &Header, order: BitOrder, at: u64) -> bool
     ensures { result ≡ old order (bytes_of image.entry) (end_of header.now) at }
 {
     at + 512 <= header.end()
-        && is_old_type(image.number8(at + 496))
-        && is_old_type(image.number8(at + 497))
+        && is_old_type(image.number8(at + 496), image.number8(at + 497))
         && has_map_trailer(image, at)
         && are_marked(image, header, order, (at - 17408) / 64, 8)
 }

@@ -99,6 +99,8 @@ fn what_is_claimed_is_marked(rt: HostRuntime) -> Result<(), Fail> {
     Ok(())
 }
 
+// Neither order fits. The fault is told most significant bit first: with 0x01 that is the first block, though the other
+// order lacks the second alone.
 #[test]
 fn what_is_missing_is_told(rt: HostRuntime) -> Result<(), Fail> {
     for (byte, at) in [
@@ -106,6 +108,7 @@ fn what_is_missing_is_told(rt: HostRuntime) -> Result<(), Fail> {
         (0x00, 0x4c00),
         (0x40, 0x4c00),
         (0x02, 0x4c00),
+        (0x01, 0x4c00),
     ] {
         let image = small_store(rt.alloc(), byte)?;
         let (report, _) = compared(rt.alloc(), &image, &SMALL, 0)?;
@@ -143,8 +146,8 @@ fn a_map_page_has_to_be_good(rt: HostRuntime) -> Result<(), Fail> {
     Ok(())
 }
 
-// Two regions with no tree, and a page of a type behind the second allocation map, whose units are marked or not.
-fn two_regions(alloc: Global, kinds: [u8; 2], marks: u8) -> Result<Vec<u8>, Fail> {
+// Two regions with no tree, and a page of two types at one of the two places, whose units are marked by these bytes.
+fn two_regions(alloc: Global, at: u64, kinds: [u8; 2], marks: [u8; 2]) -> Result<Vec<u8>, Fail> {
     let small = m0(alloc)?;
     let mut image = vec![in alloc; 0u8; 525_312]?;
     set(&mut image, 0, small.get(..564).ok_or("too short")?)?;
@@ -158,47 +161,79 @@ fn two_regions(alloc: Global, kinds: [u8; 2], marks: u8) -> Result<Vec<u8>, Fail
         &[0x84, 0x84, 0, 0, 0, 0, 0, 0, 0x00, 0x44],
     )?;
     seal(&mut image, 0x4400)?;
-    set(&mut image, 271_360, &[0xff, 0x00, marks])?;
+    set(&mut image, 271_360, &[0xff, 0x00, marks[0], marks[1]])?;
     set(
         &mut image,
         271_360 + 496,
         &[0x84, 0x84, 0, 0, 0, 0, 0, 0, 0x00, 0x24, 0x04],
     )?;
     seal(&mut image, 271_360)?;
-    set(
-        &mut image,
-        272_384 + 496,
-        &[kinds[0], kinds[1], 0, 0, 0, 0, 0, 0, 0x00, 0x28, 0x04],
-    )?;
-    seal(&mut image, 272_384)?;
+    let page = usize::try_from(at)?;
+    set(&mut image, page.saturating_add(496), &kinds)?;
+    set(&mut image, page.saturating_add(504), &at.to_le_bytes())?;
+    seal(&mut image, at)?;
     Ok(image)
 }
 
 #[test]
 fn old_map_pages_are_claimed(rt: HostRuntime) -> Result<(), Fail> {
-    let run = Span {
-        at: 272_384,
-        len: 512,
-    };
-    let front = Span {
-        at: 272_384,
-        len: 448,
-    };
-    let rows = [
-        ([0x82, 0x82], 0xff, 1, None, true),
-        ([0x85, 0x85], 0xff, 1, None, true),
-        ([0x82, 0x85], 0xff, 1, None, true),
-        ([0x83, 0x83], 0xff, 0, Some(run), false),
-        ([0x82, 0x82], 0x00, 0, None, false),
-        ([0x82, 0x82], 0xfe, 0, Some(front), false),
+    // Both places, the first unit of a page there, and the bytes that mark its units.
+    let places = [
+        (272_384, 3_984, [0xff, 0x00]),
+        (272_896, 3_992, [0x00, 0xff]),
     ];
-    for (kinds, marks, old_maps, lost, claimed) in rows {
-        let image = two_regions(rt.alloc(), kinds, marks)?;
-        let (report, is_claimed) = compared(rt.alloc(), &image, &[], 3968 + 16)?;
+    let types = [
+        ([0x82, 0x82], true),
+        ([0x85, 0x85], true),
+        ([0x82, 0x85], false),
+        ([0x85, 0x82], false),
+        ([0x83, 0x83], false),
+    ];
+    for (at, unit, marks) in places {
+        for (kinds, is_old) in types {
+            let image = two_regions(rt.alloc(), at, kinds, marks)?;
+            let (report, is_claimed) = compared(rt.alloc(), &image, &[], unit)?;
+            let report = report.map_err(|_| Fail::from("refused"))?;
+            let lost = if is_old {
+                None
+            } else {
+                Some(Span { at, len: 512 })
+            };
+            assert_eq!(rt; report.old_maps, u64::from(is_old), "{kinds:?} at {at}");
+            assert_eq!(rt;
+                report.lost.as_slice(),
+                lost.as_slice(),
+                "{kinds:?} at {at}"
+            );
+            assert_eq!(rt; is_claimed, is_old, "{kinds:?} at {at}");
+        }
+    }
+    Ok(())
+}
+
+// The first unit behind the map pages is claimed, so that its mark in the first map says the order of bits. A page whose
+// units are not all marked is no old map page; what is lost is read in the same order.
+#[test]
+fn one_order_is_read_everywhere(rt: HostRuntime) -> Result<(), Fail> {
+    let rows = [
+        (0x80, BitOrder::High, 0x82, 0xff, 1, None),
+        (0x80, BitOrder::High, 0x82, 0x00, 0, None),
+        (0x80, BitOrder::High, 0x82, 0xfe, 0, Some((272_384, 448))),
+        (0x01, BitOrder::Low, 0x82, 0xff, 1, None),
+        (0x01, BitOrder::Low, 0x85, 0xff, 0, Some((272_384, 512))),
+        (0x01, BitOrder::Low, 0x82, 0x7f, 0, Some((272_384, 448))),
+        (0x01, BitOrder::Low, 0x82, 0xfe, 0, Some((272_448, 448))),
+    ];
+    for (mark, order, kind, marks, old_maps, lost) in rows {
+        let mut image = two_regions(rt.alloc(), 272_384, [0x82, kind], [marks, 0])?;
+        set(&mut image, 0x4402, &[mark])?;
+        seal(&mut image, 0x4400)?;
+        let (report, _) = compared(rt.alloc(), &image, &[(0x4800, 64)], 0)?;
         let report = report.map_err(|_| Fail::from("refused"))?;
+        let lost = lost.map(|(at, len)| Span { at, len });
+        assert_eq!(rt; report.order, order);
         assert_eq!(rt; report.old_maps, old_maps, "marks {marks}");
         assert_eq!(rt; report.lost.as_slice(), lost.as_slice(), "marks {marks}");
-        assert_eq!(rt; is_claimed, claimed, "marks {marks}");
     }
     Ok(())
 }

@@ -167,3 +167,28 @@ fn lengths_of_a_file(rt: HostRuntime) -> Result<(), Fail> {
     assert!(rt; read_header(Image::new(&longer)).is_ok());
     Ok(())
 }
+
+// Behind the ninth map stands a page map, so the file may end neither in the map nor in the page map. Behind the eighth
+// there is none.
+#[test]
+fn the_page_map_behind_a_map(rt: HostRuntime) -> Result<(), Fail> {
+    let eighth = 1_795_072_u64;
+    let ninth = 2_049_024_u64;
+    let mut image = small_store(rt.alloc(), 2_050_048)?;
+    for (last, eof, is_good) in [
+        (eighth, 1_795_583_u64, false),
+        (eighth, 1_795_584, true),
+        (ninth, 2_049_535, false),
+        (ninth, 2_049_536, false),
+        (ninth, 2_050_047, false),
+        (ninth, 2_050_048, true),
+    ] {
+        set(&mut image, 184, &eof.to_le_bytes())?;
+        set(&mut image, 192, &last.to_le_bytes())?;
+        seal(&mut image)?;
+        let fault = read_header(Image::new(&image)).err();
+        let root = refused(Kind::Root, 192).err();
+        assert_eq!(rt; fault, if is_good { None } else { root }, "eof {eof}");
+    }
+    Ok(())
+}
