@@ -1,6 +1,6 @@
 -- All blocks are walked without fault exactly where they are good and can be claimed; and what is claimed at a fault.
 use Rattle.std.proofs.Common.{◌≡◌, ℕ, List, [], ◌∷◌, Option, Some, None, Result, Ok, Err, refl, sym, ap, ◌∙◌, ◌⊎◌, inl, inr}
-use Rattle.std.specs.Prelude.{OnOk, IsOk}
+use Rattle.std.specs.Prelude.{OnOk, IsOk, ◌↔◌}
 use Rattle.pst_bytes.specs.declared.span.Span.{Span}
 use Rattle.pst_fault.specs.declared.fault.Fault.{Fault}
 use Rattle.pst_fault.proofs.FirstLemmas.{both_none}
@@ -12,7 +12,9 @@ use Rattle.pst_block.specs.Fault.{place_fault, trailer_fault, block_fault}
 use Rattle.pst_block.specs.Good.{GoodBlock}
 use Rattle.pst_block.specs.Walk.{block_step, blocks_walk, blocks_fault, block_spans, Ends, AreGood, BlocksLaw}
 use Rattle.pst_block.proofs.BlockLaws.{place_law, trailer_law, block_law}
+use Rattle.pst_space.proofs.ApartLemmas.{claims_law}
 use Rattle.pst_block.proofs.WalkLemmas.{go_on, stop, done}
+use Rattle.pst_block.proofs.UnitLemmas.{blocks_units}
 
 -- ---- one block
 
@@ -79,7 +81,7 @@ first_claim : (old new : Claimed) (s : Span) (ss : List Span) (o : Option Claime
 first_claim old new s ss None c e = absurd (none_is new (rw c at e))
 first_claim old new s ss (Some next) c e = (next, c, rw c at e)
 
-walked_good : (end : ℕ) (I : List ℕ) (old new : Claimed) (entries : List BlockEntry) → blocks_walk end I old entries ≡ Ok new → AreGood I end entries × (claim_all old (block_spans entries) ≡ Some new)
+pub walked_good : (end : ℕ) (I : List ℕ) (old new : Claimed) (entries : List BlockEntry) → blocks_walk end I old entries ≡ Ok new → AreGood I end entries × (claim_all old (block_spans entries) ≡ Some new)
 walked_good end I old new [] h = (tt, rw (ok_is old new (sym (done end I old) ∙ h)) refl)
 walked_good end I old new (e ∷ rest) h = by_step (block_step end I old e) refl (λ more. walked_good end I more new rest)
   where
@@ -97,8 +99,18 @@ good_walked end I old new (e ∷ rest) g c =
     let one = first_claim old new (block_span e) (block_spans rest) _ refl c in
     go_on end I old one.0 e rest (good_step end I old one.0 e g.0 one.1) ∙ good_walked end I one.0 new rest g.1 one.2
 
+-- by claims, one after another
+pub blocks_claims : (I : List ℕ) (end : ℕ) (old new : Claimed) (entries : List BlockEntry) → (AreGood I end entries × (claim_all old (block_spans entries) ≡ Some new)) ↔ (blocks_walk end I old entries ≡ Ok new)
+blocks_claims I end old new entries = (λ (g, c). good_walked end I old new entries g c, λ h. walked_good end I old new entries h)
+
 pub blocks_law : BlocksLaw
-blocks_law I end old new entries = (λ (g, c). good_walked end I old new entries g c, λ h. walked_good end I old new entries h)
+blocks_law I end old new entries long = (
+  λ (g, c). good_walked end I old new entries g ((claims_law old new (block_spans entries) (blocks_units I end old entries long g)).1 (c.free, c.apart, c.claims)),
+  λ h.
+      let both = walked_good end I old new entries h in
+      let c = (claims_law old new (block_spans entries) (blocks_units I end old entries long both.0)).0 both.1 in
+      (both.0, record { free = c.0; apart = c.1; claims = c.2 }),
+)
 
 -- ---- what a check says
 

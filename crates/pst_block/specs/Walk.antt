@@ -1,11 +1,12 @@
 -- All blocks of a file, in the order of their keys: what is claimed once they are, or the first fault. The place, the claim
 -- and the trailer of one block come before the next block.
-use Rattle.std.specs.Prelude.{◌≡◌, ⊤, ℕ, ◌↔◌, List, [], ◌∷◌, map, Option, Some, None, Result, Ok, Err}
+use Rattle.std.specs.Prelude.{◌≡◌, ⊤, ℕ, ◌-◌, ◌/◌, ◌↔◌, List, [], ◌∷◌, length, map, Option, Some, None, Result, Ok, Err}
 use Rattle.pst_bytes.specs.declared.span.Span.{Span}
 use Rattle.pst_fault.specs.declared.fault.Fault.{Fault}
 use Rattle.pst_fault.specs.First.{◌then◌}
 use Rattle.pst_page.specs.declared.entry.BlockEntry.{BlockEntry}
-use Rattle.pst_space.specs.Claimed.{Claimed, claim_all}
+use Rattle.pst_space.specs.Claimed.{Claimed, with_spans}
+use Rattle.pst_space.specs.Apart.{AreFree, AreApart}
 use Rattle.pst_space.specs.Step.{Step, ◌>>=◌, unless, claim_step}
 use Rattle.pst_block.specs.Block.{block_span}
 use Rattle.pst_block.specs.Fault.{place_fault, trailer_fault, block_fault}
@@ -44,6 +45,13 @@ AreGood I end (e ∷ rest) = GoodBlock I end e × AreGood I end rest
 abbrev pub block_spans : List BlockEntry → List Span
 block_spans entries = map block_span entries
 
--- There is no fault exactly where all blocks are good, and have no byte in common with what is claimed or with each other.
+-- what blocks have claimed: they have no byte in common with what was claimed, and none with each other
+pub record AreClaimed (old new : Claimed) (entries : List BlockEntry) : Type 0 where
+  pub free : AreFree old (block_spans entries)
+  pub apart : AreApart (block_spans entries)
+  pub claims : new ≡ with_spans old (block_spans entries)
+
+-- Where each unit of the mapped part has its flag, there is no fault exactly where all blocks are good, and lie on nothing
+-- that is claimed and not on each other.
 abbrev pub BlocksLaw : Type 0
-BlocksLaw = (I : List ℕ) (end : ℕ) (old new : Claimed) (entries : List BlockEntry) → (AreGood I end entries × (claim_all old (block_spans entries) ≡ Some new)) ↔ (blocks_walk end I old entries ≡ Ok new)
+BlocksLaw = (I : List ℕ) (end : ℕ) (old new : Claimed) (entries : List BlockEntry) → length old ≡ (end - 17408) / 64 → (AreGood I end entries × AreClaimed old new entries) ↔ (blocks_walk end I old entries ≡ Ok new)

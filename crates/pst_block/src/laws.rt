@@ -8,8 +8,8 @@ pub fn block_decides()
     ensures { BlockLaw }
 {}
 
-/// All blocks are checked without fault exactly where each is good, and they have no byte in common with what is claimed or
-/// with each other.
+/// Where each unit of the mapped part has its flag, all blocks are checked without fault exactly where each is good, and they
+/// have no byte in common with what is claimed or with each other.
 pub fn blocks_decide()
     ensures { BlocksLaw }
 {}

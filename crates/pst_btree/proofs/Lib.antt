@@ -8,4 +8,5 @@ pub mod OrderLemmas
 pub mod RiseLemmas
 pub mod SomeLemmas
 pub mod TreeLaws
+pub mod UnitLemmas
 pub mod WalkLemmas

@@ -1,6 +1,6 @@
 -- What a walk that finds no fault says of the image, and back.
-use Rattle.std.proofs.Common.{◌≡◌, ℕ, suc, zero, ◌+◌, Bool, true, false, ◌&&◌, cond, List, [], ◌∷◌, ◌++◌, length, map, Option, Some, None, Result, Ok, Err, refl, sym, ap, subst, ◌∙◌, append_assoc, inl, inr, arith}
-use Rattle.std.specs.Prelude.{option_and_then, IfErr}
+use Rattle.std.proofs.Common.{◌≡◌, ℕ, suc, zero, ◌+◌, ◌≤◌, Bool, true, false, ◌&&◌, cond, List, [], ◌∷◌, ◌++◌, length, map, Option, Some, None, Result, Ok, Err, refl, sym, ap, subst, ◌∙◌, append_assoc, inl, inr, arith}
+use Rattle.std.specs.Prelude.{option_and_then, IfErr, ◌↔◌}
 use Rattle.std.proofs.lemmas.Bool.{leb-true, le-leb}
 use Rattle.std.proofs.lemmas.List.{append-nil, map-append, length-append}
 use Rattle.pst_bytes.specs.declared.span.Span.{Span}
@@ -15,10 +15,12 @@ use Rattle.pst_page.specs.Fault.{open_fault, level_fault}
 use Rattle.pst_page.proofs.PageLaws.{place_law, open_law, level_law}
 use Rattle.pst_space.specs.Claimed.{Claimed, claim_of, claim_all}
 use Rattle.pst_space.specs.Step.{Step, ◌>>=◌, unless, claimed_or, GivesBy}
+use Rattle.pst_space.proofs.ApartLemmas.{claims_law}
 use Rattle.pst_btree.specs.Laws.{WalkLaw, OneTreeLaw}
 use Rattle.pst_btree.specs.Order.{order_fault, Rises}
 use Rattle.pst_btree.specs.Walk.{Found, found_so_far, nothing_found, Visit, body_fault, children, walk_of, tree_walk, opened, next_key}
 use Rattle.pst_btree.specs.Tree.{tree_at, forest_at, IsTreeAt, IsTree, Tree, leaf, branch, Forest, none, more, root_of, entries_of, forest_entries, pages_of, forest_pages, span_of, tree_spans, IsPage, Spells, SpellsEach, keys_of, next_of, Bounded, BoundedEach}
+use Rattle.pst_btree.proofs.UnitLemmas.{tree_units}
 
 bind_ok : {A B : Type 0} (r : Step A) (f : A → Step B) (y : B) → (r >>= f) ≡ Ok y → (x : A) × (r ≡ Ok x) × (f x ≡ Ok y)
 bind_ok (Ok x) f y e = (x, refl, e)
@@ -294,6 +296,15 @@ spelt_level kind I end zero (branch page forest) s = absurd s
 spelt_level kind I end (suc level) (leaf page entries) s = absurd s
 spelt_level kind I end (suc level) (branch page forest) s = s.0.level_is
 
+-- a page says a level of 15 at most, so no tree is higher
+pub tree_low : (kind : PageKind) (I : List ℕ) (end level : ℕ) (tree : Tree) → Spells kind I end level tree → level ≤ 15
+tree_low kind I end zero tree s = omega arith
+tree_low kind I end (suc level) (leaf page entries) s = absurd s
+tree_low kind I end (suc level) (branch page forest) s = omega (arith, s.0.shape.low, s.0.level_is)
+
+pub low_there : (kind : PageKind) (I : List ℕ) (end level : ℕ) (page : Bref) (low : ℕ) (high : Option ℕ) → IsTreeAt kind I end level page low high → level ≤ 15
+low_there kind I end level page low high t = tree_low kind I end level (tree_at kind I level page) t.spells
+
 -- where there is a tree that can be claimed, the walk finds it
 pub tree_is_walked : (kind : PageKind) (I : List ℕ) (end level : ℕ) (claimed new : Claimed) (tree : Tree) (page : Bref) → IsTree kind I end page level tree → claim_all claimed (tree_spans tree) ≡ Some new
     → tree_walk kind I end claimed page ≡ Ok (found_so_far new (entries_of tree) (length (pages_of tree)))
@@ -325,14 +336,33 @@ tree_there kind I end level page t = record { root_is = root_at kind I level pag
 found_is : (found : Found) (entries : List ℕ) (pages : ℕ) → found.entries ≡ entries → found.pages ≡ pages → (let s : Step Found = Ok (found_so_far found.claimed entries pages) in s ≡ Ok found)
 found_is found entries pages e p = rw (← e, ← p) refl
 
-pub walk_law : WalkLaw
-walk_law kind I end claimed root found = (
+-- what was found is of this tree, whose pages are claimed one after another
+pub record IsClaimedOf (claimed : Claimed) (found : Found) (tree : Tree) : Type 0 where
+  pub entries : found.entries ≡ entries_of tree
+  pub pages : found.pages ≡ length (pages_of tree)
+  pub claims : claim_all claimed (tree_spans tree) ≡ Some found.claimed
+
+pub walk_claims : (kind : PageKind) (I : List ℕ) (end : ℕ) (claimed : Claimed) (root : Bref) (found : Found) →
+    (tree_walk kind I end claimed root ≡ Ok found) ↔ ((level : ℕ) × (tree : Tree) × IsTree kind I end root level tree × IsClaimedOf claimed found tree)
+walk_claims kind I end claimed root found = (
   λ e.
       let h = has_walked kind I end (level_at I root.ib) (nothing_found claimed) found root 0 None e in
       let count : 0 + length (pages_of (tree_at kind I (level_at I root.ib) root)) ≡ length (pages_of (tree_at kind I (level_at I root.ib) root)) = omega arith in
       (level_at I root.ib, tree_at kind I (level_at I root.ib) root, tree_there kind I end (level_at I root.ib) root h.tree, record { entries = h.entries; pages = h.pages ∙ count; claims = h.claims }),
   λ (level, tree, t, f). tree_is_walked kind I end level claimed found.claimed tree root t f.claims ∙ found_is found _ _ f.entries f.pages,
 )
+
+pub walk_law : WalkLaw
+walk_law kind I end claimed root found long =
+    let claims = walk_claims kind I end claimed root found in (
+      λ e.
+          let (level, tree, t, f) = claims.0 e in
+          let apart = (claims_law claimed found.claimed (tree_spans tree) (tree_units kind I end level claimed tree long t.spells)).0 f.claims in
+          (level, tree, t, record { entries = f.entries; pages = f.pages; free = apart.0; apart = apart.1; claims = apart.2 }),
+      λ (level, tree, t, f).
+          let all = (claims_law claimed found.claimed (tree_spans tree) (tree_units kind I end level claimed tree long t.spells)).1 (f.free, f.apart, f.claims) in
+          claims.1 (level, tree, t, record { entries = f.entries; pages = f.pages; claims = all }),
+    )
 
 pub one_tree_law : OneTreeLaw
 one_tree_law kind I end root level other tree second t u =

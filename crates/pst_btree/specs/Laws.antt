@@ -1,8 +1,9 @@
 -- What a walk without fault says of the image.
-use Rattle.std.specs.Prelude.{◌≡◌, ℕ, ◌↔◌, List, length, Some, Ok}
+use Rattle.std.specs.Prelude.{◌≡◌, ℕ, ◌-◌, ◌/◌, ◌↔◌, List, length, Ok}
 use Rattle.pst_header.specs.declared.header.Bref.{Bref}
 use Rattle.pst_page.specs.declared.kind.PageKind.{PageKind}
-use Rattle.pst_space.specs.Claimed.{Claimed, claim_all}
+use Rattle.pst_space.specs.Claimed.{Claimed, with_spans}
+use Rattle.pst_space.specs.Apart.{AreFree, AreApart}
 use Rattle.pst_btree.specs.Tree.{Tree, IsTree, entries_of, pages_of, tree_spans}
 use Rattle.pst_btree.specs.Walk.{Found, tree_walk}
 
@@ -10,13 +11,17 @@ use Rattle.pst_btree.specs.Walk.{Found, tree_walk}
 pub record IsFoundOf (claimed : Claimed) (found : Found) (tree : Tree) : Type 0 where
   pub entries : found.entries ≡ entries_of tree
   pub pages : found.pages ≡ length (pages_of tree)
-  -- its pages have no byte in common with what was claimed, or with each other, and are claimed now
-  pub claims : claim_all claimed (tree_spans tree) ≡ Some found.claimed
+  -- its pages have no byte in common with what was claimed, and none with each other
+  pub free : AreFree claimed (tree_spans tree)
+  pub apart : AreApart (tree_spans tree)
+  -- and they are claimed now
+  pub claims : found.claimed ≡ with_spans claimed (tree_spans tree)
 
--- There is no fault exactly where the image spells a tree under the root, whose keys keep their bounds and whose pages can
--- be claimed; and what is found is that tree's.
+-- Where each unit of the mapped part has its flag, there is no fault exactly where the image spells a tree under the root,
+-- whose keys keep their bounds and whose pages lie on nothing that is claimed and not on each other; and what is found is
+-- that tree's.
 abbrev pub WalkLaw : Type 0
-WalkLaw = (kind : PageKind) (I : List ℕ) (end : ℕ) (claimed : Claimed) (root : Bref) (found : Found) →
+WalkLaw = (kind : PageKind) (I : List ℕ) (end : ℕ) (claimed : Claimed) (root : Bref) (found : Found) → length claimed ≡ (end - 17408) / 64 →
     (tree_walk kind I end claimed root ≡ Ok found) ↔ ((level : ℕ) × (tree : Tree) × IsTree kind I end root level tree × IsFoundOf claimed found tree)
 
 -- An image spells at most one tree under a root.

@@ -58,9 +58,11 @@ impl<'a> BlockTree<'a> {
         self.view.pages
     }
 
-    /// The level of its root: 0 for a leaf.
+    /// The level of its root: 0 for a leaf, and at most 15.
+    #[tactic(auto, using(crate::proofs::TreeLaws::low_there))]
     pub fn level(&self) -> u8
-        ensures { result ≡ (block_view self.now).level }
+        ensures value { result ≡ (block_view self.now).level }
+        ensures most { result ≤ 15 }
     {
         self.view.level
     }

@@ -9,8 +9,9 @@ ghost use Rattle.pst_btree.specs.Trees.{block_entries, node_entries};
 use crate::block_tree::BlockTree;
 use crate::node_tree::NodeTree;
 
-/// A walk finds no fault exactly where the file spells a tree under the root, whose keys keep their bounds and whose pages
-/// have no byte in common with what is claimed or with each other; and there is one such tree at most.
+/// Where each unit of the mapped part has its flag, a walk finds no fault exactly where the file spells a tree under the
+/// root, whose keys keep their bounds and whose pages have no byte in common with what is claimed or with each other; and
+/// there is one such tree at most.
 pub fn walk_decides()
     ensures law { WalkLaw }
     ensures one { OneTreeLaw }

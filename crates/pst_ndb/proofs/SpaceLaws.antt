@@ -13,17 +13,19 @@ use Rattle.pst_page.specs.Page.{level_at}
 use Rattle.pst_space.specs.Claimed.{Claimed, unit_total, map_pages, nothing_claimed, maps_claimed, claim_of, claim_all}
 use Rattle.pst_space.specs.Apart.{AreApart, AreUnits}
 use Rattle.pst_space.specs.Step.{Step, ◌>>=◌}
-use Rattle.pst_space.proofs.ApartLemmas.{apart_law}
+use Rattle.pst_space.proofs.ApartLemmas.{apart_law, units_append}
 use Rattle.pst_space.proofs.MapLemmas.{maps_law}
 use Rattle.pst_btree.specs.Tree.{Tree, root_of, entries_of, pages_of, tree_at, tree_spans}
 use Rattle.pst_btree.specs.Walk.{found_so_far, tree_walk}
-use Rattle.pst_btree.proofs.TreeLaws.{walk_law, tree_is, spelt_level}
+use Rattle.pst_btree.proofs.TreeLaws.{walk_claims, tree_is, spelt_level}
+use Rattle.pst_btree.proofs.UnitLemmas.{tree_units}
 use Rattle.pst_block.specs.Walk.{AreGood, block_spans}
-use Rattle.pst_block.proofs.WalkLaws.{blocks_law}
+use Rattle.pst_block.proofs.WalkLaws.{blocks_claims}
+use Rattle.pst_block.proofs.UnitLemmas.{blocks_units}
 use Rattle.pst_ndb.specs.Entries.{tree_under, block_list}
 use Rattle.pst_ndb.specs.Space.{space_walk, space_claimed}
 use Rattle.pst_ndb.specs.Database.{IsSpelt, blocks_in, used_spans}
-use Rattle.pst_ndb.proofs.UnitLemmas.{units_append, tree_units, blocks_units, maps_units}
+use Rattle.pst_ndb.proofs.UnitLemmas.{maps_units}
 use Rattle.pst_ndb.proofs.SpaceLemmas.{space_ends, space_is}
 
 -- ---- a tree that is spelt is the one that lies there
@@ -101,7 +103,7 @@ list_is I h blocks e = ap (blocks_in I) e
 spelt_walked : (kind : PageKind) (I : List ℕ) (end : ℕ) (root : Bref) (tree : Tree) (m next : Claimed) → IsSpelt kind I end root tree → claim_all m (tree_spans tree) ≡ Some next
     → tree_walk kind I end m root ≡ Ok (found_so_far next (entries_of tree) (length (pages_of tree)))
 spelt_walked kind I end root tree m next (level, t) e =
-    (walk_law kind I end m root (found_so_far next (entries_of tree) (length (pages_of tree)))).1 (level, tree, t, record { entries = refl; pages = refl; claims = e })
+    (walk_claims kind I end m root (found_so_far next (entries_of tree) (length (pages_of tree)))).1 (level, tree, t, record { entries = refl; pages = refl; claims = e })
 
 -- where space is used as it has to be, it is walked
 pub space_walked : (I : List ℕ) (h : Header) (blocks nodes : Tree) → Head I h → IsSpace I h blocks nodes → space_walk I h (maps_claimed h) ≡ Ok (space_claimed I h)
@@ -111,7 +113,7 @@ space_walked I h blocks nodes head s =
     let front = claim_parts (maps_claimed h) (tree_spans blocks ++ tree_spans nodes) (block_spans (blocks_in I blocks)) all.0 all.1 in
     let trees = claim_parts (maps_claimed h) (tree_spans blocks) (tree_spans nodes) front.0 front.1 in
     let list = list_is I h blocks (spelt_is Bbt I (end_of h) h.bbt blocks s.block_tree) in
-    let last = (blocks_law I (end_of h) front.0 all.0 (blocks_in I blocks)).0 (s.good, front.2) in
+    let last = (blocks_claims I (end_of h) front.0 all.0 (blocks_in I blocks)).0 (s.good, front.2) in
     let is = space_is I h (maps_claimed h) trees.0 front.0 all.0 blocks nodes (blocks_in I blocks) trees.1 trees.2 front.2
     (spelt_is Bbt I (end_of h) h.bbt blocks s.block_tree) (spelt_is Nbt I (end_of h) h.nbt nodes s.node_tree) list in
     space_ends I h (maps_claimed h) (found_so_far trees.0 (entries_of blocks) (length (pages_of blocks))) (found_so_far front.0 (entries_of nodes) (length (pages_of nodes))) (blocks_in I blocks) (Ok (space_claimed I h))
@@ -129,9 +131,9 @@ unfolding space_walk block_list
 walked_space I h new head e =
     let one = bind_ok (tree_walk Bbt I (end_of h) (maps_claimed h) h.bbt) _ new e in
     let two = bind_ok (tree_walk Nbt I (end_of h) one.0.claimed h.nbt) _ new one.2 in
-    let b = (walk_law Bbt I (end_of h) (maps_claimed h) h.bbt one.0).0 one.1 in
-    let n = (walk_law Nbt I (end_of h) one.0.claimed h.nbt two.0).0 two.1 in
-    let last = (blocks_law I (end_of h) two.0.claimed new (block_list I h)).1 two.2 in
+    let b = (walk_claims Bbt I (end_of h) (maps_claimed h) h.bbt one.0).0 one.1 in
+    let n = (walk_claims Nbt I (end_of h) one.0.claimed h.nbt two.0).0 two.1 in
+    let last = (blocks_claims I (end_of h) two.0.claimed new (block_list I h)).1 two.2 in
     let spelt_b : IsSpelt Bbt I (end_of h) h.bbt b.1 = (b.0, b.2) in
     let spelt_n : IsSpelt Nbt I (end_of h) h.nbt n.1 = (n.0, n.2) in
     let same_b = spelt_is Bbt I (end_of h) h.bbt b.1 spelt_b in

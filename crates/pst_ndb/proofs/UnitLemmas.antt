@@ -1,76 +1,22 @@
--- Pages and blocks take whole units of the mapped part.
+-- Map pages take whole units of the mapped part, and two trees have no more pages than the file has bytes.
 use Rattle.std.proofs.Common.{◌≡◌, ℕ, suc, zero, ◌+◌, ◌-◌, ◌*◌, ◌/◌, ◌%◌, ◌≤◌, Bool, true, false, cond, eqb, List, [], ◌∷◌, ◌++◌, length, map, Option, Some, None, refl, sym, ap, subst, ◌∙◌, arith}
 use Rattle.std.specs.Prelude.{option_and_then}
 use Rattle.std.proofs.Math.Nat.{min-le_left}
-use Rattle.std.proofs.lemmas.List.{map-append}
 use Rattle.std.proofs.lemmas.Bool.{eqb-true}
 use Rattle.pst_bytes.specs.declared.span.Span.{Span}
 use Rattle.pst_header.specs.declared.header.Header.{Header}
 use Rattle.pst_header.specs.declared.header.Bref.{Bref}
 use Rattle.pst_header.specs.Header.{end_of, amap_place, amap_count_of}
 use Rattle.pst_header.specs.Head.{IsLastMap}
-use Rattle.pst_page.specs.declared.kind.PageKind.{PageKind}
 use Rattle.pst_page.specs.declared.kind.PageKind.TheVariants.{Bbt, Nbt}
-use Rattle.pst_page.specs.declared.entry.BlockEntry.{BlockEntry}
-use Rattle.pst_page.specs.Page.{entries_at}
-use Rattle.pst_page.specs.Good.{IsPlace}
 use Rattle.pst_space.specs.Claimed.{Claimed, IsUnits, unit_total, page_at, map_pages_at, map_pages_below, map_pages, MapsFit, claim_of, claim_all}
 use Rattle.pst_space.specs.Apart.{AreUnits}
+use Rattle.pst_space.proofs.ApartLemmas.{units_append}
 use Rattle.pst_space.proofs.MapLemmas.{maps_fit, length_with_span}
-use Rattle.pst_btree.specs.Tree.{Tree, leaf, branch, Forest, none, more, pages_of, forest_pages, span_of, tree_spans, Spells, SpellsEach, IsTree}
+use Rattle.pst_btree.specs.Tree.{Tree, pages_of, span_of, tree_spans, IsTree}
 use Rattle.pst_btree.specs.Marked.{marked}
 use Rattle.pst_btree.proofs.MarkedLemmas.{marked_most, marked_page}
-use Rattle.pst_block.specs.Block.{block_span}
-use Rattle.pst_block.specs.Good.{GoodBlock}
-use Rattle.pst_block.specs.Walk.{AreGood, block_spans}
-use Rattle.pst_block.proofs.BlockLemmas.{size_large, size_whole}
-
-pub units_append : (m : Claimed) (xs ys : List Span) → AreUnits m xs → AreUnits m ys → AreUnits m (xs ++ ys)
-units_append m [] ys a b = b
-units_append m (x ∷ xs) ys a b = (a.0, units_append m xs ys a.1 b)
-
--- ---- pages of trees
-
-page_units : (end : ℕ) (m : Claimed) (page : Bref) → length m ≡ (end - 17408) / 64 → IsPlace end page.ib → IsUnits m (span_of page)
-page_units end m page long p = record {
-  mapped = p.mapped;
-  whole = p.whole_units;
-  whole_len = refl;
-  some = omega arith;
-  inside = omega (arith, long, p.mapped, p.whole_units, p.inside);
-}
-
-mutual
-  pub tree_units : (kind : PageKind) (I : List ℕ) (end level : ℕ) (m : Claimed) (tree : Tree) → length m ≡ (end - 17408) / 64 → Spells kind I end level tree → AreUnits m (tree_spans tree)
-  tree_units kind I end zero m (leaf page entries) long s = (page_units end m page long s.0.good.place, tt)
-  tree_units kind I end zero m (branch page children) long s = absurd s
-  tree_units kind I end (suc level) m (leaf page entries) long s = absurd s
-  tree_units kind I end (suc level) m (branch page children) long s = (page_units end m page long s.0.good.place, forest_units kind I end level m children (entries_at I page.ib) long s.1)
-
-  forest_units : (kind : PageKind) (I : List ℕ) (end level : ℕ) (m : Claimed) (forest : Forest) (places : List ℕ) → length m ≡ (end - 17408) / 64 → SpellsEach kind I end level forest places → AreUnits m (map span_of (forest_pages forest))
-  forest_units kind I end level m none places long s = tt
-  forest_units kind I end level m (more key tree rest) [] long s = absurd s
-  forest_units kind I end level m (more key tree rest) (at ∷ places) long s =
-      subst (AreUnits m) (sym (map-append span_of (pages_of tree) (forest_pages rest)))
-      (units_append m (map span_of (pages_of tree)) (map span_of (forest_pages rest)) (tree_units kind I end level m tree long s.2) (forest_units kind I end level m rest places long s.3))
-
--- ---- blocks
-
-block_units : (I : List ℕ) (end : ℕ) (m : Claimed) (e : BlockEntry) → length m ≡ (end - 17408) / 64 → GoodBlock I end e → IsUnits m (block_span e)
-block_units I end m e long g =
-    let large = size_large e.cb in
-    let whole = size_whole e.cb in
-    record {
-      mapped = g.place.mapped;
-      whole = g.place.whole_units;
-      whole_len = whole;
-      some = omega (arith, large);
-      inside = omega (arith, long, whole, g.place.mapped, g.place.whole_units, g.place.inside);
-    }
-
-pub blocks_units : (I : List ℕ) (end : ℕ) (m : Claimed) (entries : List BlockEntry) → length m ≡ (end - 17408) / 64 → AreGood I end entries → AreUnits m (block_spans entries)
-blocks_units I end m [] long g = tt
-blocks_units I end m (e ∷ entries) long g = (block_units I end m e long g.0, blocks_units I end m entries long g.1)
+use Rattle.pst_btree.proofs.UnitLemmas.{tree_units}
 
 -- ---- map pages
 

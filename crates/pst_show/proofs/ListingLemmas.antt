@@ -12,7 +12,7 @@ use Rattle.pst_space.specs.Claimed.{maps_claimed}
 use Rattle.pst_space.specs.Step.{Step, ◌>>=◌}
 use Rattle.pst_btree.specs.Tree.{entries_of, pages_of}
 use Rattle.pst_btree.specs.Walk.{Found, found_so_far, tree_walk}
-use Rattle.pst_btree.proofs.TreeLaws.{walk_law}
+use Rattle.pst_btree.proofs.TreeLaws.{walk_claims}
 use Rattle.pst_show.specs.Nodes.{listed, listed_under, trees_walk, nodes_of}
 use Rattle.pst_show.specs.Listing.{HasNodes, ListingLaw}
 
@@ -42,8 +42,8 @@ has_nodes I nodes e =
     let (none, walks) = under_header I nodes (header_fault I) h e in
     let (b, first, rest) = first_step I nodes (tree_walk Bbt I (end_of h) (maps_claimed h) h.bbt) (λ blocks. tree_walk Nbt I (end_of h) blocks.claimed h.nbt) walks in
     let (n, second, are) = list_is I nodes (tree_walk Nbt I (end_of h) b.claimed h.nbt) rest in
-    let (level, tree, t, f) = (walk_law Bbt I (end_of h) (maps_claimed h) h.bbt b).0 first in
-    let (nlevel, ntree, nt, nf) = (walk_law Nbt I (end_of h) b.claimed h.nbt n).0 second in
+    let (level, tree, t, f) = (walk_claims Bbt I (end_of h) (maps_claimed h) h.bbt b).0 first in
+    let (nlevel, ntree, nt, nf) = (walk_claims Nbt I (end_of h) b.claimed h.nbt n).0 second in
     record {
       header = h;
       head = (header_law I h).1 (none, refl);
@@ -66,8 +66,8 @@ lists_them I nodes has =
     let h = has.header in
     let b = found_so_far has.taken (entries_of has.block_tree) (length (pages_of has.block_tree)) in
     let n = found_so_far has.taken_then (entries_of has.node_tree) (length (pages_of has.node_tree)) in
-    let first = (walk_law Bbt I (end_of h) (maps_claimed h) h.bbt b).1 (has.block_level, has.block_tree, has.is_block_tree, record { entries = refl; pages = refl; claims = has.block_pages }) in
-    let second = (walk_law Nbt I (end_of h) has.taken h.nbt n).1 (has.node_level, has.node_tree, has.is_node_tree, record { entries = refl; pages = refl; claims = has.node_pages }) in
+    let first = (walk_claims Bbt I (end_of h) (maps_claimed h) h.bbt b).1 (has.block_level, has.block_tree, has.is_block_tree, record { entries = refl; pages = refl; claims = has.block_pages }) in
+    let second = (walk_claims Nbt I (end_of h) has.taken h.nbt n).1 (has.node_level, has.node_tree, has.is_node_tree, record { entries = refl; pages = refl; claims = has.node_pages }) in
     let both = step_again (tree_walk Bbt I (end_of h) (maps_claimed h) h.bbt) (λ blocks. tree_walk Nbt I (end_of h) blocks.claimed h.nbt) b first ∙ second in
     ap (listed_under I) (head_only I h has.head) ∙ ap (listed I) both ∙ ap (λ x. Ok x) (sym has.entries)
 

@@ -1,13 +1,13 @@
 -- Spans can be claimed one after another exactly where they are apart, and set the flags of their units.
-use Rattle.std.proofs.Common.{◌≡◌, ℕ, suc, zero, ◌+◌, ◌-◌, ◌*◌, ◌/◌, ◌%◌, ◌<◌, ◌≤◌, Bool, true, false, ◌&&◌, ◌||◌, List, [], ◌∷◌, length, replicate, Option, Some, None, refl, sym, ap, ◌∙◌, arith, ◌⊎◌, inl, inr, leb, ltb}
-use Rattle.std.specs.Prelude.{⊤, ◌↔◌}
+use Rattle.std.proofs.Common.{◌≡◌, ℕ, suc, zero, ◌+◌, ◌<◌, ◌≤◌, Bool, true, false, not, ◌&&◌, ◌||◌, List, [], ◌∷◌, ◌++◌, length, replicate, Option, Some, None, refl, sym, ap, ◌∙◌, arith, ◌⊎◌, inl, inr}
+use Rattle.std.specs.Prelude.{⊤}
 use Rattle.std.proofs.lemmas.List.{length-replicate}
 use Rattle.std.proofs.lemmas.Bool.{cases_lt, le-leb, lt-leb, lt-ltb, le-ltb}
 use Rattle.pst_bytes.specs.declared.span.Span.{Span}
 use Rattle.pst_space.specs.Claimed.{Claimed, first_unit, unit_count, flag_of, IsUnits, is_clear, with_span, with_spans, claim_of, claim_all}
-use Rattle.pst_space.specs.Apart.{end_of_span, IsApartFrom, IsApartFromAll, AreApart, AreUnits, covers, is_covered, ApartLaw, FlagsLaw}
-use Rattle.pst_space.proofs.MapLemmas.{length_with_span, length_with_spans}
-use Rattle.pst_space.proofs.MarkLemmas.{filled_in, filled_out, clear_filled, kept_filled, overlap, unset, clear_beyond}
+use Rattle.pst_space.specs.Apart.{end_of_span, IsApartFrom, IsApartFromAll, AreApart, AreUnits, AreFree, covers, is_covered, ClaimsLaw, ApartLaw, FlagsLaw}
+use Rattle.pst_space.proofs.MapLemmas.{length_with_span}
+use Rattle.pst_space.proofs.MarkLemmas.{filled_in, filled_out, clear_filled, overlap, unset, clear_beyond}
 
 -- ---- spans and their units
 
@@ -127,6 +127,44 @@ apart_law units spans us = (
   λ (new, e). (claimed_apart (replicate units false) spans new us e).1,
   λ apart. (with_spans (replicate units false) spans, apart_claimed (replicate units false) spans us (none_clear units spans) apart),
 )
+
+-- ---- free of what is claimed
+
+not_true : (b c : Bool) → (not b && c) ≡ true → (b ≡ false) × (c ≡ true)
+not_true true c e = absurd cc
+not_true false c e = (refl, e)
+
+clear_free : (m : Claimed) (a n unit : ℕ) → is_clear m a n ≡ true → a ≤ unit → unit < a + n → flag_of m unit ≡ false
+clear_free m a zero unit e le lt = absurd (omega arith)
+clear_free m a (suc n) unit e le lt =
+    let both = not_true (flag_of m a) (is_clear m (a + 1) n) e in
+    elim (cases_lt a unit) [
+      | inl more ↦ clear_free m (a + 1) n unit both.1 (omega arith) (omega arith)
+      | inr same ↦ let here : unit ≡ a = omega arith in ap (flag_of m) here ∙ both.0
+    ]
+
+free_clear : (m : Claimed) (a n : ℕ) → ((unit : ℕ) → a ≤ unit → unit < a + n → flag_of m unit ≡ false) → is_clear m a n ≡ true
+free_clear m a zero free = refl
+free_clear m a (suc n) free = rw (free a (omega arith) (omega arith), free_clear m (a + 1) n (λ unit le lt. free unit (omega arith) (omega arith))) refl
+
+all_free : (m : Claimed) (ss : List Span) → AllClear m ss → AreFree m ss
+all_free m [] clear = tt
+all_free m (s ∷ ss) clear = (λ unit le lt. clear_free m (first_unit s) (unit_count s) unit clear.0 le lt, all_free m ss clear.1)
+
+all_clear : (m : Claimed) (ss : List Span) → AreFree m ss → AllClear m ss
+all_clear m [] free = tt
+all_clear m (s ∷ ss) free = (free_clear m (first_unit s) (unit_count s) free.0, all_clear m ss free.1)
+
+pub claims_law : ClaimsLaw
+claims_law m new ss us = (
+  λ e. let both = claimed_apart m ss new us e in (all_free m ss both.0, both.1, claimed_is m ss new e),
+  λ (free, apart, is). apart_claimed m ss us (all_clear m ss free) apart ∙ ap (λ (c : Claimed). Some c) (sym is),
+)
+
+-- spans and other spans are of whole units
+pub units_append : (m : Claimed) (xs ys : List Span) → AreUnits m xs → AreUnits m ys → AreUnits m (xs ++ ys)
+units_append m [] ys a b = b
+units_append m (x ∷ xs) ys a b = (a.0, units_append m xs ys a.1 b)
 
 -- ---- the flags
 

@@ -1,7 +1,7 @@
 -- Spans that have no byte in common, and what that says of the flags.
-use Rattle.std.specs.Prelude.{◌≡◌, ℕ, ◌+◌, ◌<◌, ◌≤◌, ◌↔◌, ◌⊎◌, ⊤, Bool, false, ◌&&◌, ◌||◌, nat_le, nat_lt, List, [], ◌∷◌, length, replicate, Option, Some}
+use Rattle.std.specs.Prelude.{◌≡◌, ℕ, ◌+◌, ◌<◌, ◌≤◌, ◌↔◌, ◌⊎◌, ⊤, Bool, false, ◌&&◌, ◌||◌, nat_le, nat_lt, List, [], ◌∷◌, replicate, Some}
 use Rattle.pst_bytes.specs.declared.span.Span.{Span}
-use Rattle.pst_space.specs.Claimed.{Claimed, IsUnits, claim_all, flag_of, first_unit, unit_count}
+use Rattle.pst_space.specs.Claimed.{Claimed, IsUnits, claim_all, with_spans, flag_of, first_unit, unit_count}
 
 abbrev pub end_of_span : Span → ℕ
 end_of_span span = span.at + span.len
@@ -24,6 +24,15 @@ abbrev pub AreUnits : Claimed → List Span → Type 0
 AreUnits claimed [] = ⊤
 AreUnits claimed (s ∷ ss) = IsUnits claimed s × AreUnits claimed ss
 
+-- no byte of the span is claimed
+abbrev pub IsFree : Claimed → Span → Type 0
+IsFree claimed s = (unit : ℕ) → first_unit s ≤ unit → unit < first_unit s + unit_count s → flag_of claimed unit ≡ false
+
+-- nor of each of these
+abbrev pub AreFree : Claimed → List Span → Type 0
+AreFree claimed [] = ⊤
+AreFree claimed (s ∷ ss) = IsFree claimed s × AreFree claimed ss
+
 -- the unit lies in the span
 abbrev pub covers : Span → ℕ → Bool
 covers s unit = nat_le (first_unit s) unit && nat_lt unit (first_unit s + unit_count s)
@@ -32,6 +41,11 @@ covers s unit = nat_le (first_unit s) unit && nat_lt unit (first_unit s + unit_c
 abbrev pub is_covered : List Span → ℕ → Bool
 is_covered [] unit = false
 is_covered (s ∷ ss) unit = covers s unit || is_covered ss unit
+
+-- Spans of the mapped part can be claimed one after another exactly where none of them has a byte in common with what is
+-- claimed, and no two of them have one; and then their flags are set, and no others.
+abbrev pub ClaimsLaw : Type 0
+ClaimsLaw = (claimed new : Claimed) (spans : List Span) → AreUnits claimed spans → (claim_all claimed spans ≡ Some new) ↔ (AreFree claimed spans × AreApart spans × (new ≡ with_spans claimed spans))
 
 -- Where nothing is claimed, spans can be claimed one after another exactly where no two of them have a byte in common.
 abbrev pub ApartLaw : Type 0

@@ -7,7 +7,7 @@ mod claims;
 mod laws;
 
 pub use claims::Claims;
-pub use laws::{claims_are_apart, map_pages_are_apart};
+pub use laws::{claims_are_apart, claims_decide, map_pages_are_apart};
 
 #[cfg(test)]
 mod tests;
