@@ -1,6 +1,6 @@
 //! The check of all blocks of a file.
 
-ghost use Rattle.std.specs.Prelude.{◌≡◌, ◌⊎◌, ◌+◌, ◌≤◌, length, Some, IfOk, OnOk, IsOk};
+ghost use Rattle.std.specs.Prelude.{◌≡◌, ◌⊎◌, ◌+◌, ◌^◌, ◌<◌, ◌≤◌, length, Some, IfOk, OnOk, IsOk};
 ghost use Rattle.pst_bytes.specs.Image.{bytes_of};
 ghost use Rattle.pst_header.specs.Head.{Head};
 ghost use Rattle.pst_header.specs.Header.{end_of};
@@ -41,56 +41,69 @@ fn check_block(
     header: &Header,
     entry: BlockEntry,
     claims: &mut Claims,
+    sums: &mut u64,
 ) -> Result<(), Fault>
     requires head { Head (bytes_of image) header.now }
     requires units { length claims.old ≡ unit_total header.now }
+    requires room { sums.old + 1 < 2 ^ 64 }
     ensures same { length claims.new ≡ length claims.old }
     ensures ends { Ends result claims.new (block_step (end_of header.now) (bytes_of image.entry) claims.old entry) }
+    ensures counted { OnOk result (sums.new ≡ sums.old + 1) }
 {
     let span = block_place(header, entry)?;
     claim_block(claims, span, entry)?;
-    check_trailer(image, entry)
+    check_trailer(image, entry, sums)
 }
 
-// All blocks, one after another.
+// All blocks, one after another: how many were summed.
 fn check_each(
     image: Image,
     header: &Header,
     entries: &[BlockEntry],
     claims: &mut Claims,
-) -> Result<(), Fault>
+) -> Result<u64, Fault>
     requires head { Head (bytes_of image) header.now }
     requires units { length claims.old ≡ unit_total header.now }
     ensures same { length claims.new ≡ length claims.old }
     ensures ends { Ends result claims.new (blocks_walk (end_of header.now) (bytes_of image.entry) claims.old entries.now) }
+    ensures counted { IfOk result (λ sums. sums ≡ length entries.now) }
 {
+    let mut sums = 0;
     for entry in entries {
-        check_block(image, header, *entry, claims)?;
+        check_block(image, header, *entry, claims, &mut sums)?;
     }
-    Ok(())
+    Ok(sums)
 }
 
-// The blocks, with the fault that a walk of them gives.
+/// The blocks of a file, as `check_blocks` says, and how many were check-summed: each once.
 #[tactic(auto, using(pst_header::proofs::Head::head_end, crate::proofs::WalkLaws::walked_no_fault))]
-fn checked<'a>(
+pub fn sum_blocks<'a>(
     image: Image<'a>,
     header: &Header,
     tree: BlockTree<'a>,
     entries: &[BlockEntry],
     claims: &mut Claims,
-) -> Result<Blocks<'a>, Fault>
+) -> Result<(Blocks<'a>, u64), Fault>
     requires head { Head (bytes_of image) header.now }
     requires units { length claims.old ≡ unit_total header.now }
     requires entries { entries.now ≡ block_entries tree }
     ensures same_units { length claims.new ≡ length claims.old }
+
+    // Whether all are good and apart, and what is claimed; or which fault it is, and what is claimed by then.
     ensures exact { Ends result claims.new (blocks_walk (end_of header.now) (bytes_of image.entry) claims.old (block_entries tree.entry)) }
-    ensures image { IfOk result (λ b. image_of b ≡ image.entry) }
-    ensures table { IfOk result (λ b. table_of b ≡ table_with (bytes_of image.entry) (block_entries tree.entry)) }
-    ensures end { IfOk result (λ b. mapped_end b ≡ end_of header.now) }
+
+    // Then they are claimed, and so many were summed.
+    ensures claims { OnOk result (claim_all claims.old (block_spans (block_entries tree.entry)) ≡ Some claims.new) }
+    ensures sums { IfOk result (λ x. x.1 ≡ length (block_entries tree.entry)) }
+
+    // Which blocks they are.
+    ensures image { IfOk result (λ x. image_of x.0 ≡ image.entry) }
+    ensures table { IfOk result (λ x. table_of x.0 ≡ table_with (bytes_of image.entry) (block_entries tree.entry)) }
+    ensures end { IfOk result (λ x. mapped_end x.0 ≡ end_of header.now) }
 {
-    check_each(image, header, entries, claims)?;
+    let sums = check_each(image, header, entries, claims)?;
     let end = header.end();
-    Ok(Blocks { image, tree, end })
+    Ok((Blocks { image, tree, end }, sums))
 }
 
 /// The blocks of a file whose header is this one, all checked. The tree is the file's block B-tree and the entries are
@@ -130,5 +143,6 @@ pub fn check_blocks<'a>(
     ensures table { IfOk result (λ b. table_of b ≡ table_with (bytes_of image.entry) (block_entries tree.entry)) }
     ensures end { IfOk result (λ b. mapped_end b ≡ end_of header.now) }
 {
-    checked(image, header, tree, entries, claims)
+    let (blocks, _) = sum_blocks(image, header, tree, entries, claims)?;
+    Ok(blocks)
 }

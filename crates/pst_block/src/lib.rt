@@ -9,7 +9,7 @@ mod read;
 mod size;
 
 pub use blocks::Blocks;
-pub use check::check_blocks;
+pub use check::{check_blocks, sum_blocks};
 pub use laws::{block_decides, blocks_decide};
 pub use pst_page::BlockEntry;
 pub use read::{Block, read_block};

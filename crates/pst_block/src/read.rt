@@ -1,7 +1,8 @@
 //! Reading a block, with the first fault of a bad one.
 
-ghost use Rattle.std.specs.Prelude.{◌≡◌, ◌+◌, ◌-◌, ◌%◌, ◌≤◌, ◌<◌, length, IfOk, OnOk, IsOk};
+ghost use Rattle.std.specs.Prelude.{◌≡◌, ◌+◌, ◌-◌, ◌%◌, ◌^◌, ◌≤◌, ◌<◌, length, IsTrue, IfOk, OnOk, IsOk};
 ghost use Rattle.pst_bytes.specs.Image.{bytes_of, bytes_at, IsPartOf};
+ghost use Rattle.pst_crc.specs.Crc.{crc};
 ghost use Rattle.pst_fault.specs.First.{answer, Checks};
 ghost use Rattle.pst_header.specs.Head.{Head};
 ghost use Rattle.pst_header.specs.Header.{end_of};
@@ -48,27 +49,42 @@ pub(crate) fn block_place(header: &Header, entry: BlockEntry) -> Result<Span, Fa
     }
 }
 
+// The check value of a block's body, and the count of sums with it. This is the one place where a block is summed.
+fn sum_body(image: Image, entry: BlockEntry, sums: &mut u64) -> u32
+    requires body { entry.ib + entry.cb ≤ length (bytes_of image) }
+    requires room { sums.old + 1 < 2 ^ 64 }
+    ensures value { result ≡ crc (bytes_at (bytes_of image.entry) (body_span entry)) }
+    ensures counted { sums.new ≡ sums.old + 1 }
+{
+    *sums += 1;
+    pst_crc::check(image.slice(body_span(entry)))
+}
+
 // Whether the trailer at an offset is the block's ([MS-PST] 2.2.2.8.1).
-fn is_trailer(image: Image, entry: BlockEntry, at: u64) -> bool
+fn is_trailer(image: Image, entry: BlockEntry, at: u64, sums: &mut u64) -> bool
     requires body { entry.ib + entry.cb ≤ length (bytes_of image) }
     requires inside { at + 16 ≤ length (bytes_of image) }
-    ensures { result ≡ is_trailer (bytes_of image.entry) entry at }
+    requires room { sums.old + 1 < 2 ^ 64 }
+    ensures value { result ≡ is_trailer (bytes_of image.entry) entry at }
+    ensures counted { IsTrue result → sums.new ≡ sums.old + 1 }
 {
     let bid = image.number64(at + 8);
     image.number16(at) == entry.cb
         && PageKind::Bbt.key_of(bid) == PageKind::Bbt.key_of(entry.bid)
         && image.number16(at + 2) == pst_crc::signature(entry.ib, bid)
-        && image.number32(at + 4) == pst_crc::check(image.slice(body_span(entry)))
+        && image.number32(at + 4) == sum_body(image, entry, sums)
 }
 
-/// The trailer of a block in its place, or BlockTrailer.
+/// The trailer of a block in its place, or BlockTrailer; and the count of sums with the block's.
 #[tactic(auto, unfolding(crate::specs::Fault::trailer_fault, crate::specs::Fault::has_trailer))]
-pub(crate) fn check_trailer(image: Image, entry: BlockEntry) -> Result<(), Fault>
-    requires { entry.ib + size_of entry.cb ≤ length (bytes_of image) }
-    ensures { result ≡ answer (trailer_fault (bytes_of image.entry) entry) tt }
+pub(crate) fn check_trailer(image: Image, entry: BlockEntry, sums: &mut u64) -> Result<(), Fault>
+    requires inside { entry.ib + size_of entry.cb ≤ length (bytes_of image) }
+    requires room { sums.old + 1 < 2 ^ 64 }
+    ensures exact { result ≡ answer (trailer_fault (bytes_of image.entry) entry) tt }
+    ensures counted { OnOk result (sums.new ≡ sums.old + 1) }
 {
     let at = entry.ib + block_size(entry.cb) - 16;
-    if is_trailer(image, entry, at) {
+    if is_trailer(image, entry, at, sums) {
         Ok(())
     } else {
         Err(Fault::within(Kind::BlockTrailer, entry.ib, entry.bid))
@@ -93,8 +109,9 @@ fn checked<'a>(image: Image<'a>, header: &Header, entry: BlockEntry) -> Result<B
     ensures body { IfOk result (λ b. b.body.now ≡ bytes_at (bytes_of image.entry) (body_span entry)) }
     ensures own { IfOk result (λ b. IsPartOf image.entry (body_span entry) b.body) }
 {
+    let mut sums = 0;
     block_place(header, entry)?;
-    check_trailer(image, entry)?;
+    check_trailer(image, entry, &mut sums)?;
     let body = body_in(image, entry);
     Ok(Block { entry, body })
 }

@@ -17,7 +17,7 @@ ghost use Rattle.pst_ndb.specs.Marks.{MapsMark};
 ghost use Rattle.pst_ndb.specs.Space.{space_walk, space_spans, space_claimed, space_fault};
 
 use pst_amap::{MapReport, compare};
-use pst_block::{Blocks, check_blocks};
+use pst_block::{Blocks, sum_blocks};
 use pst_btree::{BlockTree, NodeTree, walk_blocks, walk_nodes};
 use pst_bytes::Image;
 use pst_fault::Fault;
@@ -34,7 +34,7 @@ pub(crate) struct Space<'a> {
     pub(crate) nodes: NodeTree<'a>,
     /// How many pages both B-trees have.
     pub(crate) pages: u64,
-    /// How many blocks there are.
+    /// How many blocks were check-summed.
     pub(crate) sums: u64,
 }
 
@@ -67,12 +67,12 @@ pub(crate) fn check_space<'a>(
 {
     let (tree, entries) = walk_blocks(alloc, image, header, claims)?;
     let (nodes, _) = walk_nodes(alloc, image, header, claims)?;
-    let blocks = check_blocks(image, header, tree, &entries, claims)?;
+    let (blocks, sums) = sum_blocks(image, header, tree, &entries, claims)?;
     Ok(Space {
         blocks,
         nodes,
         pages: page_total(&tree, &nodes, header.eof),
-        sums: entries.len() as u64,
+        sums,
     })
 }
 

@@ -1,4 +1,4 @@
-use Rattle.std.proofs.Common.{◌∙◌}
+use Rattle.std.proofs.Common.{◌∙◌, arith}
 use Rattle.std.proofs.lemmas.Result.{err_from_is_err_and}
 use Rattle.pst_bytes.specs.Image.{bytes_of}
 use Rattle.pst_header.specs.Header.{end_of}
@@ -14,6 +14,7 @@ pub loop-entry-preserved : goal.loop-entry-preserved
 loop-entry-preserved c = record {
   same = c.in_ok-check_block.ensures.same ∙ c.loop-entry.invariant.same;
   ends = walk_next (end_of c.args.header.now) (bytes_of c.args.image) _ _ c.args.entries.now c.loop-entry.entry-index _ _ c.loop-entry-test.true c.in_ok-check_block.ensures.ends c.loop-entry.invariant.ends;
+  counted = omega (arith, c.in_ok-check_block.ensures.counted);
 }
 
 pub returns-clause-ends : goal.returns-clause-ends

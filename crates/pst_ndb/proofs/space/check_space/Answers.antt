@@ -43,7 +43,7 @@ returns-clause-claims c =
 
 pub returns-clause-sums : goal.returns-clause-sums
 returns-clause-sums c =
-    c.len.ensures ∙ sym c.deref.ensures.len ∙ ap length c.deref.ensures.value ∙ ap length (c.in_ok-tree.ensures.entries ∙ list_is (goal.at.returns-clause-sums c).After-walk_nodes)
+    c.in_ok-blocks.ensures.sums ∙ ap length (list_is (goal.at.returns-clause-sums c).After-walk_nodes)
 
 pub page_total-requires : goal.page_total-requires
 page_total-requires c =
