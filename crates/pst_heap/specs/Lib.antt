@@ -1,0 +1,6 @@
+pub mod PageMap
+pub mod Values
+pub mod Grammar
+pub mod Fault
+pub mod View
+pub mod Laws

@@ -1,0 +1,123 @@
+//! A heap, and its items.
+
+ghost use Rattle.std.specs.Prelude.{◌≡◌, None};
+ghost use Rattle.pst_heap.specs.Fault.{heap_fault};
+ghost use Rattle.pst_heap.specs.Values.{data_of_node};
+
+use crate::page_map::PageMap;
+use crate::told::told_of;
+use pst_bytes::{Image, Span};
+use pst_fault::{Fault, Kind};
+use pst_ndb::Node;
+
+/// The heap that the data of a node is ([MS-PST] 2.3.1), without fault.
+#[derive(Clone, Copy)]
+pub struct Heap<'a> {
+    node: Node<'a>,
+    ghost sound: { heap_fault (data_of_node node) ≡ None },
+}
+
+impl<'a> Heap<'a> {
+    ghost use Rattle.std.specs.Prelude.{◌≡◌, ◌+◌, ◌≤◌, length, IfOk, IfSome, None, option_map};
+    ghost use Rattle.pst_bytes.specs.Image.{bytes_of, bytes_at, IsInside, IsPartOf};
+    ghost use Rattle.pst_fault.specs.First.{Checks};
+    ghost use Rattle.pst_datatree.specs.Spans.{first_span};
+    ghost use Rattle.pst_heap.specs.Values.{item_of};
+    ghost use Rattle.pst_heap.specs.Fault.{item_fault};
+    ghost use Rattle.pst_heap.specs.Fault.{heap_fault};
+    ghost use Rattle.pst_heap.specs.Values.{client_of, user_root_of, user_root_place};
+    ghost use Rattle.pst_heap.specs.Values.{data_of_node};
+    ghost use Rattle.pst_heap.specs.Fault.{told_of as told};
+    ghost use Rattle.pst_heap.specs.View.{node_of, data_of, file_of_heap};
+
+    // The heap of a node whose data has no first fault.
+    pub(crate) fn known(node: Node<'a>) -> Heap<'a>
+        requires { heap_fault (data_of_node node) ≡ None }
+        ensures { node_of result ≡ node.entry }
+    {
+        Heap { node }
+    }
+
+    /// What is known of every heap: it has no first fault.
+    pub fn is_sound(&self)
+        ensures { heap_fault (data_of self.now) ≡ None }
+    {}
+
+    /// The node whose data it is.
+    pub fn node(&self) -> Node<'a>
+        ensures { result ≡ node_of self.now }
+    {
+        self.node
+    }
+
+    /// The file.
+    pub fn image(&self) -> Image<'a>
+        ensures same { result ≡ file_of_heap self.now }
+        ensures bytes { bytes_of result ≡ (data_of self.now).image }
+    {
+        self.node.image()
+    }
+
+    // The first span, with the header.
+    #[tactic(auto, using(crate::proofs::HeapLemmas::first_there))]
+    fn first(&self) -> Span
+        ensures value { result ≡ first_span (data_of self.now).spans }
+        ensures inside { IsInside (data_of self.now).image result }
+        ensures long { 12 ≤ result.len }
+    {
+        self.node.leaf(0).unwrap()
+    }
+
+    /// The client signature of the header (bClientSig, [MS-PST] 2.3.1.2).
+    pub fn client(&self) -> u8
+        ensures { result ≡ client_of (data_of self.now) }
+    {
+        self.image().number8(self.first().at + 3)
+    }
+
+    /// Where the identifier of the user's root stands in the file, 4 bytes.
+    pub fn user_root_place(&self) -> u64
+        ensures value { result ≡ user_root_place (data_of self.now) }
+        ensures inside { result + 4 ≤ length (data_of self.now).image }
+    {
+        let _file = self.image();
+        self.first().at + 4
+    }
+
+    /// The identifier of the user's root (hidUserRoot, [MS-PST] 2.3.1.2), as it is written.
+    pub fn user_root(&self) -> u32
+        ensures { result ≡ user_root_of (data_of self.now) }
+    {
+        self.image().number32(self.user_root_place())
+    }
+
+    /// Where the item with an identifier lies (HID, [MS-PST] 2.3.1.1): in one span of the node's data. None exactly where no
+    /// item has it. Nothing is gone through but the path to that span.
+    #[tactic(auto, using(crate::proofs::HeapLemmas::item_none, crate::proofs::HeapLemmas::item_some))]
+    pub fn item_span(&self, hid: u32) -> Option<Span>
+        ensures value { result ≡ item_of (data_of self.now) hid }
+        ensures inside { IfSome result (IsInside (data_of self.now).image) }
+    {
+        let span = self.node.leaf(u64::from(hid / 65_536))?;
+        let Some(map) = PageMap::open(self.image(), span) else {
+            unreachable!()
+        };
+        map.item(hid)
+    }
+
+    /// The bytes of the item with an identifier, in the file's own memory. HeapId, at 0, with the node's bidData and the node
+    /// from which it was reached, exactly where no item has it.
+    pub fn item(&self, hid: u32) -> Result<&'a [u8], Fault>
+        ensures exact { let first = item_fault (data_of self.now) hid in
+            Checks result (option_map (told (node_of self.now)) first) }
+        ensures value { let found = item_of (data_of self.now) hid in
+            IfOk result (λ slice. IfSome found (λ s. slice.now ≡ bytes_at (data_of self.now).image s)) }
+        ensures own { let found = item_of (data_of self.now) hid in
+            IfOk result (λ slice. IfSome found (λ s. IsPartOf (file_of_heap self.now) s slice)) }
+    {
+        match self.item_span(hid) {
+            Some(span) => Ok(self.image().slice(span)),
+            None => Err(told_of(&self.node, Fault::at(Kind::HeapId, 0))),
+        }
+    }
+}

@@ -1,0 +1,24 @@
+//! Heaps on nodes ([MS-PST] 2.3.1): the items that a node's data is divided into, each named by an identifier (HID).
+//!
+//! Begin with `check_heap`, which tells the first fault of a node's data as a heap, or gives it as a `Heap`. Its look-ups
+//! cannot fail otherwise than by "there is no such item", take no memory, and lend the file's own bytes:
+//!
+//! ```text
+//! let heap = check_heap(node)?;
+//! let root = heap.item(heap.user_root())?;
+//! ```
+#![tactic(auto)]
+
+mod check;
+mod heap;
+mod laws;
+mod page_map;
+mod told;
+
+pub use check::{SPANS, check_client, check_heap, known_heap};
+pub use heap::Heap;
+pub use laws::{heap_decides, items_lie_in_spans};
+pub use told::told_of;
+
+#[cfg(test)]
+mod tests;
