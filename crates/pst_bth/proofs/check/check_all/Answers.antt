@@ -1,0 +1,7 @@
+use Rattle.std.proofs.Common.{sym, ◌∙◌}
+use Rattle.pst_heap.specs.View.{data_of}
+use Rattle.pst_bth.proofs.BthLemmas.{records_some}
+use Rattle.pst_bth.proofs.check.check_all.Goals as goal
+
+pub returns-clause-records : goal.returns-clause-records
+returns-clause-records c = c.of_header.ensures.records ∙ sym (records_some (data_of c.args.heap.now) c.args.sizes c.args.hid c.in-Some.head (sym c.in-Some.ensures.value))

@@ -1,0 +1,9 @@
+pub mod Rows
+pub mod Values
+pub mod Grammar
+pub mod Fault
+pub mod Find
+pub mod Leaf
+pub mod View
+pub mod Left
+pub mod Laws
