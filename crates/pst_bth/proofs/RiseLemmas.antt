@@ -9,16 +9,16 @@ use Rattle.pst_bth.specs.Rows.{row_key}
 use Rattle.pst_bth.specs.Fault.{BthVisit, bth_children_fault}
 use Rattle.pst_bth.specs.Values.{rows_below}
 
-below_less : (k m : ℕ) (high : Option ℕ) → k < m → IsBelow m high → IsBelow k high
-below_less k m None lt b = refl
-below_less k m (Some h) lt b = lt-ltb _ _ (omega (arith, ltb-true m h b))
+below_too : (k m : ℕ) (high : Option ℕ) → k < m → IsBelow m high → IsBelow k high
+below_too k m None lt b = refl
+below_too k m (Some h) lt b = lt-ltb _ _ (omega (arith, ltb-true m h b))
 
 -- keys below m, and then keys from m on
-pub join : (low m : ℕ) (high : Option ℕ) (xs ys : List ℕ) → low ≤ m → IsBelow m high → Rises low (Some m) xs → Rises m high ys → Rises low high (xs ++ ys)
-join low m high [] ys le b r s = lower m low high ys le s
-join low m high (x ∷ xs) ys le b r s =
+pub rises_join : (low m : ℕ) (high : Option ℕ) (xs ys : List ℕ) → low ≤ m → IsBelow m high → Rises low (Some m) xs → Rises m high ys → Rises low high (xs ++ ys)
+rises_join low m high [] ys le b r s = lower m low high ys le s
+rises_join low m high (x ∷ xs) ys le b r s =
     let lt : x < m = ltb-true _ _ r.1 in
-    (r.0, below_less x m high lt b, join (x + 1) m high xs ys (omega arith) b r.2 s)
+    (r.0, below_too x m high lt b, rises_join (x + 1) m high xs ys (omega arith) b r.2 s)
 
 module _ (I : List ℕ) (cb : ℕ) (visit : BthVisit) (below : ℕ → List ℕ) (rises : (named low : ℕ) (high : Option ℕ) → visit named low high ≡ None → Rises low high (map (row_key I cb) (below named))) where
   pub rows_rise : (low : ℕ) (high : Option ℕ) (ats : List ℕ) → Rises low high (map (row_key I cb) ats) → bth_children_fault I cb visit high ats ≡ None → Rises low high (map (row_key I cb) (rows_below below cb ats))
@@ -31,6 +31,6 @@ module _ (I : List ℕ) (cb : ℕ) (visit : BthVisit) (below : ℕ → List ℕ)
       let b = none_then _ _ e in
       rw (map-append (row_key I cb) (below (at + cb)) (rows_below below cb (next ∷ rest)))
       (lower (row_key I cb at) low high _ r.0
-      (join (row_key I cb at) (row_key I cb next) high _ _ (omega (arith, r.2.0)) r.2.1
+      (rises_join (row_key I cb at) (row_key I cb next) high _ _ (omega (arith, r.2.0)) r.2.1
       (rises (at + cb) (row_key I cb at) (Some (row_key I cb next)) b.0)
       (rows_rise (row_key I cb next) high (next ∷ rest) (le_refl (row_key I cb next), r.2.1, r.2.2) b.1)))

@@ -83,7 +83,8 @@ impl<'a> Bth<'a> {
     /// each item by halving.
     #[tactic(auto, using(crate::proofs::BthLemmas::found_record))]
     pub fn find(&self, key: u32) -> Option<Span>
-        ensures value { result ≡ option_map record_span (first_with record_key key (records_of self.now)) }
+        ensures value { let found = first_with record_key key (records_of self.now) in
+            result ≡ option_map record_span found }
         ensures inside { IfSome result (IsInside (data_of (heap_of self.now)).image) }
         ensures behind { IfSome result (λ s. (sizes_in self.now).key ≤ s.at) }
         ensures size { IfSome result (λ s. s.len ≡ (sizes_in self.now).ent) }

@@ -78,7 +78,8 @@ fn check_tree(
 ) -> Result<(), Fault>
     requires key { is_key_size sizes.key ≡ true }
     requires inside { named + 4 ≤ length (data_of heap.now).image }
-    ensures exact { result ≡ answer (bth_tree_fault (data_of heap.now) sizes level named low high) tt }
+    ensures exact { let h = data_of heap.now in
+        result ≡ answer (bth_tree_fault h sizes level named low high) tt }
 {
     let hid = heap.image().number32(named);
     let Some(item) = heap.item_span(hid) else {

@@ -114,7 +114,8 @@ impl<'a> Rows<'a> {
     #[tactic(auto, using(crate::proofs::RowLemmas::rows_next, crate::proofs::RowLemmas::rows_end))]
     pub(crate) fn bound(self, i: u64, high: Option<u64>) -> Option<u64>
         requires { i < row_count (rows_size self) (rows_item self) }
-        ensures { let r = self.entry in let behind = rows_from (rows_size r) (rows_item r) (i + 1) in
+        ensures { let r = self.entry in
+            let behind = rows_from (rows_size r) (rows_item r) (i + 1) in
             result ≡ next_row_key (bytes_of (rows_image r)) (rows_key_size r) behind high }
     {
         if i + 1 < self.count {

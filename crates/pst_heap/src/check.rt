@@ -38,7 +38,8 @@ fn has_front(image: Image, span: Span) -> bool
 
 // How many spans there are at most.
 fn check_few(node: &Node) -> Result<(), Fault>
-    ensures exact { result ≡ answer (extra_fault (slice_get (data_of_node node.now).spans SPANS)) tt }
+    ensures exact { let h = data_of_node node.now in
+        result ≡ answer (extra_fault (slice_get h.spans SPANS)) tt }
 {
     match node.leaf(SPANS) {
         Some(extra) => Err(bad_span(extra)),
@@ -49,7 +50,8 @@ fn check_few(node: &Node) -> Result<(), Fault>
 // The first span, and its header.
 #[tactic(auto, using(crate::proofs::HeapLemmas::front_none, crate::proofs::HeapLemmas::front_good, crate::proofs::HeapLemmas::front_bad))]
 fn check_front(node: &Node) -> Result<(), Fault>
-    ensures exact { let h = data_of_node node.now in result ≡ answer (front_fault h.image h.spans) tt }
+    ensures exact { let h = data_of_node node.now in
+        result ≡ answer (front_fault h.image h.spans) tt }
 {
     let Some(first) = node.leaf(0) else {
         return Err(Fault::at(Kind::Heap, 0));
