@@ -1,0 +1,6 @@
+pub mod UnitLemmas
+pub mod MultiLemmas
+pub mod ElementLemmas
+pub mod CursorLemmas
+pub mod ValueLaws
+pub mod AlikeLaws

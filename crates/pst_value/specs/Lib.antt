@@ -1,0 +1,12 @@
+pub mod Class
+pub mod Values
+pub mod Fault
+pub mod Grammar
+pub mod Alike
+pub mod Laws
+pub mod View
+pub mod Read
+pub mod Units
+pub mod Multi
+pub mod Cursor
+pub mod Elements

@@ -1,0 +1,68 @@
+-- The spans of the value of a property or a cell ([MS-PST] 2.3.3.2, 2.3.3.3, 2.3.4.4.1): bytes of its raw span itself, or what the
+-- HNID there names. Where an HNID names nothing there are none: the first fault tells it.
+--
+-- HNID, 4 bytes: 0, the empty value; with the low 5 bits 0, an item of the heap (HID); else the data of a subnode (NID).
+use Rattle.std.specs.Prelude.{ℕ, ◌%◌, nat_eq, nat_le, List, [], ◌∷◌, Option, Some, None, option_map, if◌then◌else◌}
+use Rattle.pst_bytes.specs.declared.span.Span.{Span}
+use Rattle.pst_bytes.specs.Image.{num}
+use Rattle.pst_block.specs.Table.{Table}
+use Rattle.pst_datatree.specs.Data.{data_spans}
+use Rattle.pst_ndb.specs.Roots.{Roots, subnode_of}
+use Rattle.pst_heap.specs.Values.{item_of, heap_at}
+use Rattle.pst_value.specs.declared.class.Class.{Class}
+use Rattle.pst_value.specs.declared.class.Class.TheVariants.{Inline, Eight, Guid, Object, Open, Multi, Opaque}
+use Rattle.pst_value.specs.Class.{class_of}
+
+-- ---- values in the raw span itself
+
+-- how many bytes they have
+abbrev inline_width : ℕ → ℕ
+inline_width t = if nat_eq t 0x000B then 1 else if nat_eq t 0x0002 then 2 else 4
+
+abbrev fitting : ℕ → ℕ → Option ℕ
+fitting width len = if nat_le width len then Some width else None
+
+abbrev held_as : Class → ℕ → ℕ → Option ℕ
+held_as Inline t len = fitting (inline_width t) len
+held_as Eight t len = fitting 8 len
+held_as Guid t len = None
+held_as Object t len = None
+held_as Open t len = None
+held_as Multi t len = None
+held_as Opaque t len = Some len
+
+-- how many bytes of a raw span with so many are the value; none where an HNID stands there
+unfoldable pub held_of : ℕ → ℕ → Option ℕ
+held_of t len = held_as (class_of t) t len
+
+-- ---- what an HNID names
+
+abbrev pub one_span : Span → List Span
+one_span s = s ∷ []
+
+abbrev pub data_under : Table → Roots → List Span
+data_under t s = data_spans t s.bid_data
+
+-- its spans; none where it names nothing
+unfoldable pub hnid_spans : Table → Roots → ℕ → Option (List Span)
+hnid_spans t r hnid =
+    if nat_eq hnid 0 then Some []
+    else if nat_eq (hnid % 32) 0 then option_map one_span (item_of (heap_at t r) hnid)
+    else option_map (data_under t) (subnode_of t r hnid)
+
+-- ---- the value
+
+abbrev pub some_spans : Option (List Span) → List Span
+some_spans None = []
+some_spans (Some spans) = spans
+
+abbrev pub front_of : Span → ℕ → Span
+front_of raw width = record { at = raw.at; len = width }
+
+abbrev pub held_spans : Table → Roots → Span → Option ℕ → List Span
+held_spans t r raw None = some_spans (hnid_spans t r (num t.image raw.at 4))
+held_spans t r raw (Some width) = one_span (front_of raw width)
+
+-- of a type, in a raw span
+unfoldable pub value_spans : Table → Roots → ℕ → Span → List Span
+value_spans t r kind raw = held_spans t r raw (held_of kind raw.len)

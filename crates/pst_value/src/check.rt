@@ -1,0 +1,174 @@
+//! The value of a property or of a cell, checked.
+
+ghost use Rattle.std.specs.Prelude.{◌≡◌, ◌+◌, ◌≤◌, length, IfOk, IfSome, Some, None, option_map};
+ghost use Rattle.pst_bytes.specs.Image.{num, IsInside};
+ghost use Rattle.pst_fault.specs.First.{Checks};
+ghost use Rattle.pst_ndb.specs.Views.{table_of_node, roots_of};
+ghost use Rattle.pst_heap.specs.Fault.{told_of as told};
+ghost use Rattle.pst_heap.specs.View.{node_of, data_of, file_of_heap};
+ghost use Rattle.pst_value.specs.Fault.{is_length, hnid_fault, value_fault};
+ghost use Rattle.pst_value.specs.Values.{held_of, hnid_spans, value_spans};
+ghost use Rattle.pst_value.specs.View.{IsValue, IsValueOf};
+
+use crate::class::Class;
+use crate::named::{missing_at, named_value};
+use crate::prop_type::PropType;
+use pst_bytes::Span;
+use pst_datatree::{Value, value_at};
+use pst_fault::{Fault, Kind};
+use pst_heap::{Heap, told_of};
+use pst_ndb::Node;
+
+// How many bytes of a raw span with so many are the value; None where an HNID stands there.
+#[tactic(auto, unfolding(crate::specs::Values::held_of))]
+fn held(kind: PropType, len: u64) -> Option<u64>
+    ensures value { result ≡ held_of kind.0 len }
+    ensures fits { IfSome result (λ width. width ≤ len) }
+{
+    let width = match kind.class() {
+        Class::Opaque => len,
+        Class::Eight => 8,
+        Class::Inline => match kind.0 {
+            0x000B => 1,
+            0x0002 => 2,
+            _ => 4,
+        },
+        Class::Guid | Class::Object | Class::Open | Class::Multi => return None,
+    };
+    if width <= len { Some(width) } else { None }
+}
+
+// Whether the value that an HNID names has a length that its type allows.
+#[tactic(auto, unfolding(crate::specs::Fault::is_length))]
+fn has_length(kind: PropType, len: u64) -> bool
+    ensures { result ≡ is_length kind.0 len }
+{
+    if len == 0 {
+        return true;
+    }
+    match kind.class() {
+        Class::Eight => len == 8,
+        Class::Guid => len == 16,
+        Class::Object => len >= 8,
+        _ => true,
+    }
+}
+
+// The value that the HNID at `named` names, told of no node.
+#[tactic(auto, unfolding(crate::specs::Fault::hnid_fault))]
+fn hnid_value<'a>(
+    heap: &Heap<'a>,
+    kind: PropType,
+    place: u64,
+    named: u64,
+) -> Result<Value<'a>, Fault>
+    requires { named + 4 ≤ length (data_of heap.now).image }
+    ensures exact { let node = node_of heap.now in
+        Checks result (hnid_fault (table_of_node node) (roots_of node) kind.0 place named) }
+    ensures value { let node = node_of heap.now in let t = table_of_node node in
+        let spans = hnid_spans t (roots_of node) (num t.image named 4) in
+        IfOk result (λ v. IsValueOf (file_of_heap heap.now) spans (Some v)) }
+{
+    let hnid = heap.image().number32(named);
+    let Some(value) = named_value(heap, hnid) else {
+        return Err(missing_at(named, hnid));
+    };
+    if !has_length(kind, value.len()) {
+        return Err(Fault::at(Kind::Property, place));
+    }
+    Ok(value)
+}
+
+// The value of a type in a raw span, told of no node.
+#[tactic(auto, unfolding(crate::specs::Fault::value_fault, crate::specs::Values::value_spans))]
+fn raw_value<'a>(heap: &Heap<'a>, kind: PropType, place: u64, raw: Span) -> Result<Value<'a>, Fault>
+    requires inside { IsInside (data_of heap.now).image raw }
+    requires hnid { held_of kind.0 raw.len ≡ None → 4 ≤ raw.len }
+    ensures exact { let node = node_of heap.now in
+        Checks result (value_fault (table_of_node node) (roots_of node) kind.0 place raw) }
+    ensures value { let node = node_of heap.now in
+        let spans = value_spans (table_of_node node) (roots_of node) kind.0 raw in
+        IfOk result (IsValue (file_of_heap heap.now) spans) }
+{
+    match held(kind, raw.len) {
+        Some(width) => {
+            let front = Span {
+                at: raw.at,
+                len: width,
+            };
+            Ok(value_at(heap.image(), front))
+        }
+        None => hnid_value(heap, kind, place, raw.at),
+    }
+}
+
+/// The value of a type in a raw span, as `resolve` gives it; Property is told at `place`, where the record or the cell begins
+/// that has the raw span.
+pub fn resolve_at<'a>(
+    heap: &Heap<'a>,
+    kind: PropType,
+    place: u64,
+    raw: Span,
+) -> Result<Value<'a>, Fault>
+    requires inside { IsInside (data_of heap.now).image raw }
+    requires hnid { held_of kind.0 raw.len ≡ None → 4 ≤ raw.len }
+
+    // The value, or the first fault.
+    ensures exact { let node = node_of heap.now in
+        let first = value_fault (table_of_node node) (roots_of node) kind.0 place raw in
+        Checks result (option_map (told node) first) }
+    ensures value { let node = node_of heap.now in
+        let spans = value_spans (table_of_node node) (roots_of node) kind.0 raw in
+        IfOk result (IsValue (file_of_heap heap.now) spans) }
+{
+    match raw_value(heap, kind, place, raw) {
+        Ok(value) => Ok(value),
+        Err(fault) => Err(told_of(&heap.node(), fault)),
+    }
+}
+
+/// The value of a property or of a cell ([MS-PST] 2.3.3.3, 2.3.4.4.1), whose type and raw span are these, in the node whose heap
+/// this is. A type that is not listed has the raw span itself; a type that is kept inline, and fits, its first bytes; any other
+/// the value that the HNID in the first four bytes names. With the node's bidData and the node of the tree from which it was
+/// reached, in this order:
+///
+/// - HeapId or Subnode at the raw span, where the HNID names no item or no subnode;
+/// - Property at the raw span, where the value has a length that its type does not allow.
+///
+/// It takes no memory. The item or the subnode is looked up, and the pieces of the value are not gone through.
+pub fn resolve<'a>(
+    node: Node<'a>,
+    heap: &Heap<'a>,
+    kind: PropType,
+    raw: Span,
+) -> Result<Value<'a>, Fault>
+    requires node { node_of heap.now ≡ node }
+    requires inside { IsInside (data_of heap.now).image raw }
+    requires hnid { held_of kind.0 raw.len ≡ None → 4 ≤ raw.len }
+
+    // The value, or the first fault.
+    ensures exact { let t = table_of_node node.entry in
+        let first = value_fault t (roots_of node.entry) kind.0 raw.at raw in
+        Checks result (option_map (told node.entry) first) }
+    ensures value { let t = table_of_node node.entry in
+        let spans = value_spans t (roots_of node.entry) kind.0 raw in
+        IfOk result (IsValue (file_of_heap heap.now) spans) }
+{
+    resolve_at(heap, kind, raw.at, raw)
+}
+
+/// The value of a type in a raw span that is known to have one.
+pub fn known_value<'a>(heap: &Heap<'a>, kind: PropType, raw: Span) -> Value<'a>
+    requires inside { IsInside (data_of heap.now).image raw }
+    requires hnid { held_of kind.0 raw.len ≡ None → 4 ≤ raw.len }
+    requires sound { let node = node_of heap.now in
+        value_fault (table_of_node node) (roots_of node) kind.0 0 raw ≡ None }
+    ensures { let node = node_of heap.now in
+        let spans = value_spans (table_of_node node) (roots_of node) kind.0 raw in
+        IsValue (file_of_heap heap.now) spans result }
+{
+    match raw_value(heap, kind, 0, raw) {
+        Ok(value) => value,
+        Err(_) => unreachable!(),
+    }
+}

@@ -1,0 +1,36 @@
+//! Values of properties and of cells ([MS-PST] 2.3.3.3, 2.3.4.4): where they lie, and what their bytes say under their types.
+//!
+//! Begin with `PropType` and its `class`; `resolve` finds the value that a type and a raw span name, and the readers
+//! (`as_i32`, `as_guid`, `units16`, `elements_from`, ..) say what the bytes of a value are. All of them are total in the
+//! bytes, in one slice or in pieces, and none takes memory:
+//!
+//! ```
+//! let value = resolve(node, &heap, PropType(0x0003), raw)?;
+//! let count = as_i32(value);
+//! ```
+#![tactic(auto)]
+
+mod check;
+mod class;
+mod cursor;
+mod elements;
+mod gather;
+mod laws;
+mod named;
+mod prop_type;
+mod read;
+mod several;
+mod units;
+
+pub use check::{known_value, resolve, resolve_at};
+pub use class::Class;
+pub use elements::{Elements, elements_from, multi};
+pub use laws::{value_decides, value_is_of_no_place, values_are_of_keys};
+pub use named::{missing_at, named_value};
+pub use prop_type::PropType;
+pub use read::{as_bool, as_guid, as_i16, as_i32, as_i64, as_object, as_u32, as_u64};
+pub use several::multi_count;
+pub use units::{Bytes, Units, bytes_from, units16};
+
+#[cfg(test)]
+mod tests;

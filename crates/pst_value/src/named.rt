@@ -1,0 +1,48 @@
+//! What an HNID names ([MS-PST] 2.3.3.2).
+
+ghost use Rattle.std.specs.Prelude.{◌≡◌};
+ghost use Rattle.pst_ndb.specs.Views.{table_of_node, roots_of};
+ghost use Rattle.pst_heap.specs.View.{node_of, file_of_heap};
+ghost use Rattle.pst_value.specs.Fault.{missing_at as missing};
+ghost use Rattle.pst_value.specs.Values.{hnid_spans};
+ghost use Rattle.pst_value.specs.View.{IsValueOf};
+
+use pst_datatree::{Value, empty_value, value_at};
+use pst_fault::{Fault, Kind};
+use pst_heap::Heap;
+
+/// What an HNID names in the node of a heap: nothing, the empty value, for 0; an item of the heap; or the data of a subnode.
+/// None exactly where there is no such item or subnode.
+#[tactic(auto, unfolding(crate::specs::Values::hnid_spans))]
+pub fn named_value<'a>(heap: &Heap<'a>, hnid: u32) -> Option<Value<'a>>
+    ensures { let node = node_of heap.now in
+        IsValueOf (file_of_heap heap.now) (hnid_spans (table_of_node node) (roots_of node) hnid) result }
+{
+    let image = heap.image();
+    if hnid == 0 {
+        return Some(empty_value(image));
+    }
+    if hnid % 32 == 0 {
+        let Some(span) = heap.item_span(hnid) else {
+            return None;
+        };
+        return Some(value_at(image, span));
+    }
+    let Some(sub) = heap.node().sub(hnid) else {
+        return None;
+    };
+    Some(sub.bytes())
+}
+
+/// The fault of an HNID that names nothing: HeapId where it should name an item, else Subnode, at its four bytes in the
+/// file. It is told of no node.
+pub fn missing_at(named: u64, hnid: u32) -> Fault
+    ensures { result ≡ missing named hnid }
+{
+    let is_item = hnid % 32 == 0;
+    if is_item {
+        Fault::at(Kind::HeapId, named)
+    } else {
+        Fault::at(Kind::Subnode, named)
+    }
+}
