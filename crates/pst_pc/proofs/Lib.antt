@@ -1,0 +1,3 @@
+pub mod PcLemmas
+pub mod PcLaws
+pub mod AlikeLaws

@@ -1,0 +1,150 @@
+-- A property context, step by step.
+use Rattle.std.proofs.Common.{◌≡◌, ℕ, ◌+◌, ◌-◌, Bool, true, false, cond, eqb, List, [], ◌∷◌, map, Option, Some, None, refl, sym, ap, ◌∙◌}
+use Rattle.std.specs.Prelude.{option_map}
+use Rattle.pst_bytes.specs.declared.span.Span.{Span}
+use Rattle.pst_bytes.specs.Image.{num}
+use Rattle.pst_fault.specs.declared.fault.Fault.{Fault}
+use Rattle.pst_fault.specs.First.{◌then◌}
+use Rattle.pst_fault.proofs.FirstLemmas.{then_none, then_some, none_then}
+use Rattle.pst_block.specs.Table.{Table}
+use Rattle.pst_ndb.specs.Roots.{Roots}
+use Rattle.pst_fault.specs.Each.{first_of}
+use Rattle.pst_btree.specs.Entries.{first_with}
+use Rattle.pst_ndb.proofs.NodeLemmas.{first_keyed}
+use Rattle.pst_fault.proofs.EachLemmas.{each_next, each_done, each_first, each_rest}
+use Rattle.pst_fault.proofs.ToldLemmas.{told_none, told_first, told_next}
+use Rattle.pst_heap.specs.Values.{user_root_of, user_root_place, heap_at}
+use Rattle.pst_heap.specs.Fault.{heap_fault, client_fault, told_in}
+use Rattle.pst_bth.specs.Values.{bth_records, record_key, record_span}
+use Rattle.pst_bth.specs.Fault.{bth_fault}
+use Rattle.pst_bth.proofs.BthLaws.{name_law}
+use Rattle.pst_value.specs.Fault.{value_fault}
+use Rattle.pst_value.proofs.ValueLaws.{place_law}
+use Rattle.pst_pc.specs.Fault.{property_fault, untold_pc_fault, pc_fault}
+use Rattle.pst_pc.specs.Values.{pc_client, pc_sizes, pc_records, property_at, props_of, id_of}
+
+-- ---- the records
+
+pub record_next : (part : ℕ × Span → Option Fault) (g : Fault → Fault) (xs rest : List (ℕ × Span)) (x : ℕ × Span) (total : Option Fault) → xs ≡ x ∷ rest → option_map g (part x) ≡ None → first_of part xs ≡ total → first_of part rest ≡ total
+record_next part g xs rest x total is passed so_far = each_next part xs rest x total is (told_none g (part x) passed) so_far
+
+pub record_fails : (part : ℕ × Span → Option Fault) (g : Fault → Fault) (xs rest : List (ℕ × Span)) (x : ℕ × Span) (total : Option Fault) (f : Fault) → xs ≡ x ∷ rest → option_map g (part x) ≡ Some f → first_of part xs ≡ total → option_map g total ≡ Some f
+unfolding first_of
+record_fails part g xs rest x total f is failed so_far = rw (← (rw is at so_far)) (told_first g (part x) (first_of part rest) f failed)
+
+pub records_done : (part : ℕ × Span → Option Fault) (g : Fault → Fault) (xs : List (ℕ × Span)) (total : Option Fault) → xs ≡ [] → first_of part xs ≡ total → option_map g total ≡ None
+records_done part g xs total is so_far = ap (option_map g) (each_done part xs total is so_far)
+
+-- ---- the context
+
+pub heap_fails : (t : Table) (r : Roots) (f : Fault) → option_map (told_in r) (heap_fault (heap_at t r)) ≡ Some f → pc_fault t r ≡ Some f
+unfolding pc_fault untold_pc_fault
+heap_fails t r f e = told_first (told_in r) (heap_fault (heap_at t r)) _ f e
+
+pub client_fails : (t : Table) (r : Roots) (f : Fault) → option_map (told_in r) (heap_fault (heap_at t r)) ≡ None → option_map (told_in r) (client_fault pc_client (heap_at t r)) ≡ Some f → pc_fault t r ≡ Some f
+unfolding pc_fault untold_pc_fault
+client_fails t r f a e = told_next (told_in r) _ _ a ∙ told_first (told_in r) (client_fault pc_client (heap_at t r)) _ f e
+
+pub bth_fails : (t : Table) (r : Roots) (f : Fault) → option_map (told_in r) (heap_fault (heap_at t r)) ≡ None → option_map (told_in r) (client_fault pc_client (heap_at t r)) ≡ None
+    → option_map (told_in r) (bth_fault (heap_at t r) pc_sizes (user_root_place (heap_at t r)) (user_root_of (heap_at t r))) ≡ Some f → pc_fault t r ≡ Some f
+unfolding pc_fault untold_pc_fault
+bth_fails t r f a b e = told_next (told_in r) _ _ a ∙ told_next (told_in r) _ _ b ∙ told_first (told_in r) (bth_fault (heap_at t r) pc_sizes (user_root_place (heap_at t r)) (user_root_of (heap_at t r))) _ f e
+
+-- where nothing failed up to the BTH, what is left is the records
+pub all_left : (t : Table) (r : Roots) → option_map (told_in r) (heap_fault (heap_at t r)) ≡ None → option_map (told_in r) (client_fault pc_client (heap_at t r)) ≡ None
+    → option_map (told_in r) (bth_fault (heap_at t r) pc_sizes (user_root_place (heap_at t r)) (user_root_of (heap_at t r))) ≡ None
+    → option_map (told_in r) (first_of (property_fault t r) (bth_records (heap_at t r) pc_sizes (user_root_of (heap_at t r)))) ≡ pc_fault t r
+unfolding pc_fault untold_pc_fault pc_records
+all_left t r a b c = sym (told_next (told_in r) _ _ a ∙ told_next (told_in r) _ _ b ∙ told_next (told_in r) _ _ c)
+
+-- ---- without fault
+
+pub record PcFacts (t : Table) (r : Roots) : Type 0 where
+  pub heap : heap_fault (heap_at t r) ≡ None
+  pub client : client_fault pc_client (heap_at t r) ≡ None
+  pub bth : bth_fault (heap_at t r) pc_sizes (user_root_place (heap_at t r)) (user_root_of (heap_at t r)) ≡ None
+  pub records : first_of (property_fault t r) (pc_records t r) ≡ None
+
+pub facts : (t : Table) (r : Roots) → pc_fault t r ≡ None → PcFacts t r
+unfolding pc_fault untold_pc_fault
+facts t r none =
+    let a = none_then _ _ (told_none (told_in r) _ none) in
+    let b = none_then _ _ a.1 in
+    let c = none_then _ _ b.1 in
+    record { heap = a.0; client = b.0; bth = c.0; records = c.1 }
+
+pub has_heap : (t : Table) (r : Roots) → pc_fault t r ≡ None → heap_fault (heap_at t r) ≡ None
+has_heap t r none = PcFacts.heap (facts t r none)
+
+pub has_bth : (t : Table) (r : Roots) → pc_fault t r ≡ None → bth_fault (heap_at t r) pc_sizes 0 (user_root_of (heap_at t r)) ≡ None
+has_bth t r none = name_law (heap_at t r) pc_sizes (user_root_place (heap_at t r)) 0 (user_root_of (heap_at t r)) (PcFacts.bth (facts t r none))
+
+pub has_records : (t : Table) (r : Roots) → pc_fault t r ≡ None → first_of (property_fault t r) (pc_records t r) ≡ None
+has_records t r none = PcFacts.records (facts t r none)
+
+pub has_value : (t : Table) (r : Roots) (id kind : ℕ) (s : Span) → property_fault t r (id, s) ≡ None → kind ≡ num t.image s.at 2 → value_fault t r kind 0 (record { at = s.at + 2; len = 4 }) ≡ None
+unfolding property_fault
+has_value t r id kind s none is = rw is (place_law t r (num t.image s.at 2) (s.at - 2) 0 (record { at = s.at + 2; len = 4 }) none)
+
+-- ---- one property
+
+same_place : (t : Table) (r : Roots) (a b : ℕ) (s : Span) → property_fault t r (a, s) ≡ property_fault t r (b, s)
+unfolding property_fault
+same_place t r a b s = refl
+
+pub first_sound : (t : Table) (r : Roots) (xs rest : List (ℕ × Span)) (x : ℕ × Span) (id : ℕ) → first_of (property_fault t r) xs ≡ None → xs ≡ x ∷ rest → property_fault t r (id, x.1) ≡ None
+first_sound t r xs rest x id none is = same_place t r id x.0 x.1 ∙ each_first (property_fault t r) xs rest x none is
+
+pub rest_sound : (t : Table) (r : Roots) (xs rest : List (ℕ × Span)) (x : ℕ × Span) → first_of (property_fault t r) xs ≡ None → xs ≡ x ∷ rest → first_of (property_fault t r) rest ≡ None
+rest_sound t r xs rest x none is = each_rest (property_fault t r) xs rest x none is
+
+found_part : (t : Table) (r : Roots) (xs : List (ℕ × Span)) (key : ℕ) (x : ℕ × Span) → first_of (property_fault t r) xs ≡ None → first_with record_key key xs ≡ Some x → property_fault t r x ≡ None
+unfolding first_with first_of
+found_part t r [] key x none is = absurd cc
+found_part t r (y ∷ rest) key x none is =
+    let both = none_then (property_fault t r y) (first_of (property_fault t r) rest) none in
+    by_test (eqb (record_key y) key) both.0 (λ e. found_part t r rest key x both.1 e) is
+  where
+    by_test : (b : Bool) → property_fault t r y ≡ None → (first_with record_key key rest ≡ Some x → property_fault t r x ≡ None) → cond b (Some y) (first_with record_key key rest) ≡ Some x → property_fault t r x ≡ None
+    by_test true first later e = let same : y ≡ x = cc in rw (← same) first
+    by_test false first later e = later e
+
+first_mapped : (t : Table) (r : Roots) (key : ℕ) (xs : List (ℕ × Span)) → first_with id_of key (map (property_at t r) xs) ≡ option_map (property_at t r) (first_with record_key key xs)
+unfolding first_with
+first_mapped t r key [] = refl
+first_mapped t r key (x ∷ rest) = by_test (eqb (record_key x) key) (first_mapped t r key rest)
+  where
+    by_test : (b : Bool) → first_with id_of key (map (property_at t r) rest) ≡ option_map (property_at t r) (first_with record_key key rest)
+        → cond b (Some (property_at t r x)) (first_with id_of key (map (property_at t r) rest)) ≡ option_map (property_at t r) (cond b (Some x) (first_with record_key key rest))
+    by_test true ih = refl
+    by_test false ih = ih
+
+-- what is found under a key, by the span of its data
+pub found_record : (key : ℕ) (s : Span) (records : List (ℕ × Span)) → Some s ≡ option_map record_span (first_with record_key key records) → first_with record_key key records ≡ Some (key, s)
+found_record key s records is = by_span (first_with record_key key records) (λ x. first_keyed record_key key records x) is
+  where
+    by_span : (found : Option (ℕ × Span)) → ((x : ℕ × Span) → found ≡ Some x → x.0 ≡ key) → Some s ≡ option_map record_span found → found ≡ Some (key, s)
+    by_span None keyed e = absurd cc
+    by_span (Some x) keyed e =
+        let k : x.0 ≡ key = keyed x refl in
+        let v : x.1 ≡ s = cc in
+        rw (← k, ← v) refl
+
+pub found_sound : (t : Table) (r : Roots) (key : ℕ) (s : Span) → pc_fault t r ≡ None → Some s ≡ option_map record_span (first_with record_key key (pc_records t r)) → property_fault t r (key, s) ≡ None
+found_sound t r key s none is =
+    let xs = pc_records t r in
+    found_part t r xs key (key, s) (has_records t r none) (found_record key s xs is)
+
+pub found_property : (t : Table) (r : Roots) (key : ℕ) (s : Span) → Some s ≡ option_map record_span (first_with record_key key (pc_records t r)) → first_with id_of key (props_of t r) ≡ Some (property_at t r (key, s))
+unfolding props_of
+found_property t r key s is =
+    let xs = pc_records t r in
+    first_mapped t r key xs ∙ ap (option_map (property_at t r)) (found_record key s xs is)
+
+nothing_mapped : (found : Option (ℕ × Span)) (t : Table) (r : Roots) → None ≡ option_map record_span found → option_map (property_at t r) found ≡ None
+nothing_mapped None t r e = refl
+nothing_mapped (Some x) t r e = absurd cc
+
+pub found_nothing : (t : Table) (r : Roots) (key : ℕ) → None ≡ option_map record_span (first_with record_key key (pc_records t r)) → first_with id_of key (props_of t r) ≡ None
+unfolding props_of
+found_nothing t r key is = first_mapped t r key (pc_records t r) ∙ nothing_mapped (first_with record_key key (pc_records t r)) t r is

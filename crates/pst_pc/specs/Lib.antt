@@ -1,0 +1,6 @@
+pub mod Values
+pub mod Fault
+pub mod Grammar
+pub mod Laws
+pub mod View
+pub mod Left

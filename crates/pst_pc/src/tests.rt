@@ -1,0 +1,224 @@
+//! Property contexts of small stores, with bytes changed, and what their check and their look-ups answer.
+
+use super::*;
+use pst_bytes::Image;
+use pst_datatree::Value;
+use pst_make::{BlockPlan, NodePlan, Plan, build, m0_plan};
+use pst_ndb::{Node, check_ndb};
+use pst_value::{PropType, as_guid, as_i32, units16};
+use std::alloc::Global;
+use std::process::Abort;
+use std::test::Fail;
+
+// Bytes set from an offset of a block on.
+type Change<'a> = (usize, &'a [u8]);
+
+fn change_all(body: &mut [u8], changes: &[Change]) -> Result<(), Fail> {
+    for (at, bytes) in changes {
+        for (i, byte) in bytes.iter().enumerate() {
+            let there = body.get_mut(at.saturating_add(i)).ok_or("past the end")?;
+            *there = *byte;
+        }
+    }
+    Ok(())
+}
+
+// The small store with bytes of one of its blocks changed.
+fn m0_with(alloc: Global, block: usize, changes: &[Change]) -> Result<Vec<u8>, Fail> {
+    let mut plan = m0_plan(alloc)?;
+    let found = plan.blocks.get_mut(block).ok_or("no block")?;
+    change_all(&mut found.body, changes)?;
+    build(alloc, &plan).map_err(|_| Fail::from("not made"))
+}
+
+// The properties of a node, each its identifier, type, length and place; or the line of the first fault.
+fn line_of(alloc: Global, node: Node) -> Result<String, Fail> {
+    let pc = match check_pc(node) {
+        Ok(pc) => pc,
+        Err(fault) => return Ok(format!(in alloc; "{fault}")?),
+    };
+    let mut line = format!(in alloc; "yes")?;
+    for prop in pc.props() {
+        let again = pc.get(prop.id).ok_or("not found")?;
+        if again.kind != prop.kind || again.at != prop.at {
+            return Err(Fail::from("another one"));
+        }
+        let (id, kind, len, at) = (prop.id, prop.kind.0, again.value.len(), prop.at);
+        let text = format!(in alloc; ", {id:x} {kind:x} {len} {at:x}")?;
+        line.push_str(&text)?;
+    }
+    Ok(line)
+}
+
+// Whether the property context of a node is answered with a line.
+fn is_answered<R: Abort>(
+    rt: &R,
+    alloc: Global,
+    image: &[u8],
+    nid: u32,
+    line: &str,
+) -> Result<(), Fail> {
+    let Ok(checked) = check_ndb(alloc, Image::new(image)) else {
+        return Err(Fail::from("refused"));
+    };
+    let node = checked.ndb.node(nid).ok_or("no node")?;
+    let told = line_of(alloc, node)?;
+    assert_eq!(rt; told.as_str(), line);
+    Ok(())
+}
+
+// Changes to the block of the message store, 0x21, and what is answered of it.
+const STORE_ROWS: [(Change<'static>, &str); 13] = [
+    ((0, &[]), "yes, 3001 1f 4 4c1c"),
+    (
+        (0, &[0x20, 0, 0xec, 0xbb]),
+        "no: 21 Heap at 0x4c00 bid 0x4 nid 0x21",
+    ),
+    ((3, &[0x7c]), "no: 21 Heap at 0x4c00 bid 0x4 nid 0x21"),
+    ((4, &[0]), "no: 22 HeapId at 0x4c04 bid 0x4 nid 0x21"),
+    ((12, &[0xb4]), "no: 23 Bth at 0x4c0c bid 0x4 nid 0x21"),
+    ((24, &[0x80]), "no: 22 HeapId at 0x4c18 bid 0x4 nid 0x21"),
+    ((24, &[7]), "no: 17 Subnode at 0x4c18 bid 0x4 nid 0x21"),
+    ((24, &[0]), "yes, 3001 1f 0 0"),
+    ((22, &[0x40]), "no: 24 Property at 0x4c14 bid 0x4 nid 0x21"),
+    ((22, &[0x40, 0, 0]), "yes, 3001 40 0 0"),
+    ((22, &[0x48]), "no: 24 Property at 0x4c14 bid 0x4 nid 0x21"),
+    ((22, &[0x1e]), "yes, 3001 1e 4 4c1c"),
+    ((22, &[0x34, 0x12]), "yes, 3001 1234 4 4c18"),
+];
+
+// Changes to the block of the root folder, 0x122.
+const FOLDER_ROWS: [(Change<'static>, &str); 5] = [
+    ((0, &[]), "yes, 3602 3 4 4c58"),
+    ((16, &[0x60]), "no: 22 HeapId at 0x4c50 bid 0x8 nid 0x122"),
+    ((16, &[0]), "yes"),
+    ((22, &[0x0b]), "yes, 3602 b 1 4c58"),
+    ((22, &[2]), "yes, 3602 2 2 4c58"),
+];
+
+#[test]
+fn small_stores(rt: HostRuntime) -> Result<(), Fail> {
+    let alloc = rt.alloc();
+    for (change, line) in STORE_ROWS {
+        let image = m0_with(alloc, 0, &[change])?;
+        is_answered(&rt, alloc, &image, 0x21, line)?;
+    }
+    for (change, line) in FOLDER_ROWS {
+        let image = m0_with(alloc, 1, &[change])?;
+        is_answered(&rt, alloc, &image, 0x122, line)?;
+    }
+    Ok(())
+}
+
+// A property context: the header of a heap, of a BTH, four records, items of 7, 16 and 4 bytes, and the page map.
+const PROPERTIES: [u8; 95] = [
+    79, 0, 0xec, 0xbc, 0x20, 0, 0, 0, 0, 0, 0, 0, //
+    0xb5, 2, 6, 0, 0x40, 0, 0, 0, //
+    0x37, 0, 0x1f, 0, 0xa0, 0, 0, 0, //
+    0, 0x10, 0x1f, 0, 0x41, 0, 0, 0, //
+    7, 0x30, 0x40, 0, 0, 0, 0, 0, //
+    1, 0x37, 0x48, 0, 0x80, 0, 0, 0, //
+    1, 2, 3, 4, 5, 6, 7, //
+    0x28, 3, 2, 0, 0, 0, 0, 0, 0xc0, 0, 0, 0, 0, 0, 0, 0x46, //
+    0x41, 0, 0, 0xd8, //
+    5, 0, 0, 0, 12, 0, 20, 0, 52, 0, 59, 0, 75, 0, 79, 0,
+];
+
+// An XBLOCK of two blocks, and a list of one subnode, 0x41, with it as its data.
+const XBLOCK: [u8; 24] = [
+    1, 1, 2, 0, 5, 0, 0, 0, 8, 0, 0, 0, 0, 0, 0, 0, 12, 0, 0, 0, 0, 0, 0, 0,
+];
+
+const SUBNODES: [u8; 32] = [
+    2, 0, 1, 0, 0, 0, 0, 0, 0x41, 0, 0, 0, 0, 0, 0, 0, 18, 0, 0, 0, 0, 0, 0, 0, 0, 0, 0, 0, 0, 0,
+    0, 0,
+];
+
+// A store of one node, 0x21, with this property context, whose bytes are changed; bit 0 of its block identifiers is set.
+fn store(alloc: Global, changes: &[Change]) -> Result<Vec<u8>, Fail> {
+    let mut properties = PROPERTIES;
+    change_all(&mut properties, changes)?;
+    let bodies: [(u64, &[u8]); 5] = [
+        (4, &properties),
+        (8, &[b'P', 0, b'S']),
+        (12, &[0, b'T']),
+        (18, &XBLOCK),
+        (22, &SUBNODES),
+    ];
+    let mut plan = Plan {
+        blocks: Vec::new(alloc),
+        nodes: Vec::new(alloc),
+    };
+    for (bid, bytes) in bodies {
+        let body = Vec::from_slice(alloc, bytes)?;
+        plan.blocks.push(BlockPlan { bid, body })?;
+    }
+    plan.nodes.push(NodePlan {
+        nid: 0x21,
+        bid_data: 5,
+        bid_sub: 23,
+        parent: 0,
+    })?;
+    build(alloc, &plan).map_err(|_| Fail::from("not made"))
+}
+
+#[test]
+fn first_faults(rt: HostRuntime) -> Result<(), Fail> {
+    let alloc = rt.alloc();
+    let rows: [(&[Change], &str); 4] = [
+        (
+            &[],
+            "yes, 37 1f 4 4c4b, 1000 1f 5 4c80, 3007 40 0 0, 3701 48 16 4c3b",
+        ),
+        (
+            &[(40, &[0x60])],
+            "no: 24 Property at 0x4c24 bid 0x5 nid 0x21",
+        ),
+        (
+            &[(40, &[0x60]), (32, &[0x61])],
+            "no: 17 Subnode at 0x4c20 bid 0x5 nid 0x21",
+        ),
+        (
+            &[(40, &[0x60]), (32, &[0x61]), (36, &[0, 0])],
+            "no: 23 Bth at 0x4c24 bid 0x5 nid 0x21",
+        ),
+    ];
+    for (changes, line) in rows {
+        let image = store(alloc, changes)?;
+        is_answered(&rt, alloc, &image, 0x21, line)?;
+    }
+    Ok(())
+}
+
+#[test]
+fn values_are_lent(rt: HostRuntime) -> Result<(), Fail> {
+    let alloc = rt.alloc();
+    let image = store(alloc, &[])?;
+    let Ok(checked) = check_ndb(alloc, Image::new(&image)) else {
+        return Err(Fail::from("refused"));
+    };
+    let node = checked.ndb.node(0x21).ok_or("no node")?;
+    let Ok(pc) = check_pc(node) else {
+        return Err(Fail::from("no properties"));
+    };
+    for id in [0, 0x36, 0x38, 0x1001, 0x3700, 0x3702, 0xffff] {
+        assert!(rt; pc.get(id).is_none(), "property {id:x}");
+    }
+    let subject = pc.get(0x37).ok_or("no subject")?;
+    let Value::Whole(_, bytes) = subject.value else {
+        return Err(Fail::from("in pieces"));
+    };
+    assert_eq!(rt; bytes, [0x41, 0, 0, 0xd8].as_slice());
+    let guid = as_guid(pc.get(0x3701).ok_or("no GUID")?.value).ok_or("no GUID")?;
+    let text = format!(in alloc; "{guid}")?;
+    assert_eq!(rt; text.as_str(), "00020328-0000-0000-c000-000000000046");
+    let body = pc.get(0x1000).ok_or("no body")?;
+    assert_eq!(rt; body.kind, PropType(0x1f));
+    assert!(rt; matches!(body.value, Value::Pieces(_)));
+    let mut units = units16(body.value);
+    assert_eq!(rt; units.next(), Some(u16::from(b'P')));
+    assert_eq!(rt; units.next(), Some(u16::from(b'S')));
+    assert_eq!(rt; units.next(), None);
+    assert_eq!(rt; as_i32(body.value), None);
+    Ok(())
+}
