@@ -1,6 +1,7 @@
 pub mod Answer
 pub mod Head
 pub mod Listing
+pub mod Loading
 pub mod Nodes
 pub mod Output
 pub mod Refusal

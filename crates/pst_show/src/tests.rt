@@ -2,7 +2,7 @@
 
 mod nodes;
 
-use crate::input::{LoadFault, load};
+use crate::input::{LoadFault, Reads, load, load_counted};
 use crate::output::{EmitFault, emit};
 use crate::run::run;
 use crate::source::Source;
@@ -280,7 +280,14 @@ fn an_interrupted_read_is_made_again(rt: HostRuntime) -> Result<(), Fail> {
 
 #[test]
 fn all_bytes_are_loaded(rt: HostRuntime) -> Result<(), Fail> {
-    for len in [0, 1, 65_535, 65_536, 65_537, 200_000] {
+    for (len, count) in [
+        (0, 1),
+        (1, 2),
+        (65_535, 2),
+        (65_536, 2),
+        (65_537, 3),
+        (200_000, 5),
+    ] {
         let mut image = vec![in rt.alloc(); 0u8; len]?;
         for (i, byte) in image.iter_mut().enumerate() {
             *byte = (i % 251) as u8;
@@ -288,6 +295,11 @@ fn all_bytes_are_loaded(rt: HostRuntime) -> Result<(), Fail> {
         let mut input = image.as_slice();
         let got = load(rt.alloc(), &mut input).map_err(|_| "refused")?;
         assert_eq!(rt; got.as_slice(), image.as_slice());
+        let mut input = image.as_slice();
+        let (got, reads) = load_counted(rt.alloc(), &mut input);
+        assert_eq!(rt; got.map(|bytes| bytes.len()), Ok(len));
+        let bytes = len as u64;
+        assert_eq!(rt; reads, Reads { count, bytes });
     }
     Ok(())
 }
