@@ -12,3 +12,4 @@ pub mod PassLemmas
 pub mod ByteLemmas
 pub mod SeenLemmas
 pub mod SliceLemmas
+pub mod AddLemmas

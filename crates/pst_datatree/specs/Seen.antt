@@ -1,5 +1,5 @@
 -- What is known of data trees, and what is counted.
-use Rattle.std.specs.Prelude.{◌≡◌, ℕ, ◌+◌, ◌-◌, ◌^◌, min, Bool, true, Some, None}
+use Rattle.std.specs.Prelude.{◌≡◌, ℕ, ◌+◌, ◌-◌, ◌^◌, min, Bool, true, Some, None, ◌⊎◌}
 use Rattle.std.specs.Ordering.{nat_cmp}
 use Rattle.std.specs.BTreeSet.{contains, btree_set_len}
 use Rattle.pst_page.specs.declared.entry.BlockEntry.{BlockEntry}
@@ -7,6 +7,7 @@ use Rattle.pst_block.specs.Block.{bid_key}
 use Rattle.pst_block.specs.Table.{Table, entry_of, body_of}
 use Rattle.pst_datatree.specs.declared.seen.Seen.{Seen}
 use Rattle.pst_datatree.specs.List.{has_level_two}
+use Rattle.pst_datatree.specs.Names.{IsInternal, NamesBlock}
 use Rattle.pst_datatree.specs.Data.{tree_fault}
 
 -- how many internal blocks have been expanded
@@ -21,9 +22,33 @@ raised count more = min (count + more) (2 ^ 64 - 1)
 unfoldable pub has : Seen → ℕ → Bool
 has s bid = contains nat_cmp s.trees (bid_key bid)
 
+-- the block of a key is known
+abbrev pub holds : Seen → ℕ → Bool
+holds s key = contains nat_cmp s.trees key
+
 -- What is known is true: an internal block that is known has no fault. So what is passed over hides none.
 pub record IsTrueOf (t : Table) (s : Seen) : Type 0 where
   pub holds : (bid : ℕ) (e : BlockEntry) → entry_of t bid ≡ Some e → has s bid ≡ true → tree_fault t e ≡ None
+
+-- ---- what is added
+
+-- all internal blocks that an entry's block names are known
+abbrev pub NamesKnown : Table → Seen → BlockEntry → Type 0
+NamesKnown t s e = (next : ℕ) (x : BlockEntry) → NamesBlock (body_of t e) next → IsInternal t next x → has s next ≡ true
+
+-- With each block that is known all are known that it names.
+abbrev pub IsClosed : Table → Seen → Type 0
+IsClosed t s = (bid : ℕ) (e : BlockEntry) → has s bid ≡ true → IsInternal t bid e → NamesKnown t s e
+
+-- What was known is known still, only such keys are new, and what is known stays closed.
+pub record Adds (t : Table) (IsNew : ℕ → Type 0) (old new : Seen) : Type 0 where
+  pub stays : (key : ℕ) → holds old key ≡ true → holds new key ≡ true
+  pub only : (key : ℕ) → holds new key ≡ true → (holds old key ≡ true) ⊎ IsNew key
+  pub closed : IsClosed t old → IsClosed t new
+
+-- the block of an identifier is known, if it is an internal block that the block B-tree has
+abbrev pub IsKnown : Table → Seen → ℕ → Type 0
+IsKnown t s bid = (e : BlockEntry) → IsInternal t bid e → has s bid ≡ true
 
 -- ---- what is counted
 

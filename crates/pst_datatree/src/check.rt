@@ -4,12 +4,15 @@ ghost use Rattle.std.specs.Prelude.{◌≡◌, ℕ, ◌+◌, ◌*◌, ◌^◌, �
 ghost use Rattle.pst_bytes.specs.declared.span.Span.{Span};
 ghost use Rattle.pst_fault.specs.Fault.{at_node, no_memory};
 ghost use Rattle.pst_fault.specs.First.{answer, Tells, first_below, join_below};
+ghost use Rattle.pst_block.specs.Block.{bid_key};
 ghost use Rattle.pst_block.specs.Table.{Table, body_of, entry_of, IsWithin};
 ghost use Rattle.pst_block.specs.Blocks.{table_of};
 ghost use Rattle.pst_datatree.specs.Data.{size_of, leaf_spans, leaf_fault, xblock_spans, xblock_fault, child_spans, child_fault, xxblock_spans, xxblock_fault, tree_spans, tree_fault, block_spans, block_fault, data_spans, data_fault, block_missing, bad_tree, told_at};
 ghost use Rattle.pst_datatree.specs.Relation.{HasData};
-ghost use Rattle.pst_datatree.specs.List.{has_level_two};
-ghost use Rattle.pst_datatree.specs.Seen.{expansions_of, has, IsTrueOf, KeepsCount, RaisesCount, NoNewTwo};
+ghost use Rattle.pst_datatree.specs.List.{has_level_two, bid_in};
+ghost use Rattle.pst_datatree.specs.Bid.{is_internal as is_internal_block};
+ghost use Rattle.pst_datatree.specs.Names.{NamesBlock, IsKeyOf, IsUnder, IsInTree};
+ghost use Rattle.pst_datatree.specs.Seen.{expansions_of, has, holds, IsTrueOf, IsKnown, NamesKnown, Adds, KeepsCount, RaisesCount, NoNewTwo};
 
 use crate::bid::{is_internal, is_no_block};
 use crate::list::{bid_at, body_in, is_list, is_xxblock};
@@ -77,6 +80,7 @@ fn xblock_len(blocks: &Blocks, entry: BlockEntry, seen: &mut Seen) -> Result<u64
     ensures known { (t : Table) → IsTrueOf t seen.old → IsTrueOf t seen.new }
     ensures raises { OnOk result (RaisesCount seen.old seen.new) }
     ensures same { (bid : ℕ) → has seen.new bid ≡ has seen.old bid }
+    ensures keys { (key : ℕ) → holds seen.new key ≡ holds seen.old key }
     ensures grows { expansions_of seen.old ≤ expansions_of seen.new }
 {
     let body = body_in(blocks, entry);
@@ -103,6 +107,8 @@ fn xblock_once(blocks: &Blocks, entry: BlockEntry, seen: &mut Seen) -> Result<u6
     ensures known { IsTrueOf (table_of blocks.now) seen.new }
     ensures counts { OnOk result (KeepsCount seen.old seen.new) }
     ensures levels { NoNewTwo (table_of blocks.now) seen.old seen.new }
+    ensures adds { Adds (table_of blocks.now) (λ key. bid_key entry.bid ≡ key) seen.old seen.new }
+    ensures there { OnOk result (has seen.new entry.bid ≡ true) }
     ensures grows { expansions_of seen.old ≤ expansions_of seen.new }
 {
     if is_xxblock(body_in(blocks, entry)) {
@@ -128,6 +134,10 @@ fn child_len(blocks: &Blocks, holder: BlockEntry, i: u16, seen: &mut Seen) -> Re
     ensures known { IsTrueOf (table_of blocks.now) seen.new }
     ensures counts { OnOk result (KeepsCount seen.old seen.new) }
     ensures levels { NoNewTwo (table_of blocks.now) seen.old seen.new }
+    ensures adds { let t = table_of blocks.now in
+        Adds t (IsKeyOf t (bid_in (body_of t holder) i)) seen.old seen.new }
+    ensures there { let t = table_of blocks.now in
+        OnOk result (has seen.new (bid_in (body_of t holder) i) ≡ true) }
     ensures grows { expansions_of seen.old ≤ expansions_of seen.new }
 {
     let bid = bid_at(body_in(blocks, holder), i);
@@ -141,6 +151,7 @@ fn child_len(blocks: &Blocks, holder: BlockEntry, i: u16, seen: &mut Seen) -> Re
 }
 
 // How many bytes the first XBLOCKs have that an XXBLOCK names.
+#[tactic(auto, using(crate::proofs::AddLemmas::adds_next, crate::proofs::AddLemmas::there_next))]
 fn children_len(
     blocks: &Blocks,
     holder: BlockEntry,
@@ -155,6 +166,10 @@ fn children_len(
     ensures known { IsTrueOf (table_of blocks.now) seen.new }
     ensures counts { OnOk result (KeepsCount seen.old seen.new) }
     ensures levels { NoNewTwo (table_of blocks.now) seen.old seen.new }
+    ensures adds { let t = table_of blocks.now in
+        Adds t (λ key. (i : ℕ) × (i < count) × IsKeyOf t (bid_in (body_of t holder) i) key) seen.old seen.new }
+    ensures there { let t = table_of blocks.now in
+        OnOk result ((i : ℕ) → i < count → has seen.new (bid_in (body_of t holder) i) ≡ true) }
     ensures grows { expansions_of seen.old ≤ expansions_of seen.new }
 {
     let mut total = 0u64;
@@ -175,6 +190,9 @@ fn xxblock_len(blocks: &Blocks, entry: BlockEntry, seen: &mut Seen) -> Result<u6
     ensures known { IsTrueOf (table_of blocks.now) seen.new }
     ensures raises { OnOk result (RaisesCount seen.old seen.new) }
     ensures levels { NoNewTwo (table_of blocks.now) seen.old seen.new }
+    ensures adds { let t = table_of blocks.now in
+        Adds t (λ key. (next : ℕ) × NamesBlock (body_of t entry) next × IsKeyOf t next key) seen.old seen.new }
+    ensures there { OnOk result (NamesKnown (table_of blocks.now) seen.new entry) }
     ensures grows { expansions_of seen.old ≤ expansions_of seen.new }
 {
     let body = body_in(blocks, entry);
@@ -200,6 +218,9 @@ fn xxblock_once(blocks: &Blocks, entry: BlockEntry, seen: &mut Seen) -> Result<u
         Tells result (xxblock_fault t entry) (size_of (xxblock_spans t entry)) }
     ensures known { IsTrueOf (table_of blocks.now) seen.new }
     ensures counts { OnOk result (KeepsCount seen.old seen.new) }
+    ensures adds { let t = table_of blocks.now in
+        Adds t (IsUnder t entry) seen.old seen.new }
+    ensures there { OnOk result (has seen.new entry.bid ≡ true) }
     ensures grows { expansions_of seen.old ≤ expansions_of seen.new }
 {
     if seen.knows(entry.bid) {
@@ -220,6 +241,9 @@ fn tree_len(blocks: &Blocks, entry: BlockEntry, seen: &mut Seen) -> Result<u64, 
         Tells result (tree_fault t entry) (size_of (tree_spans t entry)) }
     ensures known { IsTrueOf (table_of blocks.now) seen.new }
     ensures counts { OnOk result (KeepsCount seen.old seen.new) }
+    ensures adds { let t = table_of blocks.now in
+        Adds t (IsUnder t entry) seen.old seen.new }
+    ensures there { OnOk result (has seen.new entry.bid ≡ true) }
     ensures grows { expansions_of seen.old ≤ expansions_of seen.new }
 {
     if is_xxblock(body_in(blocks, entry)) {
@@ -239,6 +263,9 @@ fn block_len(blocks: &Blocks, entry: BlockEntry, seen: &mut Seen) -> Result<u64,
         Tells result (block_fault t entry) (size_of (block_spans t entry)) }
     ensures known { IsTrueOf (table_of blocks.now) seen.new }
     ensures counts { OnOk result (KeepsCount seen.old seen.new) }
+    ensures adds { let t = table_of blocks.now in
+        Adds t (λ key. (is_internal_block entry.bid ≡ true) × IsUnder t entry key) seen.old seen.new }
+    ensures there { OnOk result (is_internal_block entry.bid ≡ true → has seen.new entry.bid ≡ true) }
     ensures grows { expansions_of seen.old ≤ expansions_of seen.new }
 {
     if is_internal(entry.bid) {
@@ -256,6 +283,9 @@ fn data_len(blocks: &Blocks, bid: u64, seen: &mut Seen) -> Result<u64, Fault>
         Tells result (data_fault t bid) (size_of (data_spans t bid)) }
     ensures known { IsTrueOf (table_of blocks.now) seen.new }
     ensures counts { OnOk result (KeepsCount seen.old seen.new) }
+    ensures adds { let t = table_of blocks.now in
+        Adds t (IsInTree t bid) seen.old seen.new }
+    ensures there { OnOk result (IsKnown (table_of blocks.now) seen.new bid) }
     ensures grows { expansions_of seen.old ≤ expansions_of seen.new }
 {
     if is_no_block(bid) {
@@ -285,6 +315,9 @@ fn checked(blocks: &Blocks, bid: u64, nid: u32, seen: &mut Seen) -> Result<(), F
     ensures sound { OnOk result (data_fault (table_of blocks.now) bid ≡ None) }
     ensures known { IsTrueOf (table_of blocks.now) seen.new }
     ensures counts { OnOk result (KeepsCount seen.old seen.new) }
+    ensures adds { let t = table_of blocks.now in
+        Adds t (IsInTree t bid) seen.old seen.new }
+    ensures there { OnOk result (IsKnown (table_of blocks.now) seen.new bid) }
     ensures grows { expansions_of seen.old ≤ expansions_of seen.new }
 {
     match data_len(blocks, bid, seen) {
@@ -324,6 +357,10 @@ pub fn check_data(
 
     // An identifier that has a data tree is refused for want of memory alone.
     ensures only { (spans : List Span) → HasData (table_of blocks.now) bid spans → IfErr result (λ f. f ≡ no_memory) }
+
+    // Only internal blocks of the data tree are known since; where there is no fault, all of them.
+    ensures adds { Adds (table_of blocks.now) (IsInTree (table_of blocks.now) bid) seen.old seen.new }
+    ensures there { OnOk result (IsKnown (table_of blocks.now) seen.new bid) }
 
     // What is counted never falls.
     ensures counts { OnOk result (KeepsCount seen.old seen.new) }

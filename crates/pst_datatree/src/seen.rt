@@ -23,7 +23,7 @@ impl Seen {
     ghost use Rattle.pst_page.specs.declared.entry.BlockEntry.{BlockEntry};
     ghost use Rattle.pst_datatree.specs.Data.{tree_fault};
     ghost use Rattle.pst_fault.specs.Fault.{no_memory};
-    ghost use Rattle.pst_datatree.specs.Seen.{expansions_of, known_count, raised, has, IsTrueOf, IsAhead, RaisesCount};
+    ghost use Rattle.pst_datatree.specs.Seen.{expansions_of, known_count, raised, has, holds, IsTrueOf, IsAhead, RaisesCount};
 
     /// Nothing is known, and nothing has been expanded. No memory is taken.
     pub fn new(alloc: Global) -> Seen
@@ -57,6 +57,9 @@ impl Seen {
     #[tactic(auto, unfolding(crate::specs::Seen::has))]
     pub(crate) fn put(&mut self, bid: u64) -> Result<(), Fault>
         ensures only { (other : ℕ) → has self.new other ≡ true → (has self.old other ≡ true) ⊎ (bid_key bid ≡ bid_key other) }
+        ensures stays { (key : ℕ) → holds self.old key ≡ true → holds self.new key ≡ true }
+        ensures key { (key : ℕ) → holds self.new key ≡ true → (holds self.old key ≡ true) ⊎ (bid_key bid ≡ key) }
+        ensures there { OnOk result (has self.new bid ≡ true) }
         ensures known { (t : Table) (e : BlockEntry) → entry_of t bid ≡ Some e → tree_fault t e ≡ None → IsTrueOf t self.old → IsTrueOf t self.new }
         ensures counts { expansions_of self.new ≡ expansions_of self.old }
         ensures ahead { OnOk result (has self.old bid ≡ false → (k : ℕ) → IsAhead (k + 1) self.old → IsAhead k self.new) }
@@ -73,6 +76,7 @@ impl Seen {
         ensures grows { expansions_of self.old ≤ expansions_of self.new }
         ensures raises { RaisesCount self.old self.new }
         ensures same { (bid : ℕ) → has self.new bid ≡ has self.old bid }
+        ensures keys { (key : ℕ) → holds self.new key ≡ holds self.old key }
         ensures known { (t : Table) → IsTrueOf t self.old → IsTrueOf t self.new }
     {
         self.expansions = self.expansions.saturating_add(1);

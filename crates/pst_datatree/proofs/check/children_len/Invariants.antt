@@ -1,9 +1,11 @@
-use Rattle.std.proofs.Common.{◌≡◌, ◌*◌, ◌≤◌, None}
+use Rattle.std.proofs.Common.{◌≡◌, ℕ, ◌*◌, ◌<◌, ◌≤◌, true, None}
 use Rattle.pst_block.specs.Table.{body_of}
 use Rattle.pst_block.specs.Blocks.{table_of}
 use Rattle.pst_fault.specs.First.{first_below, join_below}
 use Rattle.pst_datatree.specs.Data.{size_of, child_spans, child_fault}
-use Rattle.pst_datatree.specs.Seen.{expansions_of, IsTrueOf, KeepsCount, NoNewTwo}
+use Rattle.pst_datatree.specs.List.{bid_in}
+use Rattle.pst_datatree.specs.Seen.{expansions_of, has, IsTrueOf, Adds, KeepsCount, NoNewTwo}
+use Rattle.pst_datatree.proofs.AddLemmas.{IsOfFirst}
 use Rattle.pst_datatree.proofs.check.children_len.Given as goal
 
 abbrev pub invariant-loop-i : goal.invariant-loop-i
@@ -14,5 +16,7 @@ invariant-loop-i l = record {
   known : IsTrueOf (table_of l.blocks) l.seen;
   counts : KeepsCount l.initial.seen l.seen;
   levels : NoNewTwo (table_of l.blocks) l.initial.seen l.seen;
+  adds : Adds (table_of l.blocks) (IsOfFirst (table_of l.blocks) l.holder l.count) l.initial.seen l.seen;
+  there : (j : ℕ) → j < l.i → has l.seen (bid_in (body_of (table_of l.blocks) l.holder) j) ≡ true;
   grows : expansions_of l.initial.seen ≤ expansions_of l.seen;
 }

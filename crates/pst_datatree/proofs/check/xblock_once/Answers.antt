@@ -4,6 +4,8 @@ use Rattle.pst_block.specs.Table.{body_of}
 use Rattle.pst_block.specs.Blocks.{table_of}
 use Rattle.pst_datatree.specs.List.{has_level_two}
 use Rattle.pst_datatree.specs.Data.{size_of, tree_fault}
+use Rattle.pst_block.specs.Block.{bid_key}
+use Rattle.pst_datatree.proofs.AddLemmas.{adds_same, adds_then, adds_put, xblock_names}
 use Rattle.pst_datatree.proofs.SeenLemmas.{tree_of_one, spans_of_one, put_level}
 use Rattle.pst_datatree.proofs.check.xblock_once.Goals as goal
 
@@ -39,3 +41,22 @@ returns-clause-levels c =
     let t = table_of c.args.blocks.now in
     let level : has_level_two (body_of t c.args.entry) ≡ false = sym (ap has_level_two c.body_in.ensures) ∙ (sym c.is_xxblock.ensures ∙ c.if-is_xxblock.false) in
     put_level t c.args.seen.now c.xblock_len.new.seen c.put.new.self c.args.entry c.requires.listed level c.xblock_len.ensures.same c.in_ok-put.ensures.only
+
+pub returns-in_err-total-clause-adds : goal.returns-in_err-total-clause-adds
+returns-in_err-total-clause-adds c = adds_same (table_of c.args.blocks.now) (λ key. bid_key c.args.entry.bid ≡ key) c.args.seen.now c.xblock_len.new.seen c.xblock_len.ensures.keys
+
+pub returns-in_err-put-clause-adds : goal.returns-in_err-put-clause-adds
+returns-in_err-put-clause-adds c =
+    let t = table_of c.args.blocks.now in
+    let names = xblock_names t c.xblock_len.new.seen c.args.entry (answer_ok _ _ _ (sym c.in_ok-total.ensures.value)).0 in
+    adds_then t (λ key. bid_key c.args.entry.bid ≡ key) c.args.seen.now c.xblock_len.new.seen c.put.new.self
+    (adds_same t _ c.args.seen.now c.xblock_len.new.seen c.xblock_len.ensures.keys)
+    (adds_put t _ c.xblock_len.new.seen c.put.new.self c.args.entry c.requires.listed c.in_err-put.ensures.stays c.in_err-put.ensures.key names (λ key is. is))
+
+pub returns-clause-adds : goal.returns-clause-adds
+returns-clause-adds c =
+    let t = table_of c.args.blocks.now in
+    let names = xblock_names t c.xblock_len.new.seen c.args.entry (answer_ok _ _ _ (sym c.in_ok-total.ensures.value)).0 in
+    adds_then t (λ key. bid_key c.args.entry.bid ≡ key) c.args.seen.now c.xblock_len.new.seen c.put.new.self
+    (adds_same t _ c.args.seen.now c.xblock_len.new.seen c.xblock_len.ensures.keys)
+    (adds_put t _ c.xblock_len.new.seen c.put.new.self c.args.entry c.requires.listed c.in_ok-put.ensures.stays c.in_ok-put.ensures.key names (λ key is. is))

@@ -2,6 +2,7 @@ use Rattle.std.proofs.Common.{◌≡◌, None, ap, ◌∙◌, sym}
 use Rattle.pst_block.specs.Blocks.{table_of}
 use Rattle.pst_datatree.specs.Data.{size_of, tree_fault}
 use Rattle.pst_datatree.proofs.SeenLemmas.{tree_of_two, spans_of_two}
+use Rattle.pst_datatree.proofs.AddLemmas.{adds_xxblock}
 use Rattle.pst_datatree.proofs.check.xxblock_once.Goals as goal
 
 pub returns-then-knows-clause-value : goal.returns-then-knows-clause-value
@@ -21,3 +22,11 @@ returns-clause-known c =
     let t = table_of c.args.blocks.now in
     let none : tree_fault t c.args.entry ≡ None = tree_of_two t c.args.entry c.requires.level ∙ c.in_ok-total.ensures.value.0 in
     c.in_ok-put.ensures.known t c.args.entry c.requires.listed none c.in_ok-total.ensures.known
+
+pub returns-in_err-put-clause-adds : goal.returns-in_err-put-clause-adds
+returns-in_err-put-clause-adds c =
+    adds_xxblock (table_of c.args.blocks.now) c.args.seen.now c.xxblock_len.new.seen c.put.new.self c.args.entry c.requires.listed c.in_err-put.ensures.stays c.in_err-put.ensures.key c.in_ok-total.ensures.there c.in_ok-total.ensures.adds
+
+pub returns-clause-adds : goal.returns-clause-adds
+returns-clause-adds c =
+    adds_xxblock (table_of c.args.blocks.now) c.args.seen.now c.xxblock_len.new.seen c.put.new.self c.args.entry c.requires.listed c.in_ok-put.ensures.stays c.in_ok-put.ensures.key c.in_ok-total.ensures.there c.in_ok-total.ensures.adds
