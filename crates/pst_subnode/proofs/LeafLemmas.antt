@@ -1,5 +1,5 @@
 -- The SLBLOCKs of an SIBLOCK are lists of their own: what is known of one of them is known wherever it is named.
-use Rattle.std.proofs.Common.{◌≡◌, ℕ, zero, suc, ◌+◌, ◌*◌, ◌<◌, ◌≤◌, max, Bool, true, false, List, [], ◌∷◌, ◌++◌, length, Option, Some, None, refl, sym, ap, ◌∙◌, arith, ◌⊎◌, inl, inr, append_assoc}
+use Rattle.std.proofs.Common.{◌≡◌, ℕ, zero, suc, ◌+◌, ◌-◌, ◌*◌, ◌<◌, ◌≤◌, max, Bool, true, false, List, [], ◌∷◌, ◌++◌, length, Option, Some, None, refl, sym, ap, ◌∙◌, arith, ◌⊎◌, inl, inr, append_assoc}
 use Rattle.std.specs.Prelude.{cond, not, ◌&&◌, ◌||◌, map, nat_eq, if◌then◌else◌}
 use Rattle.std.specs.List.{list_any}
 use Rattle.std.proofs.lemmas.Bool.Decides.{nat_tests}
@@ -15,7 +15,7 @@ use Rattle.pst_subnode.specs.declared.sub.Sub.{Sub}
 use Rattle.pst_subnode.specs.Body.{count_in, bid_in, is_slblock, is_siblock, has_level_one}
 use Rattle.pst_subnode.specs.List.{subs_at, slblock_subs, leaf_subs, siblock_subs, block_subs, subs_of, nid_of, are_distinct, bad_list, slblock_fault, leaf_fault, siblock_fault, shape_fault, block_fault, list_fault}
 use Rattle.pst_subnode.specs.Tree.{first_among, most_among, entry_fault, entry_height, nesting, sub_fault, sub_height}
-use Rattle.pst_subnode.specs.Heights.{IsList, IsSiList, at_leaf, at_leaves, leaf_height, most_below}
+use Rattle.pst_subnode.specs.Marks.{IsList, IsSiList, at_leaf, at_leaves, leaf_height, most_below, rank_of}
 use Rattle.pst_subnode.proofs.ListLaws.{level_zero}
 use Rattle.pst_subnode.proofs.SubLemmas.{sub_fault_list, sub_height_list}
 
@@ -102,9 +102,10 @@ internal_named b h = grind (arith, nat_tests)
 pub record IsLeafList (t : Table) (body : List ℕ) (i : ℕ) : Type 0 where
   pub is_list : IsList t (bid_in body i)
   pub subs : subs_of t (bid_in body i) ≡ leaf_subs t body i
+  pub rank : rank_of t (bid_in body i) ≡ 0
 
 leaf_with : (t : Table) (body : List ℕ) (i : ℕ) (x : BlockEntry) → entry_of t (bid_in body i) ≡ Some x → is_internal (bid_in body i) ≡ true → slblock_fault t x ≡ None → are_distinct (map nid_of (leaf_subs t body i)) ≡ true → IsLeafList t body i
-unfolding leaf_subs slblock_fault list_fault block_fault shape_fault block_subs subs_of
+unfolding leaf_subs slblock_fault list_fault block_fault shape_fault block_subs subs_of rank_of
 leaf_with t body i x there internal none distinct =
     let named = internal_named (bid_in body i) internal in
     let level : has_level_one (body_of t x) ≡ false = level_zero (body_of t x) (holds_or_none _ _ none) in
@@ -112,6 +113,7 @@ leaf_with t body i x there internal none distinct =
     record {
       is_list = record { named = named; list = rw (there, internal, level) (then_none _ _ none ∙ holds_or_true _ _ apart) };
       subs = rw (named, there, level) refl;
+      rank = rw (there, level) refl;
     }
 
 leaf_is : (t : Table) (e : BlockEntry) (i : ℕ) → leaf_fault t e i ≡ None → are_distinct (map nid_of (leaf_subs t (body_of t e) i)) ≡ true → IsLeafList t (body_of t e) i
@@ -204,3 +206,18 @@ pub most_least : (height : ℕ → ℕ) (n : ℕ) → 1 ≤ most_below height n
 unfolding most_below
 most_least height zero = omega arith
 most_least height (suc n) = omega (arith, most_least height n)
+
+-- ---- what the walk of a list answers, once its parts have
+
+pub si_tells : (t : Table) (bid : ℕ) (e : BlockEntry) (limit count most : ℕ) → 0 < limit → IsSiList t bid e → count ≡ count_in (body_of t e) → (at_leaves t e count limit ≡ None) × (most ≡ most_below (leaf_height t e limit) count) → (sub_fault t limit bid ≡ None) × (most ≡ sub_height t limit bid)
+si_tells t bid e limit count most room is named told =
+    let more : limit - 1 + 1 ≡ limit = omega (arith, room) in (
+      si_fault t bid e limit (limit - 1) is more ∙ (ap (λ n. at_leaves t e n limit) (sym named) ∙ told.0),
+      told.1 ∙ (ap (most_below (leaf_height t e limit)) named ∙ sym (si_height t bid e limit (limit - 1) is more)),
+    )
+
+pub list_tells : (t : Table) (bid limit below most : ℕ) (xs : List Sub) → below + 1 ≡ limit → IsList t bid → xs ≡ subs_of t bid → (first_among (entry_fault t (sub_fault t below)) xs ≡ None) × (most ≡ most_among (entry_height (sub_height t below)) xs) → (sub_fault t limit bid ≡ None) × (most + 1 ≡ sub_height t limit bid)
+list_tells t bid limit below most xs more is are told = (
+      sub_fault_list t limit below bid (omega (arith, more)) is.named ∙ then_none _ _ is.list ∙ ap (first_among (entry_fault t (sub_fault t below))) (sym are) ∙ told.0,
+      ap (λ n. n + 1) (told.1 ∙ ap (most_among (entry_height (sub_height t below))) are) ∙ sym (sub_height_list t limit below bid (omega (arith, more)) is.named),
+    )

@@ -1,5 +1,5 @@
 -- What is known of lists is true, and a list that is met while it is marked nests too deep.
-use Rattle.std.proofs.Common.{◌≡◌, ℕ, zero, suc, ◌+◌, ◌<◌, ◌≤◌, Bool, true, false, List, [], ◌∷◌, Option, Some, None, Result, Ok, Err, refl, sym, ap, ◌∙◌, arith, ◌⊎◌, inl, inr}
+use Rattle.std.proofs.Common.{◌≡◌, ℕ, zero, suc, ◌+◌, ◌*◌, ◌<◌, ◌≤◌, Bool, true, false, List, [], ◌∷◌, Option, Some, None, Result, Ok, Err, refl, sym, ap, ◌∙◌, arith, ◌⊎◌, inl, inr}
 use Rattle.std.specs.Prelude.{cond, if◌then◌else◌, ◌/◌}
 use Rattle.std.specs.Ordering.{nat_cmp, eq_by_cmp}
 use Rattle.std.proofs.lemmas.Map.Lookups.{exact_unsigned}
@@ -17,12 +17,15 @@ use Rattle.pst_block.specs.Table.{Table, entry_of, body_of}
 use Rattle.pst_datatree.specs.Bid.{is_internal, is_no_block}
 use Rattle.pst_datatree.specs.Seen.{raised}
 use Rattle.pst_datatree.specs.Data.{data_fault, fault_or, block_missing}
+use Rattle.pst_datatree.proofs.SeenLemmas.{same_key}
+use Rattle.pst_datatree.proofs.AddLemmas.{internal_same}
 use Rattle.pst_subnode.specs.declared.sub.Sub.{Sub}
 use Rattle.pst_subnode.specs.declared.heights.Heights.{Heights}
 use Rattle.pst_subnode.specs.List.{subs_of, list_fault, block_fault, bad_list, subs_at, block_subs}
 use Rattle.pst_subnode.specs.Tree.{first_among, most_among, entry_fault, entry_height, nesting, sub_fault, sub_height}
-use Rattle.pst_subnode.specs.Heights.{state_of, limit_fault, HasHeight, AreTrue, NoMarks, NoNewMarks, IsTrueOf, at_list, at_entries, at_entry, at_leaf, at_leaves, IsSiList, LeadsTo, HaveCome}
-use Rattle.pst_subnode.specs.Body.{count_in, bid_in}
+use Rattle.pst_subnode.specs.Heights.{state_at, state_of, limit_fault, HasHeight, AreTrue, NoMarks, NoNewMarks, IsTrueOf}
+use Rattle.pst_subnode.specs.Marks.{at_list, at_entries, at_entry, at_leaf, at_leaves, IsSiList, rank_at, rank_of, LeadsTo, HaveCome}
+use Rattle.pst_subnode.specs.Body.{count_in, bid_in, has_level_one}
 use Rattle.pst_subnode.proofs.LeafLemmas.{si_fault}
 use Rattle.pst_subnode.proofs.SubLemmas.{sub_fault_below, sub_fault_list, among_more}
 use Rattle.pst_subnode.proofs.HeightLemmas.{list_or_deep, height_law, height_same, fits_yes, fits_no, entry_or_deep}
@@ -30,41 +33,36 @@ use Rattle.pst_subnode.proofs.HeightLemmas.{list_or_deep, height_law, height_sam
 -- ---- one state is changed
 
 abbrev pub IsPut : Heights → Heights → ℕ → Option ℕ → Type 0
-IsPut old new bid state = (q : ℕ) → state_of new q ≡ cond (eq_by_cmp nat_cmp (bid_key bid) (bid_key q)) state (state_of old q)
+IsPut old new bid state = (key : ℕ) → state_at new key ≡ cond (eq_by_cmp nat_cmp (bid_key bid) key) state (state_at old key)
 
 abbrev pub IsSame : Heights → Heights → Type 0
-IsSame old new = (q : ℕ) → state_of new q ≡ state_of old q
+IsSame old new = (key : ℕ) → state_at new key ≡ state_at old key
 
--- the state of an identifier is the new one, and its key is the same, or it is the old one
-pub put_cases : (old new : Heights) (bid : ℕ) (state : Option ℕ) (q : ℕ) → IsPut old new bid state → ((bid_key bid ≡ bid_key q) × (state_of new q ≡ state)) ⊎ (state_of new q ≡ state_of old q)
-put_cases old new bid state q put = by_test (eq_by_cmp nat_cmp (bid_key bid) (bid_key q)) refl (put q)
+-- the state of a key is the new one, and it is the key that was put, or it is the old one
+pub put_at : (old new : Heights) (bid : ℕ) (state : Option ℕ) (key : ℕ) → IsPut old new bid state → ((bid_key bid ≡ key) × (state_at new key ≡ state)) ⊎ (state_at new key ≡ state_at old key)
+put_at old new bid state key put = by_test (eq_by_cmp nat_cmp (bid_key bid) key) refl (put key)
   where
-    by_test : (v : Bool) → eq_by_cmp nat_cmp (bid_key bid) (bid_key q) ≡ v → state_of new q ≡ cond v state (state_of old q) → ((bid_key bid ≡ bid_key q) × (state_of new q ≡ state)) ⊎ (state_of new q ≡ state_of old q)
-    by_test true here is = inl (tells_apart exact_unsigned (bid_key bid) (bid_key q) here, is)
+    by_test : (v : Bool) → eq_by_cmp nat_cmp (bid_key bid) key ≡ v → state_at new key ≡ cond v state (state_at old key) → ((bid_key bid ≡ key) × (state_at new key ≡ state)) ⊎ (state_at new key ≡ state_at old key)
+    by_test true here is = inl (tells_apart exact_unsigned (bid_key bid) key here, is)
     by_test false here is = inr is
 
--- ---- bit 0 of an identifier says nothing
+pub put_cases : (old new : Heights) (bid : ℕ) (state : Option ℕ) (q : ℕ) → IsPut old new bid state → ((bid_key bid ≡ bid_key q) × (state_of new q ≡ state)) ⊎ (state_of new q ≡ state_of old q)
+put_cases old new bid state q put = put_at old new bid state (bid_key q) put
 
-same_entry : (t : Table) (a b : ℕ) → bid_key a ≡ bid_key b → entry_of t a ≡ entry_of t b
-unfolding entry_of
-same_entry t a b h = rw h refl
+-- ---- bit 0 of an identifier says nothing
 
 small_same : (a b : ℕ) → bid_key a ≡ bid_key b → is_no_block a ≡ is_no_block b
 unfolding key_of is_no_block
 small_same a b e = grind (arith, nat_tests)
 
-internal_same : (a b : ℕ) → bid_key a ≡ bid_key b → is_internal a ≡ is_internal b
-unfolding key_of is_internal
-internal_same a b e = let half : a / 2 ≡ b / 2 = omega arith in rw half refl
-
 subs_same : (t : Table) (a b : ℕ) → bid_key a ≡ bid_key b → subs_of t a ≡ subs_of t b
 unfolding subs_of
-subs_same t a b e = rw (small_same a b e, same_entry t a b e) refl
+subs_same t a b e = rw (small_same a b e, same_key t a b e) refl
 
 -- a list without fault is told of by no identifier
 list_same : (t : Table) (a b : ℕ) → bid_key a ≡ bid_key b → list_fault t a ≡ None → list_fault t b ≡ None
 unfolding list_fault
-list_same t a b e none = by_entry (entry_of t b) (rw (same_entry t a b e, internal_same a b e) at none)
+list_same t a b e none = by_entry (entry_of t b) (rw (same_key t a b e, internal_same a b e) at none)
   where
     by_entry : (o : Option BlockEntry) → fault_or (block_missing a) (λ x. if is_internal b then block_fault t x else Some (bad_list x)) o ≡ None → fault_or (block_missing b) (λ x. if is_internal b then block_fault t x else Some (bad_list x)) o ≡ None
     by_entry None h = cc
@@ -80,15 +78,41 @@ unfolding sub_height
 height_of_same t zero a b e = refl
 height_of_same t (suc k) a b e = rw (small_same a b e, subs_same t a b e) refl
 
+-- ---- ranks
+
+pub rank_small : (t : Table) (bid : ℕ) → rank_of t bid ≤ 1
+unfolding rank_of
+rank_small t bid = by_entry (entry_of t bid)
+  where
+    by_level : (b : Bool) → (if b then 1 else 0) ≤ 1
+    by_level true = omega arith
+    by_level false = omega arith
+
+    by_entry : (o : Option BlockEntry) → rank_at t o ≤ 1
+    by_entry None = omega arith
+    by_entry (Some e) = by_level (has_level_one (body_of t e))
+
+rank_same : (t : Table) (a b : ℕ) → bid_key a ≡ bid_key b → rank_of t a ≡ rank_of t b
+unfolding rank_of
+rank_same t a b e = rw (same_key t a b e) refl
+
+pub rank_none : (t : Table) (bid : ℕ) (e : BlockEntry) → entry_of t bid ≡ Some e → has_level_one (body_of t e) ≡ false → rank_of t bid ≡ 0
+unfolding rank_of
+rank_none t bid e there level = rw (there, level) refl
+
+pub rank_one : (t : Table) (bid : ℕ) (e : BlockEntry) → IsSiList t bid e → rank_of t bid ≡ 1
+unfolding rank_of
+rank_one t bid e is = rw (is.entry, is.level) refl
+
 -- ---- from a place to the next
 
-abbrev Goes : (ℕ → Option Fault) → ℕ → (ℕ → Option Fault) → ℕ → Type 0
-Goes place limit next below =
+abbrev Goes : (ℕ → Option Fault) → ℕ → ℕ → (ℕ → Option Fault) → ℕ → ℕ → Type 0
+Goes place rank limit next lower below =
     (k : ℕ) → k ≤ limit →
-    (place k ≡ Some nesting) ⊎ ((l : ℕ) × (l ≤ k) × (l ≤ below) × ((f : Fault) → next l ≡ Some f → place k ≡ Some f))
+    (place k ≡ Some nesting) ⊎ ((l : ℕ) × (2 * l + lower ≤ 2 * k + rank) × (l ≤ below) × ((f : Fault) → next l ≡ Some f → place k ≡ Some f))
 
-leads_on : (t : Table) (bid top : ℕ) (place next : ℕ → Option Fault) (limit below : ℕ) → Goes place limit next below → LeadsTo t bid top place limit → LeadsTo t bid top next below
-leads_on t bid top place next limit below goes leads low le =
+leads_on : (t : Table) (bid top : ℕ) (place next : ℕ → Option Fault) (rank limit lower below : ℕ) → Goes place rank limit next lower below → LeadsTo t bid top place rank limit → LeadsTo t bid top next lower below
+leads_on t bid top place next rank limit lower below goes leads low le =
     elim (leads low le) [
       | inl deep ↦ inl deep
       | inr w ↦
@@ -98,79 +122,85 @@ leads_on t bid top place next limit below goes leads low le =
           ]
     ]
 
-come_on : (t : Table) (old new : Heights) (place next : ℕ → Option Fault) (limit below : ℕ) → NoNewMarks old new → below ≤ limit → Goes place limit next below → HaveCome t old place limit → HaveCome t new next below
-come_on t old new place next limit below marks le goes come = record {
+come_on : (t : Table) (old new : Heights) (place next : ℕ → Option Fault) (rank limit lower below : ℕ) → NoNewMarks old new → below ≤ limit → Goes place rank limit next lower below → HaveCome t old place rank limit → HaveCome t new next lower below
+come_on t old new place next rank limit lower below marks le goes come = record {
   from = λ bid marked.
       let w = come.from bid (marks bid marked) in
-      (w.0, omega (arith, w.1), leads_on t bid w.0 place next limit below goes w.2);
+      (w.0, omega (arith, w.1), leads_on t bid w.0 place next rank limit lower below goes w.2);
 }
 
+-- no SIBLOCK lies at a place of a lower rank
+pub lower_rank : (t : Table) (h : Heights) (place : ℕ → Option Fault) (limit : ℕ) → HaveCome t h place 1 limit → HaveCome t h place 0 limit
+lower_rank t h place limit come =
+    come_on t h h place place 1 limit 0 limit (λ q marked. marked) (omega arith) (λ k le. inr (k, omega arith, le, (λ f at. at))) come
+
 -- into a list
-into_list : (t : Table) (limit below bid : ℕ) → below + 1 ≡ limit → is_no_block bid ≡ false → list_fault t bid ≡ None → Goes (at_list t bid) limit (at_entries t (subs_of t bid)) below
-into_list t limit below bid more e none zero le = inl (sub_fault_below t 0 bid refl e)
-into_list t limit below bid more e none (suc k) le =
+into_list : (t : Table) (rank limit below bid : ℕ) → below + 1 ≡ limit → is_no_block bid ≡ false → list_fault t bid ≡ None → Goes (at_list t bid) rank limit (at_entries t (subs_of t bid)) 1 below
+into_list t rank limit below bid more e none zero le = inl (sub_fault_below t 0 bid refl e)
+into_list t rank limit below bid more e none (suc k) le =
     inr (k, omega arith, omega (arith, more), (λ f at. sub_fault_list t (suc k) k bid (omega arith) e ∙ (then_none _ _ none ∙ at)))
 
 -- to the first entry
-pub to_entry : (t : Table) (h : Heights) (limit : ℕ) (s : Sub) (xs rest : List Sub) → xs ≡ s ∷ rest → HaveCome t h (at_entries t xs) limit → HaveCome t h (at_entry t s) limit
+pub to_entry : (t : Table) (h : Heights) (limit : ℕ) (s : Sub) (xs rest : List Sub) → xs ≡ s ∷ rest → HaveCome t h (at_entries t xs) 1 limit → HaveCome t h (at_entry t s) 1 limit
 unfolding first_among
 to_entry t h limit s xs rest is come =
-    come_on t h h (at_entries t xs) (at_entry t s) limit limit (λ q marked. marked) (omega arith)
+    come_on t h h (at_entries t xs) (at_entry t s) 1 limit 1 limit (λ q marked. marked) (omega arith)
     (λ k le. inr (k, omega arith, le, (λ f at. rw is (then_some _ _ f at)))) come
 
 -- to the entries behind the first, which has no fault
-pub past_entry : (t : Table) (old new : Heights) (limit : ℕ) (s : Sub) (xs rest : List Sub) → xs ≡ s ∷ rest → NoNewMarks old new → entry_fault t (sub_fault t limit) s ≡ None → HaveCome t old (at_entries t xs) limit → HaveCome t new (at_entries t rest) limit
+pub past_entry : (t : Table) (old new : Heights) (limit : ℕ) (s : Sub) (xs rest : List Sub) → xs ≡ s ∷ rest → NoNewMarks old new → entry_fault t (sub_fault t limit) s ≡ None → HaveCome t old (at_entries t xs) 1 limit → HaveCome t new (at_entries t rest) 1 limit
 unfolding first_among
 past_entry t old new limit s xs rest is marks none come =
-    come_on t old new (at_entries t xs) (at_entries t rest) limit limit marks (omega arith)
+    come_on t old new (at_entries t xs) (at_entries t rest) 1 limit 1 limit marks (omega arith)
     (λ k le. elim (entry_or_deep t limit k s none) [
       | inl also ↦ inr (k, omega arith, le, (λ f at. rw is (then_none _ _ also ∙ at)))
       | inr deep ↦ inl (rw is (then_some _ _ nesting deep))
     ]) come
 
 -- from an entry to its own subnodes
-pub to_below : (t : Table) (h : Heights) (limit : ℕ) (s : Sub) → data_fault t s.bid_data ≡ None → HaveCome t h (at_entry t s) limit → HaveCome t h (at_list t s.bid_sub) limit
+pub to_below : (t : Table) (h : Heights) (limit : ℕ) (s : Sub) → data_fault t s.bid_data ≡ None → HaveCome t h (at_entry t s) 1 limit → HaveCome t h (at_list t s.bid_sub) 1 limit
 unfolding entry_fault
 to_below t h limit s none come =
-    come_on t h h (at_entry t s) (at_list t s.bid_sub) limit limit (λ q marked. marked) (omega arith)
+    come_on t h h (at_entry t s) (at_list t s.bid_sub) 1 limit 1 limit (λ q marked. marked) (omega arith)
     (λ k le. inr (k, omega arith, le, (λ f at. then_none _ _ none ∙ at))) come
 
--- into a list that is marked for that
-begun : (t : Table) (old new : Heights) (limit below bid : ℕ) → below + 1 ≡ limit → is_no_block bid ≡ false → list_fault t bid ≡ None → IsPut old new bid (Some 0) → HaveCome t old (at_list t bid) limit → HaveCome t new (at_entries t (subs_of t bid)) below
-begun t old new limit below bid more e none put come = record { from = each }
+-- from a list that is marked for that: what leads from the list itself, and what led to it
+mark_come : (t : Table) (old new : Heights) (place next : ℕ → Option Fault) (rank limit lower below bid : ℕ) → below ≤ limit → IsPut old new bid (Some 0) → ((q : ℕ) → bid_key bid ≡ bid_key q → LeadsTo t q limit next lower below) → Goes place rank limit next lower below → HaveCome t old place rank limit → HaveCome t new next lower below
+mark_come t old new place next rank limit lower below bid le put own goes come = record {
+  from = λ q marked.
+      elim (put_cases old new bid (Some 0) q put) [
+        | inl key ↦ (limit, le, own q key.0)
+        | inr same ↦
+            let w = come.from q (sym same ∙ marked) in
+            (w.0, omega (arith, w.1), leads_on t q w.0 place next rank limit lower below goes w.2)
+      ];
+}
+
+-- into an SLBLOCK
+pub begin_come : (t : Table) (old new : Heights) (limit below bid : ℕ) (xs : List Sub) → xs ≡ subs_of t bid → below + 1 ≡ limit → is_no_block bid ≡ false → list_fault t bid ≡ None → IsPut old new bid (Some 0) → HaveCome t old (at_list t bid) 0 limit → HaveCome t new (at_entries t xs) 1 below
+begin_come t old new limit below bid xs are more e none put come =
+    rw are (mark_come t old new (at_list t bid) (at_entries t (subs_of t bid)) 0 limit 1 below bid (omega (arith, more)) put own (into_list t 0 limit below bid more e none) come)
   where
-    own : (q : ℕ) → bid_key bid ≡ bid_key q → LeadsTo t q limit (at_entries t (subs_of t bid)) below
+    own : (q : ℕ) → bid_key bid ≡ bid_key q → LeadsTo t q limit (at_entries t (subs_of t bid)) 1 below
     own q key zero le = inl (sym (fault_same t 0 bid q key none) ∙ sub_fault_below t 0 bid refl e)
     own q key (suc low) le =
         inr (low, omega arith, omega (arith, more), (λ f at. sym (fault_same t (suc low) bid q key none) ∙ (sub_fault_list t (suc low) low bid (omega arith) e ∙ (then_none _ _ none ∙ at))))
 
-    each : (q : ℕ) → state_of new q ≡ Some 0 → (top : ℕ) × (below ≤ top) × LeadsTo t q top (at_entries t (subs_of t bid)) below
-    each q marked =
-        elim (put_cases old new bid (Some 0) q put) [
-          | inl key ↦ (limit, omega (arith, more), own q key.0)
-          | inr same ↦
-              let w = come.from q (sym same ∙ marked) in
-              (w.0, omega (arith, w.1, more), leads_on t q w.0 (at_list t bid) (at_entries t (subs_of t bid)) limit below (into_list t limit below bid more e none) w.2)
-        ]
-
-pub begin_come : (t : Table) (old new : Heights) (limit below bid : ℕ) (xs : List Sub) → xs ≡ subs_of t bid → below + 1 ≡ limit → is_no_block bid ≡ false → list_fault t bid ≡ None → IsPut old new bid (Some 0) → HaveCome t old (at_list t bid) limit → HaveCome t new (at_entries t xs) below
-begin_come t old new limit below bid xs are more e none put come = rw are (begun t old new limit below bid more e none put come)
-
 -- ---- a list that is met while it is marked
 
-deep : (fuel : ℕ) (t : Table) (bid top limit low : ℕ) → limit ≤ top → LeadsTo t bid top (at_list t bid) limit → low < fuel → low ≤ top → sub_fault t low bid ≡ Some nesting
-deep zero t bid top limit low fits leads lt le = absurd (omega arith)
-deep (suc fuel) t bid top limit low fits leads lt le =
+deep : (fuel : ℕ) (t : Table) (bid top rank limit low : ℕ) → rank_of t bid ≤ rank → limit ≤ top → LeadsTo t bid top (at_list t bid) rank limit → low < fuel → low ≤ top → sub_fault t low bid ≡ Some nesting
+deep zero t bid top rank limit low high fits leads lt le = absurd (omega arith)
+deep (suc fuel) t bid top rank limit low high fits leads lt le =
     elim (leads low le) [
       | inl is ↦ is
-      | inr w ↦ w.3 nesting (deep fuel t bid top limit w.0 fits leads (omega (arith, w.1)) (omega (arith, w.2)))
+      | inr w ↦ w.3 nesting (deep fuel t bid top rank limit w.0 high fits leads (omega (arith, w.1)) (omega (arith, w.2)))
     ]
 
 -- it nests too deep, also where it is walked afresh
-pub marked_nests : (t : Table) (h : Heights) (bid limit : ℕ) → HaveCome t h (at_list t bid) limit → state_of h bid ≡ Some 0 → sub_fault t limit bid ≡ Some nesting
-marked_nests t h bid limit come marked =
+pub marked_nests : (t : Table) (h : Heights) (bid rank limit : ℕ) → rank_of t bid ≤ rank → HaveCome t h (at_list t bid) rank limit → state_of h bid ≡ Some 0 → sub_fault t limit bid ≡ Some nesting
+marked_nests t h bid rank limit high come marked =
     let w = come.from bid marked in
-    deep (suc limit) t bid w.0 limit limit w.1 w.2 (omega arith) w.1
+    deep (suc limit) t bid w.0 rank limit limit high w.1 w.2 (omega arith) w.1
 
 -- ---- what is known stays true
 
@@ -184,7 +214,7 @@ begin_true t old new bid put are = record {
 }
 
 pub same_true : (t : Table) (old new : Heights) → IsSame old new → AreTrue t old → AreTrue t new
-same_true t old new same are = record { holds = λ q height more known. are.holds q height more (sym (same q) ∙ known) }
+same_true t old new same are = record { holds = λ q height more known. are.holds q height more (sym (same (bid_key q)) ∙ known) }
 
 pub forget_true : (t : Table) (old new : Heights) (bid : ℕ) → IsPut old new bid None → AreTrue t old → AreTrue t new
 forget_true t old new bid put are = record {
@@ -221,41 +251,54 @@ known_high t h bid height limit are known more lt =
 
 -- nothing is known
 pub nothing_known : (t : Table) (h : Heights) → IsEmpty h.states → IsTrueOf t h
-unfolding state_of
+unfolding state_at
 nothing_known t h empty = record {
   heights = record { holds = λ bid height more known. let bad : None ≡ Some height = (rw empty at known) in cc };
   unmarked = λ bid marked. let bad : None ≡ Some 0 = (rw empty at marked) in cc;
 }
 
 -- a walk that begins has come from no mark
-pub first_come : (t : Table) (h : Heights) (place : ℕ → Option Fault) (limit : ℕ) → NoMarks h → HaveCome t h place limit
-first_come t h place limit none = record { from = λ bid marked. absurd (none bid marked) }
+pub first_come : (t : Table) (h : Heights) (place : ℕ → Option Fault) (rank limit : ℕ) → NoMarks h → HaveCome t h place rank limit
+first_come t h place rank limit none = record { from = λ bid marked. absurd (none bid marked) }
+
+-- a list that was marked gets its height
+pub settle_marks : (old begun mid new : Heights) (bid height : ℕ) → 0 < height → IsPut old begun bid (Some 0) → NoNewMarks begun mid → IsPut mid new bid (Some height) → NoNewMarks old new
+settle_marks old begun mid new bid height more first marks last q marked = by_test (eq_by_cmp nat_cmp (bid_key bid) (bid_key q)) (last (bid_key q)) (first (bid_key q))
+  where
+    by_test : (v : Bool) → state_of new q ≡ cond v (Some height) (state_of mid q) → state_of begun q ≡ cond v (Some 0) (state_of old q) → state_of old q ≡ Some 0
+    by_test true is was = let same : Some 0 ≡ Some height = sym marked ∙ is in let bad : 0 ≡ height = cc in absurd (omega (arith, bad))
+    by_test false is was = sym was ∙ marks q (sym is ∙ marked)
 
 -- what is known tells what the walk afresh would
-pub known_tells : (t : Table) (h : Heights) (bid height limit : ℕ) (r : Result ℕ Fault) → AreTrue t h → HaveCome t h (at_list t bid) limit → state_of h bid ≡ Some height → (height ≡ 0 → r ≡ Err nesting) → (0 < height → height ≤ limit → r ≡ Ok height) → (limit < height → r ≡ Err nesting) → Tells r (sub_fault t limit bid) (sub_height t limit bid)
-known_tells t h bid height limit r are come known marked fits high =
+pub known_tells : (t : Table) (h : Heights) (bid height rank limit : ℕ) (r : Result ℕ Fault) → rank_of t bid ≤ rank → AreTrue t h → HaveCome t h (at_list t bid) rank limit → state_of h bid ≡ Some height → (height ≡ 0 → r ≡ Err nesting) → (0 < height → height ≤ limit → r ≡ Ok height) → (limit < height → r ≡ Err nesting) → Tells r (sub_fault t limit bid) (sub_height t limit bid)
+known_tells t h bid height rank limit r low are come known marked fits high =
     elim (cases_lt 0 height) [
       | inl more ↦
           elim (cases_lt limit height) [
             | inl lt ↦ rw (high lt) (inr (known_high t h bid height limit are known more lt))
             | inr le ↦ rw (fits more le) (known_height t h bid height limit are known more le)
           ]
-      | inr least ↦ let mark : height ≡ 0 = omega arith in rw (marked mark) (inr (marked_nests t h bid limit come (rw mark at known)))
+      | inr least ↦ let mark : height ≡ 0 = omega arith in rw (marked mark) (inr (marked_nests t h bid rank limit low come (rw mark at known)))
     ]
 
 -- ---- into an SIBLOCK, whose SLBLOCKs are lists of their own
 
 -- the same place, after a walk that left no mark
-pub same_place : (t : Table) (old new : Heights) (place : ℕ → Option Fault) (limit : ℕ) → NoNewMarks old new → HaveCome t old place limit → HaveCome t new place limit
-same_place t old new place limit marks come = record { from = λ bid marked. come.from bid (marks bid marked) }
+pub same_place : (t : Table) (old new : Heights) (place : ℕ → Option Fault) (rank limit : ℕ) → NoNewMarks old new → HaveCome t old place rank limit → HaveCome t new place rank limit
+same_place t old new place rank limit marks come = record { from = λ bid marked. come.from bid (marks bid marked) }
 
-pub to_leaves : (t : Table) (old new : Heights) (limit bid : ℕ) (e : BlockEntry) → 0 < limit → IsSiList t bid e → NoNewMarks old new → HaveCome t old (at_list t bid) limit → HaveCome t new (at_leaves t e (count_in (body_of t e))) limit
-to_leaves t old new limit bid e room is marks come =
-    come_on t old new (at_list t bid) (at_leaves t e (count_in (body_of t e))) limit limit marks (omega arith) goes come
+pub to_leaves : (t : Table) (old new : Heights) (limit bid : ℕ) (e : BlockEntry) → 0 < limit → IsSiList t bid e → IsPut old new bid (Some 0) → HaveCome t old (at_list t bid) 1 limit → HaveCome t new (at_leaves t e (count_in (body_of t e))) 0 limit
+to_leaves t old new limit bid e room is put come =
+    mark_come t old new (at_list t bid) (at_leaves t e (count_in (body_of t e))) 1 limit 0 limit bid (omega arith) put own goes come
   where
-    goes : (k : ℕ) → k ≤ limit → (at_list t bid k ≡ Some nesting) ⊎ ((l : ℕ) × (l ≤ k) × (l ≤ limit) × ((f : Fault) → at_leaves t e (count_in (body_of t e)) l ≡ Some f → at_list t bid k ≡ Some f))
+    goes : (k : ℕ) → k ≤ limit → (at_list t bid k ≡ Some nesting) ⊎ ((l : ℕ) × (2 * l + 0 ≤ 2 * k + 1) × (l ≤ limit) × ((f : Fault) → at_leaves t e (count_in (body_of t e)) l ≡ Some f → at_list t bid k ≡ Some f))
     goes zero le = inl (sub_fault_below t 0 bid refl is.is_list.named)
     goes (suc k) le = inr (suc k, omega arith, le, (λ f at. si_fault t bid e (suc k) k is (omega arith) ∙ at))
+
+    own : (q : ℕ) → bid_key bid ≡ bid_key q → LeadsTo t q limit (at_leaves t e (count_in (body_of t e))) 0 limit
+    own q key zero le = inl (sym (fault_same t 0 bid q key is.is_list.list) ∙ sub_fault_below t 0 bid refl is.is_list.named)
+    own q key (suc low) le =
+        inr (suc low, omega (arith, rank_same t bid q key, rank_one t bid e is), le, (λ f at. sym (fault_same t (suc low) bid q key is.is_list.list) ∙ (si_fault t bid e (suc low) low is (omega arith) ∙ at)))
 
 leaves_or_deep : (t : Table) (e : BlockEntry) (limit k i : ℕ) → at_leaves t e i limit ≡ None → (at_leaves t e i k ≡ None) ⊎ (at_leaves t e i k ≡ Some nesting)
 leaves_or_deep t e limit k zero none = inl refl
@@ -270,9 +313,9 @@ leaves_or_deep t e limit k (suc i) none =
           ]
     ]
 
-pub to_leaf : (t : Table) (h : Heights) (limit count i : ℕ) (e : BlockEntry) → at_leaves t e i limit ≡ None → i < count → HaveCome t h (at_leaves t e count) limit → HaveCome t h (at_list t (bid_in (body_of t e) i)) limit
+pub to_leaf : (t : Table) (h : Heights) (limit count i : ℕ) (e : BlockEntry) → at_leaves t e i limit ≡ None → i < count → HaveCome t h (at_leaves t e count) 0 limit → HaveCome t h (at_list t (bid_in (body_of t e) i)) 0 limit
 to_leaf t h limit count i e before lt come =
-    come_on t h h (at_leaves t e count) (at_list t (bid_in (body_of t e) i)) limit limit (λ q marked. marked) (omega arith)
+    come_on t h h (at_leaves t e count) (at_list t (bid_in (body_of t e) i)) 0 limit 0 limit (λ q marked. marked) (omega arith)
     (λ k le. elim (leaves_or_deep t e limit k i before) [
       | inl none ↦ inr (k, omega arith, le, (λ f at. first_at (at_leaf t e k) count i f none at lt))
       | inr nests ↦ inl (first_front (at_leaf t e k) count i nesting nests (omega (arith, lt)))

@@ -3,5 +3,8 @@ pub mod List
 pub mod Tree
 pub mod Left
 pub mod Heights
+pub mod Marks
+pub mod Reach
+pub mod Known
 pub mod Relation
 pub mod Laws

@@ -10,7 +10,8 @@ ghost use Rattle.pst_datatree.specs.Seen.{expansions_of as data_expansions, IsTr
 ghost use Rattle.pst_subnode.specs.declared.sub.Sub.{Sub};
 ghost use Rattle.pst_subnode.specs.List.{subs_of};
 ghost use Rattle.pst_subnode.specs.Tree.{first_among, most_among, entry_fault, entry_height, nesting, sub_fault, sub_height, at_top};
-ghost use Rattle.pst_subnode.specs.Heights.{expansions_of, IsCounted, AreTrue, IsTrueOf, NoNewMarks, HaveCome, IsList, IsSiList, at_list, at_entries, at_entry, at_leaf, at_leaves, leaf_height, most_below};
+ghost use Rattle.pst_subnode.specs.Heights.{expansions_of, IsCounted, AreTrue, IsTrueOf, NoNewMarks};
+ghost use Rattle.pst_subnode.specs.Marks.{HaveCome, IsList, IsSiList, at_list, at_entries, at_entry, at_leaf, at_leaves, leaf_height, most_below, rank_of};
 ghost use Rattle.pst_subnode.specs.Body.{count_in, bid_in};
 ghost use Rattle.pst_block.specs.Table.{body_of, IsWithin};
 ghost use Rattle.pst_subnode.specs.Left.{subs_left};
@@ -72,7 +73,7 @@ fn height_of_entry(
 ) -> Result<u32, Fault>
     requires seen { SeenIsTrue (table_of blocks.now) seen.old }
     requires known { AreTrue (table_of blocks.now) heights.old }
-    requires come { HaveCome (table_of blocks.now) heights.old (at_entry (table_of blocks.now) sub) limit }
+    requires come { HaveCome (table_of blocks.now) heights.old (at_entry (table_of blocks.now) sub) 1 limit }
     ensures first { let t = table_of blocks.now in
         Tells result (entry_fault t (sub_fault t limit) sub) (entry_height (sub_height t limit) sub) }
     ensures small { IfOk result (λ h. h ≤ limit) }
@@ -99,7 +100,7 @@ fn height_of_entries(
 ) -> Result<u32, Fault>
     requires seen { SeenIsTrue (table_of blocks.now) seen.old }
     requires known { AreTrue (table_of blocks.now) heights.old }
-    requires come { HaveCome (table_of blocks.now) heights.old (at_entries (table_of blocks.now) (subs_left subs)) limit }
+    requires come { HaveCome (table_of blocks.now) heights.old (at_entries (table_of blocks.now) (subs_left subs)) 1 limit }
     ensures first { let t = table_of blocks.now in
         Tells result (first_among (entry_fault t (sub_fault t limit)) (subs_left subs.entry)) (most_among (entry_height (sub_height t limit)) (subs_left subs.entry)) }
     ensures small { IfOk result (λ h. h ≤ limit) }
@@ -131,9 +132,10 @@ fn height_of_slblock(
 ) -> Result<u32, Fault>
     requires room { 0 < limit }
     requires is_list { IsList (table_of blocks.now) bid }
+    requires rank { rank_of (table_of blocks.now) bid ≡ 0 }
     requires seen { SeenIsTrue (table_of blocks.now) seen.old }
     requires known { AreTrue (table_of blocks.now) heights.old }
-    requires come { HaveCome (table_of blocks.now) heights.old (at_list (table_of blocks.now) bid) limit }
+    requires come { HaveCome (table_of blocks.now) heights.old (at_list (table_of blocks.now) bid) 0 limit }
     ensures first { let t = table_of blocks.now in Tells result (sub_fault t limit bid) (sub_height t limit bid) }
     ensures small { IfOk result (λ h. h ≤ limit) }
     ensures seen { SeenIsTrue (table_of blocks.now) seen.new }
@@ -172,9 +174,10 @@ fn height_of_leaf(
     requires within { IsWithin (table_of blocks.now).image holder }
     requires fits { 24 + 16 * i ≤ length (body_of (table_of blocks.now) holder) }
     requires is_list { IsList (table_of blocks.now) (bid_in (body_of (table_of blocks.now) holder) i) }
+    requires rank { rank_of (table_of blocks.now) (bid_in (body_of (table_of blocks.now) holder) i) ≡ 0 }
     requires seen { SeenIsTrue (table_of blocks.now) seen.old }
     requires known { AreTrue (table_of blocks.now) heights.old }
-    requires come { HaveCome (table_of blocks.now) heights.old (at_list (table_of blocks.now) (bid_in (body_of (table_of blocks.now) holder) i)) limit }
+    requires come { HaveCome (table_of blocks.now) heights.old (at_list (table_of blocks.now) (bid_in (body_of (table_of blocks.now) holder) i)) 0 limit }
     ensures first { let t = table_of blocks.now in Tells result (at_leaf t holder limit i) (leaf_height t holder limit i) }
     ensures small { IfOk result (λ h. h ≤ limit) }
     ensures seen { SeenIsTrue (table_of blocks.now) seen.new }
@@ -206,9 +209,10 @@ fn height_of_leaves(
     requires within { IsWithin (table_of blocks.now).image holder }
     requires fits { 8 + 16 * count ≤ length (body_of (table_of blocks.now) holder) }
     requires are_lists { (i : ℕ) → i < count → IsList (table_of blocks.now) (bid_in (body_of (table_of blocks.now) holder) i) }
+    requires ranks { (i : ℕ) → i < count → rank_of (table_of blocks.now) (bid_in (body_of (table_of blocks.now) holder) i) ≡ 0 }
     requires seen { SeenIsTrue (table_of blocks.now) seen.old }
     requires known { AreTrue (table_of blocks.now) heights.old }
-    requires come { HaveCome (table_of blocks.now) heights.old (at_leaves (table_of blocks.now) holder count) limit }
+    requires come { HaveCome (table_of blocks.now) heights.old (at_leaves (table_of blocks.now) holder count) 0 limit }
     ensures first { let t = table_of blocks.now in Tells result (at_leaves t holder count limit) (most_below (leaf_height t holder limit) count) }
     ensures small { IfOk result (λ h. h ≤ limit) }
     ensures seen { SeenIsTrue (table_of blocks.now) seen.new }
@@ -225,8 +229,7 @@ fn height_of_leaves(
     Ok(most)
 }
 
-// The height of an SIBLOCK that nothing is known of. It needs no mark: below its SLBLOCKs, which are marked, it is not come to
-// again without one of them.
+// The height of an SIBLOCK that nothing is known of: it is expanded, and marked as long as that takes.
 #[cycle(sub)]
 fn height_of_siblock(
     alloc: Global,
@@ -242,7 +245,7 @@ fn height_of_siblock(
     requires is_list { IsSiList (table_of blocks.now) bid entry }
     requires seen { SeenIsTrue (table_of blocks.now) seen.old }
     requires known { AreTrue (table_of blocks.now) heights.old }
-    requires come { HaveCome (table_of blocks.now) heights.old (at_list (table_of blocks.now) bid) limit }
+    requires come { HaveCome (table_of blocks.now) heights.old (at_list (table_of blocks.now) bid) 1 limit }
     ensures first { let t = table_of blocks.now in Tells result (sub_fault t limit bid) (sub_height t limit bid) }
     ensures small { IfOk result (λ h. h ≤ limit) }
     ensures seen { SeenIsTrue (table_of blocks.now) seen.new }
@@ -253,9 +256,17 @@ fn height_of_siblock(
     ensures heights_grow { expansions_of heights.old ≤ expansions_of heights.new }
 {
     let count = leaf_count(blocks, bid, entry);
-    let most = height_of_leaves(alloc, blocks, entry, count, limit, seen, heights)?;
-    heights.settle(bid, most)?;
-    Ok(most)
+    heights.begin(bid)?;
+    match height_of_leaves(alloc, blocks, entry, count, limit, seen, heights) {
+        Ok(most) => {
+            heights.settle(bid, most)?;
+            Ok(most)
+        }
+        Err(fault) => {
+            heights.forget(bid);
+            Err(fault)
+        }
+    }
 }
 
 // The height of a list that nothing is known of.
@@ -273,7 +284,7 @@ fn height_of_list(
     requires named { no_block bid ≡ false }
     requires seen { SeenIsTrue (table_of blocks.now) seen.old }
     requires known { AreTrue (table_of blocks.now) heights.old }
-    requires come { HaveCome (table_of blocks.now) heights.old (at_list (table_of blocks.now) bid) limit }
+    requires come { HaveCome (table_of blocks.now) heights.old (at_list (table_of blocks.now) bid) 1 limit }
     ensures first { let t = table_of blocks.now in Tells result (sub_fault t limit bid) (sub_height t limit bid) }
     ensures small { IfOk result (λ h. h ≤ limit) }
     ensures seen { SeenIsTrue (table_of blocks.now) seen.new }
@@ -319,7 +330,7 @@ fn height_of(
 ) -> Result<u32, Fault>
     requires seen { SeenIsTrue (table_of blocks.now) seen.old }
     requires known { AreTrue (table_of blocks.now) heights.old }
-    requires come { HaveCome (table_of blocks.now) heights.old (at_list (table_of blocks.now) bid) limit }
+    requires come { HaveCome (table_of blocks.now) heights.old (at_list (table_of blocks.now) bid) 1 limit }
     ensures first { let t = table_of blocks.now in Tells result (sub_fault t limit bid) (sub_height t limit bid) }
     ensures small { IfOk result (λ h. h ≤ limit) }
     ensures seen { SeenIsTrue (table_of blocks.now) seen.new }

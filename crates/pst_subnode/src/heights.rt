@@ -22,7 +22,7 @@ impl Heights {
     ghost use Rattle.pst_fault.specs.Fault.{no_memory};
     ghost use Rattle.pst_block.specs.Block.{bid_key};
     ghost use Rattle.pst_block.specs.Table.{Table};
-    ghost use Rattle.pst_subnode.specs.Heights.{expansions_of, state_of, known_count, IsCounted, IsTrueOf};
+    ghost use Rattle.pst_subnode.specs.Heights.{expansions_of, state_at, state_of, known_count, IsCounted, IsTrueOf};
 
     /// Nothing is known, and nothing has been expanded. No memory is taken.
     pub fn new(alloc: Global) -> Heights
@@ -45,7 +45,7 @@ impl Heights {
     }
 
     // What is known of a list.
-    #[tactic(auto, unfolding(crate::specs::Heights::state_of))]
+    #[tactic(auto, unfolding(crate::specs::Heights::state_at))]
     pub(crate) fn state(&self, bid: u64) -> Option<u32>
         ensures { result ≡ state_of self.now bid }
     {
@@ -53,10 +53,10 @@ impl Heights {
     }
 
     // A list has this state from now on. It is counted as expanded where nothing was known of it.
-    #[tactic(auto, using(crate::proofs::MarkLemmas::new_counted, crate::proofs::MarkLemmas::old_counted), unfolding(crate::specs::Heights::state_of))]
+    #[tactic(auto, using(crate::proofs::MarkLemmas::new_counted, crate::proofs::MarkLemmas::old_counted), unfolding(crate::specs::Heights::state_at))]
     fn put(&mut self, bid: u64, state: u32) -> Result<(), Fault>
-        ensures put { OnOk result ((q : ℕ) → state_of self.new q ≡ cond (eq_by_cmp nat_cmp (bid_key bid) (bid_key q)) (Some state) (state_of self.old q)) }
-        ensures same { OnErr result ((q : ℕ) → state_of self.new q ≡ state_of self.old q) }
+        ensures put { OnOk result ((key : ℕ) → state_at self.new key ≡ cond (eq_by_cmp nat_cmp (bid_key bid) key) (Some state) (state_at self.old key)) }
+        ensures same { OnErr result ((key : ℕ) → state_at self.new key ≡ state_at self.old key) }
         ensures memory { IfErr result (λ f. f ≡ no_memory) }
         ensures keeps { OnOk result (IsCounted self.old → IsCounted self.new) }
         ensures grows { expansions_of self.old ≤ expansions_of self.new }
@@ -69,9 +69,9 @@ impl Heights {
     }
 
     // Nothing is known of a list any more.
-    #[tactic(auto, unfolding(crate::specs::Heights::state_of))]
+    #[tactic(auto, unfolding(crate::specs::Heights::state_at))]
     pub(crate) fn forget(&mut self, bid: u64)
-        ensures put { (q : ℕ) → state_of self.new q ≡ cond (eq_by_cmp nat_cmp (bid_key bid) (bid_key q)) None (state_of self.old q) }
+        ensures put { (key : ℕ) → state_at self.new key ≡ cond (eq_by_cmp nat_cmp (bid_key bid) key) None (state_at self.old key) }
         ensures counts { expansions_of self.new ≡ expansions_of self.old }
     {
         let _ = self.states.remove(&PageKind::Bbt.key_of(bid));
@@ -79,8 +79,8 @@ impl Heights {
 
     // A list of one block is being expanded, and marked.
     pub(crate) fn begin(&mut self, bid: u64) -> Result<(), Fault>
-        ensures put { OnOk result ((q : ℕ) → state_of self.new q ≡ cond (eq_by_cmp nat_cmp (bid_key bid) (bid_key q)) (Some 0) (state_of self.old q)) }
-        ensures same { OnErr result ((q : ℕ) → state_of self.new q ≡ state_of self.old q) }
+        ensures put { OnOk result ((key : ℕ) → state_at self.new key ≡ cond (eq_by_cmp nat_cmp (bid_key bid) key) (Some 0) (state_at self.old key)) }
+        ensures same { OnErr result ((key : ℕ) → state_at self.new key ≡ state_at self.old key) }
         ensures memory { IfErr result (λ f. f ≡ no_memory) }
         ensures keeps { OnOk result (IsCounted self.old → IsCounted self.new) }
         ensures grows { expansions_of self.old ≤ expansions_of self.new }
@@ -90,8 +90,8 @@ impl Heights {
 
     // A list has this height; or memory is refused, and nothing is known of it any more.
     pub(crate) fn settle(&mut self, bid: u64, height: u32) -> Result<(), Fault>
-        ensures put { OnOk result ((q : ℕ) → state_of self.new q ≡ cond (eq_by_cmp nat_cmp (bid_key bid) (bid_key q)) (Some height) (state_of self.old q)) }
-        ensures forgotten { OnErr result ((q : ℕ) → state_of self.new q ≡ cond (eq_by_cmp nat_cmp (bid_key bid) (bid_key q)) None (state_of self.old q)) }
+        ensures put { OnOk result ((key : ℕ) → state_at self.new key ≡ cond (eq_by_cmp nat_cmp (bid_key bid) key) (Some height) (state_at self.old key)) }
+        ensures forgotten { OnErr result ((key : ℕ) → state_at self.new key ≡ cond (eq_by_cmp nat_cmp (bid_key bid) key) None (state_at self.old key)) }
         ensures memory { IfErr result (λ f. f ≡ no_memory) }
         ensures keeps { OnOk result (IsCounted self.old → IsCounted self.new) }
         ensures grows { expansions_of self.old ≤ expansions_of self.new }

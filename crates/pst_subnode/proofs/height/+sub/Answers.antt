@@ -1,15 +1,16 @@
-use Rattle.std.proofs.Common.{◌≡◌, ◌+◌, ◌-◌, max, Some, arith, rules, refl, ap, sym, ◌∙◌, inl, inr}
+use Rattle.std.proofs.Common.{◌≡◌, ℕ, ◌+◌, ◌-◌, ◌<◌, max, false, Some, arith, rules, refl, ap, sym, ◌∙◌, inl, inr}
 use Rattle.std.proofs.lemmas.Result.{err_from_is_err_and}
 use Rattle.pst_block.specs.Blocks.{table_of}
 use Rattle.pst_fault.proofs.FirstLemmas.{is_first_then, is_first_after, is_first_at, first_more, then_none}
 use Rattle.pst_block.specs.Table.{body_of}
-use Rattle.pst_subnode.specs.Body.{bid_in}
-use Rattle.pst_subnode.specs.Heights.{state_of, HaveCome, at_leaf, at_leaves, leaf_height, most_below}
-use Rattle.pst_subnode.proofs.LeafLemmas.{leaf_list, si_fault, si_height, most_start, most_next, most_least}
+use Rattle.pst_subnode.specs.Body.{bid_in, has_level_one}
+use Rattle.pst_subnode.specs.Heights.{state_of}
+use Rattle.pst_subnode.specs.Marks.{HaveCome, at_list, at_leaf, at_leaves, leaf_height, most_below}
+use Rattle.pst_subnode.proofs.LeafLemmas.{leaf_list, si_fault, si_tells, list_tells, most_start, most_next, most_least}
 use Rattle.pst_subnode.specs.List.{list_fault}
 use Rattle.pst_subnode.specs.Left.{subs_left}
 use Rattle.pst_subnode.specs.Tree.{first_among, most_among, entry_fault, entry_height, sub_fault, sub_height}
-use Rattle.pst_subnode.proofs.MarkLemmas.{past_entry, to_entry, to_leaf, to_leaves, same_place, same_true, put_cases, known_tells, settle_true}
+use Rattle.pst_subnode.proofs.MarkLemmas.{rank_small, rank_none, lower_rank, settle_marks, past_entry, to_entry, to_leaf, to_leaves, same_place, begin_true, put_cases, known_tells, settle_true}
 use Rattle.pst_subnode.proofs.SubLemmas.{sub_fault_below, sub_fault_list, sub_height_list, among_at, among_more, among_end, most_more, most_end}
 use Rattle.pst_subnode.proofs.height.+sub.Goals as goal
 
@@ -24,7 +25,7 @@ height_of-returns-then-limit-eq0-clause-first t c =
 pub height_of-returns-in-Some-clause-first : goal.height_of-returns-in-Some-clause-first
 height_of-returns-in-Some-clause-first t c =
     let known = c.height_known.ensures in
-    known_tells (table_of c.args.blocks.now) c.args.heights.now c.args.bid c.in-Some.height c.args.limit c.height_known.result c.requires.known c.requires.come (sym c.state.ensures ∙ c.in-Some.is) known.marked known.fits known.high
+    known_tells (table_of c.args.blocks.now) c.args.heights.now c.args.bid c.in-Some.height 1 c.args.limit c.height_known.result (rank_small (table_of c.args.blocks.now) c.args.bid) c.requires.known c.requires.come (sym c.state.ensures ∙ c.in-Some.is) known.marked known.fits known.high
 
 -- ---- a list
 
@@ -36,30 +37,13 @@ height_of_slblock-returns-in-Err-clause-first t c =
 
 pub height_of_slblock-returns-in_ok-settle-in-Ok-clause-first : goal.height_of_slblock-returns-in_ok-settle-in-Ok-clause-first
 height_of_slblock-returns-in_ok-settle-in-Ok-clause-first t c =
-    let table = table_of c.args.blocks.now in
-    let below = c.args.limit - 1 in
-    let first = first_among (entry_fault table (sub_fault table below)) in
-    let most = most_among (entry_height (sub_height table below)) in (
-      sub_fault_list table c.args.limit below c.args.bid (omega (arith, c.requires.room)) c.requires.is_list.named
-          ∙ then_none _ _ c.requires.is_list.list
-          ∙ ap first (sym c.subs-list.ensures)
-          ∙ c.in-Ok.ensures.first.0,
-      ap (λ n. n + 1) (c.in-Ok.ensures.first.1 ∙ ap most c.subs-list.ensures) ∙ sym (sub_height_list table c.args.limit below c.args.bid (omega (arith, c.requires.room)) c.requires.is_list.named),
-    )
+    list_tells (table_of c.args.blocks.now) c.args.bid c.args.limit (c.args.limit - 1) c.in-Ok.most _ (omega (arith, c.requires.room)) c.requires.is_list c.subs-list.ensures c.in-Ok.ensures.first
 
 pub height_of_slblock-returns-in_ok-settle-in-Ok-clause-known : goal.height_of_slblock-returns-in_ok-settle-in-Ok-clause-known
 height_of_slblock-returns-in_ok-settle-in-Ok-clause-known t c =
     let table = table_of c.args.blocks.now in
-    let below = c.args.limit - 1 in
-    let first = first_among (entry_fault table (sub_fault table below)) in
-    let most = most_among (entry_height (sub_height table below)) in
-    let none =
-      sub_fault_list table c.args.limit below c.args.bid (omega (arith, c.requires.room)) c.requires.is_list.named
-          ∙ then_none _ _ c.requires.is_list.list
-          ∙ ap first (sym c.subs-list.ensures)
-          ∙ c.in-Ok.ensures.first.0 in
-    let is = sub_height_list table c.args.limit below c.args.bid (omega (arith, c.requires.room)) c.requires.is_list.named ∙ ap (λ n. n + 1) (sym (c.in-Ok.ensures.first.1 ∙ ap most c.subs-list.ensures)) in
-    settle_true table c.height_of_entries.new.heights c.settle.new.self c.args.bid c.args.limit (c.in-Ok.most + 1) c.requires.is_list.list none is c.in_ok-settle-in-Ok.ensures.put c.in-Ok.ensures.known
+    let tells = list_tells table c.args.bid c.args.limit (c.args.limit - 1) c.in-Ok.most _ (omega (arith, c.requires.room)) c.requires.is_list c.subs-list.ensures c.in-Ok.ensures.first in
+    settle_true table c.height_of_entries.new.heights c.settle.new.self c.args.bid c.args.limit (c.in-Ok.most + 1) c.requires.is_list.list tells.0 (sym tells.1) c.in_ok-settle-in-Ok.ensures.put c.in-Ok.ensures.known
 
 pub height_of_list-returns-in_err-check_list-clause-first : goal.height_of_list-returns-in_err-check_list-clause-first
 height_of_list-returns-in_err-check_list-clause-first t c =
@@ -74,7 +58,7 @@ height_of_leaf-returns-in-Some-clause-first t c =
     let table = table_of c.args.blocks.now in
     let known = c.height_known.ensures in
     let same : c.bid_at-bid.result ≡ bid_in (body_of table c.args.holder) c.args.i = c.bid_at-bid.ensures ∙ ap (λ b. bid_in b c.args.i) c.body_in.ensures in
-    known_tells table c.args.heights.now (bid_in (body_of table c.args.holder) c.args.i) c.in-Some.height c.args.limit c.height_known.result c.requires.known c.requires.come (ap (state_of c.args.heights.now) (sym same) ∙ (sym c.state.ensures ∙ c.in-Some.is)) known.marked known.fits known.high
+    known_tells table c.args.heights.now (bid_in (body_of table c.args.holder) c.args.i) c.in-Some.height 0 c.args.limit c.height_known.result (omega (arith, c.requires.rank)) c.requires.known c.requires.come (ap (state_of c.args.heights.now) (sym same) ∙ (sym c.state.ensures ∙ c.in-Some.is)) known.marked known.fits known.high
 
 pub height_of_leaves-loop-i-init : goal.height_of_leaves-loop-i-init
 height_of_leaves-loop-i-init t c = record {
@@ -95,7 +79,7 @@ height_of_leaves-height_of_leaf-requires t c =
     let table = table_of c.args.blocks.now in
     let inv = c.loop-i.invariant in
     let come = to_leaf table c.loop-i.heights c.args.limit c.args.count c.loop-i.i c.args.holder inv.first c.loop-i-test.true inv.come in
-    (omega arith, (c.requires.room, (c.requires.within, (omega (arith, c.requires.fits, c.loop-i-test.true), (c.requires.are_lists c.loop-i.i c.loop-i-test.true, (inv.trees, (inv.known, come)))))))
+    (omega arith, (c.requires.room, (c.requires.within, (omega (arith, c.requires.fits, c.loop-i-test.true), (c.requires.are_lists c.loop-i.i c.loop-i-test.true, (c.requires.ranks c.loop-i.i c.loop-i-test.true, (inv.trees, (inv.known, come))))))))
 
 pub height_of_leaves-returns-in_err-height_of_leaf-clause-first : goal.height_of_leaves-returns-in_err-height_of_leaf-clause-first
 height_of_leaves-returns-in_err-height_of_leaf-clause-first t c =
@@ -117,7 +101,7 @@ height_of_leaves-loop-i-preserved t c =
       trees = leaf.seen;
       known = leaf.known;
       marks = λ q marked. inv.marks q (leaf.marks q marked);
-      come = same_place table c.loop-i.heights c.height_of_leaf.new.heights _ c.args.limit leaf.marks inv.come;
+      come = same_place table c.loop-i.heights c.height_of_leaf.new.heights _ 0 c.args.limit leaf.marks inv.come;
       seen_grows = omega (arith, leaf.seen_grows, inv.seen_grows);
       keeps = λ is. leaf.keeps (inv.keeps is);
       heights_grow = omega (arith, leaf.heights_grow, inv.heights_grow);
@@ -125,48 +109,44 @@ height_of_leaves-loop-i-preserved t c =
 
 -- ---- an SIBLOCK
 
+pub height_of_list-height_of_slblock-requires : goal.height_of_list-height_of_slblock-requires
+height_of_list-height_of_slblock-requires t c =
+    let table = table_of c.args.blocks.now in
+    let level : has_level_one (body_of table c.in-Some.entry) ≡ false = ap has_level_one (sym c.body_in.ensures) ∙ (sym c.has_level_one.ensures ∙ c.if-has_level_one.false) in
+    let rank = rank_none table c.args.bid c.in-Some.entry (sym c.entry.ensures.value ∙ c.in-Some.is) level in
+    let come = lower_rank table c.args.heights.now (at_list table c.args.bid) c.args.limit c.requires.come in
+    (omega arith, (c.requires.room, (record { named = c.requires.named; list = c.in_ok-check_list.ensures.0 }, (rank, (c.requires.seen, (c.requires.known, come))))))
+
 pub height_of_siblock-height_of_leaves-requires : goal.height_of_siblock-height_of_leaves-requires
 height_of_siblock-height_of_leaves-requires t c =
     let table = table_of c.args.blocks.now in
     let is = c.requires.is_list in
     let count = c.leaf_count-count.ensures.value in
-    let come : HaveCome table c.args.heights.now (at_leaves table c.args.entry c.leaf_count-count.result) c.args.limit = rw count (to_leaves table c.args.heights.now c.args.heights.now c.args.limit c.args.bid c.args.entry c.requires.room is (λ q marked. marked) c.requires.come) in
-    (omega arith, (c.requires.room, (c.requires.within, (c.leaf_count-count.ensures.fits, ((λ i lt. (leaf_list table c.args.bid c.args.entry i is (omega (arith, lt, count))).is_list), (c.requires.seen, (c.requires.known, come)))))))
+    let leaf = λ (i : ℕ) (lt : i < c.leaf_count-count.result). leaf_list table c.args.bid c.args.entry i is (omega (arith, lt, count)) in
+    let come : HaveCome table c.begin.new.self (at_leaves table c.args.entry c.leaf_count-count.result) 0 c.args.limit = rw count (to_leaves table c.args.heights.now c.begin.new.self c.args.limit c.args.bid c.args.entry c.requires.room is c.in_ok-begin.ensures.put c.requires.come) in
+    let known = begin_true table c.args.heights.now c.begin.new.self c.args.bid c.in_ok-begin.ensures.put c.requires.known in
+    (omega arith, (c.requires.room, (c.requires.within, (c.leaf_count-count.ensures.fits, ((λ i lt. (leaf i lt).is_list), ((λ i lt. (leaf i lt).rank), (c.requires.seen, (known, come))))))))
 
-pub height_of_siblock-returns-in_err-most-clause-first : goal.height_of_siblock-returns-in_err-most-clause-first
-height_of_siblock-returns-in_err-most-clause-first t c =
-    let p = err_from_is_err_and c.from_residual.result c.from_residual.ensures.1 in
+pub height_of_siblock-returns-in-Err-clause-first : goal.height_of_siblock-returns-in-Err-clause-first
+height_of_siblock-returns-in-Err-clause-first t c =
     let table = table_of c.args.blocks.now in
-    rw (p.1, p.2, si_fault table c.args.bid c.args.entry c.args.limit (c.args.limit - 1) c.requires.is_list (omega (arith, c.requires.room))) (rw c.leaf_count-count.ensures.value at c.in_err-most.ensures.first)
+    rw (si_fault table c.args.bid c.args.entry c.args.limit (c.args.limit - 1) c.requires.is_list (omega (arith, c.requires.room))) (rw c.leaf_count-count.ensures.value at c.in-Err.ensures.first)
 
-pub height_of_siblock-returns-clause-first : goal.height_of_siblock-returns-clause-first
-height_of_siblock-returns-clause-first t c =
+pub height_of_siblock-returns-in_ok-settle-in-Ok-clause-first : goal.height_of_siblock-returns-in_ok-settle-in-Ok-clause-first
+height_of_siblock-returns-in_ok-settle-in-Ok-clause-first t c =
     let table = table_of c.args.blocks.now in
-    let below = c.args.limit - 1 in
-    let more : below + 1 ≡ c.args.limit = omega (arith, c.requires.room) in
-    let leaves = at_leaves table c.args.entry in
-    let most = most_below (leaf_height table c.args.entry c.args.limit) in
-    (si_fault table c.args.bid c.args.entry c.args.limit below c.requires.is_list more ∙ (ap (λ n. leaves n c.args.limit) (sym c.leaf_count-count.ensures.value) ∙ c.in_ok-most.ensures.first.0),
-    c.in_ok-most.ensures.first.1 ∙ (ap most c.leaf_count-count.ensures.value ∙ sym (si_height table c.args.bid c.args.entry c.args.limit below c.requires.is_list more)))
+    si_tells table c.args.bid c.args.entry c.args.limit c.leaf_count-count.result c.in-Ok.most c.requires.room c.requires.is_list c.leaf_count-count.ensures.value c.in-Ok.ensures.first
 
-pub height_of_siblock-returns-clause-known : goal.height_of_siblock-returns-clause-known
-height_of_siblock-returns-clause-known t c =
+pub height_of_siblock-returns-in_ok-settle-in-Ok-clause-known : goal.height_of_siblock-returns-in_ok-settle-in-Ok-clause-known
+height_of_siblock-returns-in_ok-settle-in-Ok-clause-known t c =
     let table = table_of c.args.blocks.now in
-    let below = c.args.limit - 1 in
-    let more : below + 1 ≡ c.args.limit = omega (arith, c.requires.room) in
-    let leaves = at_leaves table c.args.entry in
-    let most = most_below (leaf_height table c.args.entry c.args.limit) in
-    let none = si_fault table c.args.bid c.args.entry c.args.limit below c.requires.is_list more ∙ (ap (λ n. leaves n c.args.limit) (sym c.leaf_count-count.ensures.value) ∙ c.in_ok-most.ensures.first.0) in
-    let is = sym (c.in_ok-most.ensures.first.1 ∙ (ap most c.leaf_count-count.ensures.value ∙ sym (si_height table c.args.bid c.args.entry c.args.limit below c.requires.is_list more))) in
-    settle_true table c.height_of_leaves.new.heights c.settle.new.self c.args.bid c.args.limit c.in_ok-most.most c.requires.is_list.is_list.list none is c.in_ok-settle.ensures.put c.in_ok-most.ensures.known
+    let tells = si_tells table c.args.bid c.args.entry c.args.limit c.leaf_count-count.result c.in-Ok.most c.requires.room c.requires.is_list c.leaf_count-count.ensures.value c.in-Ok.ensures.first in
+    settle_true table c.height_of_leaves.new.heights c.settle.new.self c.args.bid c.args.limit c.in-Ok.most c.requires.is_list.is_list.list tells.0 (sym tells.1) c.in_ok-settle-in-Ok.ensures.put c.in-Ok.ensures.known
 
-pub height_of_siblock-returns-clause-marks : goal.height_of_siblock-returns-clause-marks
-height_of_siblock-returns-clause-marks t c q marked =
-    let height = leaf_height (table_of c.args.blocks.now) c.args.entry c.args.limit in
-    elim (put_cases c.height_of_leaves.new.heights c.settle.new.self c.args.bid (Some c.in_ok-most.most) q c.in_ok-settle.ensures.put) [
-      | inl key ↦ let same : Some c.in_ok-most.most ≡ Some 0 = sym key.1 ∙ marked in let is : c.in_ok-most.most ≡ 0 = cc in absurd (omega (arith, is, c.in_ok-most.ensures.first.1, most_least height c.leaf_count-count.result))
-      | inr was ↦ c.in_ok-most.ensures.marks q (sym was ∙ marked)
-    ]
+pub height_of_siblock-returns-in_ok-settle-in-Ok-clause-marks : goal.height_of_siblock-returns-in_ok-settle-in-Ok-clause-marks
+height_of_siblock-returns-in_ok-settle-in-Ok-clause-marks t c =
+    let least = most_least (leaf_height (table_of c.args.blocks.now) c.args.entry c.args.limit) c.leaf_count-count.result in
+    settle_marks c.args.heights.now c.begin.new.self c.height_of_leaves.new.heights c.settle.new.self c.args.bid c.in-Ok.most (omega (arith, least, c.in-Ok.ensures.first.1)) c.in_ok-begin.ensures.put c.in-Ok.ensures.marks c.in_ok-settle-in-Ok.ensures.put
 
 -- ---- entries
 

@@ -2,6 +2,7 @@ use Rattle.std.proofs.Common.{◌≡◌, ◌+◌, ◌*◌, ◌≤◌, max, lengt
 use Rattle.pst_block.specs.Blocks.{table_of}
 use Rattle.pst_datatree.specs.Seen as seen
 use Rattle.pst_subnode.specs.Heights as heights
+use Rattle.pst_subnode.specs.Marks as way
 use Rattle.pst_subnode.specs.Left.{subs_left}
 use Rattle.pst_subnode.specs.Tree.{first_among, most_among, entry_fault, entry_height, sub_fault, sub_height}
 use Rattle.pst_subnode.proofs.height.+sub.Given as goal
@@ -38,7 +39,7 @@ invariant-height_of_entries-loop-sub l = record {
   trees : seen.IsTrueOf (table_of l.blocks) l.seen;
   known : heights.AreTrue (table_of l.blocks) l.heights;
   marks : heights.NoNewMarks l.initial.heights l.heights;
-  come : heights.HaveCome (table_of l.blocks) l.heights (heights.at_entries (table_of l.blocks) (subs_left l.rest)) l.limit;
+  come : way.HaveCome (table_of l.blocks) l.heights (way.at_entries (table_of l.blocks) (subs_left l.rest)) 1 l.limit;
   seen_grows : seen.expansions_of l.initial.seen ≤ seen.expansions_of l.seen;
   keeps : heights.IsCounted l.initial.heights → heights.IsCounted l.heights;
   heights_grow : heights.expansions_of l.initial.heights ≤ heights.expansions_of l.heights;
@@ -49,13 +50,13 @@ decreases-height_of_entries-loop-sub l = length (subs_left l.rest)
 
 abbrev pub invariant-height_of_leaves-loop-i : goal.invariant-height_of_leaves-loop-i
 invariant-height_of_leaves-loop-i l = record {
-  first : heights.at_leaves (table_of l.blocks) l.holder l.i l.limit ≡ None;
-  most : l.most ≡ heights.most_below (heights.leaf_height (table_of l.blocks) l.holder l.limit) l.i;
+  first : way.at_leaves (table_of l.blocks) l.holder l.i l.limit ≡ None;
+  most : l.most ≡ way.most_below (way.leaf_height (table_of l.blocks) l.holder l.limit) l.i;
   small : l.most ≤ l.limit;
   trees : seen.IsTrueOf (table_of l.blocks) l.seen;
   known : heights.AreTrue (table_of l.blocks) l.heights;
   marks : heights.NoNewMarks l.initial.heights l.heights;
-  come : heights.HaveCome (table_of l.blocks) l.heights (heights.at_leaves (table_of l.blocks) l.holder l.count) l.limit;
+  come : way.HaveCome (table_of l.blocks) l.heights (way.at_leaves (table_of l.blocks) l.holder l.count) 0 l.limit;
   seen_grows : seen.expansions_of l.initial.seen ≤ seen.expansions_of l.seen;
   keeps : heights.IsCounted l.initial.heights → heights.IsCounted l.heights;
   heights_grow : heights.expansions_of l.initial.heights ≤ heights.expansions_of l.heights;
