@@ -15,7 +15,7 @@ use Rattle.pst_datatree.specs.declared.seen.Seen.{Seen}
 use Rattle.pst_datatree.specs.Bid.{is_internal, is_no_block}
 use Rattle.pst_datatree.specs.List.{btype_in, count_in, bid_in, is_block_list, has_level_two}
 use Rattle.pst_datatree.specs.Names.{IsInternal, NamesBlock, IsKeyOf, IsUnder, IsInTree}
-use Rattle.pst_datatree.specs.Data.{bad_tree, block_missing, fault_or, leaf_fault, xblock_fault}
+use Rattle.pst_datatree.specs.Data.{bad_tree, block_missing, fault_or, leaf_fault, xblock_fault, xxblock_fault, tree_fault}
 use Rattle.pst_datatree.specs.Seen.{has, holds, NamesKnown, IsClosed, IsKnown, Adds}
 use Rattle.pst_datatree.proofs.DataLemmas.{fault_or_none}
 use Rattle.pst_datatree.proofs.SeenLemmas.{same_key}
@@ -173,3 +173,18 @@ adds_children t e n body a b c is listed count same adds =
 pub adds_xxblock : (t : Table) (a b c : Seen) (e : BlockEntry) → entry_of t e.bid ≡ Some e → ((key : ℕ) → holds b key ≡ true → holds c key ≡ true) → ((key : ℕ) → holds c key ≡ true → (holds b key ≡ true) ⊎ (bid_key e.bid ≡ key)) → NamesKnown t b e → Adds t (λ key. (next : ℕ) × NamesBlock (body_of t e) next × IsKeyOf t next key) a b → Adds t (IsUnder t e) a c
 adds_xxblock t a b c e listed stays only names adds =
     adds_then t (IsUnder t e) a b c (adds_of t _ (IsUnder t e) a b (λ key below. inr below) adds) (adds_put t (IsUnder t e) b c e listed stays only names (λ key own. inl own))
+
+-- ---- for those above
+
+pub has_stays : (a b : Seen) (bid : ℕ) → ((key : ℕ) → holds a key ≡ true → holds b key ≡ true) → has a bid ≡ true → has b bid ≡ true
+unfolding has
+has_stays a b bid stays known = stays (bid_key bid) known
+
+-- a known block is that of an XBLOCK or XXBLOCK
+pub tree_type : (t : Table) (e : BlockEntry) → tree_fault t e ≡ None → btype_in (body_of t e) ≡ 1
+unfolding tree_fault xblock_fault xxblock_fault
+tree_type t e none = by_level (has_level_two (body_of t e)) none
+  where
+    by_level : (v : Bool) → (if v then xxblock_fault t e else xblock_fault t e) ≡ None → btype_in (body_of t e) ≡ 1
+    by_level true h = list_type 2 (body_of t e) (holds_or_none _ _ (none_then (holds_or (is_block_list 2 (body_of t e)) (bad_tree e)) _ h).0)
+    by_level false h = list_type 1 (body_of t e) (holds_or_none _ _ (none_then (holds_or (is_block_list 1 (body_of t e)) (bad_tree e)) _ h).0)

@@ -36,7 +36,7 @@ pub record IsSi (t : Table) (e : BlockEntry) : Type 0 where
   pub subs : block_subs t e ≡ join_below (leaf_subs t (body_of t e)) (count_in (body_of t e))
   pub distinct : are_distinct (map nid_of (join_below (leaf_subs t (body_of t e)) (count_in (body_of t e)))) ≡ true
 
-si_of : (t : Table) (bid : ℕ) (e : BlockEntry) → IsSiList t bid e → IsSi t e
+pub si_of : (t : Table) (bid : ℕ) (e : BlockEntry) → IsSiList t bid e → IsSi t e
 unfolding block_fault shape_fault siblock_fault block_subs siblock_subs
 si_of t bid e is =
     let p = none_then (if has_level_one (body_of t e) then siblock_fault t e else slblock_fault t e) _ (block_of_list t bid e is.entry is.is_list.list) in

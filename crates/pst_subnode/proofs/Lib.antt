@@ -12,3 +12,5 @@ pub mod ScanLemmas
 pub mod HeightLemmas
 pub mod MarkLemmas
 pub mod LeafLemmas
+pub mod ReachLemmas
+pub mod AddLemmas

@@ -1,0 +1,280 @@
+-- What a walk adds to what is known.
+use Rattle.std.proofs.Common.{◌≡◌, ℕ, zero, suc, ◌+◌, ◌<◌, Bool, true, false, List, [], ◌∷◌, length, Option, Some, None, refl, sym, ap, ◌∙◌, arith, ◌⊎◌, inl, inr}
+use Rattle.std.specs.Prelude.{cond, slice_index_or}
+use Rattle.std.specs.Ordering.{nat_cmp, eq_by_cmp}
+use Rattle.std.proofs.lemmas.Bool.{cases_lt}
+use Rattle.std.proofs.lemmas.Bool.Decides.{nat_tests}
+use Rattle.std.specs.List.{Contains}
+use Rattle.pst_page.specs.declared.entry.BlockEntry.{BlockEntry}
+use Rattle.pst_block.specs.Block.{bid_key}
+use Rattle.pst_block.specs.Table.{Table, entry_of, body_of}
+use Rattle.pst_datatree.specs.declared.seen.Seen.{Seen}
+use Rattle.pst_datatree.specs.Names.{IsInternal, IsInTree}
+use Rattle.pst_datatree.specs.Seen as trees
+use Rattle.pst_datatree.proofs.AddLemmas.{has_stays}
+use Rattle.pst_subnode.specs.declared.sub.Sub.{Sub}
+use Rattle.pst_subnode.specs.declared.heights.Heights.{Heights}
+use Rattle.pst_subnode.specs.Body.{count_in, bid_in}
+use Rattle.pst_subnode.specs.List.{subs_of}
+use Rattle.pst_subnode.specs.Heights.{state_at, state_of}
+use Rattle.pst_subnode.specs.Marks.{IsList, IsSiList, rank_of}
+use Rattle.pst_subnode.specs.Reach.{Names, Leads, goes_on, IsReached}
+use Rattle.pst_subnode.specs.Known.{HasKnownHeight, IsKnown, AreClosed, AreReached, Adds, IsKnownList, IsKnownEntry, AreLedTo}
+use Rattle.pst_subnode.proofs.MarkLemmas.{IsPut, put_at, put_cases}
+use Rattle.pst_subnode.proofs.ReachLemmas.{names_same, tree_reached, list_block, slblock_names, siblock_names, slblock_only, siblock_only}
+
+contains_cases : (x : Sub) (rest : List Sub) (y : Sub) → Contains (x ∷ rest) y → (x ≡ y) ⊎ Contains rest y
+contains_cases x rest y w = by_place w.0 w.1 w.2
+  where
+    by_place : (k : ℕ) → k < length (x ∷ rest) → slice_index_or (x ∷ rest) k y ≡ y → (x ≡ y) ⊎ Contains rest y
+    by_place zero lt is = inl is
+    by_place (suc k) lt is = inr (k, omega arith, is)
+
+-- ---- one after another
+
+pub adds_none : (t : Table) (AreLed : List ℕ → Type 0) (s : Seen) (h : Heights) → Adds t AreLed s h s h
+adds_none t AreLed s h = record { trees = λ key was. was; lists = λ key state was. was; closed = λ was. was; reached = λ from led was. was }
+
+pub adds_then : (t : Table) (AreLed : List ℕ → Type 0) (s : Seen) (h : Heights) (s' : Seen) (h' : Heights) (s'' : Seen) (h'' : Heights) → Adds t AreLed s h s' h' → Adds t AreLed s' h' s'' h'' → Adds t AreLed s h s'' h''
+adds_then t AreLed s h s' h' s'' h'' first second = record {
+  trees = λ key was. second.trees key (first.trees key was);
+  lists = λ key state was. second.lists key state (first.lists key state was);
+  closed = λ was. second.closed (first.closed was);
+  reached = λ from led was. second.reached from led (first.reached from led was);
+}
+
+pub adds_of : (t : Table) (AreLed AreAlso : List ℕ → Type 0) (s : Seen) (h : Heights) (s' : Seen) (h' : Heights) → ((from : List ℕ) → AreAlso from → AreLed from) → Adds t AreLed s h s' h' → Adds t AreAlso s h s' h'
+adds_of t AreLed AreAlso s h s' h' of adds = record { trees = adds.trees; lists = adds.lists; closed = adds.closed; reached = λ from led was. adds.reached from (of from led) was }
+
+-- ---- what is known later
+
+pub high_later : (h h' : Heights) (bid : ℕ) → ((key state : ℕ) → state_at h key ≡ Some state → state_at h' key ≡ Some state) → HasKnownHeight h bid → HasKnownHeight h' bid
+high_later h h' bid lists w = (w.0, w.1, lists (bid_key bid) w.0 w.2)
+
+pub entry_later : (t : Table) (AreLed : List ℕ → Type 0) (s : Seen) (h : Heights) (s' : Seen) (h' : Heights) (sub : Sub) → Adds t AreLed s h s' h' → IsKnownEntry t s h sub → IsKnownEntry t s' h' sub
+entry_later t AreLed s h s' h' sub adds known = (
+  (λ e is. has_stays s s' sub.bid_data adds.trees (known.0 e is)),
+  (λ e is. high_later h h' sub.bid_sub adds.lists (known.1 e is)),
+)
+
+-- ---- the data of an entry
+
+pub adds_data : (t : Table) (bid : ℕ) (s s' : Seen) (h : Heights) → trees.Adds t (IsInTree t bid) s s' → Adds t (λ from. Leads t from bid) s h s' h
+adds_data t bid s s' h adds = record {
+  trees = adds.stays;
+  lists = λ key state was. was;
+  closed = λ was. record {
+    trees = adds.closed was.trees;
+    lists = λ q next e known names is.
+        elim (was.lists q next e known names is) [
+          | inl tree ↦ inl (has_stays s s' next adds.stays tree)
+          | inr high ↦ inr high
+        ];
+  };
+  reached = λ from led was. record {
+    trees = λ key known. elim (adds.only key known) [ inl had ↦ was.trees key had | inr new ↦ tree_reached t from bid key led new ];
+    lists = was.lists;
+  };
+}
+
+-- ---- a list is marked, and then it gets its height or is forgotten
+
+-- it was not known, and is marked
+pub record IsMarked (t : Table) (h begun : Heights) (bid : ℕ) (e : BlockEntry) : Type 0 where
+  pub internal : IsInternal t bid e
+  pub fresh : state_of h bid ≡ None
+  pub put : IsPut h begun bid (Some 0)
+
+adds_mark : (t : Table) (bid : ℕ) (e : BlockEntry) (s : Seen) (h begun : Heights) → IsMarked t h begun bid e → Adds t (λ from. Leads t from bid) s h s begun
+adds_mark t bid e s h begun is = record {
+  trees = λ key was. was;
+  lists = stays;
+  closed = λ was. record {
+    trees = was.trees;
+    lists = λ q next x known names internal.
+        elim (put_cases h begun bid (Some 0) q is.put) [
+          | inl own ↦ let both : Some known.0 ≡ Some 0 = sym known.2 ∙ own.1 in let bad : known.0 ≡ 0 = cc in absurd (omega (arith, bad, known.1))
+          | inr same ↦
+              elim (was.lists q next x (known.0, known.1, sym same ∙ known.2) names internal) [
+                | inl tree ↦ inl tree
+                | inr high ↦ inr (high_later h begun next stays high)
+              ]
+        ];
+  };
+  reached = λ from led was. record {
+    trees = was.trees;
+    lists = λ key state known.
+        elim (put_at h begun bid (Some 0) key is.put) [
+          | inl own ↦ (bid, e, led, is.internal, sym own.0)
+          | inr same ↦ was.lists key state (sym same ∙ known)
+        ];
+  };
+}
+  where
+    stays : (key state : ℕ) → state_at h key ≡ Some state → state_at begun key ≡ Some state
+    stays key state was =
+        elim (put_at h begun bid (Some 0) key is.put) [
+          | inl own ↦ let bad : None ≡ Some state = sym is.fresh ∙ (ap (state_at h) own.0 ∙ was) in cc
+          | inr same ↦ same ∙ was
+        ]
+
+-- its mark stays while it is gone through
+mark_put : (h begun : Heights) (bid : ℕ) → IsPut h begun bid (Some 0) → state_of begun bid ≡ Some 0
+mark_put h begun bid put = by_test (eq_by_cmp nat_cmp (bid_key bid) (bid_key bid)) (own (bid_key bid)) (put (bid_key bid))
+  where
+    own : (k : ℕ) → eq_by_cmp nat_cmp k k ≡ true
+    own k = grind (arith, nat_tests)
+
+    by_test : (v : Bool) → v ≡ true → state_of begun bid ≡ cond v (Some 0) (state_of h bid) → state_of begun bid ≡ Some 0
+    by_test true e is = is
+    by_test false e is = cc
+
+-- what was known before it is known still, whatever becomes of it
+kept : (t : Table) (bid : ℕ) (e : BlockEntry) (h begun mid new : Heights) (last : Option ℕ) → IsMarked t h begun bid e → ((key state : ℕ) → state_at h key ≡ Some state → state_at mid key ≡ Some state) → IsPut mid new bid last → (key state : ℕ) → state_at h key ≡ Some state → state_at new key ≡ Some state
+kept t bid e h begun mid new last is stays put key state was =
+    elim (put_at mid new bid last key put) [
+      | inl own ↦ let bad : None ≡ Some state = sym is.fresh ∙ (ap (state_at h) own.0 ∙ was) in cc
+      | inr same ↦ same ∙ stays key state was
+    ]
+
+pub adds_forget : (t : Table) (bid : ℕ) (e : BlockEntry) (s s' : Seen) (h begun mid new : Heights) → IsMarked t h begun bid e → Adds t (λ from. Leads t from bid) s begun s' mid → IsPut mid new bid None → Adds t (λ from. Leads t from bid) s h s' new
+adds_forget t bid e s s' h begun mid new is adds put =
+    let whole = adds_then t (λ from. Leads t from bid) s h s begun s' mid (adds_mark t bid e s h begun is) adds in
+    record {
+      trees = whole.trees;
+      lists = kept t bid e h begun mid new None is whole.lists put;
+      closed = λ was. let then = whole.closed was in record {
+        trees = then.trees;
+        lists = λ q next x known names internal.
+            elim (put_cases mid new bid None q put) [
+              | inl own ↦ let bad : None ≡ Some known.0 = sym own.1 ∙ known.2 in cc
+              | inr same ↦
+                  elim (then.lists q next x (known.0, known.1, sym same ∙ known.2) names internal) [
+                    | inl tree ↦ inl tree
+                    | inr high ↦ inr (still next high)
+                  ]
+            ];
+      };
+      reached = λ from led was. let then = whole.reached from led was in record {
+        trees = then.trees;
+        lists = λ key state known.
+            elim (put_at mid new bid None key put) [
+              | inl own ↦ let bad : None ≡ Some state = sym own.1 ∙ known in cc
+              | inr same ↦ then.lists key state (sym same ∙ known)
+            ];
+      };
+    }
+  where
+    mark : state_of mid bid ≡ Some 0
+    mark = adds.lists (bid_key bid) 0 (mark_put h begun bid is.put)
+
+    still : (next : ℕ) → HasKnownHeight mid next → HasKnownHeight new next
+    still next high =
+        elim (put_cases mid new bid None next put) [
+          | inl own ↦
+              let both : Some 0 ≡ Some high.0 = sym mark ∙ (ap (state_at mid) own.0 ∙ high.2) in
+              let bad : 0 ≡ high.0 = cc in absurd (omega (arith, bad, high.1))
+          | inr same ↦ (high.0, high.1, same ∙ high.2)
+        ]
+
+pub adds_settle : (t : Table) (bid height : ℕ) (e : BlockEntry) (s s' : Seen) (h begun mid new : Heights) → 0 < height → IsMarked t h begun bid e → Adds t (λ from. Leads t from bid) s begun s' mid → IsPut mid new bid (Some height) → ((next : ℕ) (x : BlockEntry) → Names t bid next → IsInternal t next x → IsKnown s' mid next) → Adds t (λ from. Leads t from bid) s h s' new
+adds_settle t bid height e s s' h begun mid new more is adds put names_known =
+    let whole = adds_then t (λ from. Leads t from bid) s h s begun s' mid (adds_mark t bid e s h begun is) adds in
+    record {
+      trees = whole.trees;
+      lists = kept t bid e h begun mid new (Some height) is whole.lists put;
+      closed = λ was. let then = whole.closed was in record {
+        trees = then.trees;
+        lists = λ q next x known names internal.
+            elim (put_cases mid new bid (Some height) q put) [
+              | inl own ↦ still next (names_known next x (names_same t bid q next own.0 names) internal)
+              | inr same ↦ still next (then.lists q next x (known.0, known.1, sym same ∙ known.2) names internal)
+            ];
+      };
+      reached = λ from led was. let then = whole.reached from led was in record {
+        trees = then.trees;
+        lists = λ key state known.
+            elim (put_at mid new bid (Some height) key put) [
+              | inl own ↦ (bid, e, led, is.internal, sym own.0)
+              | inr same ↦ then.lists key state (sym same ∙ known)
+            ];
+      };
+    }
+  where
+    still : (next : ℕ) → IsKnown s' mid next → IsKnown s' new next
+    still next (inl tree) = inl tree
+    still next (inr high) =
+        elim (put_cases mid new bid (Some height) next put) [
+          | inl own ↦ inr (height, more, own.1)
+          | inr same ↦ inr (high.0, high.1, same ∙ high.2)
+        ]
+
+-- ---- the parts of a list
+
+-- chains lead to what its entries name
+pub led_entries : (t : Table) (bid : ℕ) (xs : List Sub) → IsList t bid → rank_of t bid ≡ 0 → xs ≡ subs_of t bid → (from : List ℕ) → Leads t from bid → (sub : Sub) → Contains xs sub → AreLedTo t from sub
+led_entries t bid xs is rank are from led sub w =
+    let names = slblock_names t bid sub is rank (rw are at w) in
+    (goes_on bid sub.bid_data led names.0, goes_on bid sub.bid_sub led names.1)
+
+-- all that it names is known where its entries are
+pub slblock_known : (t : Table) (bid : ℕ) (xs : List Sub) (s : Seen) (h : Heights) → IsList t bid → rank_of t bid ≡ 0 → xs ≡ subs_of t bid → ((sub : Sub) → Contains xs sub → IsKnownEntry t s h sub) → (next : ℕ) (x : BlockEntry) → Names t bid next → IsInternal t next x → IsKnown s h next
+slblock_known t bid xs s h is rank are known next x names internal =
+    let w = slblock_only t bid next is rank names in
+    let entry = known w.0 (rw are w.1) in
+    elim w.2 [
+      | inl data_is ↦ inl (rw data_is (entry.0 x (rw data_is at internal)))
+      | inr sub_is ↦ inr (rw sub_is (entry.1 x (rw sub_is at internal)))
+    ]
+
+pub led_leaves : (t : Table) (bid : ℕ) (e : BlockEntry) (n : ℕ) → IsSiList t bid e → n ≡ count_in (body_of t e) → (from : List ℕ) → Leads t from bid → (i : ℕ) → i < n → Leads t from (bid_in (body_of t e) i)
+led_leaves t bid e n is count from led i lt = goes_on bid (bid_in (body_of t e) i) led (siblock_names t bid e i is (omega (arith, lt, count)))
+
+pub siblock_known : (t : Table) (bid : ℕ) (e : BlockEntry) (n : ℕ) (s : Seen) (h : Heights) → IsSiList t bid e → n ≡ count_in (body_of t e) → ((i : ℕ) → i < n → IsKnownList t h (bid_in (body_of t e) i)) → (next : ℕ) (x : BlockEntry) → Names t bid next → IsInternal t next x → IsKnown s h next
+siblock_known t bid e n s h is count known next x names internal =
+    let w = siblock_only t bid next e is names in
+    inr (rw w.2 (known w.0 (omega (arith, count, w.1)) x (rw w.2 at internal)))
+
+-- ---- loops
+
+-- chains lead to what entries name
+abbrev pub AreLedEach : Table → List Sub → List ℕ → Type 0
+AreLedEach t xs from = (sub : Sub) → Contains xs sub → AreLedTo t from sub
+
+abbrev pub AreLedBelow : Table → BlockEntry → ℕ → List ℕ → Type 0
+AreLedBelow t e n from = (i : ℕ) → i < n → Leads t from (bid_in (body_of t e) i)
+
+pub adds_entry : (t : Table) (xs : List Sub) (sub : Sub) (s : Seen) (h : Heights) (s' : Seen) (h' : Heights) (s'' : Seen) (h'' : Heights) → Contains xs sub → Adds t (AreLedEach t xs) s h s' h' → Adds t (λ from. AreLedTo t from sub) s' h' s'' h'' → Adds t (AreLedEach t xs) s h s'' h''
+adds_entry t xs sub s h s' h' s'' h'' w so_far one = adds_then t (AreLedEach t xs) s h s' h' s'' h'' so_far (adds_of t (λ from. AreLedTo t from sub) (AreLedEach t xs) s' h' s'' h'' (λ from led. led sub w) one)
+
+pub adds_leaf : (t : Table) (e : BlockEntry) (n i : ℕ) (s : Seen) (h : Heights) (s' : Seen) (h' : Heights) (s'' : Seen) (h'' : Heights) → i < n → Adds t (AreLedBelow t e n) s h s' h' → Adds t (λ from. Leads t from (bid_in (body_of t e) i)) s' h' s'' h'' → Adds t (AreLedBelow t e n) s h s'' h''
+adds_leaf t e n i s h s' h' s'' h'' lt so_far one = adds_then t (AreLedBelow t e n) s h s' h' s'' h'' so_far (adds_of t _ (AreLedBelow t e n) s' h' s'' h'' (λ from led. led i lt) one)
+
+pub leaf_next : (t : Table) (e : BlockEntry) (AreLed : List ℕ → Type 0) (i : ℕ) (s : Seen) (h : Heights) (s' : Seen) (h' : Heights) → ((j : ℕ) → j < i → IsKnownList t h (bid_in (body_of t e) j)) → Adds t AreLed s h s' h' → IsKnownList t h' (bid_in (body_of t e) i) → (j : ℕ) → j < i + 1 → IsKnownList t h' (bid_in (body_of t e) j)
+leaf_next t e AreLed i s h s' h' before adds this j lt x internal =
+    elim (cases_lt j i) [
+      | inl less ↦ high_later h h' (bid_in (body_of t e) j) adds.lists (before j less x internal)
+      | inr least ↦ let same : j ≡ i = omega arith in rw same (this x (rw same at internal))
+    ]
+
+-- entries are known, or still to come
+abbrev pub AreKnownOr : Table → Seen → Heights → List Sub → List Sub → Type 0
+AreKnownOr t s h xs rest = (sub : Sub) → Contains xs sub → IsKnownEntry t s h sub ⊎ Contains rest sub
+
+pub entry_next : (t : Table) (AreLed : List ℕ → Type 0) (all xs rest : List Sub) (sub : Sub) (s : Seen) (h : Heights) (s' : Seen) (h' : Heights) → xs ≡ sub ∷ rest → AreKnownOr t s h all xs → Adds t AreLed s h s' h' → IsKnownEntry t s' h' sub → AreKnownOr t s' h' all rest
+entry_next t AreLed all xs rest sub s h s' h' is so_far adds this other w =
+    elim (so_far other w) [
+      | inl known ↦ inl (entry_later t AreLed s h s' h' other adds known)
+      | inr left ↦
+          elim (contains_cases sub rest other (rw is at left)) [
+            | inl here ↦ inl (rw (← here) this)
+            | inr later ↦ inr later
+          ]
+    ]
+
+pub entries_done : (t : Table) (s : Seen) (h : Heights) (all xs : List Sub) → xs ≡ [] → AreKnownOr t s h all xs → (sub : Sub) → Contains all sub → IsKnownEntry t s h sub
+entries_done t s h all xs is known sub w =
+    elim (known sub w) [
+      | inl already ↦ already
+      | inr left ↦ let none : Contains [] sub = (rw is at left) in absurd (omega (arith, none.1))
+    ]
