@@ -15,12 +15,12 @@ use Rattle.pst_datatree.proofs.AddLemmas.{has_stays}
 use Rattle.pst_subnode.specs.declared.sub.Sub.{Sub}
 use Rattle.pst_subnode.specs.declared.heights.Heights.{Heights}
 use Rattle.pst_subnode.specs.Body.{count_in, bid_in}
-use Rattle.pst_subnode.specs.List.{subs_of}
+use Rattle.pst_subnode.specs.List.{subs_of, list_fault}
 use Rattle.pst_subnode.specs.Heights.{state_at, state_of}
 use Rattle.pst_subnode.specs.Marks.{IsList, IsSiList, rank_of}
 use Rattle.pst_subnode.specs.Reach.{Names, Leads, goes_on, IsReached}
-use Rattle.pst_subnode.specs.Known.{HasKnownHeight, IsKnown, AreClosed, AreReached, Adds, IsKnownList, IsKnownEntry, AreLedTo}
-use Rattle.pst_subnode.proofs.MarkLemmas.{IsPut, put_at, put_cases}
+use Rattle.pst_subnode.specs.Known.{HasKnownHeight, IsKnown, AreClosed, AreReached, Adds, IsKnownList, IsKnownEntry, AreLedTo, AreLedEach, AreKnownEach, AreLedBelow, AreKnownBelow}
+use Rattle.pst_subnode.proofs.MarkLemmas.{IsPut, IsSame, put_at, put_cases}
 use Rattle.pst_subnode.proofs.ReachLemmas.{names_same, tree_reached, list_block, slblock_names, siblock_names, slblock_only, siblock_only}
 
 contains_cases : (x : Sub) (rest : List Sub) (y : Sub) → Contains (x ∷ rest) y → (x ≡ y) ⊎ Contains rest y
@@ -45,6 +45,21 @@ adds_then t AreLed s h s' h' s'' h'' first second = record {
 
 pub adds_of : (t : Table) (AreLed AreAlso : List ℕ → Type 0) (s : Seen) (h : Heights) (s' : Seen) (h' : Heights) → ((from : List ℕ) → AreAlso from → AreLed from) → Adds t AreLed s h s' h' → Adds t AreAlso s h s' h'
 adds_of t AreLed AreAlso s h s' h' of adds = record { trees = adds.trees; lists = adds.lists; closed = adds.closed; reached = λ from led was. adds.reached from (of from led) was }
+
+pub adds_alike : (t : Table) (AreLed : List ℕ → Type 0) (s : Seen) (h h' : Heights) → IsSame h h' → Adds t AreLed s h s h'
+adds_alike t AreLed s h h' same = record {
+  trees = λ key was. was;
+  lists = λ key state was. same key ∙ was;
+  closed = λ was. record {
+    trees = was.trees;
+    lists = λ q next e known names is.
+        elim (was.lists q next e (known.0, known.1, sym (same (bid_key q)) ∙ known.2) names is) [
+          | inl tree ↦ inl tree
+          | inr high ↦ inr (high.0, high.1, same (bid_key next) ∙ high.2)
+        ];
+  };
+  reached = λ from led was. record { trees = was.trees; lists = λ key state known. was.lists key state (sym (same key) ∙ known) };
+}
 
 -- ---- what is known later
 
@@ -76,6 +91,17 @@ adds_data t bid s s' h adds = record {
     lists = was.lists;
   };
 }
+
+pub adds_first : (t : Table) (sub : Sub) (s s' : Seen) (h : Heights) → trees.Adds t (IsInTree t sub.bid_data) s s' → Adds t (λ from. AreLedTo t from sub) s h s' h
+adds_first t sub s s' h first = adds_of t _ (λ from. AreLedTo t from sub) s h s' h (λ from led. led.0) (adds_data t sub.bid_data s s' h first)
+
+-- and then its own list
+pub adds_both : (t : Table) (sub : Sub) (s : Seen) (h : Heights) (s' s'' : Seen) (h'' : Heights) → trees.Adds t (IsInTree t sub.bid_data) s s' → Adds t (λ from. Leads t from sub.bid_sub) s' h s'' h'' → Adds t (λ from. AreLedTo t from sub) s h s'' h''
+adds_both t sub s h s' s'' h'' first second =
+    adds_then t _ s h s' h s'' h'' (adds_first t sub s s' h first) (adds_of t _ _ s' h s'' h'' (λ from led. led.1) second)
+
+pub both_known : (t : Table) (sub : Sub) (AreLed : List ℕ → Type 0) (s : Seen) (h : Heights) (s' : Seen) (h' : Heights) → trees.IsKnown t s sub.bid_data → Adds t AreLed s h s' h' → IsKnownList t h' sub.bid_sub → IsKnownEntry t s' h' sub
+both_known t sub AreLed s h s' h' tree adds list = ((λ e is. has_stays s s' sub.bid_data adds.trees (tree e is)), list)
 
 -- ---- a list is marked, and then it gets its height or is forgotten
 
@@ -118,16 +144,19 @@ adds_mark t bid e s h begun is = record {
           | inr same ↦ same ∙ was
         ]
 
--- its mark stays while it is gone through
-mark_put : (h begun : Heights) (bid : ℕ) → IsPut h begun bid (Some 0) → state_of begun bid ≡ Some 0
-mark_put h begun bid put = by_test (eq_by_cmp nat_cmp (bid_key bid) (bid_key bid)) (own (bid_key bid)) (put (bid_key bid))
+put_own : (h new : Heights) (bid state : ℕ) → IsPut h new bid (Some state) → state_of new bid ≡ Some state
+put_own h new bid state put = by_test (eq_by_cmp nat_cmp (bid_key bid) (bid_key bid)) (own (bid_key bid)) (put (bid_key bid))
   where
     own : (k : ℕ) → eq_by_cmp nat_cmp k k ≡ true
     own k = grind (arith, nat_tests)
 
-    by_test : (v : Bool) → v ≡ true → state_of begun bid ≡ cond v (Some 0) (state_of h bid) → state_of begun bid ≡ Some 0
+    by_test : (v : Bool) → v ≡ true → state_of new bid ≡ cond v (Some state) (state_of h bid) → state_of new bid ≡ Some state
     by_test true e is = is
     by_test false e is = cc
+
+-- a list that got its height is known
+pub put_known : (t : Table) (h new : Heights) (bid height : ℕ) → 0 < height → IsPut h new bid (Some height) → IsKnownList t new bid
+put_known t h new bid height more put e is = (height, more, put_own h new bid height put)
 
 -- what was known before it is known still, whatever becomes of it
 kept : (t : Table) (bid : ℕ) (e : BlockEntry) (h begun mid new : Heights) (last : Option ℕ) → IsMarked t h begun bid e → ((key state : ℕ) → state_at h key ≡ Some state → state_at mid key ≡ Some state) → IsPut mid new bid last → (key state : ℕ) → state_at h key ≡ Some state → state_at new key ≡ Some state
@@ -166,7 +195,7 @@ adds_forget t bid e s s' h begun mid new is adds put =
     }
   where
     mark : state_of mid bid ≡ Some 0
-    mark = adds.lists (bid_key bid) 0 (mark_put h begun bid is.put)
+    mark = adds.lists (bid_key bid) 0 (put_own h begun bid 0 is.put)
 
     still : (next : ℕ) → HasKnownHeight mid next → HasKnownHeight new next
     still next high =
@@ -209,6 +238,17 @@ adds_settle t bid height e s s' h begun mid new more is adds put names_known =
           | inr same ↦ inr (high.0, high.1, same ∙ high.2)
         ]
 
+-- the same by the list
+
+marked : (t : Table) (bid : ℕ) (h begun : Heights) → list_fault t bid ≡ None → state_of h bid ≡ None → IsPut h begun bid (Some 0) → (e : BlockEntry) × IsMarked t h begun bid e
+marked t bid h begun list fresh put = let w = list_block t bid list in (w.0, record { internal = w.1.internal; fresh = fresh; put = put })
+
+pub forgets : (t : Table) (bid : ℕ) (s s' : Seen) (h begun mid new : Heights) → list_fault t bid ≡ None → state_of h bid ≡ None → IsPut h begun bid (Some 0) → Adds t (λ from. Leads t from bid) s begun s' mid → IsPut mid new bid None → Adds t (λ from. Leads t from bid) s h s' new
+forgets t bid s s' h begun mid new list fresh put adds last = let w = marked t bid h begun list fresh put in adds_forget t bid w.0 s s' h begun mid new w.1 adds last
+
+pub settles : (t : Table) (bid height : ℕ) (s s' : Seen) (h begun mid new : Heights) → 0 < height → list_fault t bid ≡ None → state_of h bid ≡ None → IsPut h begun bid (Some 0) → Adds t (λ from. Leads t from bid) s begun s' mid → IsPut mid new bid (Some height) → ((next : ℕ) (x : BlockEntry) → Names t bid next → IsInternal t next x → IsKnown s' mid next) → Adds t (λ from. Leads t from bid) s h s' new
+settles t bid height s s' h begun mid new more list fresh put adds last names_known = let w = marked t bid h begun list fresh put in adds_settle t bid height w.0 s s' h begun mid new more w.1 adds last names_known
+
 -- ---- the parts of a list
 
 -- chains lead to what its entries name
@@ -216,6 +256,9 @@ pub led_entries : (t : Table) (bid : ℕ) (xs : List Sub) → IsList t bid → r
 led_entries t bid xs is rank are from led sub w =
     let names = slblock_names t bid sub is rank (rw are at w) in
     (goes_on bid sub.bid_data led names.0, goes_on bid sub.bid_sub led names.1)
+
+pub list_adds : (t : Table) (bid : ℕ) (xs : List Sub) (s : Seen) (h : Heights) (s' : Seen) (h' : Heights) → IsList t bid → rank_of t bid ≡ 0 → xs ≡ subs_of t bid → Adds t (AreLedEach t xs) s h s' h' → Adds t (λ from. Leads t from bid) s h s' h'
+list_adds t bid xs s h s' h' is rank are adds = adds_of t (AreLedEach t xs) (λ from. Leads t from bid) s h s' h' (led_entries t bid xs is rank are) adds
 
 -- all that it names is known where its entries are
 pub slblock_known : (t : Table) (bid : ℕ) (xs : List Sub) (s : Seen) (h : Heights) → IsList t bid → rank_of t bid ≡ 0 → xs ≡ subs_of t bid → ((sub : Sub) → Contains xs sub → IsKnownEntry t s h sub) → (next : ℕ) (x : BlockEntry) → Names t bid next → IsInternal t next x → IsKnown s h next
@@ -230,19 +273,15 @@ slblock_known t bid xs s h is rank are known next x names internal =
 pub led_leaves : (t : Table) (bid : ℕ) (e : BlockEntry) (n : ℕ) → IsSiList t bid e → n ≡ count_in (body_of t e) → (from : List ℕ) → Leads t from bid → (i : ℕ) → i < n → Leads t from (bid_in (body_of t e) i)
 led_leaves t bid e n is count from led i lt = goes_on bid (bid_in (body_of t e) i) led (siblock_names t bid e i is (omega (arith, lt, count)))
 
+pub leaves_add : (t : Table) (bid : ℕ) (e : BlockEntry) (n : ℕ) (s : Seen) (h : Heights) (s' : Seen) (h' : Heights) → IsSiList t bid e → n ≡ count_in (body_of t e) → Adds t (AreLedBelow t e n) s h s' h' → Adds t (λ from. Leads t from bid) s h s' h'
+leaves_add t bid e n s h s' h' is count adds = adds_of t (AreLedBelow t e n) (λ from. Leads t from bid) s h s' h' (led_leaves t bid e n is count) adds
+
 pub siblock_known : (t : Table) (bid : ℕ) (e : BlockEntry) (n : ℕ) (s : Seen) (h : Heights) → IsSiList t bid e → n ≡ count_in (body_of t e) → ((i : ℕ) → i < n → IsKnownList t h (bid_in (body_of t e) i)) → (next : ℕ) (x : BlockEntry) → Names t bid next → IsInternal t next x → IsKnown s h next
 siblock_known t bid e n s h is count known next x names internal =
     let w = siblock_only t bid next e is names in
     inr (rw w.2 (known w.0 (omega (arith, count, w.1)) x (rw w.2 at internal)))
 
 -- ---- loops
-
--- chains lead to what entries name
-abbrev pub AreLedEach : Table → List Sub → List ℕ → Type 0
-AreLedEach t xs from = (sub : Sub) → Contains xs sub → AreLedTo t from sub
-
-abbrev pub AreLedBelow : Table → BlockEntry → ℕ → List ℕ → Type 0
-AreLedBelow t e n from = (i : ℕ) → i < n → Leads t from (bid_in (body_of t e) i)
 
 pub adds_entry : (t : Table) (xs : List Sub) (sub : Sub) (s : Seen) (h : Heights) (s' : Seen) (h' : Heights) (s'' : Seen) (h'' : Heights) → Contains xs sub → Adds t (AreLedEach t xs) s h s' h' → Adds t (λ from. AreLedTo t from sub) s' h' s'' h'' → Adds t (AreLedEach t xs) s h s'' h''
 adds_entry t xs sub s h s' h' s'' h'' w so_far one = adds_then t (AreLedEach t xs) s h s' h' s'' h'' so_far (adds_of t (λ from. AreLedTo t from sub) (AreLedEach t xs) s' h' s'' h'' (λ from led. led sub w) one)
@@ -272,7 +311,7 @@ entry_next t AreLed all xs rest sub s h s' h' is so_far adds this other w =
           ]
     ]
 
-pub entries_done : (t : Table) (s : Seen) (h : Heights) (all xs : List Sub) → xs ≡ [] → AreKnownOr t s h all xs → (sub : Sub) → Contains all sub → IsKnownEntry t s h sub
+pub entries_done : (t : Table) (s : Seen) (h : Heights) (all xs : List Sub) → xs ≡ [] → AreKnownOr t s h all xs → AreKnownEach t s h all
 entries_done t s h all xs is known sub w =
     elim (known sub w) [
       | inl already ↦ already

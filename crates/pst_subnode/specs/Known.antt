@@ -1,12 +1,14 @@
 -- What is known of data trees and of subnode lists together, and what a walk adds to it.
 use Rattle.std.specs.Prelude.{◌≡◌, ℕ, ◌<◌, true, Option, Some, List, ◌⊎◌}
+use Rattle.std.specs.List.{Contains}
 use Rattle.pst_page.specs.declared.entry.BlockEntry.{BlockEntry}
-use Rattle.pst_block.specs.Table.{Table}
+use Rattle.pst_block.specs.Table.{Table, body_of}
 use Rattle.pst_datatree.specs.declared.seen.Seen.{Seen}
 use Rattle.pst_datatree.specs.Names.{IsInternal}
 use Rattle.pst_datatree.specs.Seen as trees
 use Rattle.pst_subnode.specs.declared.sub.Sub.{Sub}
 use Rattle.pst_subnode.specs.declared.heights.Heights.{Heights}
+use Rattle.pst_subnode.specs.Body.{bid_in}
 use Rattle.pst_subnode.specs.Heights.{state_at, state_of}
 use Rattle.pst_subnode.specs.Reach.{Names, Leads, IsReached}
 
@@ -47,3 +49,16 @@ IsKnownEntry t s h sub = trees.IsKnown t s sub.bid_data × IsKnownList t h sub.b
 -- chains lead to what an entry names
 abbrev pub AreLedTo : Table → List ℕ → Sub → Type 0
 AreLedTo t from sub = Leads t from sub.bid_data × Leads t from sub.bid_sub
+
+abbrev pub AreLedEach : Table → List Sub → List ℕ → Type 0
+AreLedEach t subs from = (sub : Sub) → Contains subs sub → AreLedTo t from sub
+
+abbrev pub AreKnownEach : Table → Seen → Heights → List Sub → Type 0
+AreKnownEach t s h subs = (sub : Sub) → Contains subs sub → IsKnownEntry t s h sub
+
+-- and to the first SLBLOCKs of an SIBLOCK
+abbrev pub AreLedBelow : Table → BlockEntry → ℕ → List ℕ → Type 0
+AreLedBelow t e count from = (i : ℕ) → i < count → Leads t from (bid_in (body_of t e) i)
+
+abbrev pub AreKnownBelow : Table → Heights → BlockEntry → ℕ → Type 0
+AreKnownBelow t h e count = (i : ℕ) → i < count → IsKnownList t h (bid_in (body_of t e) i)

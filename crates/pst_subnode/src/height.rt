@@ -6,11 +6,14 @@ ghost use Rattle.pst_fault.specs.First.{Tells};
 ghost use Rattle.pst_block.specs.Blocks.{table_of};
 ghost use Rattle.pst_datatree.specs.Data.{data_fault};
 ghost use Rattle.pst_datatree.specs.Bid.{is_no_block as no_block};
-ghost use Rattle.pst_datatree.specs.Seen.{expansions_of as data_expansions, IsTrueOf as SeenIsTrue};
+ghost use Rattle.pst_datatree.specs.Names.{IsInTree};
+ghost use Rattle.pst_datatree.specs.Seen.{expansions_of as data_expansions, IsTrueOf as SeenIsTrue, IsKnown as IsKnownTree, Adds as TreesAdd};
 ghost use Rattle.pst_subnode.specs.declared.sub.Sub.{Sub};
 ghost use Rattle.pst_subnode.specs.List.{subs_of};
 ghost use Rattle.pst_subnode.specs.Tree.{first_among, most_among, entry_fault, entry_height, nesting, sub_fault, sub_height, at_top};
-ghost use Rattle.pst_subnode.specs.Heights.{expansions_of, IsCounted, AreTrue, IsTrueOf, NoNewMarks};
+ghost use Rattle.pst_subnode.specs.Reach.{Leads};
+ghost use Rattle.pst_subnode.specs.Known.{Adds, IsKnownList, IsKnownEntry, AreLedTo, AreLedEach, AreKnownEach, AreLedBelow, AreKnownBelow};
+ghost use Rattle.pst_subnode.specs.Heights.{expansions_of, state_of, IsCounted, AreTrue, IsTrueOf, NoNewMarks};
 ghost use Rattle.pst_subnode.specs.Marks.{HaveCome, IsList, IsSiList, at_list, at_entries, at_entry, at_leaf, at_leaves, leaf_height, most_below, rank_of};
 ghost use Rattle.pst_subnode.specs.Body.{count_in, bid_in};
 ghost use Rattle.pst_block.specs.Table.{body_of, IsWithin};
@@ -55,6 +58,8 @@ fn check_entry_data(alloc: Global, blocks: &Blocks, sub: Sub, seen: &mut Seen) -
     requires seen { SeenIsTrue (table_of blocks.now) seen.old }
     ensures first { Tells result (data_fault (table_of blocks.now) sub.bid_data) tt }
     ensures seen { SeenIsTrue (table_of blocks.now) seen.new }
+    ensures adds { let t = table_of blocks.now in TreesAdd t (IsInTree t sub.bid_data) seen.old seen.new }
+    ensures there { OnOk result (IsKnownTree (table_of blocks.now) seen.new sub.bid_data) }
     ensures grows { data_expansions seen.old ≤ data_expansions seen.new }
 {
     check_data(alloc, blocks, sub.bid_data, 0, seen)
@@ -82,6 +87,10 @@ fn height_of_entry(
     ensures marks { NoNewMarks heights.old heights.new }
     ensures seen_grows { data_expansions seen.old ≤ data_expansions seen.new }
     ensures keeps { OnOk result (IsCounted heights.old → IsCounted heights.new) }
+    ensures adds { let t = table_of blocks.now in
+        Adds t (λ from. AreLedTo t from sub) seen.old heights.old seen.new heights.new }
+    ensures there { let t = table_of blocks.now in
+        OnOk result (IsKnownEntry t seen.new heights.new sub) }
     ensures heights_grow { expansions_of heights.old ≤ expansions_of heights.new }
 {
     check_entry_data(alloc, blocks, sub, seen)?;
@@ -109,6 +118,10 @@ fn height_of_entries(
     ensures marks { NoNewMarks heights.old heights.new }
     ensures seen_grows { data_expansions seen.old ≤ data_expansions seen.new }
     ensures keeps { OnOk result (IsCounted heights.old → IsCounted heights.new) }
+    ensures adds { let t = table_of blocks.now in
+        Adds t (AreLedEach t (subs_left subs.entry)) seen.old heights.old seen.new heights.new }
+    ensures there { let t = table_of blocks.now in
+        OnOk result (AreKnownEach t seen.new heights.new (subs_left subs.entry)) }
     ensures heights_grow { expansions_of heights.old ≤ expansions_of heights.new }
 {
     let mut most = 0;
@@ -136,6 +149,7 @@ fn height_of_slblock(
     requires seen { SeenIsTrue (table_of blocks.now) seen.old }
     requires known { AreTrue (table_of blocks.now) heights.old }
     requires come { HaveCome (table_of blocks.now) heights.old (at_list (table_of blocks.now) bid) 0 limit }
+    requires fresh { state_of heights.old bid ≡ None }
     ensures first { let t = table_of blocks.now in Tells result (sub_fault t limit bid) (sub_height t limit bid) }
     ensures small { IfOk result (λ h. h ≤ limit) }
     ensures seen { SeenIsTrue (table_of blocks.now) seen.new }
@@ -143,6 +157,10 @@ fn height_of_slblock(
     ensures marks { NoNewMarks heights.old heights.new }
     ensures seen_grows { data_expansions seen.old ≤ data_expansions seen.new }
     ensures keeps { OnOk result (IsCounted heights.old → IsCounted heights.new) }
+    ensures adds { let t = table_of blocks.now in
+        Adds t (λ from. Leads t from bid) seen.old heights.old seen.new heights.new }
+    ensures there { let t = table_of blocks.now in
+        OnOk result (IsKnownList t heights.new bid) }
     ensures heights_grow { expansions_of heights.old ≤ expansions_of heights.new }
 {
     let list = subs(blocks, bid);
@@ -185,6 +203,10 @@ fn height_of_leaf(
     ensures marks { NoNewMarks heights.old heights.new }
     ensures seen_grows { data_expansions seen.old ≤ data_expansions seen.new }
     ensures keeps { OnOk result (IsCounted heights.old → IsCounted heights.new) }
+    ensures adds { let t = table_of blocks.now in
+        Adds t (λ from. Leads t from (bid_in (body_of t holder) i)) seen.old heights.old seen.new heights.new }
+    ensures there { let t = table_of blocks.now in
+        OnOk result (IsKnownList t heights.new (bid_in (body_of t holder) i)) }
     ensures heights_grow { expansions_of heights.old ≤ expansions_of heights.new }
 {
     let bid = bid_at(body_in(blocks, holder), i);
@@ -220,6 +242,10 @@ fn height_of_leaves(
     ensures marks { NoNewMarks heights.old heights.new }
     ensures seen_grows { data_expansions seen.old ≤ data_expansions seen.new }
     ensures keeps { OnOk result (IsCounted heights.old → IsCounted heights.new) }
+    ensures adds { let t = table_of blocks.now in
+        Adds t (AreLedBelow t holder count) seen.old heights.old seen.new heights.new }
+    ensures there { let t = table_of blocks.now in
+        OnOk result (AreKnownBelow t heights.new holder count) }
     ensures heights_grow { expansions_of heights.old ≤ expansions_of heights.new }
 {
     let mut most = 1;
@@ -246,6 +272,7 @@ fn height_of_siblock(
     requires seen { SeenIsTrue (table_of blocks.now) seen.old }
     requires known { AreTrue (table_of blocks.now) heights.old }
     requires come { HaveCome (table_of blocks.now) heights.old (at_list (table_of blocks.now) bid) 1 limit }
+    requires fresh { state_of heights.old bid ≡ None }
     ensures first { let t = table_of blocks.now in Tells result (sub_fault t limit bid) (sub_height t limit bid) }
     ensures small { IfOk result (λ h. h ≤ limit) }
     ensures seen { SeenIsTrue (table_of blocks.now) seen.new }
@@ -253,6 +280,10 @@ fn height_of_siblock(
     ensures marks { NoNewMarks heights.old heights.new }
     ensures seen_grows { data_expansions seen.old ≤ data_expansions seen.new }
     ensures keeps { OnOk result (IsCounted heights.old → IsCounted heights.new) }
+    ensures adds { let t = table_of blocks.now in
+        Adds t (λ from. Leads t from bid) seen.old heights.old seen.new heights.new }
+    ensures there { let t = table_of blocks.now in
+        OnOk result (IsKnownList t heights.new bid) }
     ensures heights_grow { expansions_of heights.old ≤ expansions_of heights.new }
 {
     let count = leaf_count(blocks, bid, entry);
@@ -285,6 +316,7 @@ fn height_of_list(
     requires seen { SeenIsTrue (table_of blocks.now) seen.old }
     requires known { AreTrue (table_of blocks.now) heights.old }
     requires come { HaveCome (table_of blocks.now) heights.old (at_list (table_of blocks.now) bid) 1 limit }
+    requires fresh { state_of heights.old bid ≡ None }
     ensures first { let t = table_of blocks.now in Tells result (sub_fault t limit bid) (sub_height t limit bid) }
     ensures small { IfOk result (λ h. h ≤ limit) }
     ensures seen { SeenIsTrue (table_of blocks.now) seen.new }
@@ -292,6 +324,10 @@ fn height_of_list(
     ensures marks { NoNewMarks heights.old heights.new }
     ensures seen_grows { data_expansions seen.old ≤ data_expansions seen.new }
     ensures keeps { OnOk result (IsCounted heights.old → IsCounted heights.new) }
+    ensures adds { let t = table_of blocks.now in
+        Adds t (λ from. Leads t from bid) seen.old heights.old seen.new heights.new }
+    ensures there { let t = table_of blocks.now in
+        OnOk result (IsKnownList t heights.new bid) }
     ensures heights_grow { expansions_of heights.old ≤ expansions_of heights.new }
 {
     check_list(alloc, blocks, bid)?;
@@ -338,6 +374,10 @@ fn height_of(
     ensures marks { NoNewMarks heights.old heights.new }
     ensures seen_grows { data_expansions seen.old ≤ data_expansions seen.new }
     ensures keeps { OnOk result (IsCounted heights.old → IsCounted heights.new) }
+    ensures adds { let t = table_of blocks.now in
+        Adds t (λ from. Leads t from bid) seen.old heights.old seen.new heights.new }
+    ensures there { let t = table_of blocks.now in
+        OnOk result (IsKnownList t heights.new bid) }
     ensures heights_grow { expansions_of heights.old ≤ expansions_of heights.new }
 {
     if is_no_block(bid) {
@@ -409,6 +449,11 @@ pub fn check_sub(
 
     // Where it has a list whose height is within the limit, only memory is refused.
     ensures only { (h : ℕ) (list : List Sub) → HasSubs (table_of blocks.now) bid h list → h ≤ LISTS → IfErr result (λ f. f ≡ no_memory) }
+
+    // Chains from the identifier lead to all that is known since; where there is no fault, the list is known.
+    ensures adds { let t = table_of blocks.now in
+        Adds t (λ from. Leads t from bid) seen.old heights.old seen.new heights.new }
+    ensures there { OnOk result (IsKnownList (table_of blocks.now) heights.new bid) }
 
     // What is counted never falls.
     ensures seen_grows { data_expansions seen.old ≤ data_expansions seen.new }

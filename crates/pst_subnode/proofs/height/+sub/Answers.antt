@@ -1,5 +1,6 @@
-use Rattle.std.proofs.Common.{◌≡◌, ℕ, ◌+◌, ◌-◌, ◌<◌, max, false, Some, arith, rules, refl, ap, sym, ◌∙◌, inl, inr}
-use Rattle.std.proofs.lemmas.Result.{err_from_is_err_and}
+use Rattle.std.proofs.Common.{◌≡◌, ℕ, ◌+◌, ◌-◌, ◌<◌, max, true, false, Some, arith, rules, refl, ap, sym, ◌∙◌, inl, inr}
+use Rattle.std.proofs.lemmas.Result.{err_from_is_err_and, IfOk-weaker}
+use Rattle.pst_datatree.proofs.AddLemmas.{none_internal}
 use Rattle.pst_block.specs.Blocks.{table_of}
 use Rattle.pst_fault.proofs.FirstLemmas.{is_first_then, is_first_after, is_first_at, first_more, then_none}
 use Rattle.pst_block.specs.Table.{body_of}
@@ -10,7 +11,9 @@ use Rattle.pst_subnode.proofs.LeafLemmas.{leaf_list, si_fault, si_tells, list_te
 use Rattle.pst_subnode.specs.List.{list_fault}
 use Rattle.pst_subnode.specs.Left.{subs_left}
 use Rattle.pst_subnode.specs.Tree.{first_among, most_among, entry_fault, entry_height, sub_fault, sub_height}
-use Rattle.pst_subnode.proofs.MarkLemmas.{rank_small, rank_none, lower_rank, settle_marks, past_entry, to_entry, to_leaf, to_leaves, same_place, begin_true, put_cases, known_tells, settle_true}
+use Rattle.pst_fault.proofs.EachLemmas.{contains_here, contains_later}
+use Rattle.pst_subnode.proofs.AddLemmas.{adds_none, adds_alike, adds_first, adds_both, both_known, put_known, forgets, settles, list_adds, slblock_known, leaves_add, siblock_known, entries_done, adds_leaf, leaf_next, adds_entry, entry_next}
+use Rattle.pst_subnode.proofs.MarkLemmas.{rank_small, rank_none, lower_rank, settle_marks, past_entry, to_entry, to_leaf, to_leaves, same_place, begin_true, forget_true, put_cases, known_tells, settle_true}
 use Rattle.pst_subnode.proofs.SubLemmas.{sub_fault_below, sub_fault_list, sub_height_list, among_at, among_more, among_end, most_more, most_end}
 use Rattle.pst_subnode.proofs.height.+sub.Goals as goal
 
@@ -27,7 +30,47 @@ height_of-returns-in-Some-clause-first t c =
     let known = c.height_known.ensures in
     known_tells (table_of c.args.blocks.now) c.args.heights.now c.args.bid c.in-Some.height 1 c.args.limit c.height_known.result (rank_small (table_of c.args.blocks.now) c.args.bid) c.requires.known c.requires.come (sym c.state.ensures ∙ c.in-Some.is) known.marked known.fits known.high
 
+pub height_of-returns-then-is_no_block-clause-there : goal.height_of-returns-then-is_no_block-clause-there
+height_of-returns-then-is_no_block-clause-there t c = λ e is.
+    let bad : false ≡ true = none_internal c.args.bid (sym c.is_no_block.ensures ∙ c.if-is_no_block.true) is.1 in
+    cc
+
 -- ---- a list
+
+pub height_of_slblock-returns-in_err-begin-clause-adds : goal.height_of_slblock-returns-in_err-begin-clause-adds
+height_of_slblock-returns-in_err-begin-clause-adds t c =
+    adds_alike (table_of c.args.blocks.now) _ c.args.seen.now c.args.heights.now c.begin.new.self c.in_err-begin.ensures.same
+
+pub height_of_slblock-returns-in-Err-clause-adds : goal.height_of_slblock-returns-in-Err-clause-adds
+height_of_slblock-returns-in-Err-clause-adds t c =
+    let table = table_of c.args.blocks.now in
+    let mid = c.height_of_entries.new.heights in
+    let adds = list_adds table c.args.bid (subs_left c.subs-list.result) c.args.seen.now c.begin.new.self c.height_of_entries.new.seen mid c.requires.is_list c.requires.rank c.subs-list.ensures c.in-Err.ensures.adds in
+    forgets table c.args.bid c.args.seen.now c.height_of_entries.new.seen c.args.heights.now c.begin.new.self mid c.forget.new.self c.requires.is_list.list c.requires.fresh c.in_ok-begin.ensures.put adds c.forget.ensures.put
+
+pub height_of_slblock-returns-in_err-settle-in-Ok-clause-known : goal.height_of_slblock-returns-in_err-settle-in-Ok-clause-known
+height_of_slblock-returns-in_err-settle-in-Ok-clause-known t c =
+    forget_true (table_of c.args.blocks.now) c.height_of_entries.new.heights c.settle.new.self c.args.bid c.in_err-settle-in-Ok.ensures.forgotten c.in-Ok.ensures.known
+
+pub height_of_slblock-returns-in_err-settle-in-Ok-clause-adds : goal.height_of_slblock-returns-in_err-settle-in-Ok-clause-adds
+height_of_slblock-returns-in_err-settle-in-Ok-clause-adds t c =
+    let table = table_of c.args.blocks.now in
+    let mid = c.height_of_entries.new.heights in
+    let adds = list_adds table c.args.bid (subs_left c.subs-list.result) c.args.seen.now c.begin.new.self c.height_of_entries.new.seen mid c.requires.is_list c.requires.rank c.subs-list.ensures c.in-Ok.ensures.adds in
+    forgets table c.args.bid c.args.seen.now c.height_of_entries.new.seen c.args.heights.now c.begin.new.self mid c.settle.new.self c.requires.is_list.list c.requires.fresh c.in_ok-begin.ensures.put adds c.in_err-settle-in-Ok.ensures.forgotten
+
+pub height_of_slblock-returns-in_ok-settle-in-Ok-clause-adds : goal.height_of_slblock-returns-in_ok-settle-in-Ok-clause-adds
+height_of_slblock-returns-in_ok-settle-in-Ok-clause-adds t c =
+    let table = table_of c.args.blocks.now in
+    let mid = c.height_of_entries.new.heights in
+    let list = subs_left c.subs-list.result in
+    let adds = list_adds table c.args.bid list c.args.seen.now c.begin.new.self c.height_of_entries.new.seen mid c.requires.is_list c.requires.rank c.subs-list.ensures c.in-Ok.ensures.adds in
+    let known = slblock_known table c.args.bid list c.height_of_entries.new.seen mid c.requires.is_list c.requires.rank c.subs-list.ensures c.in-Ok.ensures.there in
+    settles table c.args.bid (c.in-Ok.most + 1) c.args.seen.now c.height_of_entries.new.seen c.args.heights.now c.begin.new.self mid c.settle.new.self (omega arith) c.requires.is_list.list c.requires.fresh c.in_ok-begin.ensures.put adds c.in_ok-settle-in-Ok.ensures.put known
+
+pub height_of_slblock-returns-in_ok-settle-in-Ok-clause-there : goal.height_of_slblock-returns-in_ok-settle-in-Ok-clause-there
+height_of_slblock-returns-in_ok-settle-in-Ok-clause-there t c =
+    put_known (table_of c.args.blocks.now) c.height_of_entries.new.heights c.settle.new.self c.args.bid (c.in-Ok.most + 1) (omega arith) c.in_ok-settle-in-Ok.ensures.put
 
 pub height_of_slblock-returns-in-Err-clause-first : goal.height_of_slblock-returns-in-Err-clause-first
 height_of_slblock-returns-in-Err-clause-first t c =
@@ -60,6 +103,15 @@ height_of_leaf-returns-in-Some-clause-first t c =
     let same : c.bid_at-bid.result ≡ bid_in (body_of table c.args.holder) c.args.i = c.bid_at-bid.ensures ∙ ap (λ b. bid_in b c.args.i) c.body_in.ensures in
     known_tells table c.args.heights.now (bid_in (body_of table c.args.holder) c.args.i) c.in-Some.height 0 c.args.limit c.height_known.result (omega (arith, c.requires.rank)) c.requires.known c.requires.come (ap (state_of c.args.heights.now) (sym same) ∙ (sym c.state.ensures ∙ c.in-Some.is)) known.marked known.fits known.high
 
+pub height_of_leaf-returns-clause-there : goal.height_of_leaf-returns-clause-there
+height_of_leaf-returns-clause-there t c =
+    let table = table_of c.args.blocks.now in
+    let same : c.bid_at-bid.result ≡ bid_in (body_of table c.args.holder) c.args.i = c.bid_at-bid.ensures ∙ ap (λ b. bid_in b c.args.i) c.body_in.ensures in
+    rw same at c.height_of_slblock.ensures.there
+
+pub height_of_leaves-returns-clause-there : goal.height_of_leaves-returns-clause-there
+height_of_leaves-returns-clause-there t c = λ j lt. c.loop-i.invariant.there j (omega arith)
+
 pub height_of_leaves-loop-i-init : goal.height_of_leaves-loop-i-init
 height_of_leaves-loop-i-init t c = record {
   first = refl;
@@ -69,6 +121,8 @@ height_of_leaves-loop-i-init t c = record {
   known = c.requires.known;
   marks = λ q marked. marked;
   come = c.requires.come;
+  adds = adds_none (table_of c.args.blocks.now) _ c.args.seen.now c.args.heights.now;
+  there = λ j lt. absurd (omega (arith, lt));
   seen_grows = omega arith;
   keeps = λ is. is;
   heights_grow = omega arith;
@@ -102,6 +156,8 @@ height_of_leaves-loop-i-preserved t c =
       known = leaf.known;
       marks = λ q marked. inv.marks q (leaf.marks q marked);
       come = same_place table c.loop-i.heights c.height_of_leaf.new.heights _ 0 c.args.limit leaf.marks inv.come;
+      adds = adds_leaf table c.args.holder c.args.count c.loop-i.i c.args.seen.now c.args.heights.now c.loop-i.seen c.loop-i.heights c.height_of_leaf.new.seen c.height_of_leaf.new.heights c.loop-i-test.true inv.adds leaf.adds;
+      there = leaf_next table c.args.holder _ c.loop-i.i c.loop-i.seen c.loop-i.heights c.height_of_leaf.new.seen c.height_of_leaf.new.heights inv.there leaf.adds leaf.there;
       seen_grows = omega (arith, leaf.seen_grows, inv.seen_grows);
       keeps = λ is. leaf.keeps (inv.keeps is);
       heights_grow = omega (arith, leaf.heights_grow, inv.heights_grow);
@@ -115,7 +171,7 @@ height_of_list-height_of_slblock-requires t c =
     let level : has_level_one (body_of table c.in-Some.entry) ≡ false = ap has_level_one (sym c.body_in.ensures) ∙ (sym c.has_level_one.ensures ∙ c.if-has_level_one.false) in
     let rank = rank_none table c.args.bid c.in-Some.entry (sym c.entry.ensures.value ∙ c.in-Some.is) level in
     let come = lower_rank table c.args.heights.now (at_list table c.args.bid) c.args.limit c.requires.come in
-    (omega arith, (c.requires.room, (record { named = c.requires.named; list = c.in_ok-check_list.ensures.0 }, (rank, (c.requires.seen, (c.requires.known, come))))))
+    (omega arith, (c.requires.room, (record { named = c.requires.named; list = c.in_ok-check_list.ensures.0 }, (rank, (c.requires.seen, (c.requires.known, (come, c.requires.fresh)))))))
 
 pub height_of_siblock-height_of_leaves-requires : goal.height_of_siblock-height_of_leaves-requires
 height_of_siblock-height_of_leaves-requires t c =
@@ -148,7 +204,57 @@ height_of_siblock-returns-in_ok-settle-in-Ok-clause-marks t c =
     let least = most_least (leaf_height (table_of c.args.blocks.now) c.args.entry c.args.limit) c.leaf_count-count.result in
     settle_marks c.args.heights.now c.begin.new.self c.height_of_leaves.new.heights c.settle.new.self c.args.bid c.in-Ok.most (omega (arith, least, c.in-Ok.ensures.first.1)) c.in_ok-begin.ensures.put c.in-Ok.ensures.marks c.in_ok-settle-in-Ok.ensures.put
 
+pub height_of_siblock-returns-in-Err-clause-adds : goal.height_of_siblock-returns-in-Err-clause-adds
+height_of_siblock-returns-in-Err-clause-adds t c =
+    let table = table_of c.args.blocks.now in
+    let mid = c.height_of_leaves.new.heights in
+    let adds = leaves_add table c.args.bid c.args.entry c.leaf_count-count.result c.args.seen.now c.begin.new.self c.height_of_leaves.new.seen mid c.requires.is_list c.leaf_count-count.ensures.value c.in-Err.ensures.adds in
+    forgets table c.args.bid c.args.seen.now c.height_of_leaves.new.seen c.args.heights.now c.begin.new.self mid c.forget.new.self c.requires.is_list.is_list.list c.requires.fresh c.in_ok-begin.ensures.put adds c.forget.ensures.put
+
+pub height_of_siblock-returns-in_err-settle-in-Ok-clause-adds : goal.height_of_siblock-returns-in_err-settle-in-Ok-clause-adds
+height_of_siblock-returns-in_err-settle-in-Ok-clause-adds t c =
+    let table = table_of c.args.blocks.now in
+    let mid = c.height_of_leaves.new.heights in
+    let adds = leaves_add table c.args.bid c.args.entry c.leaf_count-count.result c.args.seen.now c.begin.new.self c.height_of_leaves.new.seen mid c.requires.is_list c.leaf_count-count.ensures.value c.in-Ok.ensures.adds in
+    forgets table c.args.bid c.args.seen.now c.height_of_leaves.new.seen c.args.heights.now c.begin.new.self mid c.settle.new.self c.requires.is_list.is_list.list c.requires.fresh c.in_ok-begin.ensures.put adds c.in_err-settle-in-Ok.ensures.forgotten
+
+pub height_of_siblock-returns-in_ok-settle-in-Ok-clause-adds : goal.height_of_siblock-returns-in_ok-settle-in-Ok-clause-adds
+height_of_siblock-returns-in_ok-settle-in-Ok-clause-adds t c =
+    let table = table_of c.args.blocks.now in
+    let mid = c.height_of_leaves.new.heights in
+    let count = c.leaf_count-count.ensures.value in
+    let least = most_least (leaf_height table c.args.entry c.args.limit) c.leaf_count-count.result in
+    let adds = leaves_add table c.args.bid c.args.entry c.leaf_count-count.result c.args.seen.now c.begin.new.self c.height_of_leaves.new.seen mid c.requires.is_list count c.in-Ok.ensures.adds in
+    let known = siblock_known table c.args.bid c.args.entry c.leaf_count-count.result c.height_of_leaves.new.seen mid c.requires.is_list count c.in-Ok.ensures.there in
+    settles table c.args.bid c.in-Ok.most c.args.seen.now c.height_of_leaves.new.seen c.args.heights.now c.begin.new.self mid c.settle.new.self (omega (arith, least, c.in-Ok.ensures.first.1)) c.requires.is_list.is_list.list c.requires.fresh c.in_ok-begin.ensures.put adds c.in_ok-settle-in-Ok.ensures.put known
+
+pub height_of_siblock-returns-in_ok-settle-in-Ok-clause-there : goal.height_of_siblock-returns-in_ok-settle-in-Ok-clause-there
+height_of_siblock-returns-in_ok-settle-in-Ok-clause-there t c =
+    let table = table_of c.args.blocks.now in
+    let least = most_least (leaf_height table c.args.entry c.args.limit) c.leaf_count-count.result in
+    put_known table c.height_of_leaves.new.heights c.settle.new.self c.args.bid c.in-Ok.most (omega (arith, least, c.in-Ok.ensures.first.1)) c.in_ok-settle-in-Ok.ensures.put
+
 -- ---- entries
+
+pub height_of_entry-returns-in_err-check_entry_data-clause-adds : goal.height_of_entry-returns-in_err-check_entry_data-clause-adds
+height_of_entry-returns-in_err-check_entry_data-clause-adds t c =
+    adds_first (table_of c.args.blocks.now) c.args.sub c.args.seen.now c.check_entry_data.new.seen c.args.heights.now c.in_err-check_entry_data.ensures.adds
+
+pub height_of_entry-returns-clause-adds : goal.height_of_entry-returns-clause-adds
+height_of_entry-returns-clause-adds t c =
+    adds_both (table_of c.args.blocks.now) c.args.sub c.args.seen.now c.args.heights.now c.check_entry_data.new.seen c.height_of.new.seen c.height_of.new.heights c.in_ok-check_entry_data.ensures.adds c.height_of.ensures.adds
+
+pub height_of_entry-returns-clause-there : goal.height_of_entry-returns-clause-there
+height_of_entry-returns-clause-there t c =
+    IfOk-weaker c.height_of.result _ _ (λ x list. both_known (table_of c.args.blocks.now) c.args.sub _ c.check_entry_data.new.seen c.args.heights.now c.height_of.new.seen c.height_of.new.heights c.in_ok-check_entry_data.ensures.there c.height_of.ensures.adds list) c.height_of.ensures.there
+
+pub height_of_entries-returns-in_err-height_of_entry-clause-adds : goal.height_of_entries-returns-in_err-height_of_entry-clause-adds
+height_of_entries-returns-in_err-height_of_entry-clause-adds t c =
+    adds_entry (table_of c.args.blocks.now) (subs_left c.args.subs) c.in-Some.sub c.args.seen.now c.args.heights.now c.loop-sub.seen c.loop-sub.heights c.height_of_entry.new.seen c.height_of_entry.new.heights (c.loop-sub.invariant.within c.in-Some.sub (rw c.in-Some.ensures.steps (contains_here c.in-Some.sub (subs_left c.next.new.self)))) c.loop-sub.invariant.adds c.in_err-height_of_entry.ensures.adds
+
+pub height_of_entries-returns-clause-there : goal.height_of_entries-returns-clause-there
+height_of_entries-returns-clause-there t c =
+    entries_done (table_of c.args.blocks.now) c.loop-sub.seen c.loop-sub.heights (subs_left c.args.subs) (subs_left c.loop-sub.rest) c.in_default.ensures.steps.0 c.loop-sub.invariant.there
 
 pub height_of_entries-height_of_entry-requires : goal.height_of_entries-height_of_entry-requires
 height_of_entries-height_of_entry-requires t c =
@@ -178,6 +284,9 @@ height_of_entries-loop-sub-preserved t c =
       known = entry.known;
       marks = λ q marked. c.loop-sub.invariant.marks q (entry.marks q marked);
       come = past_entry table c.loop-sub.heights c.height_of_entry.new.heights c.args.limit c.in-Some.sub (subs_left c.loop-sub.rest) (subs_left c.next.new.self) c.in-Some.ensures.steps entry.marks entry.first.0 c.loop-sub.invariant.come;
+      adds = adds_entry table (subs_left c.args.subs) c.in-Some.sub c.args.seen.now c.args.heights.now c.loop-sub.seen c.loop-sub.heights c.height_of_entry.new.seen c.height_of_entry.new.heights (c.loop-sub.invariant.within c.in-Some.sub (rw c.in-Some.ensures.steps (contains_here c.in-Some.sub (subs_left c.next.new.self)))) c.loop-sub.invariant.adds entry.adds;
+      there = entry_next table _ (subs_left c.args.subs) (subs_left c.loop-sub.rest) (subs_left c.next.new.self) c.in-Some.sub c.loop-sub.seen c.loop-sub.heights c.height_of_entry.new.seen c.height_of_entry.new.heights c.in-Some.ensures.steps c.loop-sub.invariant.there entry.adds entry.there;
+      within = λ sub w. c.loop-sub.invariant.within sub (rw c.in-Some.ensures.steps (contains_later c.in-Some.sub sub (subs_left c.next.new.self) w));
       seen_grows = omega (arith, entry.seen_grows);
       keeps = λ is. entry.keeps (c.loop-sub.invariant.keeps is);
       heights_grow = omega (arith, entry.heights_grow);

@@ -3,6 +3,10 @@ use Rattle.pst_block.specs.Blocks.{table_of}
 use Rattle.pst_datatree.specs.Seen as seen
 use Rattle.pst_subnode.specs.Heights as heights
 use Rattle.pst_subnode.specs.Marks as way
+use Rattle.std.specs.List.{Contains}
+use Rattle.pst_subnode.specs.declared.sub.Sub.{Sub}
+use Rattle.pst_subnode.specs.Known as given
+use Rattle.pst_subnode.proofs.AddLemmas.{AreKnownOr}
 use Rattle.pst_subnode.specs.Left.{subs_left}
 use Rattle.pst_subnode.specs.Tree.{first_among, most_among, entry_fault, entry_height, sub_fault, sub_height}
 use Rattle.pst_subnode.proofs.height.+sub.Given as goal
@@ -40,6 +44,9 @@ invariant-height_of_entries-loop-sub l = record {
   known : heights.AreTrue (table_of l.blocks) l.heights;
   marks : heights.NoNewMarks l.initial.heights l.heights;
   come : way.HaveCome (table_of l.blocks) l.heights (way.at_entries (table_of l.blocks) (subs_left l.rest)) 1 l.limit;
+  adds : given.Adds (table_of l.blocks) (given.AreLedEach (table_of l.blocks) (subs_left l.subs)) l.initial.seen l.initial.heights l.seen l.heights;
+  there : AreKnownOr (table_of l.blocks) l.seen l.heights (subs_left l.subs) (subs_left l.rest);
+  within : (sub : Sub) → Contains (subs_left l.rest) sub → Contains (subs_left l.subs) sub;
   seen_grows : seen.expansions_of l.initial.seen ≤ seen.expansions_of l.seen;
   keeps : heights.IsCounted l.initial.heights → heights.IsCounted l.heights;
   heights_grow : heights.expansions_of l.initial.heights ≤ heights.expansions_of l.heights;
@@ -57,6 +64,8 @@ invariant-height_of_leaves-loop-i l = record {
   known : heights.AreTrue (table_of l.blocks) l.heights;
   marks : heights.NoNewMarks l.initial.heights l.heights;
   come : way.HaveCome (table_of l.blocks) l.heights (way.at_leaves (table_of l.blocks) l.holder l.count) 0 l.limit;
+  adds : given.Adds (table_of l.blocks) (given.AreLedBelow (table_of l.blocks) l.holder l.count) l.initial.seen l.initial.heights l.seen l.heights;
+  there : given.AreKnownBelow (table_of l.blocks) l.heights l.holder l.i;
   seen_grows : seen.expansions_of l.initial.seen ≤ seen.expansions_of l.seen;
   keeps : heights.IsCounted l.initial.heights → heights.IsCounted l.heights;
   heights_grow : heights.expansions_of l.initial.heights ≤ heights.expansions_of l.heights;
