@@ -6,7 +6,9 @@ use Rattle.std.specs.BTreeMap.{is_at}
 use Rattle.std.specs.BTreeSet.{contains, IsEmpty}
 use Rattle.std.proofs.lemmas.Bool.Decides.{nat_tests}
 use Rattle.std.proofs.lemmas.Map.Lookups.{CmpEqualImpliesEq, exact_unsigned}
-use Rattle.std.proofs.lemmas.Map.Views.{tells_apart}
+use Rattle.std.specs.List.{Contains}
+use Rattle.std.proofs.lemmas.Cmp.{eq_by_cmp_equiv, nat_cmp_total}
+use Rattle.std.proofs.lemmas.Map.Views.{tells_apart, Contains-from_any, list_any-from_Contains}
 use Rattle.pst_fault.specs.First.{◌then◌, holds_or}
 use Rattle.pst_fault.proofs.FirstLemmas.{then_some}
 use Rattle.pst_page.specs.declared.entry.BlockEntry.{BlockEntry}
@@ -15,7 +17,7 @@ use Rattle.pst_block.specs.Table.{Table, entry_of, body_of}
 use Rattle.pst_datatree.specs.declared.seen.Seen.{Seen}
 use Rattle.pst_datatree.specs.List.{is_block_list, has_level_two}
 use Rattle.pst_datatree.specs.Data.{bad_tree, xblock_spans, xblock_fault, xxblock_spans, xxblock_fault, tree_spans, tree_fault}
-use Rattle.pst_datatree.specs.Seen.{has, raised, NoNewTwo, IsTrueOf}
+use Rattle.pst_datatree.specs.Seen.{has, holds, keys_of, raised, NoNewTwo, IsTrueOf}
 
 -- what is in a set after an insertion was there, or is the key
 pub only_new : (old new : BTreeSet ℕ) (k : ℕ) → ((q : ℕ) → contains nat_cmp new q ≡ cond (is_at (nat_cmp k) q) true (contains nat_cmp old q)) → (q : ℕ) → contains nat_cmp new q ≡ true → (contains nat_cmp old q ≡ true) ⊎ (k ≡ q)
@@ -99,3 +101,18 @@ put_level t old mid new e listed level same only bid x there two known =
           let is : e ≡ x = cc in
           let bad : true ≡ false = sym two ∙ (ap (λ y. has_level_two (body_of t y)) (sym is) ∙ level) in cc
     ]
+
+-- ---- keys
+
+pub nothing_held : (trees : BTreeSet ℕ) → IsEmpty trees → (key : ℕ) → contains nat_cmp trees key ≡ false
+nothing_held trees empty key = rw empty refl
+
+pub held_key : (s : Seen) (key : ℕ) → holds s key ≡ true → Contains (keys_of s) key
+held_key s key is = Contains-from_any (λ x y h. tells_apart exact_unsigned x y h) key s.trees.keys is
+
+pub key_held : (s : Seen) (key : ℕ) → Contains (keys_of s) key → holds s key ≡ true
+key_held s key w = list_any-from_Contains (eq_by_cmp_equiv nat_cmp_total) key s.trees.keys w
+
+pub has_held : (s : Seen) (bid : ℕ) → has s bid ≡ holds s (bid_key bid)
+unfolding has
+has_held s bid = refl

@@ -1,5 +1,5 @@
 -- What is known of data trees, and what is counted.
-use Rattle.std.specs.Prelude.{◌≡◌, ℕ, ◌+◌, ◌-◌, ◌^◌, min, Bool, true, Some, None, ◌⊎◌}
+use Rattle.std.specs.Prelude.{◌≡◌, ℕ, ◌+◌, ◌-◌, ◌^◌, min, Bool, true, Some, None, List, ◌⊎◌}
 use Rattle.std.specs.Ordering.{nat_cmp}
 use Rattle.std.specs.BTreeSet.{contains, btree_set_len}
 use Rattle.pst_page.specs.declared.entry.BlockEntry.{BlockEntry}
@@ -21,6 +21,10 @@ raised count more = min (count + more) (2 ^ 64 - 1)
 -- the block of an identifier is known; its bit 0 says nothing
 unfoldable pub has : Seen → ℕ → Bool
 has s bid = contains nat_cmp s.trees (bid_key bid)
+
+-- the keys of the blocks that are known
+abbrev pub keys_of : Seen → List ℕ
+keys_of s = s.trees.keys
 
 -- the block of a key is known
 abbrev pub holds : Seen → ℕ → Bool

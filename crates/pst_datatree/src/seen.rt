@@ -18,18 +18,21 @@ pub struct Seen {
 
 impl Seen {
     ghost use Rattle.std.specs.Prelude.{◌≡◌, ℕ, ◌+◌, true, false, None, Some, ◌⊎◌, IfErr, OnOk};
+    ghost use Rattle.std.specs.List.Sorted.{IsStrictlySortedBy};
+    ghost use Rattle.std.specs.Ordering.{nat_cmp};
     ghost use Rattle.pst_block.specs.Block.{bid_key};
     ghost use Rattle.pst_block.specs.Table.{Table, entry_of};
     ghost use Rattle.pst_page.specs.declared.entry.BlockEntry.{BlockEntry};
     ghost use Rattle.pst_datatree.specs.Data.{tree_fault};
     ghost use Rattle.pst_fault.specs.Fault.{no_memory};
-    ghost use Rattle.pst_datatree.specs.Seen.{expansions_of, known_count, raised, has, holds, IsTrueOf, IsAhead, RaisesCount};
+    ghost use Rattle.pst_datatree.specs.Seen.{expansions_of, known_count, raised, has, holds, keys_of, IsTrueOf, IsAhead, RaisesCount};
 
     /// Nothing is known, and nothing has been expanded. No memory is taken.
     pub fn new(alloc: Global) -> Seen
         ensures counts { expansions_of result ≡ 0 }
         ensures known { (t : Table) → IsTrueOf t result }
         ensures none { known_count result ≡ 0 }
+        ensures empty { (key : ℕ) → holds result key ≡ false }
     {
         Seen {
             trees: BTreeSet::new(alloc),
@@ -37,12 +40,19 @@ impl Seen {
         }
     }
 
-    /// How many XBLOCKs and XXBLOCKs have been expanded, each as often as its blocks were looked at one by one. The count
-    /// stays at its greatest value.
+    /// How many XBLOCKs and XXBLOCKs have been expanded, whose entries were followed: each once. The count stays at its
+    /// greatest value.
     pub fn expansions(&self) -> u64
         ensures { result ≡ expansions_of self.now }
     {
         self.expansions
+    }
+
+    /// A law of what is known: the keys of the blocks strictly rise.
+    pub fn keys_rise(&self)
+        ensures { IsStrictlySortedBy nat_cmp (keys_of self.now) }
+    {
+        let _count = self.trees.len();
     }
 
     // Whether a block is known.

@@ -3,7 +3,11 @@ use Rattle.std.proofs.Common.{◌≡◌, ℕ, zero, suc, ◌+◌, ◌*◌, ◌<�
 use Rattle.std.specs.Prelude.{cond, if◌then◌else◌, ◌/◌}
 use Rattle.std.specs.Ordering.{nat_cmp, eq_by_cmp}
 use Rattle.std.proofs.lemmas.Map.Lookups.{exact_unsigned}
-use Rattle.std.proofs.lemmas.Map.Views.{tells_apart}
+use Rattle.std.specs.List.{Contains}
+use Rattle.std.specs.Prelude.{is_some}
+use Rattle.std.proofs.lemmas.Cmp.{eq_by_cmp_equiv, nat_cmp_total}
+use Rattle.std.proofs.lemmas.Map.Made.{is_some-lookup}
+use Rattle.std.proofs.lemmas.Map.Views.{tells_apart, Contains-from_any, list_any-from_Contains}
 use Rattle.std.specs.BTreeMap.{IsEmpty}
 use Rattle.pst_fault.specs.declared.fault.Fault.{Fault}
 use Rattle.std.proofs.lemmas.Bool.{cases_lt}
@@ -23,7 +27,7 @@ use Rattle.pst_subnode.specs.declared.sub.Sub.{Sub}
 use Rattle.pst_subnode.specs.declared.heights.Heights.{Heights}
 use Rattle.pst_subnode.specs.List.{subs_of, list_fault, block_fault, bad_list, subs_at, block_subs}
 use Rattle.pst_subnode.specs.Tree.{first_among, most_among, entry_fault, entry_height, nesting, sub_fault, sub_height}
-use Rattle.pst_subnode.specs.Heights.{state_at, state_of, limit_fault, HasHeight, AreTrue, NoMarks, NoNewMarks, IsTrueOf}
+use Rattle.pst_subnode.specs.Heights.{keys_of, state_at, state_of, limit_fault, HasHeight, AreTrue, NoMarks, NoNewMarks, IsTrueOf}
 use Rattle.pst_subnode.specs.Marks.{at_list, at_entries, at_entry, at_leaf, at_leaves, IsSiList, rank_at, rank_of, LeadsTo, HaveCome}
 use Rattle.pst_subnode.specs.Body.{count_in, bid_in, has_level_one}
 use Rattle.pst_subnode.proofs.LeafLemmas.{si_fault}
@@ -328,3 +332,23 @@ new_counted count old new next more one is = omega (arith, more, one, is)
 
 pub old_counted : (count old new : ℕ) → new ≡ old + 0 → count ≡ raised old 0 → count ≡ raised new 0
 old_counted count old new same is = omega (arith, same, is)
+
+-- ---- keys
+
+pub nothing_at : (h : Heights) → IsEmpty h.states → (key : ℕ) → state_at h key ≡ None
+unfolding state_at
+nothing_at h empty key = rw empty refl
+
+pub state_key : (h : Heights) (key state : ℕ) → state_at h key ≡ Some state → Contains (keys_of h) key
+unfolding state_at
+state_key h key state is =
+    Contains-from_any (λ x y e. tells_apart exact_unsigned x y e) key (keys_of h) (sym (is_some-lookup (eq_by_cmp nat_cmp key) h.states.entries) ∙ ap is_some is)
+
+pub key_state : (h : Heights) (key : ℕ) → Contains (keys_of h) key → (state : ℕ) × (state_at h key ≡ Some state)
+unfolding state_at
+key_state h key w =
+    by_option (state_at h key) (is_some-lookup (eq_by_cmp nat_cmp key) h.states.entries ∙ list_any-from_Contains (eq_by_cmp_equiv nat_cmp_total) key (keys_of h) w)
+  where
+    by_option : (o : Option ℕ) → is_some o ≡ true → (state : ℕ) × (o ≡ Some state)
+    by_option None is = cc
+    by_option (Some n) is = (n, refl)

@@ -1,7 +1,7 @@
 -- What is known of subnode lists, and what is counted.
-use Rattle.std.specs.Prelude.{◌≡◌, ℕ, ◌<◌, Option, Some, None, nat_le, if◌then◌else◌}
+use Rattle.std.specs.Prelude.{◌≡◌, ℕ, ◌<◌, Option, Some, None, List, nat_le, if◌then◌else◌}
 use Rattle.std.specs.Ordering.{nat_cmp}
-use Rattle.std.specs.BTreeMap.{get, btree_map_len}
+use Rattle.std.specs.BTreeMap.{get, keys, btree_map_len}
 use Rattle.pst_fault.specs.declared.fault.Fault.{Fault}
 use Rattle.pst_block.specs.Block.{bid_key}
 use Rattle.pst_block.specs.Table.{Table}
@@ -12,6 +12,10 @@ use Rattle.pst_subnode.specs.Tree.{sub_fault, sub_height, nesting}
 -- how many blocks of lists have been expanded
 abbrev pub expansions_of : Heights → ℕ
 expansions_of h = h.expansions
+
+-- the keys of the lists that are known, marked ones among them
+abbrev pub keys_of : Heights → List ℕ
+keys_of h = keys h.states
 
 -- what is known of the list with a key: 0 marks it while it is being expanded, any other number is its height
 unfoldable pub state_at : Heights → ℕ → Option ℕ

@@ -7,7 +7,7 @@ ghost use Rattle.pst_block.specs.Blocks.{table_of};
 ghost use Rattle.pst_datatree.specs.Data.{data_fault};
 ghost use Rattle.pst_datatree.specs.Bid.{is_no_block as no_block};
 ghost use Rattle.pst_datatree.specs.Names.{IsInTree};
-ghost use Rattle.pst_datatree.specs.Seen.{expansions_of as data_expansions, IsTrueOf as SeenIsTrue, IsKnown as IsKnownTree, Adds as TreesAdd};
+ghost use Rattle.pst_datatree.specs.Seen.{expansions_of as data_expansions, IsTrueOf as SeenIsTrue, IsKnown as IsKnownTree, Adds as TreesAdd, KeepsCount};
 ghost use Rattle.pst_subnode.specs.declared.sub.Sub.{Sub};
 ghost use Rattle.pst_subnode.specs.List.{subs_of};
 ghost use Rattle.pst_subnode.specs.Tree.{first_among, most_among, entry_fault, entry_height, nesting, sub_fault, sub_height, at_top};
@@ -60,6 +60,7 @@ fn check_entry_data(alloc: Global, blocks: &Blocks, sub: Sub, seen: &mut Seen) -
     ensures seen { SeenIsTrue (table_of blocks.now) seen.new }
     ensures adds { let t = table_of blocks.now in TreesAdd t (IsInTree t sub.bid_data) seen.old seen.new }
     ensures there { OnOk result (IsKnownTree (table_of blocks.now) seen.new sub.bid_data) }
+    ensures counts { OnOk result (KeepsCount seen.old seen.new) }
     ensures grows { data_expansions seen.old ≤ data_expansions seen.new }
 {
     check_data(alloc, blocks, sub.bid_data, 0, seen)
@@ -86,6 +87,7 @@ fn height_of_entry(
     ensures known { AreTrue (table_of blocks.now) heights.new }
     ensures marks { NoNewMarks heights.old heights.new }
     ensures seen_grows { data_expansions seen.old ≤ data_expansions seen.new }
+    ensures counts { OnOk result (KeepsCount seen.old seen.new) }
     ensures keeps { OnOk result (IsCounted heights.old → IsCounted heights.new) }
     ensures adds { let t = table_of blocks.now in
         Adds t (λ from. AreLedTo t from sub) seen.old heights.old seen.new heights.new }
@@ -117,6 +119,7 @@ fn height_of_entries(
     ensures known { AreTrue (table_of blocks.now) heights.new }
     ensures marks { NoNewMarks heights.old heights.new }
     ensures seen_grows { data_expansions seen.old ≤ data_expansions seen.new }
+    ensures counts { OnOk result (KeepsCount seen.old seen.new) }
     ensures keeps { OnOk result (IsCounted heights.old → IsCounted heights.new) }
     ensures adds { let t = table_of blocks.now in
         Adds t (AreLedEach t (subs_left subs.entry)) seen.old heights.old seen.new heights.new }
@@ -156,6 +159,7 @@ fn height_of_slblock(
     ensures known { AreTrue (table_of blocks.now) heights.new }
     ensures marks { NoNewMarks heights.old heights.new }
     ensures seen_grows { data_expansions seen.old ≤ data_expansions seen.new }
+    ensures counts { OnOk result (KeepsCount seen.old seen.new) }
     ensures keeps { OnOk result (IsCounted heights.old → IsCounted heights.new) }
     ensures adds { let t = table_of blocks.now in
         Adds t (λ from. Leads t from bid) seen.old heights.old seen.new heights.new }
@@ -202,6 +206,7 @@ fn height_of_leaf(
     ensures known { AreTrue (table_of blocks.now) heights.new }
     ensures marks { NoNewMarks heights.old heights.new }
     ensures seen_grows { data_expansions seen.old ≤ data_expansions seen.new }
+    ensures counts { OnOk result (KeepsCount seen.old seen.new) }
     ensures keeps { OnOk result (IsCounted heights.old → IsCounted heights.new) }
     ensures adds { let t = table_of blocks.now in
         Adds t (λ from. Leads t from (bid_in (body_of t holder) i)) seen.old heights.old seen.new heights.new }
@@ -241,6 +246,7 @@ fn height_of_leaves(
     ensures known { AreTrue (table_of blocks.now) heights.new }
     ensures marks { NoNewMarks heights.old heights.new }
     ensures seen_grows { data_expansions seen.old ≤ data_expansions seen.new }
+    ensures counts { OnOk result (KeepsCount seen.old seen.new) }
     ensures keeps { OnOk result (IsCounted heights.old → IsCounted heights.new) }
     ensures adds { let t = table_of blocks.now in
         Adds t (AreLedBelow t holder count) seen.old heights.old seen.new heights.new }
@@ -279,6 +285,7 @@ fn height_of_siblock(
     ensures known { AreTrue (table_of blocks.now) heights.new }
     ensures marks { NoNewMarks heights.old heights.new }
     ensures seen_grows { data_expansions seen.old ≤ data_expansions seen.new }
+    ensures counts { OnOk result (KeepsCount seen.old seen.new) }
     ensures keeps { OnOk result (IsCounted heights.old → IsCounted heights.new) }
     ensures adds { let t = table_of blocks.now in
         Adds t (λ from. Leads t from bid) seen.old heights.old seen.new heights.new }
@@ -323,6 +330,7 @@ fn height_of_list(
     ensures known { AreTrue (table_of blocks.now) heights.new }
     ensures marks { NoNewMarks heights.old heights.new }
     ensures seen_grows { data_expansions seen.old ≤ data_expansions seen.new }
+    ensures counts { OnOk result (KeepsCount seen.old seen.new) }
     ensures keeps { OnOk result (IsCounted heights.old → IsCounted heights.new) }
     ensures adds { let t = table_of blocks.now in
         Adds t (λ from. Leads t from bid) seen.old heights.old seen.new heights.new }
@@ -373,6 +381,7 @@ fn height_of(
     ensures known { AreTrue (table_of blocks.now) heights.new }
     ensures marks { NoNewMarks heights.old heights.new }
     ensures seen_grows { data_expansions seen.old ≤ data_expansions seen.new }
+    ensures counts { OnOk result (KeepsCount seen.old seen.new) }
     ensures keeps { OnOk result (IsCounted heights.old → IsCounted heights.new) }
     ensures adds { let t = table_of blocks.now in
         Adds t (λ from. Leads t from bid) seen.old heights.old seen.new heights.new }
@@ -457,6 +466,7 @@ pub fn check_sub(
 
     // What is counted never falls.
     ensures seen_grows { data_expansions seen.old ≤ data_expansions seen.new }
+    ensures counts { OnOk result (KeepsCount seen.old seen.new) }
     ensures keeps { OnOk result (IsCounted heights.old → IsCounted heights.new) }
     ensures heights_grow { expansions_of heights.old ≤ expansions_of heights.new }
 {

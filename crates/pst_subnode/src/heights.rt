@@ -18,17 +18,19 @@ pub struct Heights {
 
 impl Heights {
     ghost use Rattle.std.specs.Prelude.{◌≡◌, ℕ, ◌+◌, ◌<◌, Some, None, cond, IfErr, OnOk, OnErr};
+    ghost use Rattle.std.specs.List.Sorted.{IsStrictlySortedBy};
     ghost use Rattle.std.specs.Ordering.{nat_cmp, eq_by_cmp};
     ghost use Rattle.pst_fault.specs.Fault.{no_memory};
     ghost use Rattle.pst_block.specs.Block.{bid_key};
     ghost use Rattle.pst_block.specs.Table.{Table};
-    ghost use Rattle.pst_subnode.specs.Heights.{expansions_of, state_at, state_of, known_count, IsCounted, IsTrueOf};
+    ghost use Rattle.pst_subnode.specs.Heights.{expansions_of, keys_of, state_at, state_of, known_count, IsCounted, IsTrueOf};
 
     /// Nothing is known, and nothing has been expanded. No memory is taken.
     pub fn new(alloc: Global) -> Heights
         ensures counts { expansions_of result ≡ 0 }
         ensures known { (t : Table) → IsTrueOf t result }
         ensures none { known_count result ≡ 0 }
+        ensures empty { (key : ℕ) → state_at result key ≡ None }
     {
         Heights {
             states: BTreeMap::new(alloc),
@@ -36,12 +38,19 @@ impl Heights {
         }
     }
 
-    /// How many SLBLOCKs and SIBLOCKs have been expanded, each as often as its entries were followed. The count stays at its
-    /// greatest value.
+    /// How many SLBLOCKs and SIBLOCKs have been expanded, whose entries were followed: each once, however it was named. A
+    /// list counts as soon as it is begun. The count stays at its greatest value.
     pub fn expansions(&self) -> u64
         ensures { result ≡ expansions_of self.now }
     {
         self.expansions
+    }
+
+    /// A law of what is known: the keys of the lists strictly rise.
+    pub fn keys_rise(&self)
+        ensures { IsStrictlySortedBy nat_cmp (keys_of self.now) }
+    {
+        let _count = self.states.len();
     }
 
     // What is known of a list.

@@ -124,6 +124,7 @@ height_of_leaves-loop-i-init t c = record {
   adds = adds_none (table_of c.args.blocks.now) _ c.args.seen.now c.args.heights.now;
   there = λ j lt. absurd (omega (arith, lt));
   seen_grows = omega arith;
+  counts = λ k is. is;
   keeps = λ is. is;
   heights_grow = omega arith;
 }
@@ -159,6 +160,7 @@ height_of_leaves-loop-i-preserved t c =
       adds = adds_leaf table c.args.holder c.args.count c.loop-i.i c.args.seen.now c.args.heights.now c.loop-i.seen c.loop-i.heights c.height_of_leaf.new.seen c.height_of_leaf.new.heights c.loop-i-test.true inv.adds leaf.adds;
       there = leaf_next table c.args.holder _ c.loop-i.i c.loop-i.seen c.loop-i.heights c.height_of_leaf.new.seen c.height_of_leaf.new.heights inv.there leaf.adds leaf.there;
       seen_grows = omega (arith, leaf.seen_grows, inv.seen_grows);
+      counts = λ k is. leaf.counts k (inv.counts k is);
       keeps = λ is. leaf.keeps (inv.keeps is);
       heights_grow = omega (arith, leaf.heights_grow, inv.heights_grow);
     }
@@ -288,6 +290,7 @@ height_of_entries-loop-sub-preserved t c =
       there = entry_next table _ (subs_left c.args.subs) (subs_left c.loop-sub.rest) (subs_left c.next.new.self) c.in-Some.sub c.loop-sub.seen c.loop-sub.heights c.height_of_entry.new.seen c.height_of_entry.new.heights c.in-Some.ensures.steps c.loop-sub.invariant.there entry.adds entry.there;
       within = λ sub w. c.loop-sub.invariant.within sub (rw c.in-Some.ensures.steps (contains_later c.in-Some.sub sub (subs_left c.next.new.self) w));
       seen_grows = omega (arith, entry.seen_grows);
+      counts = λ k is. entry.counts k (c.loop-sub.invariant.counts k is);
       keeps = λ is. entry.keeps (c.loop-sub.invariant.keeps is);
       heights_grow = omega (arith, entry.heights_grow);
     }

@@ -48,6 +48,7 @@ invariant-height_of_entries-loop-sub l = record {
   there : AreKnownOr (table_of l.blocks) l.seen l.heights (subs_left l.subs) (subs_left l.rest);
   within : (sub : Sub) → Contains (subs_left l.rest) sub → Contains (subs_left l.subs) sub;
   seen_grows : seen.expansions_of l.initial.seen ≤ seen.expansions_of l.seen;
+  counts : seen.KeepsCount l.initial.seen l.seen;
   keeps : heights.IsCounted l.initial.heights → heights.IsCounted l.heights;
   heights_grow : heights.expansions_of l.initial.heights ≤ heights.expansions_of l.heights;
 }
@@ -67,6 +68,7 @@ invariant-height_of_leaves-loop-i l = record {
   adds : given.Adds (table_of l.blocks) (given.AreLedBelow (table_of l.blocks) l.holder l.count) l.initial.seen l.initial.heights l.seen l.heights;
   there : given.AreKnownBelow (table_of l.blocks) l.heights l.holder l.i;
   seen_grows : seen.expansions_of l.initial.seen ≤ seen.expansions_of l.seen;
+  counts : seen.KeepsCount l.initial.seen l.seen;
   keeps : heights.IsCounted l.initial.heights → heights.IsCounted l.heights;
   heights_grow : heights.expansions_of l.initial.heights ≤ heights.expansions_of l.heights;
 }
