@@ -11,6 +11,7 @@ ghost use Rattle.pst_page.specs.declared.kind.PageKind.TheVariants.{Bbt, Nbt};
 ghost use Rattle.pst_btree.specs.Tree.{Tree};
 ghost use Rattle.pst_amap.specs.declared.report.BitOrder.{BitOrder};
 ghost use Rattle.pst_amap.specs.Report.{IsReport};
+ghost use Rattle.pst_ndb.specs.Counts.{AreExpanded};
 ghost use Rattle.pst_ndb.specs.Database.{Database};
 ghost use Rattle.pst_ndb.specs.Entries.{tree_under, page_total, block_list, node_list, block_table};
 ghost use Rattle.pst_ndb.specs.Fault.{file_fault, ndb_fault};
@@ -34,7 +35,7 @@ pub struct Work {
     pub pages: u64,
     /// How many blocks were check-summed.
     pub sums: u64,
-    /// How many internal blocks were expanded: their entries were followed.
+    /// How many internal blocks were expanded, whose entries were followed: each once.
     pub expansions: u64,
     /// How many contexts were checked.
     pub contexts: u64,
@@ -65,6 +66,7 @@ fn check_file<'a>(alloc: Global, image: Image<'a>, header: &Header) -> Result<Ch
     ensures marks { IfOk result (λ c. MapsMark (bytes_of image.entry) header.now c.map) }
     ensures pages { IfOk result (λ c. c.work.pages ≡ page_total (bytes_of image.entry) header.now) }
     ensures sums { IfOk result (λ c. c.work.sums ≡ length (block_list (bytes_of image.entry) header.now)) }
+    ensures expansions { IfOk result (λ c. AreExpanded (table_of_ndb c.ndb) (nodes_of c.ndb) c.work.expansions) }
     ensures contexts { IfOk result (λ c. c.work.contexts ≡ 0) }
 {
     let (space, map) = check_maps(alloc, image, header)?;
@@ -92,6 +94,7 @@ fn check_exactly<'a>(alloc: Global, image: Image<'a>) -> Result<Checked<'a>, Fau
     ensures marks { IfOk result (λ c. MapsMark (bytes_of image.entry) (fields (bytes_of image.entry)) c.map) }
     ensures pages { IfOk result (λ c. c.work.pages ≡ page_total (bytes_of image.entry) (fields (bytes_of image.entry))) }
     ensures sums { IfOk result (λ c. c.work.sums ≡ length (block_list (bytes_of image.entry) (fields (bytes_of image.entry)))) }
+    ensures expansions { IfOk result (λ c. AreExpanded (table_of_ndb c.ndb) (nodes_of c.ndb) c.work.expansions) }
     ensures contexts { IfOk result (λ c. c.work.contexts ≡ 0) }
 {
     let header = read_header(image)?;
@@ -129,9 +132,11 @@ pub fn check_ndb<'a>(alloc: Global, image: Image<'a>) -> Result<Checked<'a>, Fau
     ensures report { IfOk result (λ c. IsReport (bytes_of image.entry) (fields (bytes_of image.entry)) (space_claimed (bytes_of image.entry) (fields (bytes_of image.entry))) c.map) }
     ensures marks { IfOk result (λ c. MapsMark (bytes_of image.entry) (fields (bytes_of image.entry)) c.map) }
 
-    // The work: each page of the trees and each block once.
+    // The work: each page of the trees and each block once, and each internal block once to which chains of identifiers lead
+    // from the nodes.
     ensures pages { IfOk result (λ c. c.work.pages ≡ page_total (bytes_of image.entry) (fields (bytes_of image.entry))) }
     ensures sums { IfOk result (λ c. c.work.sums ≡ length (block_list (bytes_of image.entry) (fields (bytes_of image.entry)))) }
+    ensures expansions { IfOk result (λ c. AreExpanded (table_of_ndb c.ndb) (nodes_of c.ndb) c.work.expansions) }
     ensures contexts { IfOk result (λ c. c.work.contexts ≡ 0) }
 {
     check_exactly(alloc, image)

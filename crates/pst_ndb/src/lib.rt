@@ -12,7 +12,7 @@ mod space;
 
 pub use check::{Checked, Work, check_ndb};
 pub use each::Nodes;
-pub use laws::{database_decides, reached_are_known};
+pub use laws::{counts_agree, database_decides};
 pub use ndb::Ndb;
 pub use node::Node;
 

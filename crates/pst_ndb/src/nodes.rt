@@ -1,13 +1,16 @@
 //! The trees of the blocks of each node.
 
-ghost use Rattle.std.specs.Prelude.{◌≡◌, None, IfErr, OnOk, option_map};
+ghost use Rattle.std.specs.Prelude.{◌≡◌, None, IfOk, IfErr, OnOk, option_map, map};
 ghost use Rattle.pst_fault.specs.First.{Tells, IsFirst};
 ghost use Rattle.pst_btree.specs.Trees.{node_entries};
 ghost use Rattle.pst_block.specs.Blocks.{table_of};
 ghost use Rattle.pst_subnode.specs.declared.height.TheConstants.{LISTS};
 ghost use Rattle.pst_subnode.specs.Tree.{sub_fault, at_top};
 ghost use Rattle.pst_ndb.specs.Fault.{node_fault, nodes_fault};
-ghost use Rattle.pst_ndb.specs.Known.{IsTrueOf};
+ghost use Rattle.pst_subnode.specs.Reach.{Leads};
+ghost use Rattle.pst_subnode.specs.Known.{IsKnownList, AreLedTo, AreLedEach, AreKnownEach};
+ghost use Rattle.pst_ndb.specs.Counts.{AreExpanded};
+ghost use Rattle.pst_ndb.specs.Known.{IsTrueOf, IsCounted, Adds, IsKnownEntry, entry_of_node};
 
 use pst_block::Blocks;
 use pst_btree::{NodeEntry, NodeTree};
@@ -24,12 +27,20 @@ struct Known {
 }
 
 impl Known {
+    ghost use Rattle.std.specs.Prelude.{◌≡◌, ◌+◌};
+    ghost use Rattle.std.specs.List.Sorted.{IsStrictlySortedBy};
+    ghost use Rattle.std.specs.Ordering.{nat_cmp};
     ghost use Rattle.pst_block.specs.Table.{Table};
-    ghost use Rattle.pst_ndb.specs.Known.{IsTrueOf};
+    ghost use Rattle.pst_datatree.specs.Seen.{expansions_of as tree_expansions, keys_of as tree_keys};
+    ghost use Rattle.pst_subnode.specs.Heights.{expansions_of as list_expansions, keys_of as list_keys};
+    ghost use Rattle.pst_ndb.specs.Counts.{capped};
+    ghost use Rattle.pst_ndb.specs.Known.{IsTrueOf, IsNew, IsCounted};
 
     // Nothing yet.
     fn new(alloc: Global) -> Known
-        ensures { (t : Table) → IsTrueOf t result }
+        ensures known { (t : Table) → IsTrueOf t result }
+        ensures empty { IsNew result }
+        ensures counts { IsCounted result }
     {
         Known {
             seen: Seen::new(alloc),
@@ -37,8 +48,14 @@ impl Known {
         }
     }
 
-    // How many internal blocks have been expanded.
-    fn expansions(&self) -> u64 {
+    // How many internal blocks have been expanded; and that none is known twice.
+    fn expansions(&self) -> u64
+        ensures value { result ≡ capped (tree_expansions self.now.seen + list_expansions self.now.heights) }
+        ensures trees { IsStrictlySortedBy nat_cmp (tree_keys self.now.seen) }
+        ensures lists { IsStrictlySortedBy nat_cmp (list_keys self.now.heights) }
+    {
+        self.seen.keys_rise();
+        self.heights.keys_rise();
         self.seen
             .expansions()
             .saturating_add(self.heights.expansions())
@@ -55,6 +72,11 @@ fn check_subs(
     requires { IsTrueOf (table_of blocks.now) known.old }
     ensures known { IsTrueOf (table_of blocks.now) known.new }
     ensures first { Tells result (option_map (at_top entry.bid_sub entry.nid) (sub_fault (table_of blocks.now) LISTS entry.bid_sub)) tt }
+    ensures adds { let t = table_of blocks.now in
+        Adds t (λ from. Leads t from entry.bid_sub) known.old known.new }
+    ensures there { let t = table_of blocks.now in
+        OnOk result (IsKnownList t known.new.heights entry.bid_sub) }
+    ensures counts { OnOk result (IsCounted known.old → IsCounted known.new) }
 {
     check_sub(
         alloc,
@@ -78,6 +100,11 @@ fn check_node(
     requires { IsTrueOf (table_of blocks.now) known.old }
     ensures known { IsTrueOf (table_of blocks.now) known.new }
     ensures first { Tells result (node_fault (table_of blocks.now) entry) tt }
+    ensures adds { let t = table_of blocks.now in
+        Adds t (λ from. AreLedTo t from (entry_of_node entry)) known.old known.new }
+    ensures there { let t = table_of blocks.now in
+        OnOk result (IsKnownEntry t known.new (entry_of_node entry)) }
+    ensures counts { OnOk result (IsCounted known.old → IsCounted known.new) }
 {
     check_data(alloc, blocks, entry.bid_data, entry.nid, &mut known.seen)?;
     check_subs(alloc, blocks, entry, known)
@@ -94,6 +121,11 @@ fn check_each(
     requires { IsTrueOf (table_of blocks.now) known.old }
     ensures known { IsTrueOf (table_of blocks.now) known.new }
     ensures first { Tells result (nodes_fault (table_of blocks.now) (node_entries tree.now)) tt }
+    ensures adds { let t = table_of blocks.now in
+        Adds t (AreLedEach t (map entry_of_node (node_entries tree.now))) known.old known.new }
+    ensures there { let t = table_of blocks.now in
+        OnOk result (AreKnownEach t known.new.seen known.new.heights (map entry_of_node (node_entries tree.now))) }
+    ensures counts { OnOk result (IsCounted known.old → IsCounted known.new) }
 {
     for entry in tree.nodes() {
         check_node(alloc, blocks, entry, known)?;
@@ -102,10 +134,11 @@ fn check_each(
 }
 
 /// Checks the trees of each node's blocks, in order of the nodes' identifiers, and answers how many internal blocks were
-/// expanded for that; or the first fault.
+/// expanded for that, each once; or the first fault.
 pub(crate) fn check_nodes(alloc: Global, blocks: &Blocks, tree: &NodeTree) -> Result<u64, Fault>
     ensures first { IfErr result (IsFirst (nodes_fault (table_of blocks.now) (node_entries tree.now))) }
     ensures none { OnOk result (nodes_fault (table_of blocks.now) (node_entries tree.now) ≡ None) }
+    ensures expansions { IfOk result (AreExpanded (table_of blocks.now) (node_entries tree.now)) }
 {
     let mut known = Known::new(alloc);
     check_each(alloc, blocks, tree, &mut known)?;

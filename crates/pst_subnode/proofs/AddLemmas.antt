@@ -23,7 +23,8 @@ use Rattle.pst_subnode.specs.Known.{HasKnownHeight, IsKnown, AreClosed, AreReach
 use Rattle.pst_subnode.proofs.MarkLemmas.{IsPut, IsSame, put_at, put_cases}
 use Rattle.pst_subnode.proofs.ReachLemmas.{names_same, tree_reached, list_block, slblock_names, siblock_names, slblock_only, siblock_only}
 
-contains_cases : (x : Sub) (rest : List Sub) (y : Sub) → Contains (x ∷ rest) y → (x ≡ y) ⊎ Contains rest y
+-- what is in a list is its first or one behind
+pub contains_cases : {X : Type 0} (x : X) (rest : List X) (y : X) → Contains (x ∷ rest) y → (x ≡ y) ⊎ Contains rest y
 contains_cases x rest y w = by_place w.0 w.1 w.2
   where
     by_place : (k : ℕ) → k < length (x ∷ rest) → slice_index_or (x ∷ rest) k y ≡ y → (x ≡ y) ⊎ Contains rest y

@@ -19,9 +19,12 @@ use Rattle.pst_datatree.proofs.AddLemmas.{is_internal_same, entry_key}
 use Rattle.pst_subnode.specs.declared.sub.Sub.{Sub}
 use Rattle.pst_subnode.specs.Body.{btype_in, count_in, bid_in, sub_in, sub_at, subs_in, is_slblock, is_siblock, has_level_one}
 use Rattle.pst_subnode.specs.List.{subs_of, slblock_subs, block_subs, slblock_fault, shape_fault, siblock_fault, block_fault, list_fault, bad_list}
+use Rattle.pst_subnode.specs.Tree.{nesting, sub_fault, sub_height}
+use Rattle.pst_subnode.specs.Heights.{HasHeight}
 use Rattle.pst_subnode.specs.Marks.{IsList, IsSiList, rank_of}
 use Rattle.pst_subnode.specs.Reach.{NamesLeaf, NamesBelow, Names, of_tree, of_siblock, of_slblock, Leads, goes_on, IsReached}
 use Rattle.pst_subnode.proofs.GuessLemmas.{entry_there}
+use Rattle.pst_subnode.proofs.SubLemmas.{sub_height_none, sub_fault_below, sub_fault_list}
 use Rattle.pst_subnode.proofs.ListLaws.{level_zero, level_one}
 use Rattle.pst_subnode.proofs.LeafLemmas.{si_of}
 
@@ -114,11 +117,11 @@ siblock_names t bid e i is lt =
 
 -- ---- and nothing else
 
-slblock_type : (body : List ℕ) → is_slblock body ≡ true → btype_in body ≡ 2
+pub slblock_type : (body : List ℕ) → is_slblock body ≡ true → btype_in body ≡ 2
 unfolding is_slblock
 slblock_type body h = grind (arith, nat_tests)
 
-siblock_type : (body : List ℕ) → is_siblock body ≡ true → btype_in body ≡ 2
+pub siblock_type : (body : List ℕ) → is_siblock body ≡ true → btype_in body ≡ 2
 unfolding is_siblock
 siblock_type body h = grind (arith, nat_tests)
 
@@ -158,3 +161,27 @@ siblock_only t bid next e is names = let w = list_block t bid is.is_list.list in
     by_names b n x si there (of_slblock _ _ y internal w) =
         let same : is_slblock (body_of t x) ≡ true = ap (λ z. is_slblock (body_of t z)) (by_entry b x y there internal) ∙ w.0 in
         let bad : true ≡ false = sym (level_one (body_of t x) si) ∙ level_zero (body_of t x) same in cc
+
+-- ---- a list of some height
+
+shape_type : (t : Table) (e : BlockEntry) → shape_fault t e ≡ None → btype_in (body_of t e) ≡ 2
+unfolding shape_fault siblock_fault slblock_fault
+shape_type t e none = by_level (has_level_one (body_of t e)) none
+  where
+    by_level : (v : Bool) → (if v then siblock_fault t e else slblock_fault t e) ≡ None → btype_in (body_of t e) ≡ 2
+    by_level true h = siblock_type (body_of t e) (holds_or_none _ _ (none_then (holds_or (is_siblock (body_of t e)) (bad_list e)) _ h).0)
+    by_level false h = slblock_type (body_of t e) (holds_or_none _ _ h)
+
+list_none : (t : Table) (limit bid : ℕ) → is_no_block bid ≡ false → sub_fault t limit bid ≡ None → list_fault t bid ≡ None
+list_none t zero bid named none = let bad : Some nesting ≡ None = sym (sub_fault_below t 0 bid refl named) ∙ none in cc
+list_none t (suc k) bid named none = (none_then (list_fault t bid) _ (sym (sub_fault_list t (suc k) k bid (omega arith) named) ∙ none)).0
+
+-- its block is that of no data tree
+pub list_type : (t : Table) (bid height : ℕ) (e : BlockEntry) → IsInternal t bid e → 0 < height → HasHeight t bid height → btype_in (body_of t e) ≡ 2
+list_type t bid height e internal more has = by_test (is_no_block bid) refl
+  where
+    by_test : (v : Bool) → is_no_block bid ≡ v → btype_in (body_of t e) ≡ 2
+    by_test true none = absurd (omega (arith, more, has.2, sub_height_none t has.0 bid none))
+    by_test false named =
+        let w = list_block t bid (list_none t has.0 bid named has.1) in
+        rw (one_entry t bid e w.0 internal w.1.internal) (shape_type t w.0 w.1.shape)
