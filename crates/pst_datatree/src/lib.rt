@@ -29,6 +29,4 @@ pub use slices::Slices;
 pub use step::leaf;
 
 #[cfg(test)]
-mod large_tests;
-#[cfg(test)]
 mod tests;

@@ -1,5 +1,5 @@
-ghost use Rattle.pst_block.specs.Blocks.{table_of};
-ghost use Rattle.pst_datatree.specs.Seen.{IsTrueOf};
+mod large;
+mod sharing;
 
 use super::*;
 use pst_block::{Blocks, check_blocks};
@@ -13,7 +13,7 @@ use std::alloc::{AllocError, Global};
 use std::test::Fail;
 
 // The node that faults are told of.
-pub(crate) const NODE: u32 = 0x122;
+const NODE: u32 = 0x122;
 
 // The body of an XBLOCK (level 1) or XXBLOCK (level 2) that names blocks.
 fn list_of(alloc: Global, level: u8, total: u32, bids: &[u64]) -> Result<Vec<u8>, Fail> {
@@ -36,18 +36,18 @@ fn list_of(alloc: Global, level: u8, total: u32, bids: &[u64]) -> Result<Vec<u8>
 }
 
 // Data blocks: their identifiers, the byte that they hold, and how often.
-pub(crate) type Bodies<'a> = &'a [(u64, u8, usize)];
+type Bodies<'a> = &'a [(u64, u8, usize)];
 
 // Internal blocks: their identifiers, levels and totals, and the blocks that they name.
-pub(crate) type Lists<'a> = &'a [(u64, u8, u32, &'a [u64])];
+type Lists<'a> = &'a [(u64, u8, u32, &'a [u64])];
 
 // An identifier, so many times.
-pub(crate) fn often(alloc: Global, bid: u64, count: usize) -> Result<Vec<u64>, AllocError> {
+fn often(alloc: Global, bid: u64, count: usize) -> Result<Vec<u64>, AllocError> {
     vec![in alloc; bid; count]
 }
 
 // An image of data blocks and internal blocks, whose identifiers rise.
-pub(crate) fn store(alloc: Global, bodies: Bodies, lists: Lists) -> Result<Vec<u8>, Fail> {
+fn store(alloc: Global, bodies: Bodies, lists: Lists) -> Result<Vec<u8>, Fail> {
     let mut plan = Plan {
         blocks: Vec::new(alloc),
         nodes: Vec::new(alloc),
@@ -64,7 +64,7 @@ pub(crate) fn store(alloc: Global, bodies: Bodies, lists: Lists) -> Result<Vec<u
 }
 
 // All blocks of a file, or the first fault.
-pub(crate) fn blocks_in<'a>(alloc: Global, image: Image<'a>) -> Result<Blocks<'a>, Fault> {
+fn blocks_in<'a>(alloc: Global, image: Image<'a>) -> Result<Blocks<'a>, Fault> {
     let header = read_header(image)?;
     let mut claims = Claims::new(alloc, &header)?;
     let (tree, entries) = walk_blocks(alloc, image, &header, &mut claims)?;
@@ -348,55 +348,5 @@ fn bodies_of_no_list(rt: HostRuntime) -> Result<(), Fail> {
         let (fault, _) = checked(alloc, &image, 6)?;
         assert_eq!(rt; fault, fault_of(Kind::DataTree, at, 6));
     }
-    Ok(())
-}
-
-// The check of a data tree for so many nodes, one after another.
-fn check_often(
-    alloc: Global,
-    blocks: &Blocks,
-    bid: u64,
-    count: u32,
-    seen: &mut Seen,
-) -> Result<(), Fault>
-    requires known { IsTrueOf (table_of blocks.now) seen.old }
-    ensures known { IsTrueOf (table_of blocks.now) seen.new }
-{
-    for nid in 0..count {
-        check_data(alloc, blocks, bid, nid, seen)?;
-    }
-    Ok(())
-}
-
-// 1,000 nodes whose data is one XXBLOCK, which names one XBLOCK 1,021 times, which names one body 1,021 times.
-#[test]
-fn shared_trees_are_expanded_once(rt: HostRuntime) -> Result<(), Fail> {
-    let alloc = rt.alloc();
-    let leaves = often(alloc, 4, 1021)?;
-    let named = often(alloc, 0x0a, 1021)?;
-    let image = store(
-        alloc,
-        &[(4, 0x63, 1)],
-        &[
-            (0x0a, 1, 1021, &leaves),
-            (0x0e, 2, 1_042_441, &named),
-            (0x12, 2, 1_042_441, &[0x0e]),
-        ],
-    )?;
-    let Ok(blocks) = blocks_in(alloc, Image::new(&image)) else {
-        return Err(Fail::from("no blocks"));
-    };
-    let mut seen = Seen::new(alloc);
-    let Ok(()) = check_often(alloc, &blocks, 0x0e, 1000, &mut seen) else {
-        return Err(Fail::from("no data tree"));
-    };
-    assert_eq!(rt; seen.expansions(), 2);
-    // An XXBLOCK that an XXBLOCK names is none of its XBLOCKs, although it is known.
-    let fault = check_data(alloc, &blocks, 0x12, NODE, &mut seen).err();
-    assert_eq!(rt;
-        fault.map(|f| (f.kind, f.place.bid)),
-        Some((Kind::DataTree, 0x0e))
-    );
-    assert_eq!(rt; seen.expansions(), 3);
     Ok(())
 }

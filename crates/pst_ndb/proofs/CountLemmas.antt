@@ -91,9 +91,9 @@ roots_in [] sub w = absurd (omega (arith, w.1))
 roots_in (e ∷ rest) sub w =
     elim (contains_cases (entry_of_node e) (map entry_of_node rest) sub w) [
       | inl here ↦ (
-          rw (← here) (contains_here e.bid_data (e.bid_sub ∷ roots_of rest)),
-          rw (← here) (contains_later e.bid_data e.bid_sub (e.bid_sub ∷ roots_of rest) (contains_here e.bid_sub (roots_of rest))),
-        )
+        rw (← here) (contains_here e.bid_data (e.bid_sub ∷ roots_of rest)),
+        rw (← here) (contains_later e.bid_data e.bid_sub (e.bid_sub ∷ roots_of rest) (contains_here e.bid_sub (roots_of rest))),
+      )
       | inr later ↦
           let both = roots_in rest sub later in (
             contains_later e.bid_data sub.bid_data (e.bid_sub ∷ roots_of rest) (contains_later e.bid_sub sub.bid_data (roots_of rest) both.0),
@@ -171,9 +171,12 @@ length_keys (e ∷ rest) = ap suc (length_keys rest)
 pub expanded : (t : Table) (nodes : List NodeEntry) (k : Known) (count : ℕ) → IsTrueOf t k → both.AreClosed t k.seen k.heights → both.AreReached t (roots_of nodes) k.seen k.heights → both.AreKnownEach t k.seen k.heights (map entry_of_node nodes) → IsCounted k → IsStrictlySortedBy nat_cmp (seen.keys_of k.seen) → IsStrictlySortedBy nat_cmp (heights.keys_of k.heights) → count ≡ capped (seen.expansions_of k.seen + heights.expansions_of k.heights) → AreExpanded t nodes count
 expanded t nodes k count true_of closed reached known counted trees lists is =
     let xs = seen.keys_of k.seen in
-    let ys = heights.keys_of k.heights in
-    (xs ++ ys, distinct_append xs ys (rising_distinct xs trees) (rising_distinct ys lists) (keys_apart t (roots_of nodes) k true_of reached), (λ key. (there key, back key)),
-    omega (arith, is, counted.trees, counted.lists, length-append xs ys, length_keys k.heights.states.entries))
+    let ys = heights.keys_of k.heights in (
+      xs ++ ys,
+      distinct_append xs ys (rising_distinct xs trees) (rising_distinct ys lists) (keys_apart t (roots_of nodes) k true_of reached),
+      (λ key. (there key, back key)),
+      omega (arith, is, counted.trees, counted.lists, length-append xs ys, length_keys k.heights.states.entries),
+    )
   where
     there : (key : ℕ) → Contains (seen.keys_of k.seen ++ heights.keys_of k.heights) key → IsReached t (roots_of nodes) key
     there key w =

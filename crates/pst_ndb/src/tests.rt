@@ -2,10 +2,11 @@
 
 mod order;
 mod rows;
+mod sharing;
 mod trees;
 mod views;
 
-use crate::check_ndb;
+use crate::{check_ndb, counts_agree};
 use pst_bytes::Image;
 use pst_make::{BlockPlan, NodePlan, Plan, build, m0, seal_block, seal_header, seal_page};
 use std::alloc::Global;

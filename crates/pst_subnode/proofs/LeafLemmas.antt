@@ -218,6 +218,6 @@ si_tells t bid e limit count most room is named told =
 
 pub list_tells : (t : Table) (bid limit below most : ℕ) (xs : List Sub) → below + 1 ≡ limit → IsList t bid → xs ≡ subs_of t bid → (first_among (entry_fault t (sub_fault t below)) xs ≡ None) × (most ≡ most_among (entry_height (sub_height t below)) xs) → (sub_fault t limit bid ≡ None) × (most + 1 ≡ sub_height t limit bid)
 list_tells t bid limit below most xs more is are told = (
-      sub_fault_list t limit below bid (omega (arith, more)) is.named ∙ then_none _ _ is.list ∙ ap (first_among (entry_fault t (sub_fault t below))) (sym are) ∙ told.0,
-      ap (λ n. n + 1) (told.1 ∙ ap (most_among (entry_height (sub_height t below))) are) ∙ sym (sub_height_list t limit below bid (omega (arith, more)) is.named),
-    )
+  sub_fault_list t limit below bid (omega (arith, more)) is.named ∙ then_none _ _ is.list ∙ ap (first_among (entry_fault t (sub_fault t below))) (sym are) ∙ told.0,
+  ap (λ n. n + 1) (told.1 ∙ ap (most_among (entry_height (sub_height t below))) are) ∙ sym (sub_height_list t limit below bid (omega (arith, more)) is.named),
+)

@@ -1,3 +1,5 @@
+mod sharing;
+
 use super::*;
 use pst_block::{Blocks, check_blocks};
 use pst_btree::walk_blocks;
@@ -396,66 +398,5 @@ fn laws_are_there(rt: HostRuntime) -> Result<(), Fail> {
     found_has_none();
     subs_are_a_map();
     assert_eq!(rt; Heights::new(rt.alloc()).expansions(), 0);
-    Ok(())
-}
-
-// 64 lists of 340 entries, each of which names the next list below it.
-#[test]
-fn shared_lists_are_expanded_once(rt: HostRuntime) -> Result<(), Fail> {
-    let alloc = rt.alloc();
-    let mut plan = Vec::new(alloc);
-    for k in 1..=64u64 {
-        let below = if k == 64 { 0 } else { 4 * k + 6 };
-        let mut body = Vec::from_slice(alloc, &[2, 0, 84, 1, 0, 0, 0, 0])?;
-        for nid in 1..=340u64 {
-            for number in [nid, 0, below] {
-                body.extend_from_slice(&number.to_le_bytes())?;
-            }
-        }
-        add(&mut plan, 4 * k + 2, body)?;
-    }
-    let (answer, expansions) = answer_of(alloc, plan, 6)?;
-    assert_eq!(rt; answer, Ok(64));
-    assert_eq!(rt; expansions, 64);
-    Ok(())
-}
-
-// The same list at two depths, of which the deeper passes the limit; and one fewer, where it does not.
-#[test]
-fn a_known_list_too_deep(rt: HostRuntime) -> Result<(), Fail> {
-    let alloc = rt.alloc();
-    for (lists, refused) in [(63, false), (64, true)] {
-        let mut plan = chain(alloc, lists)?;
-        // The last list of the chain stands at the top too, and comes first there.
-        add(&mut plan, 0x1000_0002, list(alloc, 0, 2, &[0x31, 0, 4 * lists + 2, 0x51, 0, 6])?)?;
-        let (answer, expansions) = answer_of(alloc, plan, 0x1000_0002)?;
-        if refused {
-            assert_eq!(rt; answer, Err(fault_of(Kind::Nesting, 0, 0x1000_0002)));
-        } else {
-            assert_eq!(rt; answer, Ok(64));
-        }
-        assert_eq!(rt; expansions, 64 + u64::from(refused));
-    }
-    Ok(())
-}
-
-// A circle through an SIBLOCK, and SLBLOCKs under two SIBLOCKs and named alone.
-#[test]
-fn siblocks_share(rt: HostRuntime) -> Result<(), Fail> {
-    let alloc = rt.alloc();
-    let mut plan = Vec::new(alloc);
-    add(&mut plan, 6, list(alloc, 0, 1, &[0x21, 0, 10])?)?;
-    add(&mut plan, 10, list(alloc, 1, 1, &[0x21, 6])?)?;
-    let (answer, expansions) = answer_of(alloc, plan, 10)?;
-    assert_eq!(rt; answer, Err(fault_of(Kind::Nesting, 0, 10)));
-    assert_eq!(rt; expansions, 1);
-    let mut plan = Vec::new(alloc);
-    add(&mut plan, 6, list(alloc, 0, 1, &[0x21, 0, 0])?)?;
-    add(&mut plan, 10, list(alloc, 1, 1, &[0x21, 6])?)?;
-    add(&mut plan, 14, list(alloc, 1, 1, &[0x21, 6])?)?;
-    add(&mut plan, 18, list(alloc, 0, 3, &[0x21, 0, 10, 0x41, 0, 14, 0x61, 0, 6])?)?;
-    let (answer, expansions) = answer_of(alloc, plan, 18)?;
-    assert_eq!(rt; answer, Ok(2));
-    assert_eq!(rt; expansions, 4);
     Ok(())
 }

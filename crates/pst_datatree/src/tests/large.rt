@@ -1,8 +1,6 @@
+//! Values of a million spans, and numbers across pieces.
+
 use super::*;
-use crate::tests::{NODE, blocks_in, often, store};
-use pst_bytes::Image;
-use std::alloc::Global;
-use std::test::Fail;
 
 // An image whose XXBLOCK 0x0e names one XBLOCK 1,021 times, which names one body of so many bytes 1,021 times.
 fn same_body(alloc: Global, len: usize) -> Result<Vec<u8>, Fail> {

@@ -1,6 +1,0 @@
-use Rattle.pst_block.specs.Blocks.{table_of}
-use Rattle.pst_datatree.specs.Seen.{IsTrueOf}
-use Rattle.pst_datatree.proofs.tests.check_often.Given as goal
-
-abbrev pub invariant-loop-nid : goal.invariant-loop-nid
-invariant-loop-nid l = record { known : IsTrueOf (table_of l.blocks) l.seen }
