@@ -1,0 +1,7 @@
+pub mod InfoLemmas
+pub mod TypedLemmas
+pub mod ColumnLemmas
+pub mod TcLemmas
+pub mod TcLaws
+pub mod RowLemmas
+pub mod AlikeLaws

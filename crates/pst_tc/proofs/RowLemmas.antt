@@ -1,0 +1,141 @@
+-- What is known of a table context without fault, down to its cells.
+use Rattle.std.proofs.Common.{◌≡◌, ℕ, ◌+◌, ◌*◌, ◌<◌, ◌≤◌, Bool, true, false, cond, eqb, List, [], ◌∷◌, map, Option, Some, None, refl, sym, ap, ◌∙◌, arith}
+use Rattle.std.specs.Prelude.{option_map, is_some}
+use Rattle.pst_bytes.specs.declared.span.Span.{Span}
+use Rattle.pst_bytes.specs.Image.{num}
+use Rattle.pst_fault.specs.declared.fault.Fault.{Fault}
+use Rattle.pst_fault.specs.First.{first_below}
+use Rattle.pst_fault.specs.Each.{first_of, there_or}
+use Rattle.pst_fault.proofs.FirstLemmas.{none_then, none_below}
+use Rattle.pst_fault.proofs.EachLemmas.{none_of}
+use Rattle.pst_block.specs.Table.{Table}
+use Rattle.pst_btree.specs.Entries.{first_with}
+use Rattle.pst_ndb.specs.Roots.{Roots}
+use Rattle.pst_ndb.proofs.NodeLemmas.{first_keyed}
+use Rattle.pst_heap.specs.Values.{heap_at, user_root_of, item_of}
+use Rattle.pst_bth.specs.Values.{record_key, record_span, bth_records}
+use Rattle.pst_bth.specs.Fault.{bth_fault}
+use Rattle.pst_bth.proofs.BthLaws.{name_law}
+use Rattle.pst_value.specs.Values.{hnid_spans}
+use Rattle.pst_value.specs.Fault.{missing_at, value_fault}
+use Rattle.pst_value.proofs.ValueLaws.{place_law}
+use Rattle.pst_tc.specs.Info.{column_count, column_place, column_places, column_tag, column_kind, cell_span, index_place, index_hid, matrix_place, matrix_hnid, is_present, is_typed}
+use Rattle.pst_tc.specs.Values.{tc_sizes, tc_records, info_of, row_of_record, row_record_place, row_parts_at, row_id_of, tc_rows, span_or_empty}
+use Rattle.pst_tc.specs.Fault.{info_fault, matrix_fault, no_fault, row_record_fault, row_fault, bad_row, cells_fault, cell_fault, tc_body_fault, tc_fault}
+use Rattle.pst_tc.proofs.InfoLemmas.{sound_room}
+use Rattle.pst_tc.proofs.ColumnLemmas.{found_place}
+
+pub record BodyFacts (t : Table) (r : Roots) (s : Span) : Type 0 where
+  pub info : info_fault t.image s ≡ None
+  pub index : bth_fault (heap_at t r) tc_sizes (index_place s) (index_hid t.image s) ≡ None
+  pub matrix : matrix_fault t r s ≡ None
+  pub rows : first_of (row_record_fault t r s) (tc_records t r s) ≡ None
+
+pub body_facts : (t : Table) (r : Roots) (s : Span) → tc_body_fault t r s ≡ None → BodyFacts t r s
+unfolding tc_body_fault
+body_facts t r s none =
+    let a = none_then _ _ none in
+    let b = none_then _ _ a.1 in
+    let c = none_then _ _ b.1 in
+    record { info = a.0; index = b.0; matrix = c.0; rows = c.1 }
+
+pub body_info : (t : Table) (r : Roots) (s : Span) → tc_body_fault t r s ≡ None → info_fault t.image s ≡ None
+body_info t r s none = BodyFacts.info (body_facts t r s none)
+
+pub body_room : (t : Table) (r : Roots) (s : Span) → tc_body_fault t r s ≡ None → 22 + 8 * column_count t.image s ≤ s.len
+body_room t r s none = sound_room t.image s (body_info t r s none)
+
+pub body_index : (t : Table) (r : Roots) (s : Span) → tc_body_fault t r s ≡ None → bth_fault (heap_at t r) tc_sizes 0 (index_hid t.image s) ≡ None
+body_index t r s none = name_law (heap_at t r) tc_sizes (index_place s) 0 (index_hid t.image s) (BodyFacts.index (body_facts t r s none))
+
+there_is : (o : Option (List Span)) (f : Fault) → there_or f no_fault o ≡ None → is_some o ≡ true
+there_is None f e = absurd cc
+there_is (Some x) f e = refl
+
+pub body_matrix : (t : Table) (r : Roots) (s : Span) → tc_body_fault t r s ≡ None → is_some (hnid_spans t r (matrix_hnid t.image s)) ≡ true
+unfolding matrix_fault
+body_matrix t r s none = there_is (hnid_spans t r (matrix_hnid t.image s)) _ (BodyFacts.matrix (body_facts t r s none))
+
+pub body_rows : (t : Table) (r : Roots) (s : Span) → tc_body_fault t r s ≡ None → first_of (row_record_fault t r s) (tc_records t r s) ≡ None
+body_rows t r s none = BodyFacts.rows (body_facts t r s none)
+
+-- ---- a row
+
+pub row_there : (t : Table) (r : Roots) (s : Span) (x : ℕ × Span) → row_record_fault t r s x ≡ None → None ≡ row_of_record t r s x → ⊥
+unfolding row_record_fault
+row_there t r s x none is = let bad : Some (bad_row x) ≡ None = (rw (← is) at none) in cc
+
+pub row_sound : (t : Table) (r : Roots) (s : Span) (x : ℕ × Span) (place : Span) → row_record_fault t r s x ≡ None → Some place ≡ row_of_record t r s x → cells_fault t r s place.at ≡ None
+unfolding row_record_fault
+row_sound t r s x place none is = let e : row_fault t r s x place ≡ None = (rw (← is) at none) in (none_then _ _ e).1
+
+pub row_parts_is : (t : Table) (r : Roots) (s : Span) (x : ℕ × Span) (place : Span) → s ≡ info_of t r → Some place ≡ row_of_record t r s x → row_parts_at t r x ≡ record { id = x.0; at = row_record_place x.1; place = place }
+row_parts_is t r s x place is e = let here : Some place ≡ row_of_record t r (info_of t r) x = (rw is at e) in rw (← here) refl
+
+-- ---- a cell
+
+pub found_cell : (t : Table) (r : Roots) (s : Span) (row tag c : ℕ) → cells_fault t r s row ≡ None → first_with (column_tag t.image) tag (column_places t.image s) ≡ Some c → cell_fault t r s row c ≡ None
+unfolding cells_fault
+found_cell t r s row tag c none is =
+    let w = found_place t.image s tag c is in
+    rw w.2 (none_below (λ i. cell_fault t r s row (column_place s i)) (column_count t.image s) w.0 none w.1)
+
+pub cell_sound : (t : Table) (r : Roots) (s : Span) (row c : ℕ) → cell_fault t r s row c ≡ None → is_present t.image s row c ≡ true → is_typed t.image c ≡ true → value_fault t r (column_kind t.image c) 0 (cell_span t.image row c) ≡ None
+unfolding cell_fault
+cell_sound t r s row c none p y =
+    place_law t r (column_kind t.image c) (cell_span t.image row c).at 0 (cell_span t.image row c) (rw (p, y) at none)
+
+-- ---- a row that is found
+
+found_part : (part : ℕ × Span → Option Fault) (xs : List (ℕ × Span)) (key : ℕ) (x : ℕ × Span) → first_of part xs ≡ None → first_with record_key key xs ≡ Some x → part x ≡ None
+unfolding first_with first_of
+found_part part [] key x none is = absurd cc
+found_part part (y ∷ rest) key x none is =
+    let both = none_then (part y) (first_of part rest) none in
+    by_test (eqb (record_key y) key) both.0 (λ e. found_part part rest key x both.1 e) is
+  where
+    by_test : (b : Bool) → part y ≡ None → (first_with record_key key rest ≡ Some x → part x ≡ None) → cond b (Some y) (first_with record_key key rest) ≡ Some x → part x ≡ None
+    by_test true first later e = let same : y ≡ x = cc in rw (← same) first
+    by_test false first later e = later e
+
+first_mapped : (t : Table) (r : Roots) (key : ℕ) (xs : List (ℕ × Span)) → first_with row_id_of key (map (row_parts_at t r) xs) ≡ option_map (row_parts_at t r) (first_with record_key key xs)
+unfolding first_with
+first_mapped t r key [] = refl
+first_mapped t r key (x ∷ rest) = by_test (eqb (record_key x) key) (first_mapped t r key rest)
+  where
+    by_test : (b : Bool) → first_with row_id_of key (map (row_parts_at t r) rest) ≡ option_map (row_parts_at t r) (first_with record_key key rest)
+        → cond b (Some (row_parts_at t r x)) (first_with row_id_of key (map (row_parts_at t r) rest)) ≡ option_map (row_parts_at t r) (cond b (Some x) (first_with record_key key rest))
+    by_test true ih = refl
+    by_test false ih = ih
+
+-- what is found under a key, by the span of its data
+found_record : (key : ℕ) (s : Span) (records : List (ℕ × Span)) → Some s ≡ option_map record_span (first_with record_key key records) → first_with record_key key records ≡ Some (key, s)
+found_record key s records is = by_span (first_with record_key key records) (λ x. first_keyed record_key key records x) is
+  where
+    by_span : (found : Option (ℕ × Span)) → ((x : ℕ × Span) → found ≡ Some x → x.0 ≡ key) → Some s ≡ option_map record_span found → found ≡ Some (key, s)
+    by_span None keyed e = absurd cc
+    by_span (Some x) keyed e =
+        let k : x.0 ≡ key = keyed x refl in
+        let v : x.1 ≡ s = cc in
+        rw (← k, ← v) refl
+
+pub found_sound : (t : Table) (r : Roots) (s : Span) (key : ℕ) (number : Span) → tc_body_fault t r s ≡ None → Some number ≡ option_map record_span (first_with record_key key (tc_records t r s)) → row_record_fault t r s (key, number) ≡ None
+found_sound t r s key number none is =
+    let xs = tc_records t r s in
+    found_part (row_record_fault t r s) xs key (key, number) (body_rows t r s none) (found_record key number xs is)
+
+pub found_row : (t : Table) (r : Roots) (key : ℕ) (number : Span) → Some number ≡ option_map record_span (first_with record_key key (tc_records t r (info_of t r))) → first_with row_id_of key (tc_rows t r) ≡ Some (row_parts_at t r (key, number))
+unfolding tc_rows
+found_row t r key number is =
+    let xs = tc_records t r (info_of t r) in
+    first_mapped t r key xs ∙ ap (option_map (row_parts_at t r)) (found_record key number xs is)
+
+nothing_mapped : (found : Option (ℕ × Span)) (t : Table) (r : Roots) → None ≡ option_map record_span found → option_map (row_parts_at t r) found ≡ None
+nothing_mapped None t r e = refl
+nothing_mapped (Some x) t r e = absurd cc
+
+pub found_nothing : (t : Table) (r : Roots) (key : ℕ) → None ≡ option_map record_span (first_with record_key key (tc_records t r (info_of t r))) → first_with row_id_of key (tc_rows t r) ≡ None
+unfolding tc_rows
+found_nothing t r key is =
+    let xs = tc_records t r (info_of t r) in
+    first_mapped t r key xs ∙ nothing_mapped (first_with record_key key xs) t r is

@@ -1,0 +1,20 @@
+use Rattle.std.proofs.Common.{◌≡◌, length}
+use Rattle.pst_ndb.specs.Views.{table_of_node}
+use Rattle.pst_ndb.specs.Views.{roots_of}
+use Rattle.pst_fault.specs.Each.{first_of}
+use Rattle.pst_heap.specs.View.{node_of}
+use Rattle.pst_bth.specs.View.{records_of}
+use Rattle.pst_bth.specs.Left.{records_left, bth_left}
+use Rattle.pst_tc.specs.Fault.{row_record_fault}
+use Rattle.pst_tc.proofs.check.check_rows.Given as goal
+
+abbrev pub decreases-loop-taken : goal.decreases-loop-taken
+decreases-loop-taken l = length (records_left l.rest)
+
+abbrev pub invariant-loop-taken : goal.invariant-loop-taken
+invariant-loop-taken l = record {
+  left :
+      first_of (row_record_fault (table_of_node (node_of l.heap)) (roots_of (node_of l.heap)) l.info) (records_left l.rest)
+      ≡ first_of (row_record_fault (table_of_node (node_of l.heap)) (roots_of (node_of l.heap)) l.info) (records_of l.bth);
+  bth : bth_left l.rest ≡ l.bth;
+}

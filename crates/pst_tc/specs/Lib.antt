@@ -1,0 +1,11 @@
+pub mod Info
+pub mod Values
+pub mod Matrix
+pub mod Fault
+pub mod Grammar
+pub mod Laws
+pub mod Tc
+pub mod Front
+pub mod Grid
+pub mod View
+pub mod Left

@@ -1,0 +1,238 @@
+//! The check of a table context.
+
+ghost use Rattle.std.specs.Prelude.{◌≡◌, ℕ, ◌+◌, ◌≤◌, length, true, None, IfOk, IsOk, OnOk, option_map};
+ghost use Rattle.pst_bytes.specs.Image.{IsInside};
+ghost use Rattle.pst_fault.specs.First.{Checks};
+ghost use Rattle.pst_fault.specs.Each.{first_of};
+ghost use Rattle.pst_ndb.specs.Views.{table_of_node, roots_of};
+ghost use Rattle.pst_heap.specs.Fault.{told_in};
+ghost use Rattle.pst_heap.specs.View.{node_of, data_of};
+ghost use Rattle.pst_bth.specs.View.{heap_of, sizes_in, records_of};
+ghost use Rattle.pst_tc.specs.Info.{row_size, is_column, matrix_hnid};
+ghost use Rattle.pst_tc.specs.Values.{tc_sizes, row_of_matrix};
+ghost use Rattle.pst_tc.specs.Fault.{info_fault, cell_fault, cells_fault, row_record_fault, matrix_fault, tc_body_fault, tc_fault};
+ghost use Rattle.pst_tc.specs.Grammar.{IsTc};
+ghost use Rattle.pst_tc.specs.Matrix.{matrix_row, LiesIn};
+ghost use Rattle.pst_tc.specs.Tc.{node_of_tc};
+
+use crate::cell::{is_present, is_typed};
+use crate::info::{check_info, column_count, size_of};
+use crate::matrix::{Matrix, open_matrix, row_of};
+use crate::tc::Tc;
+use pst_bth::{Bth, check_bth_at};
+use pst_bytes::Span;
+use pst_fault::{Fault, Kind};
+use pst_heap::{Heap, check_client, check_heap, told_of};
+use pst_ndb::Node;
+use pst_value::{PropType, missing_at, resolve_at};
+
+// The cell of a column in a row.
+#[tactic(auto, unfolding(crate::specs::Fault::cell_fault), using(crate::proofs::InfoLemmas::cell_inside, crate::proofs::TypedLemmas::typed_room, crate::proofs::TypedLemmas::typed_is))]
+fn check_cell(heap: &Heap, info: Span, row: Span, column: u64) -> Result<(), Fault>
+    requires info { info.at + 22 ≤ length (data_of heap.now).image }
+    requires column { column + 8 ≤ length (data_of heap.now).image }
+    requires row { IsInside (data_of heap.now).image row }
+    requires size { row.len ≡ row_size (data_of heap.now).image info }
+    requires good { is_column (data_of heap.now).image info column ≡ true }
+    ensures exact {
+        let node = node_of heap.now in let r = roots_of node in
+        Checks result (option_map (told_in r) (cell_fault (table_of_node node) r info row.at column))
+    }
+{
+    let image = heap.image();
+    if !is_present(image, info, row, column) {
+        return Ok(());
+    }
+    if !is_typed(image, column) {
+        return Ok(());
+    }
+    let kind = PropType(image.number16(column));
+    let raw = Span {
+        at: row.at + u64::from(image.number16(column + 4)),
+        len: u64::from(image.number8(column + 6)),
+    };
+    resolve_at(heap, kind, raw.at, raw)?;
+    Ok(())
+}
+
+// The cells of a row, in the order of their columns.
+#[tactic(auto, unfolding(crate::specs::Fault::cells_fault), using(crate::proofs::InfoLemmas::sound_room, crate::proofs::InfoLemmas::sound_column, crate::proofs::TcLemmas::cells_more, crate::proofs::TcLemmas::cells_fail, crate::proofs::TcLemmas::cells_done))]
+fn check_cells(heap: &Heap, info: Span, row: Span) -> Result<(), Fault>
+    requires info { IsInside (data_of heap.now).image info }
+    requires sound { info_fault (data_of heap.now).image info ≡ None }
+    requires row { IsInside (data_of heap.now).image row }
+    requires size { row.len ≡ row_size (data_of heap.now).image info }
+    ensures exact {
+        let node = node_of heap.now in let r = roots_of node in
+        Checks result (option_map (told_in r) (cells_fault (table_of_node node) r info row.at))
+    }
+{
+    let image = heap.image();
+    let count = column_count(image, info);
+    for i in 0..count {
+        let column = info.at + 22 + 8 * u64::from(i);
+        check_cell(heap, info, row, column)?;
+    }
+    Ok(())
+}
+
+// The row of a record of the row index, and its cells.
+#[tactic(auto, unfolding(crate::specs::Fault::row_record_fault, crate::specs::Values::row_of_record))]
+fn check_row(heap: &Heap, info: Span, matrix: Matrix, id: u32, index: Span) -> Result<(), Fault>
+    requires info { IsInside (data_of heap.now).image info }
+    requires sound { info_fault (data_of heap.now).image info ≡ None }
+    requires matrix { LiesIn (data_of heap.now).image matrix }
+    requires rows {
+        let node = node_of heap.now in let t = table_of_node node in
+        (size n : ℕ) →
+        matrix_row matrix size n ≡ row_of_matrix t (roots_of node) (matrix_hnid t.image info) size n
+    }
+    requires inside { IsInside (data_of heap.now).image index }
+    requires behind { 4 ≤ index.at }
+    requires four { index.len ≡ 4 }
+    ensures exact {
+        let node = node_of heap.now in let r = roots_of node in
+        Checks result (option_map (told_in r) (row_record_fault (table_of_node node) r info (id, index)))
+    }
+{
+    let image = heap.image();
+    let size = size_of(image, info);
+    let bad = Fault::at(Kind::Table, index.at - 4);
+    let Some(row) = row_of(image, matrix, size, image.number32(index.at)) else {
+        return Err(told_of(&heap.node(), bad));
+    };
+    if image.number32(row.at) != id {
+        return Err(told_of(&heap.node(), bad));
+    }
+    check_cells(heap, info, row)
+}
+
+// The rows of all records of the row index, in order.
+#[tactic(auto, using(crate::proofs::TcLemmas::record_next, crate::proofs::TcLemmas::records_done))]
+fn check_rows(heap: &Heap, info: Span, matrix: Matrix, bth: &Bth) -> Result<(), Fault>
+    requires info { IsInside (data_of heap.now).image info }
+    requires sound { info_fault (data_of heap.now).image info ≡ None }
+    requires matrix { LiesIn (data_of heap.now).image matrix }
+    requires rows {
+        let node = node_of heap.now in let t = table_of_node node in
+        (size n : ℕ) →
+        matrix_row matrix size n ≡ row_of_matrix t (roots_of node) (matrix_hnid t.image info) size n
+    }
+    requires heap { heap_of bth.now ≡ heap.now }
+    requires sizes { sizes_in bth.now ≡ tc_sizes }
+    ensures exact {
+        let node = node_of heap.now in let r = roots_of node in
+        let first = first_of (row_record_fault (table_of_node node) r info) (records_of bth.now) in
+        Checks result (option_map (told_in r) first)
+    }
+{
+    let mut rest = bth.records();
+    while let Some(taken) = rest.next() {
+        check_row(heap, info, matrix, taken.0, taken.1)?;
+    }
+    Ok(())
+}
+
+// TCINFO and its columns, told of the node.
+fn check_front(heap: &Heap, info: Span) -> Result<(), Fault>
+    requires { IsInside (data_of heap.now).image info }
+    ensures exact {
+        let first = info_fault (data_of heap.now).image info in
+        Checks result (option_map (told_in (roots_of (node_of heap.now))) first)
+    }
+{
+    match check_info(heap.image(), info) {
+        Ok(()) => Ok(()),
+        Err(fault) => Err(told_of(&heap.node(), fault)),
+    }
+}
+
+// The row matrix.
+#[tactic(auto, unfolding(crate::specs::Fault::matrix_fault), using(crate::proofs::InfoLemmas::sound_room, crate::proofs::TcLemmas::matrix_there, crate::proofs::TcLemmas::matrix_missing))]
+fn check_matrix<'a>(heap: &Heap<'a>, info: Span) -> Result<Matrix<'a>, Fault>
+    requires info { IsInside (data_of heap.now).image info }
+    requires room { 22 ≤ info.len }
+    ensures exact {
+        let node = node_of heap.now in let r = roots_of node in
+        Checks result (option_map (told_in r) (matrix_fault (table_of_node node) r info))
+    }
+    ensures inside { IfOk result (LiesIn (data_of heap.now).image) }
+    ensures rows {
+        let node = node_of heap.now in let t = table_of_node node in let hnid = matrix_hnid t.image info in
+        (size n : ℕ) → IfOk result (λ m. matrix_row m size n ≡ row_of_matrix t (roots_of node) hnid size n)
+    }
+{
+    let image = heap.image();
+    let named = info.at + 14;
+    let hnid = image.number32(named);
+    match open_matrix(heap, hnid) {
+        Some(matrix) => Ok(matrix),
+        None => Err(told_of(&heap.node(), missing_at(named, hnid))),
+    }
+}
+
+// TCINFO, and all that it names.
+#[tactic(auto, using(crate::proofs::TcLemmas::info_told_none))]
+fn check_body(heap: &Heap, info: Span) -> Result<(), Fault>
+    requires { IsInside (data_of heap.now).image info }
+    ensures exact {
+        let node = node_of heap.now in let r = roots_of node in
+        Checks result (option_map (told_in r) (tc_body_fault (table_of_node node) r info))
+    }
+{
+    check_front(heap, info)?;
+    let _count = column_count(heap.image(), info);
+    let bth = check_bth_at(heap, info.at + 10, heap.image().number32(info.at + 10), 4, 4)?;
+    let matrix = check_matrix(heap, info)?;
+    check_rows(heap, info, matrix, &bth)
+}
+
+// All of a table context.
+fn check_all(node: Node) -> Result<(), Fault>
+    ensures exact { Checks result (tc_fault (table_of_node node.entry) (roots_of node.entry)) }
+{
+    let heap = check_heap(node)?;
+    check_client(&heap, 0x7C)?;
+    let named = heap.user_root_place();
+    let Some(info) = heap.item_span(heap.user_root()) else {
+        return Err(told_of(&heap.node(), Fault::at(Kind::HeapId, named)));
+    };
+    check_body(&heap, info)
+}
+
+/// The table context of a node that has one.
+pub fn known_tc(node: Node<'_>) -> Tc<'_>
+    requires { tc_fault (table_of_node node) (roots_of node) ≡ None }
+    ensures { node_of_tc result ≡ node.entry }
+{
+    Tc::known(node)
+}
+
+/// Checks the table context of a node ([MS-PST] 2.3.4), in this order, with the node's bidData and the node of the tree from
+/// which it was reached:
+///
+/// - the heap, as `check_heap` does, and Heap at its first span, where the client signature is not 0x7C;
+/// - TCINFO: HeapId at hidUserRoot, where that names no item; Table at the item, where it has no room for its columns, bType is not
+///   0x7C, or the end offsets do not rise from 4 to at most 8,176;
+/// - Table at the first column whose cells, or their bits, do not lie in a row;
+/// - the row index, as `check_bth_at` does, with keys and data of 4 bytes, HeapId at hidRowIndex;
+/// - HeapId or Subnode at hnidRows, where that is not 0 and names no item or no subnode;
+/// - for each record of the row index Table at the record, where its row is not in the matrix or does not begin with its identifier;
+///   then for each cell that is present, in the order of the columns, and whose column has the width of its type: HeapId or Subnode
+///   at its HNID, where that names no item or no subnode; Property at the cell, where the value has a length that its type does not
+///   allow.
+///
+/// It takes no memory. Of n rows each is looked at once, and each of its cells.
+#[tactic(auto, using(crate::proofs::TcLaws::none_tc, crate::proofs::TcLaws::tc_none))]
+pub fn check_tc(node: Node<'_>) -> Result<Tc<'_>, Fault>
+    // A table context, or the first fault.
+    ensures exact { Checks result (tc_fault (table_of_node node.entry) (roots_of node.entry)) }
+    ensures node { IfOk result (λ t. node_of_tc t ≡ node.entry) }
+
+    // What is found is one, and one is found.
+    ensures found { OnOk result (IsTc (table_of_node node.entry) (roots_of node.entry)) }
+    ensures only { IsTc (table_of_node node.entry) (roots_of node.entry) → IsOk result }
+{
+    check_all(node)?;
+    Ok(known_tc(node))
+}

@@ -1,0 +1,68 @@
+//! TCINFO of a table context, and its row matrix.
+
+ghost use Rattle.pst_ndb.specs.Views.{table_of_node, roots_of};
+ghost use Rattle.pst_tc.specs.Info.{matrix_hnid};
+ghost use Rattle.pst_tc.specs.Matrix.{LiesIn, LiesIn-prop, HasRowsOf, HasRowsOf-prop};
+ghost use Rattle.pst_tc.specs.Tc.{node_of_tc};
+ghost use Rattle.pst_tc.specs.Front.{front_tc, front_item};
+
+use crate::front::Front;
+use crate::info::size_of;
+use crate::matrix::{Matrix, row_of};
+use crate::row::Row;
+use pst_bytes::Span;
+
+/// TCINFO and the row matrix, each looked up once.
+#[derive(Clone, Copy)]
+pub(crate) struct Grid<'a> {
+    front: Front<'a>,
+    matrix: Matrix<'a>,
+    ghost inside: { LiesIn (table_of_node (node_of_tc (front_tc front))).image matrix } by { LiesIn-prop (table_of_node (node_of_tc (front_tc front))).image matrix },
+    ghost rows: { HasRowsOf (table_of_node (node_of_tc (front_tc front))) (roots_of (node_of_tc (front_tc front))) (matrix_hnid (table_of_node (node_of_tc (front_tc front))).image (front_item front)) matrix } by { HasRowsOf-prop (table_of_node (node_of_tc (front_tc front))) (roots_of (node_of_tc (front_tc front))) (matrix_hnid (table_of_node (node_of_tc (front_tc front))).image (front_item front)) matrix },
+}
+
+impl<'a> Grid<'a> {
+    ghost use Rattle.std.specs.Prelude.{◌≡◌, ◌≤◌, None};
+    ghost use Rattle.pst_bytes.specs.Image.{IsInside};
+    ghost use Rattle.pst_ndb.specs.Views.{table_of_node, roots_of};
+    ghost use Rattle.pst_tc.specs.Values.{row_parts_at};
+    ghost use Rattle.pst_tc.specs.Fault.{row_record_fault};
+    ghost use Rattle.pst_tc.specs.Tc.{node_of_tc};
+    ghost use Rattle.pst_tc.specs.Grid.{grid_front, grid_tc, grid_item};
+    ghost use Rattle.pst_tc.specs.View.{row_parts, tc_of_row};
+
+    /// That of TCINFO.
+    pub(crate) fn of(front: Front<'a>) -> Grid<'a>
+        ensures { grid_front result ≡ front.entry }
+    {
+        Grid {
+            front,
+            matrix: front.matrix(),
+        }
+    }
+
+    /// The row of a record of the row index.
+    #[tactic(auto, unfolding(crate::specs::Values::row_of_record), using(crate::proofs::RowLemmas::body_info, crate::proofs::RowLemmas::row_there, crate::proofs::RowLemmas::row_sound))]
+    pub(crate) fn row(&self, id: u32, number: Span) -> Row<'a>
+        requires inside { IsInside (table_of_node (node_of_tc (grid_tc self.now))).image number }
+        requires behind { 4 ≤ number.at }
+        requires four { number.len ≡ 4 }
+        requires sound {
+            let node = node_of_tc (grid_tc self.now) in
+            row_record_fault (table_of_node node) (roots_of node) (grid_item self.now) (id, number) ≡ None
+        }
+        ensures row {
+            let node = node_of_tc (grid_tc self.now) in
+            row_parts result ≡ row_parts_at (table_of_node node) (roots_of node) (id, number)
+        }
+        ensures tc { tc_of_row result ≡ grid_tc self.now }
+    {
+        self.front.is_sound();
+        let image = self.front.image();
+        let size = size_of(image, self.front.item());
+        match row_of(image, self.matrix, size, image.number32(number.at)) {
+            Some(place) => Row::of(self.front, id, number.at - 4, place),
+            None => unreachable!(),
+        }
+    }
+}

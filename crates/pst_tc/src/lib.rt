@@ -1,0 +1,36 @@
+//! Table contexts ([MS-PST] 2.3.4): the columns of a node's table, its rows, found by their identifiers, and their cells.
+//!
+//! Begin with `check_tc`, which answers a `Tc` or the first fault of a node's data as one. What a `Tc` is asked cannot fail any
+//! more, takes no memory, and lends the file's own bytes:
+//!
+//! ```
+//! let table = check_tc(node)?;
+//! for row in table.rows() {
+//!     let name = row.cell(0x3001_001F);
+//!     ..
+//! }
+//! let folder = table.row(0x142);
+//! ```
+#![tactic(auto)]
+
+mod cell;
+mod check;
+mod columns;
+mod front;
+mod grid;
+mod info;
+mod laws;
+mod matrix;
+mod row;
+mod rows;
+mod tc;
+
+pub use check::{check_tc, known_tc};
+pub use columns::{Column, Columns};
+pub use laws::{tc_decides, tc_has_records, tc_ids_rise, tc_is_of_keys};
+pub use row::Row;
+pub use rows::Rows;
+pub use tc::Tc;
+
+#[cfg(test)]
+mod tests;

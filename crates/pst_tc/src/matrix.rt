@@ -1,0 +1,91 @@
+//! The row matrix.
+
+ghost use Rattle.std.specs.Prelude.{◌≡◌, ℕ, ◌≤◌, ◌<◌, IfSome, is_some};
+ghost use Rattle.pst_bytes.specs.Image.{bytes_of, IsInside};
+ghost use Rattle.pst_ndb.specs.Views.{table_of_node};
+ghost use Rattle.pst_ndb.specs.Views.{roots_of};
+ghost use Rattle.pst_heap.specs.View.{node_of, data_of};
+ghost use Rattle.pst_value.specs.Values.{hnid_spans};
+ghost use Rattle.pst_tc.specs.Values.{row_of_span as span_row, row_of_matrix as named_row};
+ghost use Rattle.pst_tc.specs.Matrix.{matrix_row, LiesIn};
+
+use pst_bytes::{Image, Span};
+use pst_heap::Heap;
+use pst_ndb::Node;
+
+// Where the rows of a table lie: nowhere, in an item of the heap, or in the blocks of a subnode.
+#[derive(Clone, Copy)]
+pub(crate) enum Matrix<'a> {
+    Nothing,
+    Item(Span),
+    Blocks(Node<'a>),
+}
+
+// The row with a number among those of so many bytes in a span.
+#[tactic(auto, unfolding(crate::specs::Values::row_of_span))]
+fn row_of_span(image: Image, span: Span, size: u16, n: u32) -> Option<Span>
+    requires { IsInside (bytes_of image) span }
+    ensures value { result ≡ span_row size n span }
+    ensures inside { IfSome result (IsInside (bytes_of image.entry)) }
+    ensures size { IfSome result (λ s. s.len ≡ size) }
+{
+    let len = u64::from(size);
+    let start = u64::from(n) * len;
+    if start + len > span.len {
+        return None;
+    }
+    Some(Span {
+        at: span.at + start,
+        len,
+    })
+}
+
+/// The matrix that an HNID names; None exactly where it names nothing.
+#[tactic(auto, unfolding(crate::specs::Values::row_of_matrix, pst_value::specs::Values::hnid_spans))]
+pub(crate) fn open_matrix<'a>(heap: &Heap<'a>, hnid: u32) -> Option<Matrix<'a>>
+    ensures there {
+        let node = node_of heap.now in
+        is_some result ≡ is_some (hnid_spans (table_of_node node) (roots_of node) hnid)
+    }
+    ensures inside { IfSome result (LiesIn (data_of heap.now).image) }
+    ensures rows {
+        let node = node_of heap.now in let t = table_of_node node in
+        (size n : ℕ) → IfSome result (λ m. matrix_row m size n ≡ named_row t (roots_of node) hnid size n)
+    }
+{
+    if hnid == 0 {
+        return Some(Matrix::Nothing);
+    }
+    if hnid % 32 == 0 {
+        let Some(item) = heap.item_span(hnid) else {
+            return None;
+        };
+        return Some(Matrix::Item(item));
+    }
+    let Some(sub) = heap.node().sub(hnid) else {
+        return None;
+    };
+    Some(Matrix::Blocks(sub))
+}
+
+/// The row with a number.
+pub(crate) fn row_of<'a>(image: Image<'a>, matrix: Matrix<'a>, size: u16, n: u32) -> Option<Span>
+    requires inside { LiesIn (bytes_of image) matrix }
+    requires least { 4 ≤ size }
+    requires most { size ≤ 8176 }
+    ensures value { result ≡ matrix_row matrix.entry size n }
+    ensures inside { IfSome result (IsInside (bytes_of image.entry)) }
+    ensures size { IfSome result (λ s. s.len ≡ size) }
+{
+    match matrix {
+        Matrix::Nothing => None,
+        Matrix::Item(item) => row_of_span(image, item, size, n),
+        Matrix::Blocks(node) => {
+            let per = u32::from(8176 / size);
+            match node.leaf(u64::from(n / per)) {
+                Some(block) => row_of_span(image, block, size, n % per),
+                None => None,
+            }
+        }
+    }
+}

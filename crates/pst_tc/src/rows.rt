@@ -1,0 +1,91 @@
+//! All rows, in order of their identifiers.
+
+ghost use Rattle.std.specs.Prelude.{◌≡◌, None};
+ghost use Rattle.pst_fault.specs.Each.{first_of};
+ghost use Rattle.pst_ndb.specs.Views.{table_of_node, roots_of};
+ghost use Rattle.pst_heap.specs.View.{data_of};
+ghost use Rattle.pst_bth.specs.View.{heap_of, sizes_in};
+ghost use Rattle.pst_bth.specs.Left.{bth_left, records_left};
+ghost use Rattle.pst_tc.specs.Fault.{row_record_fault};
+ghost use Rattle.pst_tc.specs.Values.{tc_sizes};
+ghost use Rattle.pst_tc.specs.Tc.{node_of_tc};
+ghost use Rattle.pst_tc.specs.Grid.{grid_tc, grid_item};
+
+use crate::front::Front;
+use crate::grid::Grid;
+use crate::row::Row;
+use pst_bth::Records;
+
+/// The rows of a table context that are left, identifiers rising. No memory is taken. The row matrix is kept, so that each row
+/// takes one look-up of its block.
+#[derive(Clone, Copy)]
+pub struct Rows<'a> {
+    grid: Grid<'a>,
+    rest: Records<'a>,
+    ghost image: { (data_of (heap_of (bth_left rest))).image ≡ (table_of_node (node_of_tc (grid_tc grid))).image },
+    ghost sizes: { sizes_in (bth_left rest) ≡ tc_sizes },
+    ghost sound: { first_of (row_record_fault (table_of_node (node_of_tc (grid_tc grid))) (roots_of (node_of_tc (grid_tc grid))) (grid_item grid)) (records_left rest) ≡ None },
+}
+
+impl<'a> Rows<'a> {
+    ghost use Rattle.std.specs.Prelude.{◌≡◌, map};
+    ghost use Rattle.pst_ndb.specs.Views.{table_of_node, roots_of};
+    ghost use Rattle.pst_tc.specs.Values.{info_of, tc_records};
+    ghost use Rattle.pst_tc.specs.Tc.{node_of_tc};
+    ghost use Rattle.pst_tc.specs.Front.{front_tc};
+    ghost use Rattle.pst_tc.specs.Left.{tc_left, row_records_left, IsRowSplit};
+
+    // All rows.
+    #[tactic(auto, using(crate::proofs::RowLemmas::body_rows))]
+    pub(crate) fn all(front: Front<'a>) -> Rows<'a>
+        ensures records {
+            let node = node_of_tc (front_tc front.entry) in
+            let t = table_of_node node in
+            let r = roots_of node in
+            row_records_left result ≡ tc_records t r (info_of t r)
+        }
+        ensures tc { tc_left result ≡ front_tc front.entry }
+    {
+        front.is_sound();
+        Rows {
+            grid: front.grid(),
+            rest: front.index().records(),
+        }
+    }
+
+    // The first row, and what is left behind it.
+    #[tactic(auto, using(pst_fault::proofs::EachLemmas::each_first, pst_fault::proofs::EachLemmas::each_rest))]
+    fn split(self) -> Option<(Row<'a>, Rows<'a>)>
+        ensures { IsRowSplit self.entry result }
+    {
+        let mut rest = self.rest;
+        let Some((id, number)) = rest.next() else {
+            return None;
+        };
+        let row = self.grid.row(id, number);
+        Some((
+            row,
+            Rows {
+                grid: self.grid,
+                rest,
+            },
+        ))
+    }
+}
+
+impl<'a> Iterator for Rows<'a> {
+    ghost use Rattle.std.specs.Iterator.{item_count};
+    ghost use Rattle.pst_tc.specs.Left.{tc_rows_left, TakesRow};
+
+    type Item = Row<'a>;
+
+    ghost next_gives = { TakesRow };
+
+    ghost remaining = { item_count tc_rows_left };
+
+    fn next(&mut self) -> Option<Row<'a>> {
+        let (row, rest) = self.split()?;
+        *self = rest;
+        Some(row)
+    }
+}

@@ -1,0 +1,116 @@
+//! A table context as a view.
+
+ghost use Rattle.std.specs.Prelude.{◌≡◌, None};
+ghost use Rattle.pst_ndb.specs.Views.{table_of_node, roots_of};
+ghost use Rattle.pst_tc.specs.Fault.{tc_fault};
+
+use crate::columns::Columns;
+use crate::front::Front;
+use crate::row::Row;
+use crate::rows::Rows;
+use pst_bytes::Span;
+use pst_heap::{Heap, known_heap};
+use pst_ndb::Node;
+
+/// A table context without fault ([MS-PST] 2.3.4): columns, and a finite map from identifiers to rows.
+#[derive(Clone, Copy)]
+pub struct Tc<'a> {
+    node: Node<'a>,
+    ghost sound: { tc_fault (table_of_node node) (roots_of node) ≡ None },
+}
+
+impl<'a> Tc<'a> {
+    ghost use Rattle.std.specs.Prelude.{◌≡◌, IfSome, None, option_map};
+    ghost use Rattle.pst_bytes.specs.Image.{IsInside};
+    ghost use Rattle.pst_btree.specs.Entries.{first_with};
+    ghost use Rattle.pst_ndb.specs.Views.{table_of_node, roots_of};
+    ghost use Rattle.pst_heap.specs.View.{node_of};
+    ghost use Rattle.pst_tc.specs.Fault.{tc_fault, tc_body_fault};
+    ghost use Rattle.pst_tc.specs.Values.{info_of, tc_columns, row_id_of, tc_rows};
+    ghost use Rattle.pst_tc.specs.Tc.{node_of_tc};
+    ghost use Rattle.pst_tc.specs.View.{row_parts, tc_of_row};
+    ghost use Rattle.pst_tc.specs.Left.{columns_left, tc_left, tc_rows_left};
+
+    // That of a node which has one.
+    pub(crate) fn known(node: Node<'a>) -> Tc<'a>
+        requires { tc_fault (table_of_node node) (roots_of node) ≡ None }
+        ensures { node_of_tc result ≡ node.entry }
+    {
+        Tc { node }
+    }
+
+    /// What is known of every table context: it has no first fault.
+    pub fn is_sound(&self)
+        ensures { let node = node_of_tc self.now in tc_fault (table_of_node node) (roots_of node) ≡ None }
+    {}
+
+    /// The node whose data it is.
+    pub fn node(&self) -> Node<'a>
+        ensures { result ≡ node_of_tc self.now }
+    {
+        self.node
+    }
+
+    // The heap in which it is.
+    pub(crate) fn heap(&self) -> Heap<'a>
+        ensures { node_of result ≡ node_of_tc self.now }
+    {
+        known_heap(self.node)
+    }
+
+    // TCINFO.
+    #[tactic(auto, unfolding(crate::specs::Values::info_of))]
+    pub(crate) fn info(&self) -> Span
+        ensures value { let node = node_of_tc self.now in result ≡ info_of (table_of_node node) (roots_of node) }
+        ensures inside { IsInside (table_of_node (node_of_tc self.now)).image result }
+        ensures sound {
+            let node = node_of_tc self.now in
+            tc_body_fault (table_of_node node) (roots_of node) result ≡ None
+        }
+    {
+        let heap = self.heap();
+        match heap.item_span(heap.user_root()) {
+            Some(info) => info,
+            None => unreachable!(),
+        }
+    }
+
+    /// All columns, in order.
+    #[tactic(auto, unfolding(crate::specs::Values::tc_columns))]
+    pub fn columns(&self) -> Columns<'a>
+        ensures {
+            let node = node_of_tc self.now in
+            columns_left result ≡ tc_columns (table_of_node node) (roots_of node)
+        }
+    {
+        Front::of(*self).columns()
+    }
+
+    /// All rows, in order of their identifiers, each once. The row matrix is looked up once.
+    #[tactic(auto, unfolding(crate::specs::Values::tc_rows))]
+    pub fn rows(&self) -> Rows<'a>
+        ensures left {
+            let node = node_of_tc self.now in
+            tc_rows_left result ≡ tc_rows (table_of_node node) (roots_of node)
+        }
+        ensures tc { tc_left result ≡ self.now }
+    {
+        Rows::all(Front::of(*self))
+    }
+
+    /// The row with an identifier; None exactly where there is none. It is found as a record of the row index is.
+    pub fn row(&self, id: u32) -> Option<Row<'a>>
+        ensures value {
+            let node = node_of_tc self.now in
+            option_map row_parts result ≡ first_with row_id_of id (tc_rows (table_of_node node) (roots_of node))
+        }
+        ensures tc { IfSome result (λ row. tc_of_row row ≡ self.now) }
+    {
+        let front = Front::of(*self);
+        front.is_sound();
+        let Some(number) = front.index().find(id) else {
+            return None;
+        };
+        Some(front.grid().row(id, number))
+    }
+}

@@ -1,0 +1,109 @@
+//! Table contexts of small stores, with bytes changed, and what their check and their look-ups answer.
+
+mod in_heap;
+mod in_subnode;
+
+use super::*;
+use pst_bytes::Image;
+use pst_datatree::Value;
+use pst_make::{build, m1_plan};
+use pst_ndb::{Node, check_ndb};
+use std::alloc::Global;
+use std::process::Abort;
+use std::test::Fail;
+
+// Bytes set from an offset of a block on.
+type Change<'a> = (usize, &'a [u8]);
+
+fn change_all(body: &mut [u8], changes: &[Change]) -> Result<(), Fail> {
+    for (at, bytes) in changes {
+        for (i, byte) in bytes.iter().enumerate() {
+            let there = body.get_mut(at.saturating_add(i)).ok_or("past the end")?;
+            *there = *byte;
+        }
+    }
+    Ok(())
+}
+
+// The cells of a row that are there, each its tag, its length, where it lies, and its first byte.
+fn cells_of(alloc: Global, tc: Tc, row: Row, line: &mut String) -> Result<(), Fail> {
+    for column in tc.columns() {
+        let tag = column.tag;
+        if let Some(value) = row.cell(tag) {
+            let (len, at, byte) = (value.len(), value.at(), value.byte(0).unwrap_or(0));
+            let text = format!(in alloc; " {tag:x} {len} {at:x} {byte:x}")?;
+            line.push_str(&text)?;
+        }
+    }
+    Ok(())
+}
+
+// The rows of a table, each its identifier, the place of its record and its cells; or the line of the first fault.
+fn line_of(alloc: Global, node: Node) -> Result<String, Fail> {
+    let tc = match check_tc(node) {
+        Ok(tc) => tc,
+        Err(fault) => return Ok(format!(in alloc; "{fault}")?),
+    };
+    let mut line = format!(in alloc; "yes")?;
+    for row in tc.rows() {
+        let again = tc.row(row.id()).ok_or("not found")?;
+        if again.at() != row.at() {
+            return Err(Fail::from("another one"));
+        }
+        let (id, at) = (row.id(), row.at());
+        let text = format!(in alloc; ", {id:x} {at:x}")?;
+        line.push_str(&text)?;
+        cells_of(alloc, tc, again, &mut line)?;
+    }
+    Ok(line)
+}
+
+// Whether the table context of a node is answered with a line.
+fn is_answered<R: Abort>(
+    rt: &R,
+    alloc: Global,
+    image: &[u8],
+    nid: u32,
+    line: &str,
+) -> Result<(), Fail> {
+    let Ok(checked) = check_ndb(alloc, Image::new(image)) else {
+        return Err(Fail::from("refused"));
+    };
+    let node = checked.ndb.node(nid).ok_or("no node")?;
+    let told = line_of(alloc, node)?;
+    assert_eq!(rt; told.as_str(), line);
+    Ok(())
+}
+
+#[test]
+fn cells_are_lent(rt: HostRuntime) -> Result<(), Fail> {
+    let alloc = rt.alloc();
+    let plan = m1_plan(alloc)?;
+    let image = build(alloc, &plan).map_err(|_| Fail::from("not made"))?;
+    let Ok(checked) = check_ndb(alloc, Image::new(&image)) else {
+        return Err(Fail::from("refused"));
+    };
+    let node = checked.ndb.node(0x12d).ok_or("no node")?;
+    let Ok(tc) = check_tc(node) else {
+        return Err(Fail::from("no table"));
+    };
+    let mut columns = known_tc(tc.node()).columns();
+    let first = columns.next().ok_or("no column")?;
+    assert_eq!(rt; (first.tag, first.at, first.width, first.bit), (0x67f2_0003, 0, 4, 0));
+    let next = columns.next().ok_or("no column")?;
+    assert_eq!(rt; (next.tag, next.at, next.width, next.bit), (0x3602_0003, 4, 4, 1));
+    assert_eq!(rt; columns.next(), None);
+    for id in [0, 0x141, 0x143, 0xffff_ffff] {
+        assert!(rt; tc.row(id).is_none(), "row {id:x}");
+    }
+    let row = tc.row(0x142).ok_or("no row")?;
+    for tag in [0, 0x3602_0002, 0x3602_001f, 0x3601_0003] {
+        assert!(rt; row.cell(tag).is_none(), "cell {tag:x}");
+    }
+    let Some(Value::Whole(at, bytes)) = row.cell(0x3602_0003) else {
+        return Err(Fail::from("in pieces"));
+    };
+    assert_eq!(rt; at, 0x4c80 + 70);
+    assert_eq!(rt; bytes, [7, 0, 0, 0].as_slice());
+    Ok(())
+}
