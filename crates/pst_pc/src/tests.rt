@@ -5,7 +5,7 @@ use pst_bytes::Image;
 use pst_datatree::Value;
 use pst_make::{BlockPlan, NodePlan, Plan, build, m0_plan};
 use pst_ndb::{Node, check_ndb};
-use pst_value::{PropType, as_guid, as_i32, units16};
+use pst_value::{PropType, as_guid, as_i32, bytes_from, units16};
 use std::alloc::Global;
 use std::process::Abort;
 use std::test::Fail;
@@ -31,7 +31,7 @@ fn m0_with(alloc: Global, block: usize, changes: &[Change]) -> Result<Vec<u8>, F
     build(alloc, &plan).map_err(|_| Fail::from("not made"))
 }
 
-// The properties of a node, each its identifier, type, length and place; or the line of the first fault.
+// The properties of a node, each its identifier, type, place and bytes; or the line of the first fault.
 fn line_of(alloc: Global, node: Node) -> Result<String, Fail> {
     let pc = match check_pc(node) {
         Ok(pc) => pc,
@@ -43,9 +43,13 @@ fn line_of(alloc: Global, node: Node) -> Result<String, Fail> {
         if again.kind != prop.kind || again.at != prop.at {
             return Err(Fail::from("another one"));
         }
-        let (id, kind, len, at) = (prop.id, prop.kind.0, again.value.len(), prop.at);
-        let text = format!(in alloc; ", {id:x} {kind:x} {len} {at:x}")?;
+        let (id, kind, at) = (prop.id, prop.kind.0, prop.at);
+        let text = format!(in alloc; ", {id:x} {kind:x} {at:x}:")?;
         line.push_str(&text)?;
+        for byte in bytes_from(again.value) {
+            let digits = format!(in alloc; "{byte:02x}")?;
+            line.push_str(&digits)?;
+        }
     }
     Ok(line)
 }
@@ -69,7 +73,7 @@ fn is_answered<R: Abort>(
 
 // Changes to the block of the message store, 0x21, and what is answered of it.
 const STORE_ROWS: [(Change<'static>, &str); 13] = [
-    ((0, &[]), "yes, 3001 1f 4 4c1c"),
+    ((0, &[]), "yes, 3001 1f 4c1c:4d003000"),
     (
         (0, &[0x20, 0, 0xec, 0xbb]),
         "no: 21 Heap at 0x4c00 bid 0x4 nid 0x21",
@@ -79,21 +83,21 @@ const STORE_ROWS: [(Change<'static>, &str); 13] = [
     ((12, &[0xb4]), "no: 23 Bth at 0x4c0c bid 0x4 nid 0x21"),
     ((24, &[0x80]), "no: 22 HeapId at 0x4c18 bid 0x4 nid 0x21"),
     ((24, &[7]), "no: 17 Subnode at 0x4c18 bid 0x4 nid 0x21"),
-    ((24, &[0]), "yes, 3001 1f 0 0"),
+    ((24, &[0]), "yes, 3001 1f 0:"),
     ((22, &[0x40]), "no: 24 Property at 0x4c14 bid 0x4 nid 0x21"),
-    ((22, &[0x40, 0, 0]), "yes, 3001 40 0 0"),
+    ((22, &[0x40, 0, 0]), "yes, 3001 40 0:"),
     ((22, &[0x48]), "no: 24 Property at 0x4c14 bid 0x4 nid 0x21"),
-    ((22, &[0x1e]), "yes, 3001 1e 4 4c1c"),
-    ((22, &[0x34, 0x12]), "yes, 3001 1234 4 4c18"),
+    ((22, &[0x1e]), "yes, 3001 1e 4c1c:4d003000"),
+    ((22, &[0x34, 0x12]), "yes, 3001 1234 4c18:60000000"),
 ];
 
 // Changes to the block of the root folder, 0x122.
 const FOLDER_ROWS: [(Change<'static>, &str); 5] = [
-    ((0, &[]), "yes, 3602 3 4 4c58"),
+    ((0, &[]), "yes, 3602 3 4c58:05000000"),
     ((16, &[0x60]), "no: 22 HeapId at 0x4c50 bid 0x8 nid 0x122"),
     ((16, &[0]), "yes"),
-    ((22, &[0x0b]), "yes, 3602 b 1 4c58"),
-    ((22, &[2]), "yes, 3602 2 2 4c58"),
+    ((22, &[0x0b]), "yes, 3602 b 4c58:05"),
+    ((22, &[2]), "yes, 3602 2 4c58:0500"),
 ];
 
 #[test]
@@ -168,7 +172,7 @@ fn first_faults(rt: HostRuntime) -> Result<(), Fail> {
     let rows: [(&[Change], &str); 4] = [
         (
             &[],
-            "yes, 37 1f 4 4c4b, 1000 1f 5 4c80, 3007 40 0 0, 3701 48 16 4c3b",
+            "yes, 37 1f 4c4b:410000d8, 1000 1f 4c80:5000530054, 3007 40 0:, 3701 48 4c3b:2803020000000000c000000000000046",
         ),
         (
             &[(40, &[0x60])],
