@@ -66,7 +66,8 @@ fn check_file<'a>(alloc: Global, image: Image<'a>, header: &Header) -> Result<Ch
     ensures marks { IfOk result (λ c. MapsMark (bytes_of image.entry) header.now c.map) }
     ensures pages { IfOk result (λ c. c.work.pages ≡ page_total (bytes_of image.entry) header.now) }
     ensures sums { IfOk result (λ c. c.work.sums ≡ length (block_list (bytes_of image.entry) header.now)) }
-    ensures expansions { IfOk result (λ c. AreExpanded (table_of_ndb c.ndb) (nodes_of c.ndb) c.work.expansions) }
+    ensures expansions { IfOk result (λ c.
+        AreExpanded (table_of_ndb c.ndb) (nodes_of c.ndb) c.work.expansions) }
     ensures contexts { IfOk result (λ c. c.work.contexts ≡ 0) }
 {
     let (space, map) = check_maps(alloc, image, header)?;
@@ -94,7 +95,8 @@ fn check_exactly<'a>(alloc: Global, image: Image<'a>) -> Result<Checked<'a>, Fau
     ensures marks { IfOk result (λ c. MapsMark (bytes_of image.entry) (fields (bytes_of image.entry)) c.map) }
     ensures pages { IfOk result (λ c. c.work.pages ≡ page_total (bytes_of image.entry) (fields (bytes_of image.entry))) }
     ensures sums { IfOk result (λ c. c.work.sums ≡ length (block_list (bytes_of image.entry) (fields (bytes_of image.entry)))) }
-    ensures expansions { IfOk result (λ c. AreExpanded (table_of_ndb c.ndb) (nodes_of c.ndb) c.work.expansions) }
+    ensures expansions { IfOk result (λ c.
+        AreExpanded (table_of_ndb c.ndb) (nodes_of c.ndb) c.work.expansions) }
     ensures contexts { IfOk result (λ c. c.work.contexts ≡ 0) }
 {
     let header = read_header(image)?;
@@ -136,7 +138,8 @@ pub fn check_ndb<'a>(alloc: Global, image: Image<'a>) -> Result<Checked<'a>, Fau
     // from the nodes.
     ensures pages { IfOk result (λ c. c.work.pages ≡ page_total (bytes_of image.entry) (fields (bytes_of image.entry))) }
     ensures sums { IfOk result (λ c. c.work.sums ≡ length (block_list (bytes_of image.entry) (fields (bytes_of image.entry)))) }
-    ensures expansions { IfOk result (λ c. AreExpanded (table_of_ndb c.ndb) (nodes_of c.ndb) c.work.expansions) }
+    ensures expansions { IfOk result (λ c.
+        AreExpanded (table_of_ndb c.ndb) (nodes_of c.ndb) c.work.expansions) }
     ensures contexts { IfOk result (λ c. c.work.contexts ≡ 0) }
 {
     check_exactly(alloc, image)

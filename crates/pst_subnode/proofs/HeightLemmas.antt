@@ -12,7 +12,7 @@ use Rattle.pst_datatree.specs.Data.{data_fault}
 use Rattle.pst_subnode.specs.declared.sub.Sub.{Sub}
 use Rattle.pst_subnode.specs.List.{subs_of, list_fault}
 use Rattle.pst_subnode.specs.Tree.{first_among, most_among, entry_fault, entry_height, nesting, sub_fault, sub_height}
-use Rattle.pst_subnode.specs.Heights.{limit_fault, HeightLaw}
+use Rattle.pst_subnode.specs.Laws.{limit_fault, DepthLaw}
 use Rattle.pst_subnode.proofs.SubLemmas.{sub_fault_none, sub_height_none, sub_fault_below, sub_fault_list, sub_height_list}
 
 pub fits_yes : (h m : ℕ) → h ≤ m → limit_fault h m ≡ None
@@ -73,13 +73,13 @@ list_law t n bid e law (suc m) h =
     ∙ sym (rw (sub_height_list t (suc n) n bid (omega arith) e) refl)
 
 -- by induction on the limit
-pub height_law : HeightLaw
-height_law t zero other bid h = by_test (is_no_block bid) refl
+pub depth_law : DepthLaw
+depth_law t zero other bid h = by_test (is_no_block bid) refl
   where
     by_test : (v : Bool) → is_no_block bid ≡ v → sub_fault t other bid ≡ limit_fault (sub_height t 0 bid) other
     by_test true e = sub_fault_none t other bid e ∙ sym (rw (sub_height_none t 0 bid e) (fits_yes 0 other (omega arith)))
     by_test false e = let bad : Some nesting ≡ None = sym (sub_fault_below t 0 bid refl e) ∙ h in cc
-height_law t (suc limit) other bid h = by_test (is_no_block bid) refl (λ m b. height_law t limit m b)
+depth_law t (suc limit) other bid h = by_test (is_no_block bid) refl (λ m b. depth_law t limit m b)
   where
     by_test : (v : Bool) → is_no_block bid ≡ v → ((m b : ℕ) → sub_fault t limit b ≡ None → sub_fault t m b ≡ limit_fault (sub_height t limit b) m) → sub_fault t other bid ≡ limit_fault (sub_height t (suc limit) bid) other
     by_test true e law = sub_fault_none t other bid e ∙ sym (rw (sub_height_none t (suc limit) bid e) (fits_yes 0 other (omega arith)))
@@ -88,7 +88,7 @@ height_law t (suc limit) other bid h = by_test (is_no_block bid) refl (λ m b. h
 -- the height is the same under each limit that it keeps
 pub height_same : (t : Table) (n m bid : ℕ) → sub_fault t n bid ≡ None → sub_fault t m bid ≡ None → sub_height t n bid ≡ sub_height t m bid
 height_same t n m bid a b =
-    omega (arith, at_most (sub_height t n bid) (sub_height t m bid) (λ k. sym (height_law t n k bid a) ∙ height_law t m k bid b), at_most (sub_height t m bid) (sub_height t n bid) (λ k. sym (height_law t m k bid b) ∙ height_law t n k bid a))
+    omega (arith, at_most (sub_height t n bid) (sub_height t m bid) (λ k. sym (depth_law t n k bid a) ∙ depth_law t m k bid b), at_most (sub_height t m bid) (sub_height t n bid) (λ k. sym (depth_law t m k bid b) ∙ depth_law t n k bid a))
   where
     at_most : (x y : ℕ) → ((k : ℕ) → limit_fault x k ≡ limit_fault y k) → y ≤ x
     at_most x y h = elim (cases_lt x y) [ inl lt ↦ let bad : None ≡ Some nesting = sym (fits_yes x x (omega arith)) ∙ h x ∙ fits_no y x lt in cc | inr le ↦ le ]
@@ -98,7 +98,7 @@ none_or_deep h m o is = elim (cases_lt m h) [ inl lt ↦ inr (is ∙ fits_no h m
 
 -- what has no fault under one limit has none, or nests too deep, under another
 pub list_or_deep : (t : Table) (n m bid : ℕ) → sub_fault t n bid ≡ None → (sub_fault t m bid ≡ None) ⊎ (sub_fault t m bid ≡ Some nesting)
-list_or_deep t n m bid h = none_or_deep (sub_height t n bid) m _ (height_law t n m bid h)
+list_or_deep t n m bid h = none_or_deep (sub_height t n bid) m _ (depth_law t n m bid h)
 
 pub entry_or_deep : (t : Table) (n m : ℕ) (s : Sub) → entry_fault t (sub_fault t n) s ≡ None → (entry_fault t (sub_fault t m) s ≡ None) ⊎ (entry_fault t (sub_fault t m) s ≡ Some nesting)
-entry_or_deep t n m s h = none_or_deep (entry_height (sub_height t n) s) m _ (entry_at t n m s (λ b. height_law t n m b) h)
+entry_or_deep t n m s h = none_or_deep (entry_height (sub_height t n) s) m _ (entry_at t n m s (λ b. depth_law t n m b) h)

@@ -27,12 +27,12 @@ use Rattle.pst_subnode.specs.declared.sub.Sub.{Sub}
 use Rattle.pst_subnode.specs.declared.heights.Heights.{Heights}
 use Rattle.pst_subnode.specs.List.{subs_of, list_fault, block_fault, bad_list, subs_at, block_subs}
 use Rattle.pst_subnode.specs.Tree.{first_among, most_among, entry_fault, entry_height, nesting, sub_fault, sub_height}
-use Rattle.pst_subnode.specs.Heights.{keys_of, state_at, state_of, limit_fault, HasHeight, AreTrue, NoMarks, NoNewMarks, IsTrueOf}
+use Rattle.pst_subnode.specs.Heights.{keys_of, state_at, state_of, HasHeight, AreTrue, NoMarks, NoNewMarks, IsTrueOf}
 use Rattle.pst_subnode.specs.Marks.{at_list, at_entries, at_entry, at_leaf, at_leaves, IsSiList, rank_at, rank_of, LeadsTo, HaveCome}
 use Rattle.pst_subnode.specs.Body.{count_in, bid_in, has_level_one}
 use Rattle.pst_subnode.proofs.LeafLemmas.{si_fault}
 use Rattle.pst_subnode.proofs.SubLemmas.{sub_fault_below, sub_fault_list, among_more}
-use Rattle.pst_subnode.proofs.HeightLemmas.{list_or_deep, height_law, height_same, fits_yes, fits_no, entry_or_deep}
+use Rattle.pst_subnode.proofs.HeightLemmas.{list_or_deep, depth_law, height_same, fits_yes, fits_no, entry_or_deep}
 
 -- ---- one state is changed
 
@@ -245,13 +245,13 @@ settle_true t old new bid limit height list none is put are = record {
 pub known_height : (t : Table) (h : Heights) (bid height limit : ℕ) → AreTrue t h → state_of h bid ≡ Some height → 0 < height → height ≤ limit → (sub_fault t limit bid ≡ None) × (height ≡ sub_height t limit bid)
 known_height t h bid height limit are known more le =
     let w = are.holds bid height more known in
-    let none : sub_fault t limit bid ≡ None = height_law t w.0 limit bid w.1 ∙ fits_yes _ limit (omega (arith, w.2)) in
+    let none : sub_fault t limit bid ≡ None = depth_law t w.0 limit bid w.1 ∙ fits_yes _ limit (omega (arith, w.2)) in
     (none, sym w.2 ∙ height_same t w.0 limit bid w.1 none)
 
 pub known_high : (t : Table) (h : Heights) (bid height limit : ℕ) → AreTrue t h → state_of h bid ≡ Some height → 0 < height → limit < height → sub_fault t limit bid ≡ Some nesting
 known_high t h bid height limit are known more lt =
     let w = are.holds bid height more known in
-    height_law t w.0 limit bid w.1 ∙ fits_no _ limit (omega (arith, w.2))
+    depth_law t w.0 limit bid w.1 ∙ fits_no _ limit (omega (arith, w.2))
 
 -- nothing is known
 pub nothing_known : (t : Table) (h : Heights) → IsEmpty h.states → IsTrueOf t h

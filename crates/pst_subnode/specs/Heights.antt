@@ -1,5 +1,5 @@
 -- What is known of subnode lists, and what is counted.
-use Rattle.std.specs.Prelude.{◌≡◌, ℕ, ◌<◌, Option, Some, None, List, nat_le, if◌then◌else◌}
+use Rattle.std.specs.Prelude.{◌≡◌, ℕ, ◌<◌, Option, Some, None, List}
 use Rattle.std.specs.Ordering.{nat_cmp}
 use Rattle.std.specs.BTreeMap.{get, keys, btree_map_len}
 use Rattle.pst_fault.specs.declared.fault.Fault.{Fault}
@@ -7,7 +7,7 @@ use Rattle.pst_block.specs.Block.{bid_key}
 use Rattle.pst_block.specs.Table.{Table}
 use Rattle.pst_datatree.specs.Seen.{raised}
 use Rattle.pst_subnode.specs.declared.heights.Heights.{Heights}
-use Rattle.pst_subnode.specs.Tree.{sub_fault, sub_height, nesting}
+use Rattle.pst_subnode.specs.Tree.{sub_fault, sub_height}
 
 -- how many blocks of lists have been expanded
 abbrev pub expansions_of : Heights → ℕ
@@ -45,14 +45,6 @@ pub record IsTrueOf (t : Table) (h : Heights) : Type 0 where
 -- nothing more is marked
 abbrev pub NoNewMarks : Heights → Heights → Type 0
 NoNewMarks old new = (bid : ℕ) → state_of new bid ≡ Some 0 → state_of old bid ≡ Some 0
-
--- whether lists of a height may nest where so many may
-abbrev pub limit_fault : ℕ → ℕ → Option Fault
-limit_fault height limit = if nat_le height limit then None else Some nesting
-
--- A list that has no fault under one limit has none under another, but for nesting where it is too high.
-abbrev pub HeightLaw : Type 0
-HeightLaw = (t : Table) (limit other bid : ℕ) → sub_fault t limit bid ≡ None → sub_fault t other bid ≡ limit_fault (sub_height t limit bid) other
 
 -- ---- what is counted
 

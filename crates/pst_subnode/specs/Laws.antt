@@ -1,13 +1,14 @@
 -- Laws of subnodes.
-use Rattle.std.specs.Prelude.{◌≡◌, ℕ, suc, ◌-◌, ◌<◌, ◌≤◌, ◌↔◌, List, [], None, Some}
+use Rattle.std.specs.Prelude.{◌≡◌, ℕ, suc, ◌-◌, ◌<◌, ◌≤◌, ◌↔◌, nat_le, if◌then◌else◌, List, [], Option, None, Some}
 use Rattle.std.specs.List.{Contains}
+use Rattle.pst_fault.specs.declared.fault.Fault.{Fault}
 use Rattle.pst_block.specs.Block.{bid_key}
 use Rattle.pst_block.specs.Table.{Table}
 use Rattle.pst_btree.specs.Entries.{first_with}
 use Rattle.pst_datatree.specs.Data.{data_fault}
 use Rattle.pst_subnode.specs.declared.sub.Sub.{Sub}
 use Rattle.pst_subnode.specs.List.{nid_of, subs_of}
-use Rattle.pst_subnode.specs.Tree.{sub_fault, sub_height}
+use Rattle.pst_subnode.specs.Tree.{nesting, sub_fault, sub_height}
 use Rattle.pst_subnode.specs.Relation.{HasSubs}
 
 -- A block identifier has a list of a height within the limit exactly where it has no first fault, and then these are they.
@@ -63,6 +64,15 @@ HeightLaw =
     (t : Table) (limit bid : ℕ) → sub_fault t limit bid ≡ None →
     (sub_height t limit bid ≤ limit)
     × ((other : ℕ) → sub_height t limit bid ≤ other → (sub_fault t other bid ≡ None) × (sub_height t other bid ≡ sub_height t limit bid))
+
+-- whether lists of a height may nest where so many may
+abbrev pub limit_fault : ℕ → ℕ → Option Fault
+limit_fault height limit = if nat_le height limit then None else Some nesting
+
+-- A list without fault under one limit tells under another what its height says: none, or nesting where it is too high. So
+-- what is known of it by its height is what a walk afresh would answer.
+abbrev pub DepthLaw : Type 0
+DepthLaw = (t : Table) (limit other bid : ℕ) → sub_fault t limit bid ≡ None → sub_fault t other bid ≡ limit_fault (sub_height t limit bid) other
 
 -- The limit says nothing of the height, where there is no fault under either.
 abbrev pub LimitLaw : Type 0

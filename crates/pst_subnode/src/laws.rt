@@ -1,6 +1,6 @@
 //! Laws of subnodes, each the contract of a function that does nothing.
 
-ghost use Rattle.pst_subnode.specs.Laws.{SubLaw, OneLaw, MoreLaw, EntryLaw, FoundLaw, MapLaw, BelowLaw, LowerLaw, HeightLaw, LimitLaw, NoHeightLaw, SameSubLaw};
+ghost use Rattle.pst_subnode.specs.Laws.{SubLaw, OneLaw, MoreLaw, EntryLaw, FoundLaw, MapLaw, BelowLaw, LowerLaw, HeightLaw, DepthLaw, LimitLaw, NoHeightLaw, SameSubLaw};
 
 /// A block identifier has a list of a height within the limit exactly where it has no first fault, and then these are they.
 pub fn sub_decides()
@@ -45,6 +45,11 @@ pub fn entries_are_lower()
 /// A list without fault has none under any limit that is not below its height.
 pub fn height_is_enough()
     ensures { HeightLaw }
+{}
+
+/// A list without fault under one limit has none under another, but for nesting where its height is over that.
+pub fn height_tells()
+    ensures { DepthLaw }
 {}
 
 /// The limit says nothing of the height, where there is no fault under either.
