@@ -246,6 +246,7 @@ fn one_body_with_bytes(rt: HostRuntime) -> Result<(), Fail> {
     let Ok(blocks) = blocks_in(alloc, Image::new(&image)) else {
         return Err(Fail::from("no blocks"));
     };
+    let mut seen = Seen::new(alloc);
     let body = blocks.span(4).ok_or("no block")?;
     for (bid, whole, len, at, count) in [
         (0, true, 0, 0, 0),
@@ -257,7 +258,6 @@ fn one_body_with_bytes(rt: HostRuntime) -> Result<(), Fail> {
         (0x0e, true, 3, body.at, 3),
         (0x12, false, 6, body.at, 6),
     ] {
-        let mut seen = Seen::new(alloc);
         let Ok(()) = check_data(alloc, &blocks, bid, NODE, &mut seen) else {
             return Err(Fail::from("no data tree"));
         };
