@@ -1,5 +1,5 @@
 -- Table contexts of roots that are alike.
-use Rattle.std.proofs.Common.{◌≡◌, ℕ, zero, suc, ◌*◌, ◌/◌, ◌%◌, List, [], ◌∷◌, map, Option, Some, None, refl, sym, ap, ◌∙◌}
+use Rattle.std.proofs.Common.{◌≡◌, ℕ, zero, suc, List, [], ◌∷◌, map, Option, Some, None, refl, sym, ap, ◌∙◌}
 use Rattle.std.specs.Prelude.{option_map}
 use Rattle.pst_bytes.specs.declared.span.Span.{Span}
 use Rattle.pst_bytes.specs.Image.{num}
@@ -22,7 +22,7 @@ use Rattle.pst_value.specs.Alike.{Alike}
 use Rattle.pst_value.specs.Fault.{missing_at}
 use Rattle.pst_value.proofs.AlikeLaws.{heap_alike, value_alike, fault_alike, alike_value_law}
 use Rattle.pst_tc.specs.Info.{column_count, column_kind, column_place, column_places, column_tag, cell_span, index_place, index_hid, matrix_place, matrix_hnid, row_size}
-use Rattle.pst_tc.specs.Values.{tc_client, tc_sizes, info_of, span_or_empty, tc_records, row_of_data, row_of_matrix, row_of_record, row_record_place, column_parts_at, tc_columns, RowParts, row_parts_at, tc_rows, cell_spans, spans_in_column, tc_cell}
+use Rattle.pst_tc.specs.Values.{tc_client, tc_sizes, info_of, span_or_empty, tc_records, row_of_data, row_of_matrix, row_of_record, row_record_place, column_parts_at, tc_columns, row_parts_at, tc_rows, cell_spans, spans_in_column, tc_cell}
 use Rattle.pst_tc.specs.Fault.{info_fault, cell_fault, cells_fault, bad_row, row_fault, row_record_fault, no_fault, matrix_fault, tc_body_fault, untold_tc_fault, tc_fault}
 use Rattle.pst_tc.specs.Laws.{AlikeTcLaw}
 
@@ -110,7 +110,7 @@ cells_alike : (t : Table) (r s : Roots) (i : Span) (row : ℕ) → Alike r s →
 unfolding cells_fault
 cells_alike t r s i row e =
     first_below_same (λ k. cell_fault t r i row (column_place i k)) (λ k. cell_fault t s i row (column_place i k))
-      (λ k. cell_fault_alike t r s i row (column_place i k) e) (column_count t.image i)
+    (λ k. cell_fault_alike t r s i row (column_place i k) e) (column_count t.image i)
 
 there_same : (f : Fault) (part other : Span → Option Fault) (o : Option Span) → ((x : Span) → part x ≡ other x) → there_or f part o ≡ there_or f other o
 there_same f part other None same = refl
@@ -158,7 +158,7 @@ untold_alike t r s e =
     let h = heap_at t s in
     ap (λ (h : HeapData). fault_with h (tc_body_fault t r)) (heap_alike t r s e)
     ∙ ap (λ (o : Option Fault). heap_fault h then client_fault tc_client h then o)
-        (item_same (user_root_place h) (tc_body_fault t r) (tc_body_fault t s) (item_of h (user_root_of h)) (body_alike t r s e))
+    (item_same (user_root_place h) (tc_body_fault t r) (tc_body_fault t s) (item_of h (user_root_of h)) (body_alike t r s e))
 
 none_alike : (t : Table) (r s : Roots) → untold_tc_fault t r ≡ untold_tc_fault t s → tc_fault t r ≡ None → tc_fault t s ≡ None
 unfolding tc_fault

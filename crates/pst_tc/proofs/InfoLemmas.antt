@@ -1,13 +1,12 @@
 -- TCINFO, step by step.
-use Rattle.std.proofs.Common.{◌≡◌, ℕ, ◌+◌, ◌*◌, ◌/◌, ◌<◌, ◌≤◌, true, false, List, Option, Some, None, refl, sym, ap, ◌∙◌, arith}
+use Rattle.std.proofs.Common.{◌≡◌, ℕ, ◌+◌, ◌*◌, ◌/◌, ◌<◌, ◌≤◌, true, false, List, Some, None, refl, arith}
 use Rattle.std.proofs.lemmas.Bool.{leb-true, ltb-true, and_parts}
 use Rattle.pst_bytes.specs.declared.span.Span.{Span}
 use Rattle.pst_bytes.specs.Image.{num}
-use Rattle.pst_fault.specs.declared.fault.Fault.{Fault}
 use Rattle.pst_fault.specs.declared.kind.Kind.TheVariants.{Table as BadTable}
 use Rattle.pst_fault.specs.Fault.{fault_at}
 use Rattle.pst_fault.specs.First.{first_below}
-use Rattle.pst_fault.proofs.FirstLemmas.{then_none, none_then, holds_or_true, holds_or_none, first_at, first_more, none_below}
+use Rattle.pst_fault.proofs.FirstLemmas.{none_then, holds_or_none, first_at, first_more, none_below}
 use Rattle.pst_tc.specs.Info.{column_count, row_size, ones_end, is_info, is_column, column_place, column_start, column_width, column_bit}
 use Rattle.pst_tc.specs.Fault.{column_fault}
 use Rattle.pst_tc.specs.Fault.{info_fault}
@@ -83,4 +82,3 @@ cell_inside I s c h = leb-true _ _ (and_parts _ _ h).0
 pub bit_inside : (I : List ℕ) (s : Span) (c : ℕ) → is_column I s c ≡ true → ones_end I s + column_bit I c / 8 < row_size I s
 unfolding is_column
 bit_inside I s c h = ltb-true _ _ (and_parts _ _ h).1
-

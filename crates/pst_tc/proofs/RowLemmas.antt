@@ -1,27 +1,24 @@
 -- What is known of a table context without fault, down to its cells.
-use Rattle.std.proofs.Common.{◌≡◌, ℕ, ◌+◌, ◌*◌, ◌<◌, ◌≤◌, Bool, true, false, cond, eqb, List, [], ◌∷◌, map, Option, Some, None, refl, sym, ap, ◌∙◌, arith}
+use Rattle.std.proofs.Common.{◌≡◌, ℕ, ◌+◌, ◌*◌, ◌≤◌, Bool, true, false, cond, eqb, List, [], ◌∷◌, map, Option, Some, None, refl, ap, ◌∙◌}
 use Rattle.std.specs.Prelude.{option_map, is_some}
 use Rattle.pst_bytes.specs.declared.span.Span.{Span}
-use Rattle.pst_bytes.specs.Image.{num}
 use Rattle.pst_fault.specs.declared.fault.Fault.{Fault}
-use Rattle.pst_fault.specs.First.{first_below}
 use Rattle.pst_fault.specs.Each.{first_of, there_or}
 use Rattle.pst_fault.proofs.FirstLemmas.{none_then, none_below}
-use Rattle.pst_fault.proofs.EachLemmas.{none_of}
 use Rattle.pst_block.specs.Table.{Table}
 use Rattle.pst_btree.specs.Entries.{first_with}
 use Rattle.pst_ndb.specs.Roots.{Roots}
 use Rattle.pst_ndb.proofs.NodeLemmas.{first_keyed}
-use Rattle.pst_heap.specs.Values.{heap_at, user_root_of, item_of}
-use Rattle.pst_bth.specs.Values.{record_key, record_span, bth_records}
+use Rattle.pst_heap.specs.Values.{heap_at}
+use Rattle.pst_bth.specs.Values.{record_key, record_span}
 use Rattle.pst_bth.specs.Fault.{bth_fault}
 use Rattle.pst_bth.proofs.BthLaws.{name_law}
 use Rattle.pst_value.specs.Values.{hnid_spans}
-use Rattle.pst_value.specs.Fault.{missing_at, value_fault}
+use Rattle.pst_value.specs.Fault.{value_fault}
 use Rattle.pst_value.proofs.ValueLaws.{place_law}
-use Rattle.pst_tc.specs.Info.{column_count, column_place, column_places, column_tag, column_kind, cell_span, index_place, index_hid, matrix_place, matrix_hnid, is_present, is_typed}
-use Rattle.pst_tc.specs.Values.{tc_sizes, tc_records, info_of, row_of_record, row_record_place, row_parts_at, row_id_of, tc_rows, span_or_empty}
-use Rattle.pst_tc.specs.Fault.{info_fault, matrix_fault, no_fault, row_record_fault, row_fault, bad_row, cells_fault, cell_fault, tc_body_fault, tc_fault}
+use Rattle.pst_tc.specs.Info.{column_count, column_place, column_places, column_tag, column_kind, cell_span, index_place, index_hid, matrix_hnid, is_present, is_typed}
+use Rattle.pst_tc.specs.Values.{tc_sizes, tc_records, info_of, row_of_record, row_record_place, row_parts_at, row_id_of, tc_rows}
+use Rattle.pst_tc.specs.Fault.{info_fault, matrix_fault, no_fault, row_record_fault, row_fault, bad_row, cells_fault, cell_fault, tc_body_fault}
 use Rattle.pst_tc.proofs.InfoLemmas.{sound_room}
 use Rattle.pst_tc.proofs.ColumnLemmas.{found_place}
 

@@ -1,18 +1,16 @@
 -- The grammar of table contexts, and their first fault, say the same.
-use Rattle.std.proofs.Common.{◌≡◌, ℕ, zero, suc, ◌+◌, ◌<◌, Bool, true, false, cond, List, [], ◌∷◌, map, length, Option, Some, None, refl, sym, ap, ◌∙◌, arith, ◌↔◌}
-use Rattle.std.specs.Prelude.{option_map, slice_index_or}
-use Rattle.std.specs.List.{Contains}
+use Rattle.std.proofs.Common.{◌≡◌, ℕ, ◌<◌, Bool, true, false, cond, List, [], ◌∷◌, map, Option, Some, None, refl, ap, ◌∙◌, ◌↔◌}
+use Rattle.std.specs.Prelude.{option_map}
 use Rattle.std.proofs.lemmas.Bool.{eqb-true, eq-eqb}
 use Rattle.pst_bytes.specs.declared.span.Span.{Span}
-use Rattle.pst_bytes.specs.Image.{num}
 use Rattle.pst_fault.specs.declared.fault.Fault.{Fault}
-use Rattle.pst_fault.proofs.FirstLemmas.{then_none, none_then, both_none, holds_or_none, holds_or_true, all_none, none_below}
+use Rattle.pst_fault.proofs.FirstLemmas.{none_then, both_none, holds_or_none, holds_or_true, all_none, none_below}
 use Rattle.pst_block.specs.Table.{Table}
 use Rattle.pst_ndb.specs.Roots.{Roots}
 use Rattle.pst_fault.specs.Each.{first_of, there_or}
 use Rattle.pst_heap.specs.Values.{HeapData, item_of}
 use Rattle.pst_heap.specs.Fault.{item_or}
-use Rattle.pst_heap.specs.Fault.{heap_fault, client_fault}
+use Rattle.pst_heap.specs.Fault.{client_fault}
 use Rattle.pst_heap.specs.Values.{client_of, user_root_of, user_root_place}
 use Rattle.pst_heap.specs.Values.{heap_at}
 use Rattle.pst_heap.specs.Fault.{told_in}
@@ -23,13 +21,13 @@ use Rattle.pst_bth.specs.Grammar.{IsBth}
 use Rattle.pst_bth.proofs.BthLaws.{bth_law, rise_law}
 use Rattle.pst_value.specs.Grammar.{HasHnid, HasValue}
 use Rattle.pst_value.specs.Values.{hnid_spans, value_spans}
-use Rattle.pst_value.specs.Fault.{missing_at, value_fault}
+use Rattle.pst_value.specs.Fault.{value_fault}
 use Rattle.pst_value.proofs.ValueLaws.{value_law, hnid_law}
-use Rattle.pst_tc.specs.Info.{column_count, index_place, index_hid, matrix_place, matrix_hnid, is_info, is_column, column_place, column_kind, cell_span, is_present, is_typed}
+use Rattle.pst_tc.specs.Info.{column_count, index_place, index_hid, matrix_hnid, is_info, is_column, column_place, column_kind, cell_span, is_present, is_typed}
 use Rattle.pst_tc.specs.Fault.{column_fault}
 use Rattle.pst_tc.specs.Values.{tc_sizes, tc_records, row_of_record, info_of, row_id_of, row_parts_at, tc_rows}
 use Rattle.pst_tc.specs.Fault.{cell_fault, cells_fault, bad_row, row_fault, row_record_fault, no_fault, matrix_fault, info_fault, tc_body_fault, untold_tc_fault, tc_fault}
-use Rattle.pst_tc.specs.Grammar.{HasCell, HasRow, HasTc, IsTc}
+use Rattle.pst_tc.specs.Grammar.{HasCell, HasRow, IsTc}
 use Rattle.pst_tc.specs.Grammar.{HasRows}
 use Rattle.pst_tc.specs.Laws.{TcLaw, TcRecordsLaw, TcRiseLaw}
 use Rattle.pst_fault.proofs.EachLemmas.{of_none, none_of}
@@ -107,7 +105,7 @@ table_none t r s records w =
     let is = index_is t r s records w.index in
     let rows : first_of (row_record_fault t r s) (tc_records t r s) ≡ None = rw (← is) (of_none (row_record_fault t r s) records (λ x c. (row_law t r s x).0 (w.rows x c))) in
     both_none _ _ ((info_law t.image s).0 (w.info, w.columns))
-        (both_none _ _ ((bth_law (heap_at t r) tc_sizes (index_place s) (index_hid t.image s) records).0 w.index).0 (both_none _ _ ((matrix_law t r s).0 w.matrix) rows))
+    (both_none _ _ ((bth_law (heap_at t r) tc_sizes (index_place s) (index_hid t.image s) records).0 w.index).0 (both_none _ _ ((matrix_law t r s).0 w.matrix) rows))
 
 none_table : (t : Table) (r : Roots) (s : Span) → tc_body_fault t r s ≡ None → HasRows t r s (tc_records t r s)
 unfolding tc_body_fault

@@ -1,11 +1,11 @@
 -- A table context, step by step.
-use Rattle.std.proofs.Common.{◌≡◌, ℕ, ◌+◌, ◌<◌, Bool, true, false, List, [], ◌∷◌, Option, Some, None, refl, sym, ap, ◌∙◌}
+use Rattle.std.proofs.Common.{◌≡◌, ℕ, ◌+◌, ◌<◌, true, false, List, [], ◌∷◌, Option, Some, None, refl, sym, ap, ◌∙◌}
 use Rattle.std.specs.Prelude.{option_map, is_some}
 use Rattle.pst_bytes.specs.declared.span.Span.{Span}
 use Rattle.pst_fault.specs.declared.fault.Fault.{Fault}
-use Rattle.pst_fault.specs.First.{◌then◌, first_below}
+use Rattle.pst_fault.specs.First.{first_below}
 use Rattle.pst_fault.proofs.ToldLemmas.{told_none, told_some, told_first, told_next}
-use Rattle.pst_fault.proofs.FirstLemmas.{then_none, none_then, first_at, first_more}
+use Rattle.pst_fault.proofs.FirstLemmas.{none_then, first_at, first_more}
 use Rattle.pst_block.specs.Table.{Table}
 use Rattle.pst_ndb.specs.Roots.{Roots}
 use Rattle.pst_fault.specs.Each.{first_of}
@@ -77,7 +77,6 @@ pub info_told_none : (r : Roots) (I : List ℕ) (s : Span) → option_map (told_
 info_told_none r I s e = told_none (told_in r) (info_fault I s) e
 
 -- ---- the table
-
 
 pub front_fails : (t : Table) (r : Roots) (s : Span) (f : Fault) → option_map (told_in r) (info_fault t.image s) ≡ Some f → option_map (told_in r) (tc_body_fault t r s) ≡ Some f
 unfolding tc_body_fault

@@ -1,7 +1,7 @@
 -- Cells of the width that their type has in a table.
-use Rattle.std.proofs.Common.{◌≡◌, ℕ, ◌≤◌, Bool, true, false, Option, Some, None, refl, sym, ap, ◌∙◌, arith, List, [], ◌∷◌, cond, inl, inr}
-use Rattle.std.specs.Prelude.{nat_eq, nat_le}
-use Rattle.std.proofs.lemmas.Bool.{eqb-true, eq-eqb, ne_eqb, cases_eq}
+use Rattle.std.proofs.Common.{◌≡◌, ℕ, ◌≤◌, Bool, true, false, Option, Some, None, ap, arith, List, [], ◌∷◌, cond, inl, inr}
+use Rattle.std.specs.Prelude.{nat_eq}
+use Rattle.std.proofs.lemmas.Bool.{eqb-true, ne_eqb, cases_eq}
 use Rattle.pst_value.specs.declared.class.Class.{Class}
 use Rattle.pst_value.specs.declared.class.Class.TheVariants.{Inline, Eight, Guid, Object, Open, Multi, Opaque}
 use Rattle.pst_value.specs.Class.{is_one_of, class_of, cell_width_of_class, cell_width_of}

@@ -1,6 +1,6 @@
 -- The first fault of a table context: the heap, its client signature, TCINFO, its columns in order, the row index, the row matrix;
 -- then for each record of the row index its row, and the cells of that in the order of the columns.
-use Rattle.std.specs.Prelude.{ℕ, nat_eq, List, Option, Some, None, option_map, if◌then◌else◌}
+use Rattle.std.specs.Prelude.{ℕ, nat_eq, List, Option, None, option_map, if◌then◌else◌}
 use Rattle.pst_bytes.specs.declared.span.Span.{Span}
 use Rattle.pst_bytes.specs.Image.{num}
 use Rattle.pst_fault.specs.declared.fault.Fault.{Fault}

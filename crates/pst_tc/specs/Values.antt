@@ -1,7 +1,7 @@
 -- What a table context holds ([MS-PST] 2.3.4): a heap with the client signature 0x7C, whose user root names TCINFO; the row index,
 -- a BTH of the numbers of rows under their identifiers; and the row matrix: none, an item of the heap, or the data of a subnode,
 -- each of whose blocks has as many whole rows as fit into 8,176 bytes (2.3.4.4).
-use Rattle.std.specs.Prelude.{ℕ, ◌+◌, ◌-◌, ◌*◌, ◌/◌, ◌%◌, nat_eq, nat_le, List, [], ◌∷◌, map, Option, Some, None, slice_get, if◌then◌else◌}
+use Rattle.std.specs.Prelude.{ℕ, ◌+◌, ◌-◌, ◌*◌, ◌/◌, ◌%◌, nat_eq, nat_le, List, map, Option, Some, None, slice_get, if◌then◌else◌}
 use Rattle.pst_bytes.specs.declared.span.Span.{Span}
 use Rattle.pst_bytes.specs.Image.{num}
 use Rattle.pst_block.specs.Table.{Table}

@@ -34,10 +34,8 @@ fn check_cell(heap: &Heap, info: Span, row: Span, column: u64) -> Result<(), Fau
     requires row { IsInside (data_of heap.now).image row }
     requires size { row.len ≡ row_size (data_of heap.now).image info }
     requires good { is_column (data_of heap.now).image info column ≡ true }
-    ensures exact {
-        let node = node_of heap.now in let r = roots_of node in
-        Checks result (option_map (told_in r) (cell_fault (table_of_node node) r info row.at column))
-    }
+    ensures exact { let node = node_of heap.now in let r = roots_of node in
+        Checks result (option_map (told_in r) (cell_fault (table_of_node node) r info row.at column)) }
 {
     let image = heap.image();
     if !is_present(image, info, row, column) {
@@ -62,10 +60,8 @@ fn check_cells(heap: &Heap, info: Span, row: Span) -> Result<(), Fault>
     requires sound { info_fault (data_of heap.now).image info ≡ None }
     requires row { IsInside (data_of heap.now).image row }
     requires size { row.len ≡ row_size (data_of heap.now).image info }
-    ensures exact {
-        let node = node_of heap.now in let r = roots_of node in
-        Checks result (option_map (told_in r) (cells_fault (table_of_node node) r info row.at))
-    }
+    ensures exact { let node = node_of heap.now in let r = roots_of node in
+        Checks result (option_map (told_in r) (cells_fault (table_of_node node) r info row.at)) }
 {
     let image = heap.image();
     let count = column_count(image, info);
@@ -82,18 +78,14 @@ fn check_row(heap: &Heap, info: Span, matrix: Matrix, id: u32, index: Span) -> R
     requires info { IsInside (data_of heap.now).image info }
     requires sound { info_fault (data_of heap.now).image info ≡ None }
     requires matrix { LiesIn (data_of heap.now).image matrix }
-    requires rows {
-        let node = node_of heap.now in let t = table_of_node node in
+    requires rows { let node = node_of heap.now in let t = table_of_node node in
         (size n : ℕ) →
-        matrix_row matrix size n ≡ row_of_matrix t (roots_of node) (matrix_hnid t.image info) size n
-    }
+        matrix_row matrix size n ≡ row_of_matrix t (roots_of node) (matrix_hnid t.image info) size n }
     requires inside { IsInside (data_of heap.now).image index }
     requires behind { 4 ≤ index.at }
     requires four { index.len ≡ 4 }
-    ensures exact {
-        let node = node_of heap.now in let r = roots_of node in
-        Checks result (option_map (told_in r) (row_record_fault (table_of_node node) r info (id, index)))
-    }
+    ensures exact { let node = node_of heap.now in let r = roots_of node in
+        Checks result (option_map (told_in r) (row_record_fault (table_of_node node) r info (id, index))) }
 {
     let image = heap.image();
     let size = size_of(image, info);
@@ -113,18 +105,14 @@ fn check_rows(heap: &Heap, info: Span, matrix: Matrix, bth: &Bth) -> Result<(), 
     requires info { IsInside (data_of heap.now).image info }
     requires sound { info_fault (data_of heap.now).image info ≡ None }
     requires matrix { LiesIn (data_of heap.now).image matrix }
-    requires rows {
-        let node = node_of heap.now in let t = table_of_node node in
+    requires rows { let node = node_of heap.now in let t = table_of_node node in
         (size n : ℕ) →
-        matrix_row matrix size n ≡ row_of_matrix t (roots_of node) (matrix_hnid t.image info) size n
-    }
+        matrix_row matrix size n ≡ row_of_matrix t (roots_of node) (matrix_hnid t.image info) size n }
     requires heap { heap_of bth.now ≡ heap.now }
     requires sizes { sizes_in bth.now ≡ tc_sizes }
-    ensures exact {
-        let node = node_of heap.now in let r = roots_of node in
+    ensures exact { let node = node_of heap.now in let r = roots_of node in
         let first = first_of (row_record_fault (table_of_node node) r info) (records_of bth.now) in
-        Checks result (option_map (told_in r) first)
-    }
+        Checks result (option_map (told_in r) first) }
 {
     let mut rest = bth.records();
     while let Some(taken) = rest.next() {
@@ -136,10 +124,8 @@ fn check_rows(heap: &Heap, info: Span, matrix: Matrix, bth: &Bth) -> Result<(), 
 // TCINFO and its columns, told of the node.
 fn check_front(heap: &Heap, info: Span) -> Result<(), Fault>
     requires { IsInside (data_of heap.now).image info }
-    ensures exact {
-        let first = info_fault (data_of heap.now).image info in
-        Checks result (option_map (told_in (roots_of (node_of heap.now))) first)
-    }
+    ensures exact { let first = info_fault (data_of heap.now).image info in
+        Checks result (option_map (told_in (roots_of (node_of heap.now))) first) }
 {
     match check_info(heap.image(), info) {
         Ok(()) => Ok(()),
@@ -152,15 +138,11 @@ fn check_front(heap: &Heap, info: Span) -> Result<(), Fault>
 fn check_matrix<'a>(heap: &Heap<'a>, info: Span) -> Result<Matrix<'a>, Fault>
     requires info { IsInside (data_of heap.now).image info }
     requires room { 22 ≤ info.len }
-    ensures exact {
-        let node = node_of heap.now in let r = roots_of node in
-        Checks result (option_map (told_in r) (matrix_fault (table_of_node node) r info))
-    }
+    ensures exact { let node = node_of heap.now in let r = roots_of node in
+        Checks result (option_map (told_in r) (matrix_fault (table_of_node node) r info)) }
     ensures inside { IfOk result (LiesIn (data_of heap.now).image) }
-    ensures rows {
-        let node = node_of heap.now in let t = table_of_node node in let hnid = matrix_hnid t.image info in
-        (size n : ℕ) → IfOk result (λ m. matrix_row m size n ≡ row_of_matrix t (roots_of node) hnid size n)
-    }
+    ensures rows { let node = node_of heap.now in let t = table_of_node node in let hnid = matrix_hnid t.image info in
+        (size n : ℕ) → IfOk result (λ m. matrix_row m size n ≡ row_of_matrix t (roots_of node) hnid size n) }
 {
     let image = heap.image();
     let named = info.at + 14;
@@ -175,14 +157,18 @@ fn check_matrix<'a>(heap: &Heap<'a>, info: Span) -> Result<Matrix<'a>, Fault>
 #[tactic(auto, using(crate::proofs::TcLemmas::info_told_none))]
 fn check_body(heap: &Heap, info: Span) -> Result<(), Fault>
     requires { IsInside (data_of heap.now).image info }
-    ensures exact {
-        let node = node_of heap.now in let r = roots_of node in
-        Checks result (option_map (told_in r) (tc_body_fault (table_of_node node) r info))
-    }
+    ensures exact { let node = node_of heap.now in let r = roots_of node in
+        Checks result (option_map (told_in r) (tc_body_fault (table_of_node node) r info)) }
 {
     check_front(heap, info)?;
     let _count = column_count(heap.image(), info);
-    let bth = check_bth_at(heap, info.at + 10, heap.image().number32(info.at + 10), 4, 4)?;
+    let bth = check_bth_at(
+        heap,
+        info.at + 10,
+        heap.image().number32(info.at + 10),
+        4,
+        4,
+    )?;
     let matrix = check_matrix(heap, info)?;
     check_rows(heap, info, matrix, &bth)
 }

@@ -92,10 +92,8 @@ impl<'a> Iterator for Columns<'a> {
 pub(crate) fn find_column(image: Image, item: Span, tag: u32) -> Option<u64>
     requires inside { IsInside (bytes_of image) item }
     requires sound { info_fault (bytes_of image) item ≡ None }
-    ensures value {
-        let I = bytes_of image.entry in
-        result ≡ first_with (column_tag I) tag (column_places I item)
-    }
+    ensures value { let I = bytes_of image.entry in
+        result ≡ first_with (column_tag I) tag (column_places I item) }
     ensures inside { IfSome result (λ c. c + 8 ≤ length (bytes_of image.entry)) }
     ensures good { IfSome result (λ c. is_column (bytes_of image.entry) item c ≡ true) }
 {

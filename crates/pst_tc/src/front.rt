@@ -53,17 +53,11 @@ impl<'a> Front<'a> {
 
     /// What is known of it: which item it is, where that lies, and that nothing that it names is at fault.
     pub(crate) fn is_sound(&self)
-        ensures is {
-            let node = node_of_tc (front_tc self.now) in
-            front_item self.now ≡ info_of (table_of_node node) (roots_of node)
-        }
-        ensures inside {
-            IsInside (table_of_node (node_of_tc (front_tc self.now))).image (front_item self.now)
-        }
-        ensures sound {
-            let node = node_of_tc (front_tc self.now) in
-            tc_body_fault (table_of_node node) (roots_of node) (front_item self.now) ≡ None
-        }
+        ensures is { let node = node_of_tc (front_tc self.now) in
+            front_item self.now ≡ info_of (table_of_node node) (roots_of node) }
+        ensures inside { IsInside (table_of_node (node_of_tc (front_tc self.now))).image (front_item self.now) }
+        ensures sound { let node = node_of_tc (front_tc self.now) in
+            tc_body_fault (table_of_node node) (roots_of node) (front_item self.now) ≡ None }
     {}
 
     /// The item.
@@ -93,10 +87,8 @@ impl<'a> Front<'a> {
     pub(crate) fn index(&self) -> Bth<'a>
         ensures heap { node_of (heap_of result) ≡ node_of_tc (front_tc self.now) }
         ensures sizes { sizes_in result ≡ tc_sizes }
-        ensures records {
-            let node = node_of_tc (front_tc self.now) in
-            records_of result ≡ tc_records (table_of_node node) (roots_of node) (front_item self.now)
-        }
+        ensures records { let node = node_of_tc (front_tc self.now) in
+            records_of result ≡ tc_records (table_of_node node) (roots_of node) (front_item self.now) }
     {
         let heap = self.heap();
         let image = heap.image();
@@ -107,10 +99,8 @@ impl<'a> Front<'a> {
     #[tactic(auto, using(crate::proofs::RowLemmas::body_room, crate::proofs::RowLemmas::body_matrix))]
     pub(crate) fn matrix(&self) -> Matrix<'a>
         ensures inside { LiesIn (table_of_node (node_of_tc (front_tc self.now))).image result }
-        ensures rows {
-            let node = node_of_tc (front_tc self.now) in let t = table_of_node node in
-            HasRowsOf t (roots_of node) (matrix_hnid t.image (front_item self.now)) result
-        }
+        ensures rows { let node = node_of_tc (front_tc self.now) in let t = table_of_node node in
+            HasRowsOf t (roots_of node) (matrix_hnid t.image (front_item self.now)) result }
     {
         let heap = self.heap();
         let image = heap.image();
@@ -130,10 +120,8 @@ impl<'a> Front<'a> {
     /// All columns.
     #[tactic(auto, using(crate::proofs::RowLemmas::body_info, crate::proofs::InfoLemmas::sound_room))]
     pub(crate) fn columns(&self) -> Columns<'a>
-        ensures {
-            let I = (table_of_node (node_of_tc (front_tc self.now))).image in
-            columns_left result ≡ map (column_parts_at I) (column_places I (front_item self.now))
-        }
+        ensures { let I = (table_of_node (node_of_tc (front_tc self.now))).image in
+            columns_left result ≡ map (column_parts_at I) (column_places I (front_item self.now)) }
     {
         let image = self.image();
         Columns::of(image, self.item, column_count(image, self.item))

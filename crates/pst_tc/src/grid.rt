@@ -47,14 +47,10 @@ impl<'a> Grid<'a> {
         requires inside { IsInside (table_of_node (node_of_tc (grid_tc self.now))).image number }
         requires behind { 4 ≤ number.at }
         requires four { number.len ≡ 4 }
-        requires sound {
-            let node = node_of_tc (grid_tc self.now) in
-            row_record_fault (table_of_node node) (roots_of node) (grid_item self.now) (id, number) ≡ None
-        }
-        ensures row {
-            let node = node_of_tc (grid_tc self.now) in
-            row_parts result ≡ row_parts_at (table_of_node node) (roots_of node) (id, number)
-        }
+        requires sound { let node = node_of_tc (grid_tc self.now) in
+            row_record_fault (table_of_node node) (roots_of node) (grid_item self.now) (id, number) ≡ None }
+        ensures row { let node = node_of_tc (grid_tc self.now) in
+            row_parts result ≡ row_parts_at (table_of_node node) (roots_of node) (id, number) }
         ensures tc { tc_of_row result ≡ grid_tc self.now }
     {
         self.front.is_sound();

@@ -10,7 +10,6 @@ ghost use Rattle.pst_tc.specs.Fault.{info_fault};
 use pst_bytes::{Image, Span};
 use pst_fault::{Fault, Kind};
 
-
 // Whether an item is TCINFO.
 #[tactic(auto, unfolding(crate::specs::Info::is_info, crate::specs::Info::row_size))]
 fn is_info(image: Image, info: Span) -> bool

@@ -43,15 +43,11 @@ fn row_of_span(image: Image, span: Span, size: u16, n: u32) -> Option<Span>
 /// The matrix that an HNID names; None exactly where it names nothing.
 #[tactic(auto, unfolding(crate::specs::Values::row_of_matrix, pst_value::specs::Values::hnid_spans))]
 pub(crate) fn open_matrix<'a>(heap: &Heap<'a>, hnid: u32) -> Option<Matrix<'a>>
-    ensures there {
-        let node = node_of heap.now in
-        is_some result ≡ is_some (hnid_spans (table_of_node node) (roots_of node) hnid)
-    }
+    ensures there { let node = node_of heap.now in
+        is_some result ≡ is_some (hnid_spans (table_of_node node) (roots_of node) hnid) }
     ensures inside { IfSome result (LiesIn (data_of heap.now).image) }
-    ensures rows {
-        let node = node_of heap.now in let t = table_of_node node in
-        (size n : ℕ) → IfSome result (λ m. matrix_row m size n ≡ named_row t (roots_of node) hnid size n)
-    }
+    ensures rows { let node = node_of heap.now in let t = table_of_node node in
+        (size n : ℕ) → IfSome result (λ m. matrix_row m size n ≡ named_row t (roots_of node) hnid size n) }
 {
     if hnid == 0 {
         return Some(Matrix::Nothing);

@@ -38,12 +38,10 @@ impl<'a> Rows<'a> {
     // All rows.
     #[tactic(auto, using(crate::proofs::RowLemmas::body_rows))]
     pub(crate) fn all(front: Front<'a>) -> Rows<'a>
-        ensures records {
-            let node = node_of_tc (front_tc front.entry) in
+        ensures records { let node = node_of_tc (front_tc front.entry) in
             let t = table_of_node node in
             let r = roots_of node in
-            row_records_left result ≡ tc_records t r (info_of t r)
-        }
+            row_records_left result ≡ tc_records t r (info_of t r) }
         ensures tc { tc_left result ≡ front_tc front.entry }
     {
         front.is_sound();

@@ -63,10 +63,8 @@ impl<'a> Tc<'a> {
     pub(crate) fn info(&self) -> Span
         ensures value { let node = node_of_tc self.now in result ≡ info_of (table_of_node node) (roots_of node) }
         ensures inside { IsInside (table_of_node (node_of_tc self.now)).image result }
-        ensures sound {
-            let node = node_of_tc self.now in
-            tc_body_fault (table_of_node node) (roots_of node) result ≡ None
-        }
+        ensures sound { let node = node_of_tc self.now in
+            tc_body_fault (table_of_node node) (roots_of node) result ≡ None }
     {
         let heap = self.heap();
         match heap.item_span(heap.user_root()) {
@@ -78,10 +76,8 @@ impl<'a> Tc<'a> {
     /// All columns, in order.
     #[tactic(auto, unfolding(crate::specs::Values::tc_columns))]
     pub fn columns(&self) -> Columns<'a>
-        ensures {
-            let node = node_of_tc self.now in
-            columns_left result ≡ tc_columns (table_of_node node) (roots_of node)
-        }
+        ensures { let node = node_of_tc self.now in
+            columns_left result ≡ tc_columns (table_of_node node) (roots_of node) }
     {
         Front::of(*self).columns()
     }
@@ -89,10 +85,8 @@ impl<'a> Tc<'a> {
     /// All rows, in order of their identifiers, each once. The row matrix is looked up once.
     #[tactic(auto, unfolding(crate::specs::Values::tc_rows))]
     pub fn rows(&self) -> Rows<'a>
-        ensures left {
-            let node = node_of_tc self.now in
-            tc_rows_left result ≡ tc_rows (table_of_node node) (roots_of node)
-        }
+        ensures left { let node = node_of_tc self.now in
+            tc_rows_left result ≡ tc_rows (table_of_node node) (roots_of node) }
         ensures tc { tc_left result ≡ self.now }
     {
         Rows::all(Front::of(*self))
@@ -100,10 +94,8 @@ impl<'a> Tc<'a> {
 
     /// The row with an identifier; None exactly where there is none. It is found as a record of the row index is.
     pub fn row(&self, id: u32) -> Option<Row<'a>>
-        ensures value {
-            let node = node_of_tc self.now in
-            option_map row_parts result ≡ first_with row_id_of id (tc_rows (table_of_node node) (roots_of node))
-        }
+        ensures value { let node = node_of_tc self.now in
+            option_map row_parts result ≡ first_with row_id_of id (tc_rows (table_of_node node) (roots_of node)) }
         ensures tc { IfSome result (λ row. tc_of_row row ≡ self.now) }
     {
         let front = Front::of(*self);

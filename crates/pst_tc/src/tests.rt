@@ -89,9 +89,15 @@ fn cells_are_lent(rt: HostRuntime) -> Result<(), Fail> {
     };
     let mut columns = known_tc(tc.node()).columns();
     let first = columns.next().ok_or("no column")?;
-    assert_eq!(rt; (first.tag, first.at, first.width, first.bit), (0x67f2_0003, 0, 4, 0));
+    assert_eq!(rt;
+        (first.tag, first.at, first.width, first.bit),
+        (0x67f2_0003, 0, 4, 0)
+    );
     let next = columns.next().ok_or("no column")?;
-    assert_eq!(rt; (next.tag, next.at, next.width, next.bit), (0x3602_0003, 4, 4, 1));
+    assert_eq!(rt;
+        (next.tag, next.at, next.width, next.bit),
+        (0x3602_0003, 4, 4, 1)
+    );
     assert_eq!(rt; columns.next(), None);
     for id in [0, 0x141, 0x143, 0xffff_ffff] {
         assert!(rt; tc.row(id).is_none(), "row {id:x}");

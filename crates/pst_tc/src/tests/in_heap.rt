@@ -5,19 +5,20 @@ use pst_make::{build, m1_plan};
 use std::test::Fail;
 
 const AT_INFO: &str = "no: 25 Table at 0x4c8c bid 0xc nid 0x12d";
+
 const AT_FIRST: &str = "no: 25 Table at 0x4ca2 bid 0xc nid 0x12d";
+
 const AT_NEXT: &str = "no: 25 Table at 0x4caa bid 0xc nid 0x12d";
+
 const AT_ROW: &str = "no: 25 Table at 0x4cba bid 0xc nid 0x12d";
+
 const AT_ROWS: &str = "no: 22 HeapId at 0x4c9a bid 0xc nid 0x12d";
 
 // Changes to the block of the hierarchy table, and what is answered of it: TCINFO is at 12, its columns at 34 and 42, the header
 // of the row index at 50, its record at 58, the row of 9 bytes at 66.
 const TABLE_ROWS: [(&[Change<'static>], &str); 42] = [
     (&[], "yes, 142 4cba 67f20003 4 4cc2 42 36020003 4 4cc6 7"),
-    (
-        &[(3, &[0xbc])],
-        "no: 21 Heap at 0x4c80 bid 0xc nid 0x12d",
-    ),
+    (&[(3, &[0xbc])], "no: 21 Heap at 0x4c80 bid 0xc nid 0x12d"),
     (&[(4, &[0])], "no: 22 HeapId at 0x4c84 bid 0xc nid 0x12d"),
     // TCINFO: its type, room for its columns, end offsets that fall, too long rows.
     (&[(12, &[0x7b])], AT_INFO),
@@ -102,10 +103,7 @@ const TABLE_ROWS: [(&[Change<'static>], &str); 42] = [
         "yes, 142 4cba 67f20003 4 4cc2 42 3602000b 1 4cc6 7",
     ),
     // Two columns with one tag, the first absent: there is no such cell, and yet that of the second is checked.
-    (
-        &[(42, &[3, 0, 0xf2, 0x67]), (74, &[0x40])],
-        "yes, 142 4cba",
-    ),
+    (&[(42, &[3, 0, 0xf2, 0x67]), (74, &[0x40])], "yes, 142 4cba"),
     (
         &[(34, &[0x1f, 0, 2, 0x36]), (42, &[0x1f]), (74, &[0x40])],
         "no: 17 Subnode at 0x4cc6 bid 0xc nid 0x12d",

@@ -89,6 +89,7 @@ const IN_ONE_BLOCK: Row<'static> = (
 // Rows of 4,000 bytes: two in a block, which has 176 more. Then the third row begins with another identifier; then its block is
 // a byte too short.
 const ROWS_OF_4000: Change<'static> = (18, &[0x9f, 0xf, 0xa0, 0xf]);
+
 const TWO_ROWS: (u64, usize, &[Change<'static>]) = (
     8,
     8176,
@@ -100,12 +101,15 @@ const TWO_ROWS: (u64, usize, &[Change<'static>]) = (
         (8000, &[3]),
     ],
 );
+
 const TWO_BLOCKS: [u8; 24] = [
     1, 1, 2, 0, 0x90, 0x2f, 0, 0, 8, 0, 0, 0, 0, 0, 0, 0, 12, 0, 0, 0, 0, 0, 0, 0,
 ];
+
 const ONE_BYTE_LESS: [u8; 24] = [
     1, 1, 2, 0, 0x8f, 0x2f, 0, 0, 8, 0, 0, 0, 0, 0, 0, 0, 12, 0, 0, 0, 0, 0, 0, 0,
 ];
+
 const AT_THIRD: &str = "no: 25 Table at 0x4c42 bid 0x4 nid 0x21";
 
 const IN_TWO_BLOCKS: [Row<'static>; 3] = [
@@ -168,12 +172,7 @@ const LONGEST_ROWS: Row<'static> = (
                 1, 1, 2, 0, 0xe0, 0x3f, 0, 0, 8, 0, 0, 0, 0, 0, 0, 0, 12, 0, 0, 0, 0, 0, 0, 0,
             ],
         ),
-        (
-            22,
-            &[
-                1, 1, 1, 0, 0xf0, 0x1f, 0, 0, 16, 0, 0, 0, 0, 0, 0, 0,
-            ],
-        ),
+        (22, &[1, 1, 1, 0, 0xf0, 0x1f, 0, 0, 16, 0, 0, 0, 0, 0, 0, 0]),
         (
             26,
             &[

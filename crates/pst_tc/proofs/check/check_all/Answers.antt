@@ -5,7 +5,7 @@ use Rattle.pst_fault.specs.First.{Checks}
 use Rattle.pst_ndb.specs.Views.{table_of_node}
 use Rattle.pst_ndb.specs.Views.{roots_of}
 use Rattle.pst_heap.specs.Values.{item_of}
-use Rattle.pst_heap.specs.Fault.{item_or, no_item}
+use Rattle.pst_heap.specs.Fault.{no_item}
 use Rattle.pst_heap.specs.Fault.{client_fault}
 use Rattle.pst_heap.specs.Values.{user_root_of, user_root_place}
 use Rattle.pst_heap.specs.Values.{heap_at}

@@ -1,4 +1,4 @@
-use Rattle.std.proofs.Common.{◌≡◌, ◌≤◌, ◌+◌, true, Some, None, arith}
+use Rattle.std.proofs.Common.{◌≡◌, true, Some, arith}
 use Rattle.pst_ndb.specs.Views.{table_of_node}
 use Rattle.pst_heap.specs.View.{node_of}
 use Rattle.pst_value.specs.Class.{cell_width_of}

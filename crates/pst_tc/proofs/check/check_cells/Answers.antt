@@ -3,7 +3,7 @@ use Rattle.std.proofs.lemmas.Result.{err_from_is_err_and}
 use Rattle.pst_ndb.specs.Views.{table_of_node}
 use Rattle.pst_ndb.specs.Views.{roots_of}
 use Rattle.pst_heap.specs.View.{node_of}
-use Rattle.pst_tc.specs.Info.{column_count, column_place}
+use Rattle.pst_tc.specs.Info.{column_count}
 use Rattle.pst_tc.proofs.InfoLemmas.{sound_column}
 use Rattle.pst_tc.proofs.TcLemmas.{cells_fail}
 use Rattle.pst_tc.proofs.check.check_cells.Goals as goal

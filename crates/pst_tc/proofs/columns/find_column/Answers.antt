@@ -1,7 +1,6 @@
-use Rattle.std.proofs.Common.{◌≡◌, ◌+◌, ◌*◌, ◌<◌, ℕ, ap, sym, ◌∙◌, arith, None}
+use Rattle.std.proofs.Common.{◌≡◌, ◌+◌, ◌*◌, ◌<◌, ℕ, ap, sym, ◌∙◌, arith}
 use Rattle.pst_bytes.specs.Image.{bytes_of}
-use Rattle.pst_btree.specs.Entries.{first_with}
-use Rattle.pst_tc.specs.Info.{column_count, columns_from, column_places, column_tag}
+use Rattle.pst_tc.specs.Info.{column_count}
 use Rattle.pst_tc.proofs.ColumnLemmas.{find_end, found_good}
 use Rattle.pst_tc.proofs.columns.find_column.Goals as goal
 
