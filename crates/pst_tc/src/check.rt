@@ -35,7 +35,8 @@ fn check_cell(heap: &Heap, info: Span, row: Span, column: u64) -> Result<(), Fau
     requires size { row.len ≡ row_size (data_of heap.now).image info }
     requires good { is_column (data_of heap.now).image info column ≡ true }
     ensures exact { let node = node_of heap.now in let r = roots_of node in
-        Checks result (option_map (told_in r) (cell_fault (table_of_node node) r info row.at column)) }
+        let first = cell_fault (table_of_node node) r info row.at column in
+        Checks result (option_map (told_in r) first) }
 {
     let image = heap.image();
     if !is_present(image, info, row, column) {
@@ -79,13 +80,14 @@ fn check_row(heap: &Heap, info: Span, matrix: Matrix, id: u32, index: Span) -> R
     requires sound { info_fault (data_of heap.now).image info ≡ None }
     requires matrix { LiesIn (data_of heap.now).image matrix }
     requires rows { let node = node_of heap.now in let t = table_of_node node in
-        (size n : ℕ) →
-        matrix_row matrix size n ≡ row_of_matrix t (roots_of node) (matrix_hnid t.image info) size n }
+        let hnid = matrix_hnid t.image info in (size n : ℕ) →
+        matrix_row matrix size n ≡ row_of_matrix t (roots_of node) hnid size n }
     requires inside { IsInside (data_of heap.now).image index }
     requires behind { 4 ≤ index.at }
     requires four { index.len ≡ 4 }
     ensures exact { let node = node_of heap.now in let r = roots_of node in
-        Checks result (option_map (told_in r) (row_record_fault (table_of_node node) r info (id, index))) }
+        let first = row_record_fault (table_of_node node) r info (id, index) in
+        Checks result (option_map (told_in r) first) }
 {
     let image = heap.image();
     let size = size_of(image, info);
@@ -106,8 +108,8 @@ fn check_rows(heap: &Heap, info: Span, matrix: Matrix, bth: &Bth) -> Result<(), 
     requires sound { info_fault (data_of heap.now).image info ≡ None }
     requires matrix { LiesIn (data_of heap.now).image matrix }
     requires rows { let node = node_of heap.now in let t = table_of_node node in
-        (size n : ℕ) →
-        matrix_row matrix size n ≡ row_of_matrix t (roots_of node) (matrix_hnid t.image info) size n }
+        let hnid = matrix_hnid t.image info in (size n : ℕ) →
+        matrix_row matrix size n ≡ row_of_matrix t (roots_of node) hnid size n }
     requires heap { heap_of bth.now ≡ heap.now }
     requires sizes { sizes_in bth.now ≡ tc_sizes }
     ensures exact { let node = node_of heap.now in let r = roots_of node in
@@ -141,8 +143,9 @@ fn check_matrix<'a>(heap: &Heap<'a>, info: Span) -> Result<Matrix<'a>, Fault>
     ensures exact { let node = node_of heap.now in let r = roots_of node in
         Checks result (option_map (told_in r) (matrix_fault (table_of_node node) r info)) }
     ensures inside { IfOk result (LiesIn (data_of heap.now).image) }
-    ensures rows { let node = node_of heap.now in let t = table_of_node node in let hnid = matrix_hnid t.image info in
-        (size n : ℕ) → IfOk result (λ m. matrix_row m size n ≡ row_of_matrix t (roots_of node) hnid size n) }
+    ensures rows { let node = node_of heap.now in let t = table_of_node node in
+        let hnid = matrix_hnid t.image info in (size n : ℕ) →
+        IfOk result (λ m. matrix_row m size n ≡ row_of_matrix t (roots_of node) hnid size n) }
 {
     let image = heap.image();
     let named = info.at + 14;

@@ -43,7 +43,8 @@ impl<'a> Columns<'a> {
     // So many columns of TCINFO.
     pub(crate) fn of(image: Image<'a>, item: Span, count: u8) -> Columns<'a>
         requires { item.at + 22 + 8 * count ≤ length (bytes_of image) }
-        ensures { columns_left result ≡ map (column_parts_at (bytes_of image.entry)) (columns_from item 0 count) }
+        ensures { let I = bytes_of image.entry in
+            columns_left result ≡ map (column_parts_at I) (columns_from item 0 count) }
     {
         Columns {
             image,

@@ -47,7 +47,8 @@ pub(crate) fn open_matrix<'a>(heap: &Heap<'a>, hnid: u32) -> Option<Matrix<'a>>
         is_some result ≡ is_some (hnid_spans (table_of_node node) (roots_of node) hnid) }
     ensures inside { IfSome result (LiesIn (data_of heap.now).image) }
     ensures rows { let node = node_of heap.now in let t = table_of_node node in
-        (size n : ℕ) → IfSome result (λ m. matrix_row m size n ≡ named_row t (roots_of node) hnid size n) }
+        (size n : ℕ) →
+        IfSome result (λ m. matrix_row m size n ≡ named_row t (roots_of node) hnid size n) }
 {
     if hnid == 0 {
         return Some(Matrix::Nothing);

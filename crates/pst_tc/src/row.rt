@@ -42,7 +42,8 @@ impl<'a> Row<'a> {
     // The row at a place, whose cells have no fault.
     pub(crate) fn of(front: Front<'a>, id: u32, at: u64, place: Span) -> Row<'a>
         requires inside { IsInside (table_of_node (node_of_tc (front_tc front))).image place }
-        requires size { place.len ≡ row_size (table_of_node (node_of_tc (front_tc front))).image (front_item front) }
+        requires size { let t = table_of_node (node_of_tc (front_tc front)) in
+            place.len ≡ row_size t.image (front_item front) }
         requires sound { let node = node_of_tc (front_tc front) in
             cells_fault (table_of_node node) (roots_of node) (front_item front) place.at ≡ None }
         ensures row { row_parts result ≡ record { id = id; at = at; place = place } }
@@ -73,8 +74,10 @@ impl<'a> Row<'a> {
     // The value of its cell in a column, which is there.
     #[tactic(auto, unfolding(crate::specs::Values::cell_spans), using(crate::proofs::RowLemmas::body_room, crate::proofs::RowLemmas::cell_sound, crate::proofs::InfoLemmas::cell_inside, crate::proofs::TypedLemmas::typed_room, crate::proofs::TypedLemmas::typed_is))]
     fn value(&self, column: u64) -> Value<'a>
-        requires column { column + 8 ≤ length (table_of_node (node_of_tc (tc_of_row self.now))).image }
-        requires good { is_column (table_of_node (node_of_tc (tc_of_row self.now))).image (row_item self.now) column ≡ true }
+        requires column { let t = table_of_node (node_of_tc (tc_of_row self.now)) in
+            column + 8 ≤ length t.image }
+        requires good { let t = table_of_node (node_of_tc (tc_of_row self.now)) in
+            is_column t.image (row_item self.now) column ≡ true }
         requires present { let I = (table_of_node (node_of_tc (tc_of_row self.now))).image in
             present I (row_item self.now) (row_parts self.now).place.at column ≡ true }
         requires sound { let node = node_of_tc (tc_of_row self.now) in
@@ -82,7 +85,8 @@ impl<'a> Row<'a> {
             cell_fault (table_of_node node) (roots_of node) (row_item self.now) row column ≡ None }
         ensures { let node = node_of_tc (tc_of_row self.now) in
             let row = (row_parts self.now).place.at in
-            IsValue (image_of_node node) (cell_spans (table_of_node node) (roots_of node) row column) result }
+            let spans = cell_spans (table_of_node node) (roots_of node) row column in
+            IsValue (image_of_node node) spans result }
     {
         let image = self.front.image();
         let cell = Span {
@@ -102,7 +106,8 @@ impl<'a> Row<'a> {
     pub fn cell(&self, tag: u32) -> Option<Value<'a>>
         ensures { let node = node_of_tc (tc_of_row self.now) in
             let row = (row_parts self.now).place.at in
-            IsValueOf (image_of_node node) (tc_cell (table_of_node node) (roots_of node) row tag) result }
+            let found = tc_cell (table_of_node node) (roots_of node) row tag in
+            IsValueOf (image_of_node node) found result }
     {
         self.front.is_sound();
         let image = self.front.image();

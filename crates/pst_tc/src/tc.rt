@@ -41,7 +41,8 @@ impl<'a> Tc<'a> {
 
     /// What is known of every table context: it has no first fault.
     pub fn is_sound(&self)
-        ensures { let node = node_of_tc self.now in tc_fault (table_of_node node) (roots_of node) ≡ None }
+        ensures { let node = node_of_tc self.now in
+            tc_fault (table_of_node node) (roots_of node) ≡ None }
     {}
 
     /// The node whose data it is.
@@ -61,7 +62,8 @@ impl<'a> Tc<'a> {
     // TCINFO.
     #[tactic(auto, unfolding(crate::specs::Values::info_of))]
     pub(crate) fn info(&self) -> Span
-        ensures value { let node = node_of_tc self.now in result ≡ info_of (table_of_node node) (roots_of node) }
+        ensures value { let node = node_of_tc self.now in
+            result ≡ info_of (table_of_node node) (roots_of node) }
         ensures inside { IsInside (table_of_node (node_of_tc self.now)).image result }
         ensures sound { let node = node_of_tc self.now in
             tc_body_fault (table_of_node node) (roots_of node) result ≡ None }
@@ -95,7 +97,8 @@ impl<'a> Tc<'a> {
     /// The row with an identifier; None exactly where there is none. It is found as a record of the row index is.
     pub fn row(&self, id: u32) -> Option<Row<'a>>
         ensures value { let node = node_of_tc self.now in
-            option_map row_parts result ≡ first_with row_id_of id (tc_rows (table_of_node node) (roots_of node)) }
+            let rows = tc_rows (table_of_node node) (roots_of node) in
+            option_map row_parts result ≡ first_with row_id_of id rows }
         ensures tc { IfSome result (λ row. tc_of_row row ≡ self.now) }
     {
         let front = Front::of(*self);
