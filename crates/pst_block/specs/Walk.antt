@@ -1,6 +1,6 @@
 -- All blocks of a file, in the order of their keys: what is claimed once they are, or the first fault. The place, the claim
 -- and the trailer of one block come before the next block.
-use Rattle.std.specs.Prelude.{◌≡◌, ⊤, ℕ, ◌-◌, ◌/◌, ◌↔◌, List, [], ◌∷◌, length, map, Option, Some, None, Result, Ok, Err}
+use Rattle.std.specs.Prelude.{◌≡◌, ⊤, ℕ, ◌-◌, ◌/◌, ◌↔◌, List, [], ◌∷◌, length, map, Option, None, Result, Ok, Err}
 use Rattle.pst_bytes.specs.declared.span.Span.{Span}
 use Rattle.pst_fault.specs.declared.fault.Fault.{Fault}
 use Rattle.pst_fault.specs.First.{◌then◌}

@@ -15,8 +15,8 @@ use Rattle.pst_datatree.specs.declared.seen.Seen.{Seen}
 use Rattle.pst_datatree.specs.Bid.{is_internal, is_no_block}
 use Rattle.pst_datatree.specs.List.{btype_in, count_in, bid_in, is_block_list, has_level_two}
 use Rattle.pst_datatree.specs.Names.{IsInternal, NamesBlock, IsKeyOf, IsUnder, IsInTree}
-use Rattle.pst_datatree.specs.Data.{bad_tree, block_missing, fault_or, leaf_fault, xblock_fault, xxblock_fault, tree_fault}
-use Rattle.pst_datatree.specs.Seen.{has, holds, NamesKnown, IsClosed, IsKnown, Adds}
+use Rattle.pst_datatree.specs.Data.{bad_tree, block_missing, leaf_fault, xblock_fault, xxblock_fault, tree_fault}
+use Rattle.pst_datatree.specs.Seen.{has, holds, NamesKnown, IsKnown, Adds}
 use Rattle.pst_datatree.proofs.DataLemmas.{fault_or_none}
 use Rattle.pst_datatree.proofs.SeenLemmas.{same_key}
 

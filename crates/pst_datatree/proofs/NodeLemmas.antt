@@ -2,7 +2,7 @@
 use Rattle.std.proofs.Common.{◌≡◌, ℕ, zero, suc, Bool, true, false, Option, Some, None, refl, inl, inr}
 use Rattle.std.specs.Prelude.{option_map, if◌then◌else◌, nat_eq}
 use Rattle.pst_fault.specs.declared.fault.Fault.{Fault}
-use Rattle.pst_fault.specs.Fault.{at_node, no_memory}
+use Rattle.pst_fault.specs.Fault.{at_node}
 use Rattle.pst_fault.specs.First.{◌then◌, holds_or, first_below, IsFirst}
 use Rattle.pst_page.specs.declared.entry.BlockEntry.{BlockEntry}
 use Rattle.pst_block.specs.Table.{Table, entry_of, body_of}

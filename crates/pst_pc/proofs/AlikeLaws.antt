@@ -16,7 +16,7 @@ use Rattle.pst_value.specs.Alike.{Alike}
 use Rattle.pst_value.proofs.AlikeLaws.{heap_alike, value_alike, fault_alike}
 use Rattle.pst_pc.specs.Fault.{property_fault, untold_pc_fault, pc_fault}
 use Rattle.pst_pc.specs.Laws.{AlikePcLaw}
-use Rattle.pst_pc.specs.Values.{pc_client, pc_sizes, pc_records, record_place, kind_in, raw_in, Property, property_with, property_at, props_of}
+use Rattle.pst_pc.specs.Values.{pc_client, pc_sizes, pc_records, record_place, kind_in, raw_in, property_with, property_at, props_of}
 
 -- ---- the same function of each member of a list
 

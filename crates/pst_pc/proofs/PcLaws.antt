@@ -1,16 +1,16 @@
 -- The grammar of property contexts, and their first fault, say the same.
-use Rattle.std.proofs.Common.{◌≡◌, ℕ, List, [], ◌∷◌, map, Option, Some, None, refl, sym, ap, ◌∙◌, arith, ◌↔◌}
+use Rattle.std.proofs.Common.{◌≡◌, ℕ, List, [], ◌∷◌, map, Option, None, refl, ap, ◌↔◌}
 use Rattle.std.specs.Prelude.{option_map}
 use Rattle.std.proofs.lemmas.Bool.{eqb-true, eq-eqb}
 use Rattle.pst_bytes.specs.declared.span.Span.{Span}
 use Rattle.pst_fault.specs.declared.fault.Fault.{Fault}
-use Rattle.pst_fault.proofs.FirstLemmas.{then_none, none_then, both_none, holds_or_none, holds_or_true}
+use Rattle.pst_fault.proofs.FirstLemmas.{both_none, holds_or_none, holds_or_true}
 use Rattle.pst_block.specs.Table.{Table}
 use Rattle.pst_ndb.specs.Roots.{Roots}
 use Rattle.pst_fault.specs.Each.{first_of}
 use Rattle.pst_fault.proofs.EachLemmas.{of_none, none_of}
 use Rattle.pst_heap.specs.Values.{HeapData, client_of, user_root_of, user_root_place, heap_at}
-use Rattle.pst_heap.specs.Fault.{heap_fault, client_fault, told_in}
+use Rattle.pst_heap.specs.Fault.{client_fault, told_in}
 use Rattle.pst_heap.proofs.HeapLaws.{none_heap, heap_none}
 use Rattle.pst_bth.specs.Values.{bth_records, record_key}
 use Rattle.pst_bth.specs.Fault.{bth_fault}
@@ -20,7 +20,7 @@ use Rattle.pst_value.specs.Values.{value_spans}
 use Rattle.pst_value.proofs.ValueLaws.{value_law}
 use Rattle.pst_pc.specs.Fault.{property_fault, untold_pc_fault, pc_fault}
 use Rattle.pst_pc.specs.Values.{pc_client, pc_sizes, kind_in, raw_in, record_place, pc_records, id_of, property_at, props_of}
-use Rattle.pst_pc.specs.Grammar.{HasProperty, HasPc, IsPc}
+use Rattle.pst_pc.specs.Grammar.{HasProperty, IsPc}
 use Rattle.pst_pc.specs.Laws.{PcLaw, PcRecordsLaw, PcRiseLaw}
 use Rattle.pst_pc.proofs.PcLemmas.{facts}
 

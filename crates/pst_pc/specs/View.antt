@@ -4,7 +4,6 @@ use Rattle.pst_bytes.specs.declared.span.Span.{Span}
 use Rattle.pst_btree.specs.Entries.{first_with}
 use Rattle.pst_datatree.specs.Shown.{Shows, bytes_in}
 use Rattle.pst_ndb.specs.declared.node.Node.{Node}
-use Rattle.pst_ndb.specs.Roots.{Roots}
 use Rattle.pst_ndb.specs.Views.{image_of_node, table_of_node, roots_of}
 use Rattle.pst_bth.specs.Values.{record_key}
 use Rattle.pst_pc.specs.declared.pc.Pc.{Pc}

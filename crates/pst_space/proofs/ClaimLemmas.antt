@@ -1,6 +1,6 @@
 -- One unit after another: what the loops over units keep.
 use Rattle.std.proofs.Common.{◌≡◌, ℕ, suc, zero, ◌+◌, ◌-◌, ◌<◌, ◌≤◌, true, false, length, get_or, set, refl, ap, ◌∙◌, arith, length-set}
-use Rattle.pst_space.specs.Claimed.{Claimed, is_clear, filled, with_span}
+use Rattle.pst_space.specs.Claimed.{Claimed, is_clear, filled}
 
 pub clear_next : (marks : Claimed) (unit n i : ℕ) → i < n → get_or marks (unit + i) false ≡ false → is_clear marks (unit + i) (n - i) ≡ is_clear marks (unit + (i + 1)) (n - (i + 1))
 clear_next marks unit n i lt e =

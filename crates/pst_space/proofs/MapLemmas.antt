@@ -1,12 +1,12 @@
 -- The map pages of a file: they fit, and are apart.
-use Rattle.std.proofs.Common.{◌≡◌, ℕ, suc, zero, ◌+◌, ◌-◌, ◌*◌, ◌/◌, ◌%◌, ◌<◌, ◌≤◌, Bool, true, false, cond, eqb, List, [], ◌∷◌, ◌++◌, length, get_or, replicate, Option, Some, None, option_and_then, refl, sym, ap, ◌∙◌, arith, ◌⊎◌, inl, inr, min, add-one}
+use Rattle.std.proofs.Common.{◌≡◌, ℕ, suc, zero, ◌+◌, ◌-◌, ◌*◌, ◌/◌, ◌%◌, ◌<◌, ◌≤◌, Bool, true, false, cond, eqb, List, [], ◌∷◌, ◌++◌, length, replicate, Option, Some, None, option_and_then, refl, sym, ap, ◌∙◌, arith, inl, inr, add-one}
 use Rattle.std.proofs.lemmas.List.{length-replicate}
 use Rattle.std.proofs.lemmas.Bool.{cases_lt}
 use Rattle.pst_bytes.specs.declared.span.Span.{Span}
 use Rattle.pst_header.specs.declared.header.Header.{Header}
-use Rattle.pst_header.specs.Header.{end_of, amap_place, amap_count_of}
+use Rattle.pst_header.specs.Header.{amap_place, amap_count_of}
 use Rattle.pst_header.specs.Head.{IsLastMap}
-use Rattle.pst_space.specs.Claimed.{Claimed, first_unit, unit_count, unit_total, flag_of, is_clear, filled, with_span, with_spans, claim_of, claim_all, page_at, map_pages_at, map_pages_below, map_pages, nothing_claimed, maps_claimed, MapsFit, MapsLaw}
+use Rattle.pst_space.specs.Claimed.{Claimed, first_unit, unit_count, unit_total, flag_of, is_clear, with_span, with_spans, claim_of, claim_all, page_at, map_pages_at, map_pages_below, map_pages, nothing_claimed, maps_claimed, MapsFit, MapsLaw}
 use Rattle.pst_space.proofs.ClaimLemmas.{length_filled}
 use Rattle.pst_space.proofs.MarkLemmas.{filled_out, clear_beyond, unset}
 

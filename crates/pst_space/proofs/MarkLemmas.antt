@@ -1,9 +1,7 @@
 -- Filled flags: in any order, read again, and clear where nothing was filled.
-use Rattle.std.proofs.Common.{◌≡◌, ◌≢◌, ℕ, suc, zero, ◌+◌, ◌<◌, ◌≤◌, Bool, true, false, not, ◌&&◌, ◌||◌, List, [], ◌∷◌, length, get_or, set, replicate, refl, sym, ap, ◌∙◌, arith, ◌⊎◌, inl, inr, get_or-set_other, get_or-set_same, length-set}
-use Rattle.std.specs.Prelude.{nat_le, nat_lt}
-use Rattle.std.proofs.lemmas.Bool.{cases_lt, le-leb, lt-leb, lt-ltb, le-ltb}
+use Rattle.std.proofs.Common.{◌≡◌, ◌≢◌, ℕ, suc, zero, ◌+◌, ◌<◌, ◌≤◌, Bool, true, false, not, ◌&&◌, [], ◌∷◌, length, get_or, set, replicate, refl, ◌∙◌, arith, ◌⊎◌, inl, inr, get_or-set_other, get_or-set_same, length-set}
+use Rattle.std.proofs.lemmas.Bool.{cases_lt}
 use Rattle.pst_space.specs.Claimed.{Claimed, is_clear, filled}
-use Rattle.pst_space.proofs.ClaimLemmas.{length_filled}
 
 -- ---- reading what was filled
 

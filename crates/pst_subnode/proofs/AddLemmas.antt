@@ -1,5 +1,5 @@
 -- What a walk adds to what is known.
-use Rattle.std.proofs.Common.{◌≡◌, ℕ, zero, suc, ◌+◌, ◌<◌, Bool, true, false, List, [], ◌∷◌, length, Option, Some, None, refl, sym, ap, ◌∙◌, arith, ◌⊎◌, inl, inr}
+use Rattle.std.proofs.Common.{◌≡◌, ℕ, zero, suc, ◌+◌, ◌<◌, Bool, true, false, List, [], ◌∷◌, length, Option, Some, None, sym, ap, ◌∙◌, arith, ◌⊎◌, inl, inr}
 use Rattle.std.specs.Prelude.{cond, slice_index_or}
 use Rattle.std.specs.Ordering.{nat_cmp, eq_by_cmp}
 use Rattle.std.proofs.lemmas.Bool.{cases_lt}
@@ -7,7 +7,7 @@ use Rattle.std.proofs.lemmas.Bool.Decides.{nat_tests}
 use Rattle.std.specs.List.{Contains}
 use Rattle.pst_page.specs.declared.entry.BlockEntry.{BlockEntry}
 use Rattle.pst_block.specs.Block.{bid_key}
-use Rattle.pst_block.specs.Table.{Table, entry_of, body_of}
+use Rattle.pst_block.specs.Table.{Table, body_of}
 use Rattle.pst_datatree.specs.declared.seen.Seen.{Seen}
 use Rattle.pst_datatree.specs.Names.{IsInternal, IsInTree}
 use Rattle.pst_datatree.specs.Seen as trees
@@ -18,8 +18,8 @@ use Rattle.pst_subnode.specs.Body.{count_in, bid_in}
 use Rattle.pst_subnode.specs.List.{subs_of, list_fault}
 use Rattle.pst_subnode.specs.Heights.{state_at, state_of}
 use Rattle.pst_subnode.specs.Marks.{IsList, IsSiList, rank_of}
-use Rattle.pst_subnode.specs.Reach.{Names, Leads, goes_on, IsReached}
-use Rattle.pst_subnode.specs.Known.{HasKnownHeight, IsKnown, AreClosed, AreReached, Adds, IsKnownList, IsKnownEntry, AreLedTo, AreLedEach, AreKnownEach, AreLedBelow, AreKnownBelow}
+use Rattle.pst_subnode.specs.Reach.{Names, Leads, goes_on}
+use Rattle.pst_subnode.specs.Known.{HasKnownHeight, IsKnown, Adds, IsKnownList, IsKnownEntry, AreLedTo, AreLedEach, AreKnownEach, AreLedBelow}
 use Rattle.pst_subnode.proofs.MarkLemmas.{IsPut, IsSame, put_at, put_cases}
 use Rattle.pst_subnode.proofs.ReachLemmas.{names_same, tree_reached, list_block, slblock_names, siblock_names, slblock_only, siblock_only}
 

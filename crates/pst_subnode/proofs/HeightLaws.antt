@@ -1,10 +1,8 @@
 -- Heights and limits of subnode lists, and lists of the same key.
-use Rattle.std.proofs.Common.{◌≡◌, ℕ, zero, suc, ◌+◌, ◌-◌, ◌*◌, ◌/◌, ◌%◌, ◌<◌, ◌≤◌, max, Bool, true, false, List, [], ◌∷◌, length, Option, Some, None, refl, sym, ap, ◌∙◌, arith}
-use Rattle.std.specs.Prelude.{cond, nat_eq, slice_index_or}
+use Rattle.std.proofs.Common.{◌≡◌, ℕ, zero, suc, ◌-◌, ◌/◌, ◌<◌, ◌≤◌, max, Bool, true, false, List, [], ◌∷◌, length, Option, Some, None, refl, sym, ap, ◌∙◌, arith}
+use Rattle.std.specs.Prelude.{cond, slice_index_or}
 use Rattle.std.specs.List.{Contains}
-use Rattle.std.proofs.lemmas.Bool.Decides.{nat_tests}
 use Rattle.pst_fault.specs.declared.fault.Fault.{Fault}
-use Rattle.pst_fault.specs.First.{◌then◌}
 use Rattle.pst_fault.proofs.FirstLemmas.{none_then, then_none}
 use Rattle.pst_page.specs.Entry.{key_of}
 use Rattle.pst_page.specs.declared.entry.BlockEntry.{BlockEntry}
@@ -18,7 +16,7 @@ use Rattle.pst_subnode.specs.declared.sub.Sub.{Sub}
 use Rattle.pst_subnode.specs.List.{nid_of, bad_list, block_fault, list_fault, subs_of}
 use Rattle.pst_subnode.specs.Tree.{first_among, most_among, entry_fault, entry_height, nesting, sub_fault, sub_height}
 use Rattle.pst_subnode.specs.Laws.{BelowLaw, LowerLaw, HeightLaw, LimitLaw, NoHeightLaw, SameSubLaw}
-use Rattle.pst_subnode.proofs.SubLemmas.{sub_fault_none, sub_fault_below, sub_fault_list, sub_height_none, sub_height_suc}
+use Rattle.pst_subnode.proofs.SubLemmas.{sub_fault_none, sub_fault_below, sub_fault_list, sub_height_suc}
 use Rattle.pst_subnode.proofs.TreeLaws.{no_subs, has_within, has_agrees, entry_law, one_law}
 use Rattle.pst_subnode.proofs.MapLaws.{found_there, found_below}
 

@@ -1,5 +1,5 @@
 -- The SLBLOCKs of an SIBLOCK are lists of their own: what is known of one of them is known wherever it is named.
-use Rattle.std.proofs.Common.{◌≡◌, ℕ, zero, suc, ◌+◌, ◌-◌, ◌*◌, ◌<◌, ◌≤◌, max, Bool, true, false, List, [], ◌∷◌, ◌++◌, length, Option, Some, None, refl, sym, ap, ◌∙◌, arith, ◌⊎◌, inl, inr, append_assoc}
+use Rattle.std.proofs.Common.{◌≡◌, ℕ, zero, suc, ◌+◌, ◌-◌, ◌*◌, ◌<◌, ◌≤◌, max, Bool, true, false, List, [], ◌∷◌, ◌++◌, length, Option, Some, None, refl, sym, ap, ◌∙◌, arith}
 use Rattle.std.specs.Prelude.{cond, not, ◌&&◌, ◌||◌, map, nat_eq, if◌then◌else◌}
 use Rattle.std.specs.List.{list_any}
 use Rattle.std.proofs.lemmas.Bool.Decides.{nat_tests}
@@ -9,12 +9,12 @@ use Rattle.pst_fault.proofs.FirstLemmas.{then_none, none_then, none_below, holds
 use Rattle.pst_page.specs.declared.entry.BlockEntry.{BlockEntry}
 use Rattle.pst_block.specs.Table.{Table, entry_of, body_of}
 use Rattle.pst_datatree.specs.Bid.{is_internal, is_no_block}
-use Rattle.pst_datatree.specs.Data.{fault_or, block_missing}
+use Rattle.pst_datatree.specs.Data.{block_missing}
 use Rattle.pst_datatree.proofs.DataLemmas.{fault_or_none}
 use Rattle.pst_subnode.specs.declared.sub.Sub.{Sub}
-use Rattle.pst_subnode.specs.Body.{count_in, bid_in, is_slblock, is_siblock, has_level_one}
-use Rattle.pst_subnode.specs.List.{subs_at, slblock_subs, leaf_subs, siblock_subs, block_subs, subs_of, nid_of, are_distinct, bad_list, slblock_fault, leaf_fault, siblock_fault, shape_fault, block_fault, list_fault}
-use Rattle.pst_subnode.specs.Tree.{first_among, most_among, entry_fault, entry_height, nesting, sub_fault, sub_height}
+use Rattle.pst_subnode.specs.Body.{count_in, bid_in, is_siblock, has_level_one}
+use Rattle.pst_subnode.specs.List.{slblock_subs, leaf_subs, siblock_subs, block_subs, subs_of, nid_of, are_distinct, bad_list, slblock_fault, leaf_fault, siblock_fault, shape_fault, block_fault, list_fault}
+use Rattle.pst_subnode.specs.Tree.{first_among, most_among, entry_fault, entry_height, sub_fault, sub_height}
 use Rattle.pst_subnode.specs.Marks.{IsList, IsSiList, at_leaf, at_leaves, leaf_height, most_below, rank_of}
 use Rattle.pst_subnode.proofs.ListLaws.{level_zero}
 use Rattle.pst_subnode.proofs.SubLemmas.{sub_fault_list, sub_height_list}

@@ -1,6 +1,6 @@
 -- What is known of lists is true, and a list that is met while it is marked nests too deep.
-use Rattle.std.proofs.Common.{◌≡◌, ℕ, zero, suc, ◌+◌, ◌*◌, ◌<◌, ◌≤◌, Bool, true, false, List, [], ◌∷◌, Option, Some, None, Result, Ok, Err, refl, sym, ap, ◌∙◌, arith, ◌⊎◌, inl, inr}
-use Rattle.std.specs.Prelude.{cond, if◌then◌else◌, ◌/◌}
+use Rattle.std.proofs.Common.{◌≡◌, ℕ, zero, suc, ◌+◌, ◌*◌, ◌<◌, ◌≤◌, Bool, true, false, List, ◌∷◌, Option, Some, None, Result, Ok, Err, refl, sym, ap, ◌∙◌, arith, ◌⊎◌, inl, inr}
+use Rattle.std.specs.Prelude.{cond, if◌then◌else◌}
 use Rattle.std.specs.Ordering.{nat_cmp, eq_by_cmp}
 use Rattle.std.proofs.lemmas.Map.Lookups.{exact_unsigned}
 use Rattle.std.specs.List.{Contains}
@@ -25,13 +25,13 @@ use Rattle.pst_datatree.proofs.SeenLemmas.{same_key}
 use Rattle.pst_datatree.proofs.AddLemmas.{internal_same}
 use Rattle.pst_subnode.specs.declared.sub.Sub.{Sub}
 use Rattle.pst_subnode.specs.declared.heights.Heights.{Heights}
-use Rattle.pst_subnode.specs.List.{subs_of, list_fault, block_fault, bad_list, subs_at, block_subs}
-use Rattle.pst_subnode.specs.Tree.{first_among, most_among, entry_fault, entry_height, nesting, sub_fault, sub_height}
-use Rattle.pst_subnode.specs.Heights.{keys_of, state_at, state_of, HasHeight, AreTrue, NoMarks, NoNewMarks, IsTrueOf}
+use Rattle.pst_subnode.specs.List.{subs_of, list_fault, block_fault, bad_list}
+use Rattle.pst_subnode.specs.Tree.{first_among, entry_fault, nesting, sub_fault, sub_height}
+use Rattle.pst_subnode.specs.Heights.{keys_of, state_at, state_of, AreTrue, NoMarks, NoNewMarks, IsTrueOf}
 use Rattle.pst_subnode.specs.Marks.{at_list, at_entries, at_entry, at_leaf, at_leaves, IsSiList, rank_at, rank_of, LeadsTo, HaveCome}
 use Rattle.pst_subnode.specs.Body.{count_in, bid_in, has_level_one}
 use Rattle.pst_subnode.proofs.LeafLemmas.{si_fault}
-use Rattle.pst_subnode.proofs.SubLemmas.{sub_fault_below, sub_fault_list, among_more}
+use Rattle.pst_subnode.proofs.SubLemmas.{sub_fault_below, sub_fault_list}
 use Rattle.pst_subnode.proofs.HeightLemmas.{list_or_deep, depth_law, height_same, fits_yes, fits_no, entry_or_deep}
 
 -- ---- one state is changed

@@ -1,5 +1,5 @@
 -- What the blocks of subnode lists name.
-use Rattle.std.proofs.Common.{◌≡◌, ℕ, zero, suc, ◌+◌, ◌<◌, Bool, true, false, List, [], ◌∷◌, ◌++◌, length, Option, Some, None, refl, sym, ap, ◌∙◌, arith, ◌⊎◌, inl, inr}
+use Rattle.std.proofs.Common.{◌≡◌, ℕ, zero, suc, ◌<◌, Bool, true, false, List, [], ◌∷◌, length, Option, Some, None, refl, sym, ap, ◌∙◌, arith, ◌⊎◌, inl, inr}
 use Rattle.std.specs.Prelude.{cond, if◌then◌else◌, slice_index_or}
 use Rattle.std.specs.List.{Contains}
 use Rattle.std.proofs.lemmas.Bool.Decides.{nat_tests}
@@ -11,15 +11,14 @@ use Rattle.pst_page.specs.declared.entry.BlockEntry.{BlockEntry}
 use Rattle.pst_block.specs.Block.{bid_key}
 use Rattle.pst_block.specs.Table.{Table, entry_of, body_of}
 use Rattle.pst_datatree.specs.Bid.{is_internal, is_no_block}
-use Rattle.pst_datatree.specs.Data.{fault_or, block_missing}
-use Rattle.pst_datatree.specs.List as tree
-use Rattle.pst_datatree.specs.Names.{IsInternal, NamesBlock, IsInTree}
+use Rattle.pst_datatree.specs.Data.{block_missing}
+use Rattle.pst_datatree.specs.Names.{IsInternal, IsInTree}
 use Rattle.pst_datatree.proofs.DataLemmas.{fault_or_none}
 use Rattle.pst_datatree.proofs.AddLemmas.{is_internal_same, entry_key}
 use Rattle.pst_subnode.specs.declared.sub.Sub.{Sub}
 use Rattle.pst_subnode.specs.Body.{btype_in, count_in, bid_in, sub_in, sub_at, subs_in, is_slblock, is_siblock, has_level_one}
 use Rattle.pst_subnode.specs.List.{subs_of, slblock_subs, block_subs, slblock_fault, shape_fault, siblock_fault, block_fault, list_fault, bad_list}
-use Rattle.pst_subnode.specs.Tree.{nesting, sub_fault, sub_height}
+use Rattle.pst_subnode.specs.Tree.{nesting, sub_fault}
 use Rattle.pst_subnode.specs.Heights.{HasHeight}
 use Rattle.pst_subnode.specs.Marks.{IsList, IsSiList, rank_of}
 use Rattle.pst_subnode.specs.Reach.{NamesLeaf, NamesBelow, Names, of_tree, of_siblock, of_slblock, Leads, goes_on, IsReached}

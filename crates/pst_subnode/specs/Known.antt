@@ -1,5 +1,5 @@
 -- What is known of data trees and of subnode lists together, and what a walk adds to it.
-use Rattle.std.specs.Prelude.{◌≡◌, ℕ, ◌<◌, true, Option, Some, List, ◌⊎◌}
+use Rattle.std.specs.Prelude.{◌≡◌, ℕ, ◌<◌, true, Some, List, ◌⊎◌}
 use Rattle.std.specs.List.{Contains}
 use Rattle.pst_page.specs.declared.entry.BlockEntry.{BlockEntry}
 use Rattle.pst_block.specs.Table.{Table, body_of}

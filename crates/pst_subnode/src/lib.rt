@@ -19,8 +19,8 @@ pub use height::{LISTS, check_sub};
 pub use heights::Heights;
 pub use laws::{
     deeper_has_none, entries_are_lower, entries_have_none, found_has_none, found_nests_fewer,
-    height_is_enough, height_tells, limit_says_nothing, no_height_no_entries, sub_decides, sub_is_one,
-    subs_are_a_map, subs_are_of_key,
+    height_is_enough, height_tells, limit_says_nothing, no_height_no_entries, sub_decides,
+    sub_is_one, subs_are_a_map, subs_are_of_key,
 };
 pub use sub::Sub;
 

@@ -1,6 +1,5 @@
-use Rattle.std.proofs.Common.{Result, Ok, Err}
+use Rattle.std.proofs.Common.{Ok, Err}
 use Rattle.std.proofs.lemmas.Result.{err_from_is_err_and}
-use Rattle.pst_fault.specs.declared.fault.Fault.{Fault}
 use Rattle.pst_block.proofs.WalkLaws.{walked_good, only_if, some_if}
 use Rattle.pst_block.proofs.check.check_blocks.Goals as goal
 

@@ -1,5 +1,4 @@
-use Rattle.std.proofs.Common.{arith, ◌≡◌, ◌+◌, ◌≤◌, length, sym, ap}
-use Rattle.pst_datatree.specs.Slices.{slices_in}
+use Rattle.std.proofs.Common.{arith, ◌≡◌, ◌+◌, length, sym, ap}
 use Rattle.pst_datatree.proofs.SliceLemmas.{gathered, fewer_left}
 use Rattle.pst_datatree.proofs.number.gather.Goals as goal
 

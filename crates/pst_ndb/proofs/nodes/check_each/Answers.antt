@@ -1,4 +1,4 @@
-use Rattle.std.proofs.Common.{map, ap, rules}
+use Rattle.std.proofs.Common.{map, ap}
 use Rattle.std.proofs.lemmas.Result.{err_from_is_err_and}
 use Rattle.pst_fault.proofs.EachLemmas.{contains_here, contains_later}
 use Rattle.pst_btree.specs.Trees.{node_entries}

@@ -1,4 +1,4 @@
-use Rattle.std.proofs.Common.{◌≡◌, ap, sym, ◌∙◌, length, inr}
+use Rattle.std.proofs.Common.{◌≡◌, ap, ◌∙◌, length, inr}
 use Rattle.std.proofs.lemmas.Result.{err_from_is_err_and}
 use Rattle.pst_bytes.specs.Image.{bytes_of}
 use Rattle.pst_btree.specs.Trees.{block_view, node_view, block_entries}

@@ -1,20 +1,20 @@
-use Rattle.std.proofs.Common.{◌≡◌, ℕ, ◌+◌, ◌-◌, ◌<◌, max, true, false, Some, arith, rules, refl, ap, sym, ◌∙◌, inl, inr}
+use Rattle.std.proofs.Common.{◌≡◌, ℕ, ◌+◌, ◌-◌, ◌<◌, max, true, false, arith, rules, refl, ap, sym, ◌∙◌, inr}
 use Rattle.std.proofs.lemmas.Result.{err_from_is_err_and, IfOk-weaker}
 use Rattle.pst_datatree.proofs.AddLemmas.{none_internal}
 use Rattle.pst_block.specs.Blocks.{table_of}
-use Rattle.pst_fault.proofs.FirstLemmas.{is_first_then, is_first_after, is_first_at, first_more, then_none}
+use Rattle.pst_fault.proofs.FirstLemmas.{is_first_then, is_first_after, is_first_at, first_more}
 use Rattle.pst_block.specs.Table.{body_of}
 use Rattle.pst_subnode.specs.Body.{bid_in, has_level_one}
 use Rattle.pst_subnode.specs.Heights.{state_of}
-use Rattle.pst_subnode.specs.Marks.{HaveCome, at_list, at_leaf, at_leaves, leaf_height, most_below}
+use Rattle.pst_subnode.specs.Marks.{HaveCome, at_list, at_leaf, at_leaves, leaf_height}
 use Rattle.pst_subnode.proofs.LeafLemmas.{leaf_list, si_fault, si_tells, list_tells, most_start, most_next, most_least}
 use Rattle.pst_subnode.specs.List.{list_fault}
 use Rattle.pst_subnode.specs.Left.{subs_left}
-use Rattle.pst_subnode.specs.Tree.{first_among, most_among, entry_fault, entry_height, sub_fault, sub_height}
+use Rattle.pst_subnode.specs.Tree.{entry_fault, entry_height, sub_fault, sub_height}
 use Rattle.pst_fault.proofs.EachLemmas.{contains_here, contains_later}
 use Rattle.pst_subnode.proofs.AddLemmas.{adds_none, adds_alike, adds_first, adds_both, both_known, put_known, forgets, settles, list_adds, slblock_known, leaves_add, siblock_known, entries_done, adds_leaf, leaf_next, adds_entry, entry_next}
-use Rattle.pst_subnode.proofs.MarkLemmas.{rank_small, rank_none, lower_rank, settle_marks, past_entry, to_entry, to_leaf, to_leaves, same_place, begin_true, forget_true, put_cases, known_tells, settle_true}
-use Rattle.pst_subnode.proofs.SubLemmas.{sub_fault_below, sub_fault_list, sub_height_list, among_at, among_more, among_end, most_more, most_end}
+use Rattle.pst_subnode.proofs.MarkLemmas.{rank_small, rank_none, lower_rank, settle_marks, past_entry, to_entry, to_leaf, to_leaves, same_place, begin_true, forget_true, known_tells, settle_true}
+use Rattle.pst_subnode.proofs.SubLemmas.{sub_fault_below, sub_fault_list, among_at, among_more, among_end, most_more, most_end}
 use Rattle.pst_subnode.proofs.height.+sub.Goals as goal
 
 -- ---- a block identifier

@@ -1,5 +1,4 @@
 use Rattle.std.proofs.Common.{◌≡◌}
-use Rattle.pst_space.specs.Flags.{flags_from}
 use Rattle.pst_space.proofs.MapLemmas.{maps_below}
 use Rattle.pst_space.proofs.claims.Claims.new.Given as goal
 
