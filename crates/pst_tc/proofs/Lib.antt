@@ -5,3 +5,4 @@ pub mod TcLemmas
 pub mod TcLaws
 pub mod RowLemmas
 pub mod AlikeLaws
+pub mod BlockLemmas

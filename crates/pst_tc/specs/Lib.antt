@@ -9,3 +9,4 @@ pub mod Front
 pub mod Grid
 pub mod View
 pub mod Left
+pub mod Blocks

@@ -73,9 +73,15 @@ fn check_cells(heap: &Heap, info: Span, row: Span) -> Result<(), Fault>
     Ok(())
 }
 
-// The row of a record of the row index, and its cells.
+// The row of a record of the row index, and its cells. It answers the same matrix, that row asked for last.
 #[tactic(auto, unfolding(crate::specs::Fault::row_record_fault, crate::specs::Values::row_of_record))]
-fn check_row(heap: &Heap, info: Span, matrix: Matrix, id: u32, index: Span) -> Result<(), Fault>
+fn check_row<'a>(
+    heap: &Heap<'a>,
+    info: Span,
+    matrix: Matrix<'a>,
+    id: u32,
+    index: Span,
+) -> Result<Matrix<'a>, Fault>
     requires info { IsInside (data_of heap.now).image info }
     requires sound { info_fault (data_of heap.now).image info ≡ None }
     requires matrix { LiesIn (data_of heap.now).image matrix }
@@ -88,22 +94,27 @@ fn check_row(heap: &Heap, info: Span, matrix: Matrix, id: u32, index: Span) -> R
     ensures exact { let node = node_of heap.now in let r = roots_of node in
         let first = row_record_fault (table_of_node node) r info (id, index) in
         Checks result (option_map (told_in r) first) }
+    ensures lies { IfOk result (LiesIn (data_of heap.now).image) }
+    ensures same { (size n : ℕ) →
+        IfOk result (λ m. matrix_row m size n ≡ matrix_row matrix.entry size n) }
 {
     let image = heap.image();
     let size = size_of(image, info);
     let bad = Fault::at(Kind::Table, index.at - 4);
-    let Some(row) = row_of(image, matrix, size, image.number32(index.at)) else {
+    let (found, matrix) = row_of(image, matrix, size, image.number32(index.at));
+    let Some(row) = found else {
         return Err(told_of(&heap.node(), bad));
     };
     if image.number32(row.at) != id {
         return Err(told_of(&heap.node(), bad));
     }
-    check_cells(heap, info, row)
+    check_cells(heap, info, row)?;
+    Ok(matrix)
 }
 
 // The rows of all records of the row index, in order.
 #[tactic(auto, using(crate::proofs::TcLemmas::record_next, crate::proofs::TcLemmas::records_done))]
-fn check_rows(heap: &Heap, info: Span, matrix: Matrix, bth: &Bth) -> Result<(), Fault>
+fn check_rows<'a>(heap: &Heap<'a>, info: Span, matrix: Matrix<'a>, bth: &Bth) -> Result<(), Fault>
     requires info { IsInside (data_of heap.now).image info }
     requires sound { info_fault (data_of heap.now).image info ≡ None }
     requires matrix { LiesIn (data_of heap.now).image matrix }
@@ -116,9 +127,10 @@ fn check_rows(heap: &Heap, info: Span, matrix: Matrix, bth: &Bth) -> Result<(), 
         let first = first_of (row_record_fault (table_of_node node) r info) (records_of bth.now) in
         Checks result (option_map (told_in r) first) }
 {
+    let mut matrix = matrix;
     let mut rest = bth.records();
     while let Some(taken) = rest.next() {
-        check_row(heap, info, matrix, taken.0, taken.1)?;
+        matrix = check_row(heap, info, matrix, taken.0, taken.1)?;
     }
     Ok(())
 }

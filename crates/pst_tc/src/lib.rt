@@ -13,6 +13,7 @@
 //! ```
 #![tactic(auto)]
 
+mod blocks;
 mod cell;
 mod check;
 mod columns;

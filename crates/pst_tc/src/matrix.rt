@@ -9,16 +9,16 @@ ghost use Rattle.pst_value.specs.Values.{hnid_spans};
 ghost use Rattle.pst_tc.specs.Values.{row_of_span as span_row, row_of_matrix as named_row};
 ghost use Rattle.pst_tc.specs.Matrix.{matrix_row, LiesIn};
 
+use crate::blocks::Blocks;
 use pst_bytes::{Image, Span};
 use pst_heap::Heap;
-use pst_ndb::Node;
 
 // Where the rows of a table lie: nowhere, in an item of the heap, or in the blocks of a subnode.
 #[derive(Clone, Copy)]
 pub(crate) enum Matrix<'a> {
     Nothing,
     Item(Span),
-    Blocks(Node<'a>),
+    Blocks(Blocks<'a>),
 }
 
 // The row with a number among those of so many bytes in a span.
@@ -62,27 +62,36 @@ pub(crate) fn open_matrix<'a>(heap: &Heap<'a>, hnid: u32) -> Option<Matrix<'a>>
     let Some(sub) = heap.node().sub(hnid) else {
         return None;
     };
-    Some(Matrix::Blocks(sub))
+    Some(Matrix::Blocks(Blocks::of(sub)))
 }
 
-/// The row with a number.
-pub(crate) fn row_of<'a>(image: Image<'a>, matrix: Matrix<'a>, size: u16, n: u32) -> Option<Span>
-    requires inside { LiesIn (bytes_of image) matrix }
+/// The row with a number; and the same matrix, that row asked for last.
+pub(crate) fn row_of<'a>(
+    image: Image<'a>,
+    matrix: Matrix<'a>,
+    size: u16,
+    n: u32,
+) -> (Option<Span>, Matrix<'a>)
+    requires lies { LiesIn (bytes_of image) matrix }
     requires least { 4 ≤ size }
     requires most { size ≤ 8176 }
-    ensures value { result ≡ matrix_row matrix.entry size n }
-    ensures inside { IfSome result (IsInside (bytes_of image.entry)) }
-    ensures size { IfSome result (λ s. s.len ≡ size) }
+    ensures value { result.0 ≡ matrix_row matrix.entry size n }
+    ensures inside { IfSome result.0 (IsInside (bytes_of image.entry)) }
+    ensures size { IfSome result.0 (λ s. s.len ≡ size) }
+    ensures lies { LiesIn (bytes_of image.entry) result.1 }
+    ensures same { (k m : ℕ) → matrix_row result.1 k m ≡ matrix_row matrix.entry k m }
 {
     match matrix {
-        Matrix::Nothing => None,
-        Matrix::Item(item) => row_of_span(image, item, size, n),
-        Matrix::Blocks(node) => {
+        Matrix::Nothing => (None, matrix),
+        Matrix::Item(item) => (row_of_span(image, item, size, n), matrix),
+        Matrix::Blocks(blocks) => {
             let per = u32::from(8176 / size);
-            match node.leaf(u64::from(n / per)) {
+            let (block, blocks) = blocks.block(u64::from(n / per));
+            let row = match block {
                 Some(block) => row_of_span(image, block, size, n % per),
                 None => None,
-            }
+            };
+            (row, Matrix::Blocks(blocks))
         }
     }
 }

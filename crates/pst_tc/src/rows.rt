@@ -16,8 +16,8 @@ use crate::grid::Grid;
 use crate::row::Row;
 use pst_bth::Records;
 
-/// The rows of a table context that are left, identifiers rising. No memory is taken. The row matrix is kept, so that each row
-/// takes one look-up of its block.
+/// The rows of a table context that are left, identifiers rising. No memory is taken. The row matrix is kept, and
+/// the block of the last row: rows in order take one step each.
 #[derive(Clone, Copy)]
 pub struct Rows<'a> {
     grid: Grid<'a>,
@@ -60,14 +60,8 @@ impl<'a> Rows<'a> {
         let Some((id, number)) = rest.next() else {
             return None;
         };
-        let row = self.grid.row(id, number);
-        Some((
-            row,
-            Rows {
-                grid: self.grid,
-                rest,
-            },
-        ))
+        let (row, grid) = self.grid.row(id, number);
+        Some((row, Rows { grid, rest }))
     }
 }
 

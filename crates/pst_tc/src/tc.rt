@@ -106,6 +106,6 @@ impl<'a> Tc<'a> {
         let Some(number) = front.index().find(id) else {
             return None;
         };
-        Some(front.grid().row(id, number))
+        Some(front.grid().row(id, number).0)
     }
 }

@@ -28,5 +28,5 @@ returns-clause-value c =
     let t = table_of_node c.args.self.now.node in
     let r = roots_of c.args.self.now.node in
     let found : Some c.in-Some.number ≡ option_map record_span (first_with record_key c.args.id (tc_records t r (info_of t r))) = rw (c.index.ensures.records, c.is_sound.ensures.is, c.of-front.ensures) at c.in-Some.ensures.value in
-    let row : row_parts c.row.result ≡ row_parts_at t r (c.args.id, c.in-Some.number) = rw (c.grid.ensures, c.of-front.ensures) at c.row.ensures.row in
+    let row : row_parts c.row.result.0 ≡ row_parts_at t r (c.args.id, c.in-Some.number) = rw (c.grid.ensures, c.of-front.ensures) at c.row.ensures.row in
     ap Some row ∙ sym (found_row t r c.args.id c.in-Some.number found)

@@ -1,0 +1,95 @@
+//! The blocks of a row matrix, gone through.
+
+ghost use Rattle.std.specs.Prelude.{◌≡◌, slice_get, drop};
+ghost use Rattle.pst_ndb.specs.Views.{table_of_node, data_bid_of};
+ghost use Rattle.pst_datatree.specs.Data.{data_spans};
+ghost use Rattle.pst_datatree.specs.Left.{spans_left};
+
+use pst_bytes::Span;
+use pst_datatree::Pieces;
+use pst_ndb::Node;
+
+/// The blocks of a subnode: the one that was asked for last, and those that were not come to yet. Blocks that are asked for in
+/// order, each as often as one likes, take one step each; any other is looked up.
+#[derive(Clone, Copy)]
+pub(crate) struct Blocks<'a> {
+    node: Node<'a>,
+    // The number of the block that was asked for last, and where it lies; None behind the last one.
+    number: u64,
+    block: Option<Span>,
+    // The number of the first block that was not come to, and the blocks from it on.
+    next: u64,
+    rest: Pieces<'a>,
+    ghost found: { block ≡ slice_get (data_spans (table_of_node node) (data_bid_of node)) number },
+    ghost left: { spans_left rest ≡ drop next (data_spans (table_of_node node) (data_bid_of node)) },
+}
+
+impl<'a> Blocks<'a> {
+    ghost use Rattle.std.specs.Prelude.{◌≡◌, ◌^◌, ◌<◌, IfSome, slice_get};
+    ghost use Rattle.pst_bytes.specs.Image.{IsInside};
+    ghost use Rattle.pst_ndb.specs.Views.{table_of_node};
+    ghost use Rattle.pst_tc.specs.Blocks.{blocks_node, blocks_in};
+
+    /// All blocks of a subnode.
+    pub(crate) fn of(node: Node<'a>) -> Blocks<'a>
+        ensures { blocks_node result ≡ node.entry }
+    {
+        let mut rest = node.spans();
+        let block = rest.next_span();
+        Blocks {
+            node,
+            number: 0,
+            block,
+            next: 1,
+            rest,
+        }
+    }
+
+    // The first block that was not come to.
+    fn step(self) -> (Option<Span>, Blocks<'a>)
+        requires { self.next < 2 ^ 32 }
+        ensures value { result.0 ≡ slice_get (blocks_in self.entry) self.entry.next }
+        ensures same { blocks_node result.1 ≡ blocks_node self.entry }
+    {
+        let mut rest = self.rest;
+        let block = rest.next_span();
+        (
+            block,
+            Blocks {
+                node: self.node,
+                number: self.next,
+                block,
+                next: self.next + 1,
+                rest,
+            },
+        )
+    }
+
+    /// The block with a number; None exactly where there is none. And the same blocks, that one asked for last.
+    #[tactic(auto, using(crate::proofs::BlockLemmas::got_inside))]
+    pub(crate) fn block(self, number: u64) -> (Option<Span>, Blocks<'a>)
+        requires { number < 2 ^ 32 }
+        ensures value { result.0 ≡ slice_get (blocks_in self.entry) number }
+        ensures inside { IfSome result.0 (IsInside (table_of_node (blocks_node self.entry)).image) }
+        ensures same { blocks_node result.1 ≡ blocks_node self.entry }
+    {
+        self.node.is_sound();
+        if number == self.number {
+            return (self.block, self);
+        }
+        if number == self.next {
+            return self.step();
+        }
+        let block = self.node.leaf(number);
+        (
+            block,
+            Blocks {
+                node: self.node,
+                number,
+                block,
+                next: self.next,
+                rest: self.rest,
+            },
+        )
+    }
+}
