@@ -14,6 +14,9 @@ use Rattle.pst_ndb.specs.declared.each.Nodes.{Nodes}
 use Rattle.pst_ndb.specs.Node.{NodeParts, entry_parts}
 use Rattle.pst_ndb.specs.Roots.{Roots, all_roots}
 use Rattle.pst_subnode.specs.declared.height.TheConstants.{LISTS}
+use Rattle.pst_subnode.specs.declared.index.SubIndex.{SubIndex}
+use Rattle.pst_subnode.specs.Index.{IsIndexOf}
+use Rattle.pst_subnode.specs.List.{subs_of}
 use Rattle.pst_subnode.specs.Tree.{sub_height}
 
 -- ---- of a node database: the file, its header, its blocks, and the entries of its nodes
@@ -61,6 +64,10 @@ roots_of node = record { top = top_of node; bid_data = data_bid_of node; bid_sub
 -- how many lists nest below it
 abbrev pub height_of : Node → ℕ
 height_of node = sub_height (table_of_node node) LISTS (sub_bid_of node)
+
+-- an index is one of its subnodes
+abbrev pub IsIndexedBy : Node → SubIndex → Type 0
+IsIndexedBy node index = IsIndexOf index (subs_of (table_of_node node) (sub_bid_of node))
 
 -- ---- the nodes that an iterator has left: of which file and blocks, and which
 

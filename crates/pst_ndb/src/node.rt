@@ -10,7 +10,9 @@ use pst_block::Blocks;
 use pst_btree::NodeEntry;
 use pst_bytes::{Image, Span};
 use pst_datatree::{Pieces, Value, data_lies_inside, leaf, leaf_count, spans, value};
-use pst_subnode::{Sub, Subs, find_sub, subs};
+use pst_fault::Fault;
+use pst_subnode::{Sub, SubIndex, Subs, find_sub_by, subs};
+use std::alloc::Global;
 
 /// A node of a checked file, or a subnode of one: its data and its subnodes are known to be without fault.
 #[derive(Clone, Copy)]
@@ -25,8 +27,9 @@ pub struct Node<'a> {
 }
 
 impl<'a> Node<'a> {
-    ghost use Rattle.std.specs.Prelude.{◌≡◌, ◌-◌, ◌<◌, ◌≤◌, None, IfSome, length, slice_get, option_map};
+    ghost use Rattle.std.specs.Prelude.{◌≡◌, ◌-◌, ◌<◌, ◌≤◌, None, IfSome, IfOk, IfErr, length, slice_get, option_map};
     ghost use Rattle.std.specs.List.{Contains};
+    ghost use Rattle.pst_fault.specs.Fault.{no_memory};
     ghost use Rattle.pst_bytes.specs.Image.{bytes_of, IsInside};
     ghost use Rattle.pst_block.specs.Blocks.{table_of, image_of};
     ghost use Rattle.pst_datatree.specs.Data.{data_spans, data_fault, size_of};
@@ -35,13 +38,14 @@ impl<'a> Node<'a> {
     ghost use Rattle.pst_datatree.specs.Shown.{Shows, bytes_in, size_in, place_in};
     ghost use Rattle.pst_btree.specs.Entries.{first_with};
     ghost use Rattle.pst_subnode.specs.declared.height.TheConstants.{LISTS};
+    ghost use Rattle.pst_subnode.specs.Index.{is_held, is_long};
     ghost use Rattle.pst_subnode.specs.List.{nid_of as sub_nid, subs_of};
     ghost use Rattle.pst_subnode.specs.Left.{subs_left};
     ghost use Rattle.pst_subnode.specs.Tree.{sub_fault};
     ghost use Rattle.pst_ndb.specs.Fault.{node_fault};
     ghost use Rattle.pst_ndb.specs.Node.{entry_parts, sub_parts};
     ghost use Rattle.pst_ndb.specs.Roots.{subnode_of, sub_roots};
-    ghost use Rattle.pst_ndb.specs.Views.{image_of_node, table_of_node, top_of, nid_of, data_bid_of, sub_bid_of, parts_of, roots_of, height_of};
+    ghost use Rattle.pst_ndb.specs.Views.{image_of_node, table_of_node, top_of, nid_of, data_bid_of, sub_bid_of, parts_of, roots_of, height_of, IsIndexedBy};
 
     /// The node of an entry of the node B-tree.
     #[tactic(auto, using(crate::proofs::NodeLemmas::none_data, crate::proofs::NodeLemmas::none_subs))]
@@ -147,8 +151,37 @@ impl<'a> Node<'a> {
         subs(&self.blocks, self.bid_sub)
     }
 
-    /// The subnode with an identifier; None exactly where the list has none. It is reached from where this node was.
+    /// An index of its subnodes, for as many look-ups by `sub_by` as there are: of n subnodes it is made in about n log n steps.
+    /// Where their list is one SLBLOCK it holds nothing, and takes no memory. NoMemory, if memory runs out.
+    pub fn index(&self, alloc: Global) -> Result<SubIndex, Fault>
+        ensures index { IfOk result (IsIndexedBy self.now) }
+        ensures held { let t = table_of_node self.now in
+            IfOk result (λ i. is_held i ≡ is_long t (sub_bid_of self.now)) }
+        ensures memory { IfErr result (λ f. f ≡ no_memory) }
+    {
+        SubIndex::of(alloc, &self.blocks, self.bid_sub)
+    }
+
+    /// The subnode with an identifier, as `sub` gives it, found by an index of the subnodes of this node, or of one whose list is
+    /// the same.
     #[tactic(auto, using(pst_subnode::proofs::HeightLaws::found_entry, crate::proofs::NodeLemmas::first_keyed), unfolding(crate::specs::Roots::subnode_of))]
+    pub fn sub_by(&self, index: &SubIndex, nid: u32) -> Option<Node<'a>>
+        requires { IsIndexedBy self.now index.now }
+        ensures value { option_map parts_of result ≡ option_map (sub_parts (parts_of self.now)) (first_with sub_nid nid (subs_of (table_of_node self.now) (sub_bid_of self.now))) }
+        ensures roots { option_map roots_of result ≡ subnode_of (table_of_node self.now) (roots_of self.now) nid }
+        ensures image { IfSome result (λ n. image_of_node n ≡ image_of_node self.now) }
+        ensures table { IfSome result (λ n. table_of_node n ≡ table_of_node self.now) }
+        ensures top { IfSome result (λ n. top_of n ≡ top_of self.now) }
+        ensures nid { IfSome result (λ n. nid_of n ≡ nid) }
+        // Its own subnodes nest one list fewer at least.
+        ensures lower { IfSome result (λ n. height_of n < height_of self.now) }
+        ensures below { IfSome result (λ n. sub_fault (table_of_node n) (LISTS - 1) (sub_bid_of n) ≡ None) }
+    {
+        let found = find_sub_by(&self.blocks, self.bid_sub, index, nid)?;
+        Some(self.child(found))
+    }
+
+    /// The subnode with an identifier; None exactly where the list has none. It is reached from where this node was.
     pub fn sub(&self, nid: u32) -> Option<Node<'a>>
         ensures value { option_map parts_of result ≡ option_map (sub_parts (parts_of self.now)) (first_with sub_nid nid (subs_of (table_of_node self.now) (sub_bid_of self.now))) }
         ensures roots { option_map roots_of result ≡ subnode_of (table_of_node self.now) (roots_of self.now) nid }
@@ -160,8 +193,7 @@ impl<'a> Node<'a> {
         ensures lower { IfSome result (λ n. height_of n < height_of self.now) }
         ensures below { IfSome result (λ n. sub_fault (table_of_node n) (LISTS - 1) (sub_bid_of n) ≡ None) }
     {
-        let found = find_sub(&self.blocks, self.bid_sub, nid)?;
-        Some(self.child(found))
+        self.sub_by(&SubIndex::none(), nid)
     }
 
     /// The subnode of an entry of its list.

@@ -8,6 +8,7 @@ pub mod TreeLaws
 pub mod MapLaws
 pub mod HeightLaws
 pub mod GuessLemmas
+pub mod IndexLemmas
 pub mod ScanLemmas
 pub mod HeightLemmas
 pub mod MarkLemmas

@@ -2,6 +2,7 @@ pub mod Body
 pub mod List
 pub mod Tree
 pub mod Left
+pub mod Index
 pub mod Heights
 pub mod Marks
 pub mod Reach

@@ -9,6 +9,7 @@ mod find;
 mod guess;
 mod height;
 mod heights;
+mod index;
 mod laws;
 mod scan;
 mod sub;
@@ -17,6 +18,7 @@ pub use entries::Subs;
 pub use find::{find_sub, subs};
 pub use height::{LISTS, check_sub};
 pub use heights::Heights;
+pub use index::{SubIndex, find_sub_by};
 pub use laws::{
     deeper_has_none, entries_are_lower, entries_have_none, found_has_none, found_nests_fewer,
     height_is_enough, height_tells, limit_says_nothing, no_height_no_entries, sub_decides,

@@ -231,3 +231,42 @@ fn subnodes_are_found(rt: HostRuntime) -> Result<(), Fail> {
     assert!(rt; deep.sub(0xa1).is_none());
     Ok(())
 }
+
+const SIBLOCK_OF_TWO: &[u8] = &[2, 1, 2, 0, 0, 0, 0, 0];
+
+// Two nodes with the same subnodes, identifiers falling: in two SLBLOCKs, and in one.
+#[test]
+fn subnodes_by_an_index(rt: HostRuntime) -> Result<(), Fail> {
+    let first = naming(rt.alloc(), LIST_OF_ONE, &[0x81, 0, 6])?;
+    let last = naming(rt.alloc(), LIST_OF_ONE, &[0x61, 4, 0])?;
+    let long = naming(rt.alloc(), SIBLOCK_OF_TWO, &[0x81, 10, 0x61, 14])?;
+    let short = naming(rt.alloc(), LIST_OF_TWO, &[0x81, 0, 6, 0x61, 4, 0])?;
+    let below = naming(rt.alloc(), LIST_OF_ONE, &[0xa1, 4, 0])?;
+    let blocks: [(u64, &[u8]); 6] = [
+        (4, &[1, 2, 3]),
+        (6, &below),
+        (10, &first),
+        (14, &last),
+        (18, &long),
+        (22, &short),
+    ];
+    let image = store(rt.alloc(), &blocks, &[(0x21, 0, 18), (0x41, 0, 22)])?;
+    let Ok(checked) = check_ndb(rt.alloc(), Image::new(&image)) else {
+        panic!(rt; "refused");
+    };
+    for top in [0x21, 0x41] {
+        let node = checked.ndb.node(top).ok_or("no node")?;
+        let Ok(index) = node.index(rt.alloc()) else {
+            panic!(rt; "no memory");
+        };
+        for (nid, bid_data, bid_sub) in [(0x61, 4, 0), (0x81, 0, 6)] {
+            let found = node.sub_by(&index, nid).ok_or("not found")?;
+            assert_eq!(rt; (found.nid(), found.top()), (nid, top));
+            assert_eq!(rt; (found.bid_data(), found.bid_sub()), (bid_data, bid_sub));
+        }
+        for nid in [0, 0x62, 0xa1] {
+            assert!(rt; node.sub_by(&index, nid).is_none());
+        }
+    }
+    Ok(())
+}

@@ -1,0 +1,35 @@
+-- An index of a subnode list: of which list it is.
+use Rattle.std.specs.Prelude.{◌≡◌, ℕ, ⊤, Bool, false, Option, Some, None, is_some, List}
+use Rattle.std.specs.Ordering.{nat_cmp}
+use Rattle.std.specs.BTreeMap.{BTreeMap, get}
+use Rattle.pst_page.specs.declared.entry.BlockEntry.{BlockEntry}
+use Rattle.pst_block.specs.Table.{Table, entry_of, body_of}
+use Rattle.pst_btree.specs.Entries.{first_with}
+use Rattle.pst_subnode.specs.declared.sub.Sub.{Sub}
+use Rattle.pst_subnode.specs.declared.index.SubIndex.{SubIndex}
+use Rattle.pst_subnode.specs.Body.{has_level_one}
+use Rattle.pst_subnode.specs.List.{nid_of}
+
+-- a list is an SIBLOCK's, and so may be long
+abbrev has_siblock : Table → Option BlockEntry → Bool
+has_siblock t None = false
+has_siblock t (Some e) = has_level_one (body_of t e)
+
+unfoldable pub is_long : Table → ℕ → Bool
+is_long t bid = has_siblock t (entry_of t bid)
+
+-- an index holds the entries of a list, and finds each without it
+unfoldable pub is_held : SubIndex → Bool
+is_held index = is_some index.entries
+
+-- a map has the first of these entries with each nid, and none where there is none
+abbrev pub HasFirst : BTreeMap ℕ Sub → List Sub → Type 0
+HasFirst entries subs = (nid : ℕ) → get nat_cmp entries nid ≡ first_with nid_of nid subs
+
+abbrev pub HoldsFirst : Option (BTreeMap ℕ Sub) → List Sub → Type 0
+HoldsFirst None subs = ⊤
+HoldsFirst (Some entries) subs = HasFirst entries subs
+
+-- It is an index of a list with these entries. One that holds nothing is of every list.
+unfoldable pub IsIndexOf : SubIndex → List Sub → Type 0
+IsIndexOf index subs = HoldsFirst index.entries subs

@@ -1,0 +1,102 @@
+//! An index of a subnode list, made with memory by whoever looks up many of its entries.
+
+ghost use Rattle.std.specs.Prelude.{◌≡◌, ℕ, IfOk, IfErr, None};
+ghost use Rattle.pst_fault.specs.Fault.{no_memory};
+ghost use Rattle.pst_block.specs.Blocks.{table_of};
+ghost use Rattle.pst_btree.specs.Entries.{first_with};
+ghost use Rattle.pst_subnode.specs.declared.height.TheConstants.{LISTS};
+ghost use Rattle.pst_subnode.specs.List.{nid_of, subs_of};
+ghost use Rattle.pst_subnode.specs.Left.{subs_left};
+ghost use Rattle.pst_subnode.specs.Tree.{sub_fault};
+ghost use Rattle.pst_subnode.specs.Index.{HasFirst, IsIndexOf, is_long};
+
+use crate::body::{body_in, has_level_one};
+use crate::entries::Subs;
+use crate::find::find_sub;
+use crate::sub::Sub;
+use pst_block::Blocks;
+use pst_fault::Fault;
+use std::alloc::Global;
+use std::collections::BTreeMap;
+
+// The entries by their identifiers; where several have one, the first of them.
+fn entries_by_nid(alloc: Global, subs: Subs) -> Result<BTreeMap<u32, Sub>, Fault>
+    ensures value { IfOk result (λ m. HasFirst m (subs_left subs.entry)) }
+    ensures memory { IfErr result (λ f. f ≡ no_memory) }
+{
+    let mut entries = BTreeMap::new(alloc);
+    let mut rest = subs;
+    while let Some(sub) = rest.next() {
+        if !entries.contains_key(&sub.nid) {
+            let _new = entries.insert(sub.nid, sub)?;
+        }
+    }
+    Ok(entries)
+}
+
+// Whether the list of a block identifier has an SIBLOCK, and so may have more entries than one SLBLOCK has.
+#[tactic(auto, unfolding(crate::specs::Index::is_long))]
+fn may_be_long(blocks: &Blocks, bid: u64) -> bool
+    ensures { result ≡ is_long (table_of blocks.now) bid }
+{
+    match blocks.entry(bid) {
+        Some(entry) => has_level_one(body_in(blocks, entry)),
+        None => false,
+    }
+}
+
+/// An index of one subnode list: its entries by their identifiers, in whatever order they stand there. It may hold none of them,
+/// and then they are looked up in the list itself.
+#[derive(Drop)]
+pub struct SubIndex {
+    pub(crate) entries: Option<BTreeMap<u32, Sub>>,
+}
+
+impl SubIndex {
+    ghost use Rattle.std.specs.Prelude.{◌≡◌, false, IfOk, IfErr, List};
+    ghost use Rattle.pst_fault.specs.Fault.{no_memory};
+    ghost use Rattle.pst_block.specs.Blocks.{table_of};
+    ghost use Rattle.pst_subnode.specs.declared.sub.Sub.{Sub};
+    ghost use Rattle.pst_subnode.specs.List.{subs_of};
+    ghost use Rattle.pst_subnode.specs.Index.{IsIndexOf, is_held, is_long};
+
+    /// The index that holds nothing, which is one of every list. No memory is taken.
+    #[tactic(auto, unfolding(crate::specs::Index::IsIndexOf, crate::specs::Index::is_held))]
+    pub fn none() -> SubIndex
+        ensures index { (subs : List Sub) → IsIndexOf result subs }
+        ensures held { is_held result ≡ false }
+    {
+        SubIndex { entries: None }
+    }
+
+    /// An index of the list of a block identifier. Of a list in one SLBLOCK, which has 340 entries at most, it holds nothing, and
+    /// no memory is taken. Of any other it holds all n entries, in about n log n steps. NoMemory, if memory runs out.
+    #[tactic(auto, unfolding(crate::specs::Index::IsIndexOf, crate::specs::Index::is_held))]
+    pub fn of(alloc: Global, blocks: &Blocks, bid: u64) -> Result<SubIndex, Fault>
+        ensures index { IfOk result (λ i. IsIndexOf i (subs_of (table_of blocks.now) bid)) }
+        ensures held { IfOk result (λ i. is_held i ≡ is_long (table_of blocks.now) bid) }
+        ensures memory { IfErr result (λ f. f ≡ no_memory) }
+    {
+        if !may_be_long(blocks, bid) {
+            return Ok(SubIndex::none());
+        }
+        let entries = entries_by_nid(alloc, Subs::of_bid(blocks, bid))?;
+        Ok(SubIndex {
+            entries: Some(entries),
+        })
+    }
+}
+
+/// The entry of a subnode in the list of a block identifier, which has no fault and this index. Of a list of n entries it takes
+/// about log n steps, whether it has such an entry or not; where the index holds nothing, as many as `find_sub`.
+#[tactic(auto, unfolding(crate::specs::Index::IsIndexOf))]
+pub fn find_sub_by(blocks: &Blocks, bid: u64, index: &SubIndex, nid: u32) -> Option<Sub>
+    requires sound { sub_fault (table_of blocks.now) LISTS bid ≡ None }
+    requires index { IsIndexOf index.now (subs_of (table_of blocks.now) bid) }
+    ensures { result ≡ first_with nid_of nid (subs_of (table_of blocks.now) bid) }
+{
+    match &index.entries {
+        Some(entries) => entries.get(&nid).copied(),
+        None => find_sub(blocks, bid, nid),
+    }
+}
