@@ -4,7 +4,7 @@ ghost use Rattle.std.specs.Prelude.{◌≡◌, ◌≤◌, IfOk, IsOk, OnOk, None
 ghost use Rattle.pst_bytes.specs.Image.{IsInside};
 ghost use Rattle.pst_fault.specs.Each.{first_of};
 ghost use Rattle.pst_fault.specs.First.{Checks};
-ghost use Rattle.pst_ndb.specs.Views.{table_of_node, roots_of};
+ghost use Rattle.pst_ndb.specs.Views.{table_of_node, roots_of, IsIndexedBy};
 ghost use Rattle.pst_heap.specs.Fault.{told_in};
 ghost use Rattle.pst_heap.specs.View.{node_of, data_of};
 ghost use Rattle.pst_bth.specs.View.{heap_of, sizes_in, records_of};
@@ -19,11 +19,13 @@ use pst_bytes::Span;
 use pst_fault::Fault;
 use pst_heap::{Heap, check_client, check_heap};
 use pst_ndb::Node;
-use pst_value::{PropType, resolve_at};
+use pst_subnode::SubIndex;
+use pst_value::{PropType, resolve_by};
 
 // The value of a record.
 #[tactic(auto, unfolding(crate::specs::Fault::property_fault))]
-fn check_property(heap: &Heap, id: u32, content: Span) -> Result<(), Fault>
+fn check_property(heap: &Heap, index: &SubIndex, id: u32, content: Span) -> Result<(), Fault>
+    requires index { IsIndexedBy (node_of heap.now) index.now }
     requires inside { IsInside (data_of heap.now).image content }
     requires behind { 2 ≤ content.at }
     requires size { content.len ≡ 6 }
@@ -35,13 +37,14 @@ fn check_property(heap: &Heap, id: u32, content: Span) -> Result<(), Fault>
         at: content.at + 2,
         len: 4,
     };
-    resolve_at(heap, kind, content.at - 2, raw)?;
+    resolve_by(heap, index, kind, content.at - 2, raw)?;
     Ok(())
 }
 
 // The values of all records, in order.
 #[tactic(auto, using(crate::proofs::PcLemmas::record_next, crate::proofs::PcLemmas::record_fails, crate::proofs::PcLemmas::records_done))]
-fn check_properties(heap: &Heap, bth: &Bth) -> Result<(), Fault>
+fn check_properties(heap: &Heap, index: &SubIndex, bth: &Bth) -> Result<(), Fault>
+    requires index { IsIndexedBy (node_of heap.now) index.now }
     requires heap { node_of (heap_of bth.now) ≡ node_of heap.now }
     requires sizes { sizes_in bth.now ≡ pc_sizes }
     ensures exact { let node = node_of heap.now in let r = roots_of node in
@@ -50,20 +53,21 @@ fn check_properties(heap: &Heap, bth: &Bth) -> Result<(), Fault>
 {
     let mut rest = bth.records();
     while let Some(taken) = rest.next() {
-        check_property(heap, taken.0, taken.1)?;
+        check_property(heap, index, taken.0, taken.1)?;
     }
     Ok(())
 }
 
 // All of a property context.
 #[tactic(auto, using(crate::proofs::PcLemmas::heap_fails, crate::proofs::PcLemmas::client_fails, crate::proofs::PcLemmas::bth_fails, crate::proofs::PcLemmas::all_left))]
-fn check_all(node: Node) -> Result<(), Fault>
+fn check_all(node: Node, index: &SubIndex) -> Result<(), Fault>
+    requires { IsIndexedBy node index.now }
     ensures exact { Checks result (pc_fault (table_of_node node.entry) (roots_of node.entry)) }
 {
     let heap = check_heap(node)?;
     check_client(&heap, 0xBC)?;
     let bth = check_bth_at(&heap, heap.user_root_place(), heap.user_root(), 2, 6)?;
-    check_properties(&heap, &bth)
+    check_properties(&heap, index, &bth)
 }
 
 /// The property context of a node that has one.
@@ -72,6 +76,25 @@ pub fn known_pc(node: Node<'_>) -> Pc<'_>
     ensures { node_of_pc result ≡ node.entry }
 {
     Pc::known(node)
+}
+
+/// Checks the property context of a node as `check_pc` does, values in subnodes found by an index of the node's subnodes, or of
+/// those of a node whose list is the same. So n properties are checked in about n log n steps, in whatever order the list has
+/// its subnodes.
+#[tactic(auto, using(crate::proofs::PcLaws::none_pc, crate::proofs::PcLaws::pc_none))]
+pub fn check_pc_by<'a>(node: Node<'a>, index: &SubIndex) -> Result<Pc<'a>, Fault>
+    requires { IsIndexedBy node index.now }
+
+    // A property context, or the first fault.
+    ensures exact { Checks result (pc_fault (table_of_node node.entry) (roots_of node.entry)) }
+    ensures node { IfOk result (λ p. node_of_pc p ≡ node.entry) }
+
+    // What is found is one, and one is found.
+    ensures found { OnOk result (IsPc (table_of_node node.entry) (roots_of node.entry)) }
+    ensures only { IsPc (table_of_node node.entry) (roots_of node.entry) → IsOk result }
+{
+    check_all(node, index)?;
+    Ok(known_pc(node))
 }
 
 /// Checks the property context of a node ([MS-PST] 2.3.3), in this order, with the node's bidData and the node of the tree from
@@ -83,7 +106,7 @@ pub fn known_pc(node: Node<'_>) -> Pc<'_>
 ///   record, where the value has a length that its type does not allow.
 ///
 /// It takes no memory. Of n properties each is looked at once, and its value looked up, as an item of the heap or as a subnode.
-#[tactic(auto, using(crate::proofs::PcLaws::none_pc, crate::proofs::PcLaws::pc_none))]
+/// Where many values are in subnodes of a long list whose identifiers do not rise, `check_pc_by` finds them sooner.
 pub fn check_pc(node: Node<'_>) -> Result<Pc<'_>, Fault>
     // A property context, or the first fault.
     ensures exact { Checks result (pc_fault (table_of_node node.entry) (roots_of node.entry)) }
@@ -93,6 +116,5 @@ pub fn check_pc(node: Node<'_>) -> Result<Pc<'_>, Fault>
     ensures found { OnOk result (IsPc (table_of_node node.entry) (roots_of node.entry)) }
     ensures only { IsPc (table_of_node node.entry) (roots_of node.entry) → IsOk result }
 {
-    check_all(node)?;
-    Ok(known_pc(node))
+    check_pc_by(node, &SubIndex::none())
 }

@@ -16,7 +16,7 @@ mod pc;
 mod prop;
 mod props;
 
-pub use check::{check_pc, known_pc};
+pub use check::{check_pc, check_pc_by, known_pc};
 pub use laws::{pc_decides, pc_has_records, pc_is_of_keys, pc_keys_rise};
 pub use pc::Pc;
 pub use prop::Prop;

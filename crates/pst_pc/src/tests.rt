@@ -3,8 +3,9 @@
 use super::*;
 use pst_bytes::Image;
 use pst_datatree::Value;
+use pst_fault::Fault;
 use pst_make::{BlockPlan, NodePlan, Plan, build, m0_plan};
-use pst_ndb::{Node, check_ndb};
+use pst_ndb::check_ndb;
 use pst_value::{PropType, as_guid, as_i32, bytes_from, units16};
 use std::alloc::Global;
 use std::process::Abort;
@@ -31,9 +32,9 @@ fn m0_with(alloc: Global, block: usize, changes: &[Change]) -> Result<Vec<u8>, F
     build(alloc, &plan).map_err(|_| Fail::from("not made"))
 }
 
-// The properties of a node, each its identifier, type, place and bytes; or the line of the first fault.
-fn line_of(alloc: Global, node: Node) -> Result<String, Fail> {
-    let pc = match check_pc(node) {
+// The properties that a check answers, each its identifier, type, place and bytes; or the line of the first fault.
+fn line_of(alloc: Global, answer: Result<Pc, Fault>) -> Result<String, Fail> {
+    let pc = match answer {
         Ok(pc) => pc,
         Err(fault) => return Ok(format!(in alloc; "{fault}")?),
     };
@@ -54,7 +55,7 @@ fn line_of(alloc: Global, node: Node) -> Result<String, Fail> {
     Ok(line)
 }
 
-// Whether the property context of a node is answered with a line.
+// Whether the property context of a node is answered with a line, with an index of its subnodes and with none.
 fn is_answered<R: Abort>(
     rt: &R,
     alloc: Global,
@@ -66,7 +67,12 @@ fn is_answered<R: Abort>(
         return Err(Fail::from("refused"));
     };
     let node = checked.ndb.node(nid).ok_or("no node")?;
-    let told = line_of(alloc, node)?;
+    let told = line_of(alloc, check_pc(node))?;
+    assert_eq!(rt; told.as_str(), line);
+    let Ok(index) = node.index(alloc) else {
+        return Err(Fail::from("no memory"));
+    };
+    let told = line_of(alloc, check_pc_by(node, &index))?;
     assert_eq!(rt; told.as_str(), line);
     Ok(())
 }
@@ -189,6 +195,73 @@ fn first_faults(rt: HostRuntime) -> Result<(), Fail> {
     ];
     for (changes, line) in rows {
         let image = store(alloc, changes)?;
+        is_answered(&rt, alloc, &image, 0x21, line)?;
+    }
+    Ok(())
+}
+
+// A property context of three values in subnodes: the header of a heap, of a BTH, three records, and the page map.
+const IN_SUBNODES: [u8; 54] = [
+    44, 0, 0xec, 0xbc, 0x20, 0, 0, 0, 0, 0, 0, 0, //
+    0xb5, 2, 6, 0, 0x40, 0, 0, 0, //
+    1, 0, 2, 1, 0x81, 0, 0, 0, //
+    2, 0, 2, 1, 0x41, 0, 0, 0, //
+    3, 0, 2, 1, 0x61, 0, 0, 0, //
+    2, 0, 0, 0, 12, 0, 20, 0, 44, 0,
+];
+
+// The body of a list: its level, how many entries, and their numbers of 8 bytes.
+fn list(alloc: Global, level: u8, count: u8, numbers: &[u64]) -> Result<Vec<u8>, Fail> {
+    let mut body = Vec::from_slice(alloc, &[2, level, count, 0, 0, 0, 0, 0])?;
+    for number in numbers {
+        body.extend_from_slice(&number.to_le_bytes())?;
+    }
+    Ok(body)
+}
+
+// A store of one node, 0x21, with these properties and four subnodes in two SLBLOCKs, their identifiers falling; the last of
+// them has this one.
+fn falling(alloc: Global, last: u64) -> Result<Vec<u8>, Fail> {
+    let whole = list(alloc, 1, 2, &[0x81, 26, 0x41, 30])?;
+    let first = list(alloc, 0, 2, &[0xa1, 0, 0, 0x81, 8, 0])?;
+    let next = list(alloc, 0, 2, &[0x61, 12, 0, last, 16, 0])?;
+    let bodies: [(u64, &[u8]); 7] = [
+        (4, &IN_SUBNODES),
+        (8, b"81"),
+        (12, b"61"),
+        (16, b"41"),
+        (22, &whole),
+        (26, &first),
+        (30, &next),
+    ];
+    let mut plan = Plan {
+        blocks: Vec::new(alloc),
+        nodes: Vec::new(alloc),
+    };
+    for (bid, bytes) in bodies {
+        let body = Vec::from_slice(alloc, bytes)?;
+        plan.blocks.push(BlockPlan { bid, body })?;
+    }
+    plan.nodes.push(NodePlan {
+        nid: 0x21,
+        bid_data: 4,
+        bid_sub: 22,
+        parent: 0,
+    })?;
+    build(alloc, &plan).map_err(|_| Fail::from("not made"))
+}
+
+#[test]
+fn values_in_a_list_that_falls(rt: HostRuntime) -> Result<(), Fail> {
+    let alloc = rt.alloc();
+    for (last, line) in [
+        (
+            0x41,
+            "yes, 1 102 4c80:3831, 2 102 4d00:3431, 3 102 4cc0:3631",
+        ),
+        (0x42, "no: 17 Subnode at 0x4c20 bid 0x4 nid 0x21"),
+    ] {
+        let image = falling(alloc, last)?;
         is_answered(&rt, alloc, &image, 0x21, line)?;
     }
     Ok(())

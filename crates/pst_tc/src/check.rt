@@ -4,7 +4,7 @@ ghost use Rattle.std.specs.Prelude.{◌≡◌, ℕ, ◌+◌, ◌≤◌, length, 
 ghost use Rattle.pst_bytes.specs.Image.{IsInside};
 ghost use Rattle.pst_fault.specs.First.{Checks};
 ghost use Rattle.pst_fault.specs.Each.{first_of};
-ghost use Rattle.pst_ndb.specs.Views.{table_of_node, roots_of};
+ghost use Rattle.pst_ndb.specs.Views.{table_of_node, roots_of, IsIndexedBy};
 ghost use Rattle.pst_heap.specs.Fault.{told_in};
 ghost use Rattle.pst_heap.specs.View.{node_of, data_of};
 ghost use Rattle.pst_bth.specs.View.{heap_of, sizes_in, records_of};
@@ -24,11 +24,19 @@ use pst_bytes::Span;
 use pst_fault::{Fault, Kind};
 use pst_heap::{Heap, check_client, check_heap, told_of};
 use pst_ndb::Node;
-use pst_value::{PropType, missing_at, resolve_at};
+use pst_subnode::SubIndex;
+use pst_value::{PropType, missing_at, resolve_by};
 
 // The cell of a column in a row.
 #[tactic(auto, unfolding(crate::specs::Fault::cell_fault), using(crate::proofs::InfoLemmas::cell_inside, crate::proofs::TypedLemmas::typed_room, crate::proofs::TypedLemmas::typed_is))]
-fn check_cell(heap: &Heap, info: Span, row: Span, column: u64) -> Result<(), Fault>
+fn check_cell(
+    heap: &Heap,
+    index: &SubIndex,
+    info: Span,
+    row: Span,
+    column: u64,
+) -> Result<(), Fault>
+    requires index { IsIndexedBy (node_of heap.now) index.now }
     requires info { info.at + 22 ≤ length (data_of heap.now).image }
     requires column { column + 8 ≤ length (data_of heap.now).image }
     requires row { IsInside (data_of heap.now).image row }
@@ -50,13 +58,14 @@ fn check_cell(heap: &Heap, info: Span, row: Span, column: u64) -> Result<(), Fau
         at: row.at + u64::from(image.number16(column + 4)),
         len: u64::from(image.number8(column + 6)),
     };
-    resolve_at(heap, kind, raw.at, raw)?;
+    resolve_by(heap, index, kind, raw.at, raw)?;
     Ok(())
 }
 
 // The cells of a row, in the order of their columns.
 #[tactic(auto, unfolding(crate::specs::Fault::cells_fault), using(crate::proofs::InfoLemmas::sound_room, crate::proofs::InfoLemmas::sound_column, crate::proofs::TcLemmas::cells_more, crate::proofs::TcLemmas::cells_fail, crate::proofs::TcLemmas::cells_done))]
-fn check_cells(heap: &Heap, info: Span, row: Span) -> Result<(), Fault>
+fn check_cells(heap: &Heap, index: &SubIndex, info: Span, row: Span) -> Result<(), Fault>
+    requires index { IsIndexedBy (node_of heap.now) index.now }
     requires info { IsInside (data_of heap.now).image info }
     requires sound { info_fault (data_of heap.now).image info ≡ None }
     requires row { IsInside (data_of heap.now).image row }
@@ -68,7 +77,7 @@ fn check_cells(heap: &Heap, info: Span, row: Span) -> Result<(), Fault>
     let count = column_count(image, info);
     for i in 0..count {
         let column = info.at + 22 + 8 * u64::from(i);
-        check_cell(heap, info, row, column)?;
+        check_cell(heap, index, info, row, column)?;
     }
     Ok(())
 }
@@ -77,22 +86,24 @@ fn check_cells(heap: &Heap, info: Span, row: Span) -> Result<(), Fault>
 #[tactic(auto, unfolding(crate::specs::Fault::row_record_fault, crate::specs::Values::row_of_record))]
 fn check_row<'a>(
     heap: &Heap<'a>,
+    index: &SubIndex,
     info: Span,
     matrix: Matrix<'a>,
     id: u32,
-    index: Span,
+    content: Span,
 ) -> Result<Matrix<'a>, Fault>
+    requires index { IsIndexedBy (node_of heap.now) index.now }
     requires info { IsInside (data_of heap.now).image info }
     requires sound { info_fault (data_of heap.now).image info ≡ None }
     requires matrix { LiesIn (data_of heap.now).image matrix }
     requires rows { let node = node_of heap.now in let t = table_of_node node in
         let hnid = matrix_hnid t.image info in (size n : ℕ) →
         matrix_row matrix size n ≡ row_of_matrix t (roots_of node) hnid size n }
-    requires inside { IsInside (data_of heap.now).image index }
-    requires behind { 4 ≤ index.at }
-    requires four { index.len ≡ 4 }
+    requires inside { IsInside (data_of heap.now).image content }
+    requires behind { 4 ≤ content.at }
+    requires four { content.len ≡ 4 }
     ensures exact { let node = node_of heap.now in let r = roots_of node in
-        let first = row_record_fault (table_of_node node) r info (id, index) in
+        let first = row_record_fault (table_of_node node) r info (id, content) in
         Checks result (option_map (told_in r) first) }
     ensures lies { IfOk result (LiesIn (data_of heap.now).image) }
     ensures same { (size n : ℕ) →
@@ -100,21 +111,28 @@ fn check_row<'a>(
 {
     let image = heap.image();
     let size = size_of(image, info);
-    let bad = Fault::at(Kind::Table, index.at - 4);
-    let (found, matrix) = row_of(image, matrix, size, image.number32(index.at));
+    let bad = Fault::at(Kind::Table, content.at - 4);
+    let (found, matrix) = row_of(image, matrix, size, image.number32(content.at));
     let Some(row) = found else {
         return Err(told_of(&heap.node(), bad));
     };
     if image.number32(row.at) != id {
         return Err(told_of(&heap.node(), bad));
     }
-    check_cells(heap, info, row)?;
+    check_cells(heap, index, info, row)?;
     Ok(matrix)
 }
 
 // The rows of all records of the row index, in order.
 #[tactic(auto, using(crate::proofs::TcLemmas::record_next, crate::proofs::TcLemmas::records_done))]
-fn check_rows<'a>(heap: &Heap<'a>, info: Span, matrix: Matrix<'a>, bth: &Bth) -> Result<(), Fault>
+fn check_rows<'a>(
+    heap: &Heap<'a>,
+    index: &SubIndex,
+    info: Span,
+    matrix: Matrix<'a>,
+    bth: &Bth,
+) -> Result<(), Fault>
+    requires index { IsIndexedBy (node_of heap.now) index.now }
     requires info { IsInside (data_of heap.now).image info }
     requires sound { info_fault (data_of heap.now).image info ≡ None }
     requires matrix { LiesIn (data_of heap.now).image matrix }
@@ -130,7 +148,7 @@ fn check_rows<'a>(heap: &Heap<'a>, info: Span, matrix: Matrix<'a>, bth: &Bth) ->
     let mut matrix = matrix;
     let mut rest = bth.records();
     while let Some(taken) = rest.next() {
-        matrix = check_row(heap, info, matrix, taken.0, taken.1)?;
+        matrix = check_row(heap, index, info, matrix, taken.0, taken.1)?;
     }
     Ok(())
 }
@@ -149,7 +167,8 @@ fn check_front(heap: &Heap, info: Span) -> Result<(), Fault>
 
 // The row matrix.
 #[tactic(auto, unfolding(crate::specs::Fault::matrix_fault), using(crate::proofs::InfoLemmas::sound_room, crate::proofs::TcLemmas::matrix_there, crate::proofs::TcLemmas::matrix_missing))]
-fn check_matrix<'a>(heap: &Heap<'a>, info: Span) -> Result<Matrix<'a>, Fault>
+fn check_matrix<'a>(heap: &Heap<'a>, index: &SubIndex, info: Span) -> Result<Matrix<'a>, Fault>
+    requires index { IsIndexedBy (node_of heap.now) index.now }
     requires info { IsInside (data_of heap.now).image info }
     requires room { 22 ≤ info.len }
     ensures exact { let node = node_of heap.now in let r = roots_of node in
@@ -162,7 +181,7 @@ fn check_matrix<'a>(heap: &Heap<'a>, info: Span) -> Result<Matrix<'a>, Fault>
     let image = heap.image();
     let named = info.at + 14;
     let hnid = image.number32(named);
-    match open_matrix(heap, hnid) {
+    match open_matrix(heap, index, hnid) {
         Some(matrix) => Ok(matrix),
         None => Err(told_of(&heap.node(), missing_at(named, hnid))),
     }
@@ -170,8 +189,9 @@ fn check_matrix<'a>(heap: &Heap<'a>, info: Span) -> Result<Matrix<'a>, Fault>
 
 // TCINFO, and all that it names.
 #[tactic(auto, using(crate::proofs::TcLemmas::info_told_none))]
-fn check_body(heap: &Heap, info: Span) -> Result<(), Fault>
-    requires { IsInside (data_of heap.now).image info }
+fn check_body(heap: &Heap, index: &SubIndex, info: Span) -> Result<(), Fault>
+    requires index { IsIndexedBy (node_of heap.now) index.now }
+    requires inside { IsInside (data_of heap.now).image info }
     ensures exact { let node = node_of heap.now in let r = roots_of node in
         Checks result (option_map (told_in r) (tc_body_fault (table_of_node node) r info)) }
 {
@@ -184,12 +204,13 @@ fn check_body(heap: &Heap, info: Span) -> Result<(), Fault>
         4,
         4,
     )?;
-    let matrix = check_matrix(heap, info)?;
-    check_rows(heap, info, matrix, &bth)
+    let matrix = check_matrix(heap, index, info)?;
+    check_rows(heap, index, info, matrix, &bth)
 }
 
 // All of a table context.
-fn check_all(node: Node) -> Result<(), Fault>
+fn check_all(node: Node, index: &SubIndex) -> Result<(), Fault>
+    requires { IsIndexedBy node index.now }
     ensures exact { Checks result (tc_fault (table_of_node node.entry) (roots_of node.entry)) }
 {
     let heap = check_heap(node)?;
@@ -198,7 +219,7 @@ fn check_all(node: Node) -> Result<(), Fault>
     let Some(info) = heap.item_span(heap.user_root()) else {
         return Err(told_of(&heap.node(), Fault::at(Kind::HeapId, named)));
     };
-    check_body(&heap, info)
+    check_body(&heap, index, info)
 }
 
 /// The table context of a node that has one.
@@ -207,6 +228,24 @@ pub fn known_tc(node: Node<'_>) -> Tc<'_>
     ensures { node_of_tc result ≡ node.entry }
 {
     Tc::known(node)
+}
+
+/// Checks the table context of a node as `check_tc` does, the row matrix and values in subnodes found by an index of the node's
+/// subnodes, or of those of a node whose list is the same.
+#[tactic(auto, using(crate::proofs::TcLaws::none_tc, crate::proofs::TcLaws::tc_none))]
+pub fn check_tc_by<'a>(node: Node<'a>, index: &SubIndex) -> Result<Tc<'a>, Fault>
+    requires { IsIndexedBy node index.now }
+
+    // A table context, or the first fault.
+    ensures exact { Checks result (tc_fault (table_of_node node.entry) (roots_of node.entry)) }
+    ensures node { IfOk result (λ t. node_of_tc t ≡ node.entry) }
+
+    // What is found is one, and one is found.
+    ensures found { OnOk result (IsTc (table_of_node node.entry) (roots_of node.entry)) }
+    ensures only { IsTc (table_of_node node.entry) (roots_of node.entry) → IsOk result }
+{
+    check_all(node, index)?;
+    Ok(known_tc(node))
 }
 
 /// Checks the table context of a node ([MS-PST] 2.3.4), in this order, with the node's bidData and the node of the tree from
@@ -223,8 +262,8 @@ pub fn known_tc(node: Node<'_>) -> Tc<'_>
 ///   at its HNID, where that names no item or no subnode; Property at the cell, where the value has a length that its type does not
 ///   allow.
 ///
-/// It takes no memory. Of n rows each is looked at once, and each of its cells.
-#[tactic(auto, using(crate::proofs::TcLaws::none_tc, crate::proofs::TcLaws::tc_none))]
+/// It takes no memory. Of n rows each is looked at once, and each of its cells. Where many values are in subnodes of a long list
+/// whose identifiers do not rise, `check_tc_by` finds them sooner.
 pub fn check_tc(node: Node<'_>) -> Result<Tc<'_>, Fault>
     // A table context, or the first fault.
     ensures exact { Checks result (tc_fault (table_of_node node.entry) (roots_of node.entry)) }
@@ -234,6 +273,5 @@ pub fn check_tc(node: Node<'_>) -> Result<Tc<'_>, Fault>
     ensures found { OnOk result (IsTc (table_of_node node.entry) (roots_of node.entry)) }
     ensures only { IsTc (table_of_node node.entry) (roots_of node.entry) → IsOk result }
 {
-    check_all(node)?;
-    Ok(known_tc(node))
+    check_tc_by(node, &SubIndex::none())
 }

@@ -6,8 +6,9 @@ mod in_subnode;
 use super::*;
 use pst_bytes::Image;
 use pst_datatree::Value;
+use pst_fault::Fault;
 use pst_make::{build, m1_plan};
-use pst_ndb::{Node, check_ndb};
+use pst_ndb::check_ndb;
 use std::alloc::Global;
 use std::process::Abort;
 use std::test::Fail;
@@ -38,9 +39,9 @@ fn cells_of(alloc: Global, tc: Tc, row: Row, line: &mut String) -> Result<(), Fa
     Ok(())
 }
 
-// The rows of a table, each its identifier, the place of its record and its cells; or the line of the first fault.
-fn line_of(alloc: Global, node: Node) -> Result<String, Fail> {
-    let tc = match check_tc(node) {
+// The rows that a check answers, each its identifier, the place of its record and its cells; or the line of the first fault.
+fn line_of(alloc: Global, answer: Result<Tc, Fault>) -> Result<String, Fail> {
+    let tc = match answer {
         Ok(tc) => tc,
         Err(fault) => return Ok(format!(in alloc; "{fault}")?),
     };
@@ -58,7 +59,7 @@ fn line_of(alloc: Global, node: Node) -> Result<String, Fail> {
     Ok(line)
 }
 
-// Whether the table context of a node is answered with a line.
+// Whether the table context of a node is answered with a line, with an index of its subnodes and with none.
 fn is_answered<R: Abort>(
     rt: &R,
     alloc: Global,
@@ -70,7 +71,12 @@ fn is_answered<R: Abort>(
         return Err(Fail::from("refused"));
     };
     let node = checked.ndb.node(nid).ok_or("no node")?;
-    let told = line_of(alloc, node)?;
+    let told = line_of(alloc, check_tc(node))?;
+    assert_eq!(rt; told.as_str(), line);
+    let Ok(index) = node.index(alloc) else {
+        return Err(Fail::from("no memory"));
+    };
+    let told = line_of(alloc, check_tc_by(node, &index))?;
     assert_eq!(rt; told.as_str(), line);
     Ok(())
 }

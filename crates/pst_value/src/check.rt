@@ -3,7 +3,7 @@
 ghost use Rattle.std.specs.Prelude.{◌≡◌, ◌+◌, ◌≤◌, length, IfOk, IfSome, Some, None, option_map};
 ghost use Rattle.pst_bytes.specs.Image.{num, IsInside};
 ghost use Rattle.pst_fault.specs.First.{Checks};
-ghost use Rattle.pst_ndb.specs.Views.{table_of_node, roots_of};
+ghost use Rattle.pst_ndb.specs.Views.{table_of_node, roots_of, IsIndexedBy};
 ghost use Rattle.pst_heap.specs.Fault.{told_of as told};
 ghost use Rattle.pst_heap.specs.View.{node_of, data_of, file_of_heap};
 ghost use Rattle.pst_value.specs.Fault.{is_length, hnid_fault, value_fault};
@@ -11,13 +11,14 @@ ghost use Rattle.pst_value.specs.Values.{held_of, hnid_spans, value_spans};
 ghost use Rattle.pst_value.specs.View.{IsValue, IsValueOf};
 
 use crate::class::Class;
-use crate::named::{missing_at, named_value};
+use crate::named::{missing_at, named_value_by};
 use crate::prop_type::PropType;
 use pst_bytes::Span;
 use pst_datatree::{Value, value_at};
 use pst_fault::{Fault, Kind};
 use pst_heap::{Heap, told_of};
 use pst_ndb::Node;
+use pst_subnode::SubIndex;
 
 // How many bytes of a raw span with so many are the value; None where an HNID stands there.
 #[tactic(auto, unfolding(crate::specs::Values::held_of))]
@@ -58,11 +59,13 @@ fn has_length(kind: PropType, len: u64) -> bool
 #[tactic(auto, unfolding(crate::specs::Fault::hnid_fault))]
 fn hnid_value<'a>(
     heap: &Heap<'a>,
+    index: &SubIndex,
     kind: PropType,
     place: u64,
     named: u64,
 ) -> Result<Value<'a>, Fault>
-    requires { named + 4 ≤ length (data_of heap.now).image }
+    requires index { IsIndexedBy (node_of heap.now) index.now }
+    requires inside { named + 4 ≤ length (data_of heap.now).image }
     ensures exact { let node = node_of heap.now in
         Checks result (hnid_fault (table_of_node node) (roots_of node) kind.0 place named) }
     ensures value { let node = node_of heap.now in let t = table_of_node node in
@@ -70,7 +73,7 @@ fn hnid_value<'a>(
         IfOk result (λ v. IsValueOf (file_of_heap heap.now) spans (Some v)) }
 {
     let hnid = heap.image().number32(named);
-    let Some(value) = named_value(heap, hnid) else {
+    let Some(value) = named_value_by(heap, index, hnid) else {
         return Err(missing_at(named, hnid));
     };
     if !has_length(kind, value.len()) {
@@ -81,7 +84,14 @@ fn hnid_value<'a>(
 
 // The value of a type in a raw span, told of no node.
 #[tactic(auto, unfolding(crate::specs::Fault::value_fault, crate::specs::Values::value_spans))]
-fn raw_value<'a>(heap: &Heap<'a>, kind: PropType, place: u64, raw: Span) -> Result<Value<'a>, Fault>
+fn raw_value<'a>(
+    heap: &Heap<'a>,
+    index: &SubIndex,
+    kind: PropType,
+    place: u64,
+    raw: Span,
+) -> Result<Value<'a>, Fault>
+    requires index { IsIndexedBy (node_of heap.now) index.now }
     requires inside { IsInside (data_of heap.now).image raw }
     requires hnid { held_of kind.0 raw.len ≡ None → 4 ≤ raw.len }
     ensures exact { let node = node_of heap.now in
@@ -98,7 +108,33 @@ fn raw_value<'a>(heap: &Heap<'a>, kind: PropType, place: u64, raw: Span) -> Resu
             };
             Ok(value_at(heap.image(), front))
         }
-        None => hnid_value(heap, kind, place, raw.at),
+        None => hnid_value(heap, index, kind, place, raw.at),
+    }
+}
+
+/// The value of a type in a raw span, as `resolve_at` gives it, a subnode found by an index of the subnodes of the heap's node.
+pub fn resolve_by<'a>(
+    heap: &Heap<'a>,
+    index: &SubIndex,
+    kind: PropType,
+    place: u64,
+    raw: Span,
+) -> Result<Value<'a>, Fault>
+    requires index { IsIndexedBy (node_of heap.now) index.now }
+    requires inside { IsInside (data_of heap.now).image raw }
+    requires hnid { held_of kind.0 raw.len ≡ None → 4 ≤ raw.len }
+
+    // The value, or the first fault.
+    ensures exact { let node = node_of heap.now in
+        let first = value_fault (table_of_node node) (roots_of node) kind.0 place raw in
+        Checks result (option_map (told node) first) }
+    ensures value { let node = node_of heap.now in
+        let spans = value_spans (table_of_node node) (roots_of node) kind.0 raw in
+        IfOk result (IsValue (file_of_heap heap.now) spans) }
+{
+    match raw_value(heap, index, kind, place, raw) {
+        Ok(value) => Ok(value),
+        Err(fault) => Err(told_of(&heap.node(), fault)),
     }
 }
 
@@ -121,10 +157,7 @@ pub fn resolve_at<'a>(
         let spans = value_spans (table_of_node node) (roots_of node) kind.0 raw in
         IfOk result (IsValue (file_of_heap heap.now) spans) }
 {
-    match raw_value(heap, kind, place, raw) {
-        Ok(value) => Ok(value),
-        Err(fault) => Err(told_of(&heap.node(), fault)),
-    }
+    resolve_by(heap, &SubIndex::none(), kind, place, raw)
 }
 
 /// The value of a property or of a cell ([MS-PST] 2.3.3.3, 2.3.4.4.1), whose type and raw span are these, in the node whose heap
@@ -167,7 +200,7 @@ pub fn known_value<'a>(heap: &Heap<'a>, kind: PropType, raw: Span) -> Value<'a>
         let spans = value_spans (table_of_node node) (roots_of node) kind.0 raw in
         IsValue (file_of_heap heap.now) spans result }
 {
-    match raw_value(heap, kind, 0, raw) {
+    match raw_value(heap, &SubIndex::none(), kind, 0, raw) {
         Ok(value) => value,
         Err(_) => unreachable!(),
     }

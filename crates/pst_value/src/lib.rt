@@ -22,11 +22,11 @@ mod read;
 mod several;
 mod units;
 
-pub use check::{known_value, resolve, resolve_at};
+pub use check::{known_value, resolve, resolve_at, resolve_by};
 pub use class::Class;
 pub use elements::{Elements, elements_from, multi};
 pub use laws::{value_decides, value_is_of_no_place, values_are_of_keys};
-pub use named::{missing_at, named_value};
+pub use named::{missing_at, named_value, named_value_by};
 pub use prop_type::PropType;
 pub use read::{as_bool, as_guid, as_i16, as_i32, as_i64, as_object, as_u32, as_u64};
 pub use several::multi_count;

@@ -1,7 +1,7 @@
 //! What an HNID names ([MS-PST] 2.3.3.2).
 
 ghost use Rattle.std.specs.Prelude.{◌≡◌};
-ghost use Rattle.pst_ndb.specs.Views.{table_of_node, roots_of};
+ghost use Rattle.pst_ndb.specs.Views.{table_of_node, roots_of, IsIndexedBy};
 ghost use Rattle.pst_heap.specs.View.{node_of, file_of_heap};
 ghost use Rattle.pst_value.specs.Fault.{missing_at as missing};
 ghost use Rattle.pst_value.specs.Values.{hnid_spans};
@@ -10,11 +10,12 @@ ghost use Rattle.pst_value.specs.View.{IsValueOf};
 use pst_datatree::{Value, empty_value, value_at};
 use pst_fault::{Fault, Kind};
 use pst_heap::Heap;
+use pst_subnode::SubIndex;
 
-/// What an HNID names in the node of a heap: nothing, the empty value, for 0; an item of the heap; or the data of a subnode.
-/// None exactly where there is no such item or subnode.
+/// What an HNID names, as `named_value` gives it, a subnode found by an index.
 #[tactic(auto, unfolding(crate::specs::Values::hnid_spans))]
-pub fn named_value<'a>(heap: &Heap<'a>, hnid: u32) -> Option<Value<'a>>
+pub fn named_value_by<'a>(heap: &Heap<'a>, index: &SubIndex, hnid: u32) -> Option<Value<'a>>
+    requires { IsIndexedBy (node_of heap.now) index.now }
     ensures { let node = node_of heap.now in
         IsValueOf (file_of_heap heap.now) (hnid_spans (table_of_node node) (roots_of node) hnid) result }
 {
@@ -28,10 +29,19 @@ pub fn named_value<'a>(heap: &Heap<'a>, hnid: u32) -> Option<Value<'a>>
         };
         return Some(value_at(image, span));
     }
-    let Some(sub) = heap.node().sub(hnid) else {
+    let Some(sub) = heap.node().sub_by(index, hnid) else {
         return None;
     };
     Some(sub.bytes())
+}
+
+/// What an HNID names in the node of a heap: nothing, the empty value, for 0; an item of the heap; or the data of a subnode.
+/// None exactly where there is no such item or subnode.
+pub fn named_value<'a>(heap: &Heap<'a>, hnid: u32) -> Option<Value<'a>>
+    ensures { let node = node_of heap.now in
+        IsValueOf (file_of_heap heap.now) (hnid_spans (table_of_node node) (roots_of node) hnid) result }
+{
+    named_value_by(heap, &SubIndex::none(), hnid)
 }
 
 /// The fault of an HNID that names nothing: HeapId where it should name an item, else Subnode, at its four bytes in the

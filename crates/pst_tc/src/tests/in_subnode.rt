@@ -28,6 +28,19 @@ type Row<'a> = (
     &'a str,
 );
 
+// The list of the subnodes, their identifiers falling: two SLBLOCKs, each of a subnode with its data, and the SIBLOCK of both.
+fn slblock(nid: u8, data: u8) -> [u8; 32] {
+    [
+        2, 0, 1, 0, 0, 0, 0, 0, nid, 0, 0, 0, 0, 0, 0, 0, data, 0, 0, 0, 0, 0, 0, 0, 0, 0, 0, 0, 0,
+        0, 0, 0,
+    ]
+}
+
+const SIBLOCK: [u8; 40] = [
+    2, 1, 2, 0, 0, 0, 0, 0, 0x61, 0, 0, 0, 0, 0, 0, 0, 34, 0, 0, 0, 0, 0, 0, 0, 0x41, 0, 0, 0, 0,
+    0, 0, 0, 38, 0, 0, 0, 0, 0, 0, 0,
+];
+
 fn store(alloc: Global, row: Row) -> Result<Vec<u8>, Fail> {
     let (changes, blocks, lists, data, _) = row;
     let mut plan = Plan {
@@ -47,12 +60,15 @@ fn store(alloc: Global, row: Row) -> Result<Vec<u8>, Fail> {
         let body = Vec::from_slice(alloc, bytes)?;
         plan.blocks.push(BlockPlan { bid: *bid, body })?;
     }
-    let subnodes = [
-        2, 0, 1, 0, 0, 0, 0, 0, 0x41, 0, 0, 0, 0, 0, 0, 0, data, 0, 0, 0, 0, 0, 0, 0, 0, 0, 0, 0,
-        0, 0, 0, 0,
+    let lists: [(u64, &[u8]); 3] = [
+        (30, &SIBLOCK),
+        (34, &slblock(0x61, 0)),
+        (38, &slblock(0x41, data)),
     ];
-    let body = Vec::from_slice(alloc, &subnodes)?;
-    plan.blocks.push(BlockPlan { bid: 30, body })?;
+    for (bid, bytes) in lists {
+        let body = Vec::from_slice(alloc, bytes)?;
+        plan.blocks.push(BlockPlan { bid, body })?;
+    }
     plan.nodes.push(NodePlan {
         nid: 0x21,
         bid_data: 4,
