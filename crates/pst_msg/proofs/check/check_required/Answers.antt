@@ -1,0 +1,9 @@
+use Rattle.pst_ndb.specs.Views.{table_of_node, table_of_ndb, nodes_of}
+use Rattle.pst_msg.proofs.GrowLemmas.{required_grows}
+use Rattle.pst_msg.proofs.check.check_required.Goals as goal
+
+pub returns-in_err-once-in-Some-clause-grows : goal.returns-in_err-once-in-Some-clause-grows
+returns-in_err-once-in-Some-clause-grows c = required_grows (table_of_ndb c.args.ndb.now) (table_of_node c.in-Some.node) (nodes_of c.args.ndb.now) c.args.nid c.in-Some.node c.args.known.now c.once.new.known c.in-Some.ensures.table c.in-Some.ensures.roots c.once.ensures.grows
+
+pub returns-in_ok-once-in-Some-clause-grows : goal.returns-in_ok-once-in-Some-clause-grows
+returns-in_ok-once-in-Some-clause-grows c = required_grows (table_of_ndb c.args.ndb.now) (table_of_node c.in-Some.node) (nodes_of c.args.ndb.now) c.args.nid c.in-Some.node c.args.known.now c.once.new.known c.in-Some.ensures.table c.in-Some.ensures.roots c.once.ensures.grows

@@ -1,0 +1,87 @@
+-- What is known of the parts of messages: only what is true. A part is remembered once it was found without fault, so a part
+-- that is passed over is one whose first fault is none: it hides nothing. And all that lies one step below what is remembered
+-- is remembered too.
+use Rattle.std.specs.Prelude.{◌≡◌, true, None, Some, List}
+use Rattle.pst_fault.specs.Each.{first_of}
+use Rattle.pst_page.specs.declared.entry.NodeEntry.{NodeEntry}
+use Rattle.pst_block.specs.Table.{Table}
+use Rattle.pst_subnode.specs.declared.height.TheConstants.{LISTS}
+use Rattle.pst_subnode.specs.Tree.{sub_fault}
+use Rattle.pst_ndb.specs.Roots.{Roots, subnode_of}
+use Rattle.pst_tc.specs.Values.{RowParts, tc_rows}
+use Rattle.pst_msg.specs.declared.items.Items.{Items}
+use Rattle.pst_msg.specs.declared.keys.Keys.{Keys}
+use Rattle.pst_msg.specs.declared.known.Known.{Known}
+use Rattle.pst_msg.specs.declared.nid.TheConstants.{ATTACHMENTS, RECIPIENTS}
+use Rattle.pst_msg.specs.declared.object.Object.{Object}
+use Rattle.pst_msg.specs.declared.role.Role.{Role}
+use Rattle.pst_msg.specs.declared.role.Role.TheVariants.{Properties, Listed, Recipients, Attachments}
+use Rattle.pst_msg.specs.Keys.{holds, has, list_key}
+use Rattle.pst_msg.specs.ListIndex.{IsIndexIn}
+use Rattle.pst_msg.specs.Roles.{role_number, role_fault}
+use Rattle.pst_msg.specs.Values.{embedded_of}
+use Rattle.pst_msg.specs.Fault.{held_fault, below_message, message_fault, attachment_fault, item_fault}
+use Rattle.pst_msg.specs.Grammar.{IsAttachmentRow}
+
+-- a context is remembered in a role; a message, an attachment is remembered, whole; what a message holds is, by its list alone
+abbrev pub ContextIn : Known → Role → Roots → Type 0
+ContextIn k role s = has k.contexts (role_number role) s ≡ true
+
+abbrev pub WholeIn : Keys → Roots → Type 0
+WholeIn keys s = has keys 0 s ≡ true
+
+abbrev pub ListIn : Keys → Roots → Type 0
+ListIn keys s = holds keys (list_key s) ≡ true
+
+abbrev pub ContextsAreTrue : Table → Known → Type 0
+ContextsAreTrue t k = (role : Role) (s : Roots) → ContextIn k role s → role_fault t role s ≡ None
+
+abbrev pub MessagesAreTrue : Table → Keys → Type 0
+MessagesAreTrue t keys = (s : Roots) → WholeIn keys s → sub_fault t LISTS s.bid_sub ≡ None → message_fault t s ≡ None
+
+abbrev pub AttachmentsAreTrue : Table → Keys → Type 0
+AttachmentsAreTrue t keys = (s : Roots) → WholeIn keys s → sub_fault t LISTS s.bid_sub ≡ None → attachment_fault t s ≡ None
+
+abbrev pub ListsAreTrue : Table → Keys → Type 0
+ListsAreTrue t keys =
+    (s : Roots) → ListIn keys s → sub_fault t LISTS s.bid_sub ≡ None → held_fault t (below_message t LISTS) s ≡ None
+
+-- Of the tables of folders, the rows: all of them name nodes that belong there. They are remembered apart, since this depends on
+-- the nodes of the file.
+abbrev pub ListingsAreTrue : Table → List NodeEntry → Keys → Type 0
+ListingsAreTrue t nodes keys =
+    (items : Items) (s : Roots) → has keys (role_number (Listed items)) s ≡ true →
+    first_of (item_fault nodes items s.bid_data) (tc_rows t s) ≡ None
+
+-- ---- all that lies one step below a message, and below an attachment
+
+-- the subnode that a row, or a value, names is remembered
+abbrev pub NamedIn : Table → Keys → Roots → RowParts → Type 0
+NamedIn t keys r x = (s : Roots) → subnode_of t r x.id ≡ Some s → WholeIn keys s
+
+abbrev pub ObjectIn : Table → Keys → Roots → Object → Type 0
+ObjectIn t keys r o = (s : Roots) → subnode_of t r o.nid ≡ Some s → WholeIn keys s
+
+pub record HeldIn (t : Table) (k : Known) (r : Roots) : Type 0 where
+  pub recipients : (s : Roots) → subnode_of t r RECIPIENTS ≡ Some s → ContextIn k Recipients s
+  pub tables : (s : Roots) → subnode_of t r ATTACHMENTS ≡ Some s → ContextIn k Attachments s
+  pub attachments : (x : RowParts) → IsAttachmentRow t r x → NamedIn t k.attachments r x
+
+pub record MessageIn (t : Table) (k : Known) (r : Roots) : Type 0 where
+  pub properties : ContextIn k Properties r
+  pub held : HeldIn t k r
+
+pub record AttachmentIn (t : Table) (k : Known) (r : Roots) : Type 0 where
+  pub properties : ContextIn k Properties r
+  pub messages : (o : Object) → embedded_of t r ≡ Some o → ObjectIn t k.messages r o
+
+pub record IsTrueOf (t : Table) (k : Known) : Type 0 where
+  pub contexts : ContextsAreTrue t k
+  pub messages : MessagesAreTrue t k.messages
+  pub attachments : AttachmentsAreTrue t k.attachments
+  pub lists : ListsAreTrue t k.lists
+  pub index : IsIndexIn t k.index
+  -- it is closed
+  pub messages_in : (r : Roots) → WholeIn k.messages r → MessageIn t k r
+  pub attachments_in : (r : Roots) → WholeIn k.attachments r → AttachmentIn t k r
+  pub lists_in : (r : Roots) → ListIn k.lists r → HeldIn t k r

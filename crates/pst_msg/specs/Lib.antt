@@ -1,0 +1,15 @@
+pub mod Nid
+pub mod Values
+pub mod Fault
+pub mod Grammar
+pub mod Laws
+pub mod Keys
+pub mod Roles
+pub mod ListIndex
+pub mod Known
+pub mod Counts
+pub mod Growth
+pub mod NodeLaw
+pub mod Shown
+pub mod Left
+pub mod View

@@ -1,0 +1,41 @@
+//! What the tables of a folder list ([MS-PST] 2.4.4.4 to 2.4.4.6).
+
+ghost use Rattle.std.specs.Prelude.{◌≡◌, ◌<◌};
+ghost use Rattle.pst_msg.specs.Values.{type_of_items, may_list};
+
+use crate::kinds::is_folder;
+use crate::nid::{ASSOCIATED, ASSOCIATED_CONTENTS, CONTENTS, HIERARCHY, MESSAGE, is_type};
+
+/// What a table of a folder lists.
+#[derive(Clone, Copy, Debug, PartialEq, Eq)]
+pub enum Items {
+    /// Folders and search folders.
+    Subfolders,
+    /// Messages.
+    Messages,
+    /// Messages that belong to the folder itself.
+    Associated,
+}
+
+/// The type of the table that lists these.
+pub(crate) fn type_of_items(items: Items) -> u32
+    ensures is { result ≡ type_of_items items }
+    ensures small { result < 32 }
+{
+    match items {
+        Items::Subfolders => HIERARCHY,
+        Items::Messages => CONTENTS,
+        Items::Associated => ASSOCIATED_CONTENTS,
+    }
+}
+
+/// Whether it may list a node.
+pub(crate) fn may_list(items: Items, nid: u32) -> bool
+    ensures { result ≡ may_list items nid }
+{
+    match items {
+        Items::Subfolders => is_folder(nid),
+        Items::Messages => is_type(MESSAGE, nid),
+        Items::Associated => is_type(ASSOCIATED, nid),
+    }
+}

@@ -1,0 +1,48 @@
+//! What is known of the parts of messages.
+
+use crate::keys::Keys;
+use crate::list_index::ListIndex;
+use std::alloc::Global;
+
+/// The contexts, messages and attachments that have no fault.
+#[derive(Drop)]
+pub(crate) struct Known {
+    pub(crate) alloc: Global,
+    /// The contexts, each with the number of its role.
+    pub(crate) contexts: Keys,
+    /// Whole messages and attachments, each with the number 0.
+    pub(crate) messages: Keys,
+    pub(crate) attachments: Keys,
+    /// Lists of subnodes: what a message holds in one is without fault.
+    pub(crate) lists: Keys,
+    /// The index of the list of subnodes that was asked about last.
+    pub(crate) index: ListIndex,
+    /// How many contexts were checked, from the first on. It stays at its greatest value once it is there.
+    pub(crate) count: u64,
+}
+
+impl Known {
+    ghost use Rattle.std.specs.Prelude.{◌≡◌, List};
+    ghost use Rattle.pst_page.specs.declared.entry.NodeEntry.{NodeEntry};
+    ghost use Rattle.pst_block.specs.Table.{Table};
+    ghost use Rattle.pst_msg.specs.Growth.{AreNamed, IsCounted};
+    ghost use Rattle.pst_msg.specs.Known.{IsTrueOf};
+
+    /// Nothing yet, where so many contexts were checked before.
+    pub(crate) fn new(alloc: Global, count: u64) -> Known
+        ensures known { (t : Table) → IsTrueOf t result }
+        ensures named { (t : Table) (nodes : List NodeEntry) → AreNamed t nodes result.contexts }
+        ensures counted { IsCounted count result }
+        ensures count { result.count ≡ count }
+    {
+        Known {
+            alloc,
+            contexts: Keys::new(alloc),
+            messages: Keys::new(alloc),
+            attachments: Keys::new(alloc),
+            lists: Keys::new(alloc),
+            index: ListIndex::none(),
+            count,
+        }
+    }
+}

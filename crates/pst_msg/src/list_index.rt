@@ -1,0 +1,91 @@
+//! The index of the list of subnodes that was asked about last.
+
+use crate::keys::cleared;
+use crate::role::{Role, check_context};
+use pst_fault::Fault;
+use pst_ndb::Node;
+use pst_subnode::SubIndex;
+use std::alloc::Global;
+
+// A node whose data has more bytes than these may have so many values in subnodes that an index of them pays.
+const FEW: u64 = 512;
+
+/// An index of a list of subnodes, by the identifier of its block with bit 0 cleared.
+#[derive(Drop)]
+pub(crate) struct ListIndex {
+    list: u64,
+    index: SubIndex,
+}
+
+impl ListIndex {
+    ghost use Rattle.std.specs.Prelude.{◌≡◌, true, IfErr, IfSome, option_map};
+    ghost use Rattle.pst_block.specs.Table.{Table};
+    ghost use Rattle.pst_fault.specs.Fault.{no_memory};
+    ghost use Rattle.pst_fault.specs.First.{Tells};
+    ghost use Rattle.pst_ndb.specs.Roots.{subnode_of};
+    ghost use Rattle.pst_ndb.specs.Views.{table_of_node, nid_of, roots_of, IsIndexedBy};
+    ghost use Rattle.pst_msg.specs.Roles.{role_fault};
+    ghost use Rattle.pst_msg.specs.ListIndex.{IsIndexIn, index_in};
+
+    /// None yet.
+    #[tactic(auto, unfolding(crate::specs::ListIndex::IsIndexIn))]
+    pub(crate) fn none() -> ListIndex
+        ensures { (t : Table) → IsIndexIn t result }
+    {
+        ListIndex {
+            list: 0,
+            index: SubIndex::none(),
+        }
+    }
+
+    // Whether it is of the list of a node.
+    #[tactic(auto, using(crate::proofs::IndexLemmas::indexed_by))]
+    pub(crate) fn is_of(&self, node: Node) -> bool
+        requires { IsIndexIn (table_of_node node) self.now }
+        ensures { result ≡ true → IsIndexedBy node.entry (index_in self.now) }
+    {
+        self.list == cleared(node.bid_sub())
+    }
+
+    /// Makes the index of a node's list, where the node has long data; unless it is that one already.
+    #[tactic(auto, using(crate::proofs::IndexLemmas::index_of_list))]
+    pub(crate) fn turn(&mut self, alloc: Global, node: Node) -> Result<(), Fault>
+        requires { IsIndexIn (table_of_node node) self.old }
+        ensures index { IsIndexIn (table_of_node node.entry) self.new }
+        ensures memory { IfErr result (λ f. f ≡ no_memory) }
+    {
+        if self.is_of(node) || node.bytes().len() <= FEW {
+            return Ok(());
+        }
+        let index = node.index(alloc)?;
+        self.list = cleared(node.bid_sub());
+        self.index = index;
+        Ok(())
+    }
+
+    /// The subnode of a node with an identifier, by this index, where it is of the node's list.
+    pub(crate) fn subnode<'a>(&self, node: Node<'a>, nid: u32) -> Option<Node<'a>>
+        requires { IsIndexIn (table_of_node node) self.now }
+        ensures nid { IfSome result (λ s. nid_of s ≡ nid) }
+        ensures roots { let t = table_of_node node.entry in
+            option_map roots_of result ≡ subnode_of t (roots_of node.entry) nid }
+        ensures table { IfSome result (λ s. table_of_node s ≡ table_of_node node.entry) }
+    {
+        if self.is_of(node) {
+            return node.sub_by(&self.index, nid);
+        }
+        node.sub(nid)
+    }
+
+    /// The context of a node in a role, whose values in subnodes are found by this index, where it is of the node's list.
+    pub(crate) fn check(&self, role: Role, node: Node) -> Result<(), Fault>
+        requires { IsIndexIn (table_of_node node) self.now }
+        ensures exact { let t = table_of_node node.entry in
+            Tells result (role_fault t role (roots_of node.entry)) tt }
+    {
+        if self.is_of(node) {
+            return check_context(role, node, &self.index);
+        }
+        check_context(role, node, &SubIndex::none())
+    }
+}

@@ -1,0 +1,73 @@
+//! The roles of contexts.
+
+ghost use Rattle.std.specs.Prelude.{◌≡◌};
+ghost use Rattle.pst_fault.specs.First.{Tells};
+ghost use Rattle.pst_ndb.specs.Views.{table_of_node, roots_of, IsIndexedBy};
+ghost use Rattle.pst_pc.specs.Fault.{pc_fault};
+ghost use Rattle.pst_tc.specs.Fault.{tc_fault};
+ghost use Rattle.pst_msg.specs.Roles.{role_number, role_fault};
+
+use crate::items::Items;
+use pst_fault::Fault;
+use pst_ndb::Node;
+use pst_pc::check_pc_by;
+use pst_subnode::SubIndex;
+use pst_tc::check_tc_by;
+
+/// What a context is to what names it.
+#[derive(Clone, Copy, Debug, PartialEq, Eq)]
+pub enum Role {
+    /// Its properties.
+    Properties,
+    /// A table of a folder.
+    Listed(Items),
+    /// The recipient table of a message.
+    Recipients,
+    /// The attachment table of a message.
+    Attachments,
+}
+
+/// The number of a role.
+pub(crate) fn role_number(role: Role) -> u64
+    ensures { result ≡ role_number role }
+{
+    match role {
+        Role::Properties => 0,
+        Role::Listed(Items::Subfolders) => 1,
+        Role::Listed(Items::Messages) => 2,
+        Role::Listed(Items::Associated) => 3,
+        Role::Recipients => 4,
+        Role::Attachments => 5,
+    }
+}
+
+// The property context of a node.
+fn check_properties(node: Node, index: &SubIndex) -> Result<(), Fault>
+    requires { IsIndexedBy node index.now }
+    ensures { Tells result (pc_fault (table_of_node node.entry) (roots_of node.entry)) tt }
+{
+    check_pc_by(node, index)?;
+    Ok(())
+}
+
+// A table context of a node, in a role.
+fn check_table(node: Node, index: &SubIndex) -> Result<(), Fault>
+    requires { IsIndexedBy node index.now }
+    ensures { Tells result (tc_fault (table_of_node node.entry) (roots_of node.entry)) tt }
+{
+    check_tc_by(node, index)?;
+    Ok(())
+}
+
+/// Checks the context of a node in a role, whose values in subnodes are found by an index of them.
+pub(crate) fn check_context(role: Role, node: Node, index: &SubIndex) -> Result<(), Fault>
+    requires { IsIndexedBy node index.now }
+    ensures { Tells result (role_fault (table_of_node node.entry) role (roots_of node.entry)) tt }
+{
+    match role {
+        Role::Properties => check_properties(node, index),
+        Role::Listed(_) => check_table(node, index),
+        Role::Recipients => check_table(node, index),
+        Role::Attachments => check_table(node, index),
+    }
+}
