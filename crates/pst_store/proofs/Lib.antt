@@ -1,0 +1,3 @@
+pub mod StoreLaws
+pub mod StoreLemmas
+pub mod KindLemmas

@@ -1,0 +1,43 @@
+-- What a store is: of which bytes, and with which header, trees and order of bits. Nothing here walks, marks, remembers or names
+-- a fault. The numbers are those of [MS-PST].
+use Rattle.std.specs.Prelude.{ℕ, List}
+use Rattle.pst_header.specs.Head.{Head}
+use Rattle.pst_header.specs.Header.{end_of}
+use Rattle.pst_page.specs.declared.kind.PageKind.TheVariants.{Bbt, Nbt}
+use Rattle.pst_space.specs.Apart.{AreApart}
+use Rattle.pst_block.specs.Walk.{AreGood}
+use Rattle.pst_amap.specs.Report.{Maps}
+use Rattle.pst_ndb.specs.Database.{IsSpelt, AllHaveTrees, blocks_in, used_spans, units_of}
+use Rattle.pst_ndb.specs.Roots.{Roots}
+use Rattle.pst_pc.specs.Grammar.{IsPc}
+use Rattle.pst_msg.specs.declared.nid.TheConstants.{STORE, ROOT, FOLDER, SEARCH_FOLDER, MESSAGE, ASSOCIATED}
+use Rattle.pst_msg.specs.Grammar.{HasProperties, IsFolder, IsMessage}
+use Rattle.pst_store.specs.Parts.{StoreParts, table_in, entries_in, HasNode}
+
+pub record IsStore (I : List ℕ) (s : StoreParts) : Type 0 where
+  -- The header is good, and its fields are these (2.2.2.6).
+  pub header : Head I s.header
+  -- Under its two roots lie the two B-trees, of good pages: in each page the keys rise, within the bounds that all pages above it
+  -- give (2.2.2.7.7).
+  pub block_tree : IsSpelt Bbt I (end_of s.header) s.header.bbt s.blocks
+  pub node_tree : IsSpelt Nbt I (end_of s.header) s.header.nbt s.nodes
+  -- Each block that the block B-tree names is there, at its length, and good (2.2.2.8).
+  pub blocks : AreGood I (end_of s.header) (blocks_in I s.blocks)
+  -- Nothing overlaps: no two of the map pages, the pages of both trees and the blocks have a byte in common.
+  pub apart : AreApart (used_spans I s.header s.blocks s.nodes)
+  -- The allocation maps are good, and mark the units of all of these, in one order of bits (2.2.2.7.2).
+  pub maps : Maps I s.header (units_of s.header (used_spans I s.header s.blocks s.nodes)) s.order
+  -- The data of each node has a tree of blocks, and its subnodes have lists, which nest no deeper than they may (2.2.2.8.3).
+  pub trees : AllHaveTrees (table_in I s) (entries_in I s)
+  -- The message store and the root folder are there: their nodes are property contexts (2.4.3, 2.4.4).
+  pub store : HasProperties (table_in I s) (entries_in I s) STORE
+  pub root : HasProperties (table_in I s) (entries_in I s) ROOT
+  -- A node of the type of folders is a property context, and its tables, where they are there, are table contexts, whose rows name
+  -- nodes of the types that belong there; a search folder is a property context (2.4.4).
+  pub folders : (r : Roots) → HasNode I s FOLDER r → IsFolder (table_in I s) (entries_in I s) r
+  pub searches : (r : Roots) → HasNode I s SEARCH_FOLDER r → IsPc (table_in I s) r
+  -- A node of a type of messages is a property context, and its subnodes are: its recipient table and its attachment table, where
+  -- they are there, which are table contexts; for each row of the latter the attachment, a property context, and so, in turn, the
+  -- message that it embeds (2.4.5, 2.4.6).
+  pub messages : (r : Roots) → HasNode I s MESSAGE r → IsMessage (table_in I s) r
+  pub associated : (r : Roots) → HasNode I s ASSOCIATED r → IsMessage (table_in I s) r

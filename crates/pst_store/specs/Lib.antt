@@ -1,0 +1,7 @@
+pub mod Parts
+pub mod Grammar
+pub mod Fault
+pub mod Values
+pub mod Laws
+pub mod Kind
+pub mod View

@@ -1,0 +1,32 @@
+-- What is told of a store: what its bytes spell, and the blocks and nodes that this gives.
+use Rattle.std.specs.Prelude.{◌≡◌, ℕ, List}
+use Rattle.std.specs.List.{Contains}
+use Rattle.pst_header.specs.declared.header.Header.{Header}
+use Rattle.pst_page.specs.declared.entry.NodeEntry.{NodeEntry}
+use Rattle.pst_btree.specs.Tree.{Tree}
+use Rattle.pst_block.specs.Table.{Table, table_with}
+use Rattle.pst_amap.specs.declared.report.BitOrder.{BitOrder}
+use Rattle.pst_ndb.specs.Database.{blocks_in, nodes_in}
+use Rattle.pst_ndb.specs.Roots.{Roots, all_roots}
+use Rattle.pst_msg.specs.Nid.{type_of}
+
+pub record StoreParts : Type 0 where
+  -- the header
+  pub header : Header
+  -- the block B-tree and the node B-tree
+  pub blocks : Tree
+  pub nodes : Tree
+  -- the order of the bits in its allocation maps
+  pub order : BitOrder
+
+-- its blocks, by their identifiers
+abbrev pub table_in : List ℕ → StoreParts → Table
+table_in I s = table_with I (blocks_in I s.blocks)
+
+-- the entries of its nodes, in order
+abbrev pub entries_in : List ℕ → StoreParts → List NodeEntry
+entries_in I s = nodes_in I s.nodes
+
+-- it has a node of a type
+abbrev pub HasNode : List ℕ → StoreParts → ℕ → Roots → Type 0
+HasNode I s kind r = Contains (all_roots (entries_in I s)) r × (type_of r.top ≡ kind)

@@ -1,0 +1,52 @@
+-- What a contract sees of a store, and of an iterator over its folders or messages.
+use Rattle.std.specs.Prelude.{◌≡◌, ℕ, Option, IfSome, List}
+use Rattle.std.specs.Iterator.{YieldsFirstBy}
+use Rattle.pst_bytes.specs.Image.{bytes_of}
+use Rattle.pst_ndb.specs.declared.ndb.Ndb.{Ndb}
+use Rattle.pst_ndb.specs.Roots.{Roots}
+use Rattle.pst_ndb.specs.Views.{image_of_ndb, table_of_ndb, image_of_node, table_of_node, nid_of, top_of, roots_left}
+use Rattle.pst_msg.specs.declared.folder_view.Folder.{Folder}
+use Rattle.pst_msg.specs.declared.message_view.Message.{Message}
+use Rattle.pst_msg.specs.Values.{is_folder, is_message}
+use Rattle.pst_msg.specs.View.{node_of_message, message_roots, ndb_of_folder, folder_roots}
+use Rattle.pst_store.specs.declared.store.Store.{Store}
+use Rattle.pst_store.specs.declared.folders.Folders.{Folders}
+use Rattle.pst_store.specs.declared.messages.Messages.{Messages}
+use Rattle.pst_store.specs.Kind.{of_kind}
+
+-- its node database, and its bytes
+abbrev pub ndb_of_store : Store → Ndb
+ndb_of_store s = s.ndb
+
+abbrev pub bytes_of_store : Store → List ℕ
+bytes_of_store s = bytes_of (image_of_ndb s.ndb)
+
+-- ---- iterators
+
+-- the folders that an iterator has left, and the node database that they are of
+abbrev pub folders_left : Folders → List Roots
+folders_left f = of_kind is_folder (roots_left f.rest)
+
+abbrev pub folders_ndb : Folders → Ndb
+folders_ndb f = f.ndb
+
+abbrev pub TakesFolder : Folders → Option Folder → Folders → Type 0
+TakesFolder old found new =
+    YieldsFirstBy folder_roots folders_left old found new
+    × (folders_ndb new ≡ folders_ndb old)
+    × IfSome found (λ f. ndb_of_folder f ≡ folders_ndb old)
+
+-- the messages that an iterator has left
+abbrev pub messages_left : Messages → List Roots
+messages_left m = of_kind is_message (roots_left m.rest)
+
+abbrev pub messages_ndb : Messages → Ndb
+messages_ndb m = m.ndb
+
+abbrev pub TakesMessage : Messages → Option Message → Messages → Type 0
+TakesMessage old found new =
+    YieldsFirstBy message_roots messages_left old found new
+    × (messages_ndb new ≡ messages_ndb old)
+    × IfSome found (λ m. table_of_node (node_of_message m) ≡ table_of_ndb (messages_ndb old))
+    × IfSome found (λ m. image_of_node (node_of_message m) ≡ image_of_ndb (messages_ndb old))
+    × IfSome found (λ m. nid_of (node_of_message m) ≡ top_of (node_of_message m))
