@@ -1,0 +1,109 @@
+-- What an answer of the check of a whole file says.
+use Rattle.std.proofs.Common.{◌≡◌, ℕ, List, length, Option, None, Result, Ok, Err, refl, sym, ap, ◌∙◌}
+use Rattle.std.specs.Prelude.{IfOk, IfErr, OnOk}
+use Rattle.pst_fault.specs.declared.fault.Fault.{Fault}
+use Rattle.pst_fault.specs.Fault.{no_memory}
+use Rattle.pst_fault.specs.First.{IsFirst}
+use Rattle.pst_fault.proofs.FirstLemmas.{is_first_then, is_first_after, only_memory}
+use Rattle.pst_header.specs.declared.header.Header.{Header}
+use Rattle.pst_header.specs.Header.{fields}
+use Rattle.pst_page.specs.declared.entry.NodeEntry.{NodeEntry}
+use Rattle.pst_block.specs.Table.{Table}
+use Rattle.pst_amap.specs.declared.report.MapReport.{MapReport}
+use Rattle.pst_amap.specs.Report.{IsReport}
+use Rattle.pst_ndb.specs.declared.check.Work.{Work}
+use Rattle.pst_ndb.specs.Counts.{AreExpanded}
+use Rattle.pst_ndb.specs.Entries.{page_total, block_table, block_list, node_list}
+use Rattle.pst_ndb.specs.Fault.{ndb_fault}
+use Rattle.pst_ndb.specs.Marks.{MapsMark}
+use Rattle.pst_ndb.specs.Roots.{all_roots}
+use Rattle.pst_ndb.specs.Space.{space_claimed}
+use Rattle.pst_msg.specs.Counts.{IsRaised}
+use Rattle.pst_msg.specs.Fault.{messaging_fault}
+use Rattle.pst_msg.specs.Values.{is_folder, is_message}
+use Rattle.pst_store.specs.Fault.{store_fault}
+use Rattle.pst_store.specs.Grammar.{IsStore}
+use Rattle.pst_store.specs.Parts.{StoreParts, table_in, entries_in}
+use Rattle.pst_store.specs.Values.{store_in}
+use Rattle.pst_store.specs.View.{bytes_of_store}
+use Rattle.pst_store.proofs.StoreLaws.{store_law, sound_store, table_is, entries_are}
+use Rattle.pst_verify.specs.declared.counts.Counts.{Counts}
+use Rattle.pst_verify.specs.declared.check.Verified.{Verified}
+use Rattle.pst_verify.specs.Counts.{count_of}
+use Rattle.pst_verify.specs.Report.{IsReportOf}
+use Rattle.pst_verify.specs.Verified.{IsVerified, TellsFirst}
+
+-- ---- the first fault
+
+-- what refuses a node database refuses the file
+database_first : (I : List ℕ) (f : Fault) → IsFirst (ndb_fault I) f → IsFirst (store_fault I) f
+unfolding store_fault
+database_first I f h = is_first_then (ndb_fault I) (messaging_fault (block_table I (fields I)) (node_list I (fields I))) f h
+
+pub database_fails : (I J : List ℕ) (f : Fault) → J ≡ I → IsFirst (ndb_fault J) f → IsFirst (store_fault I) f
+database_fails I J f same h = rw same at (database_first J f h)
+
+-- what refuses its messaging does, where the node database has no fault
+messaging_first : (I : List ℕ) (t : Table) (nodes : List NodeEntry) (f : Fault) → ndb_fault I ≡ None → t ≡ block_table I (fields I) → nodes ≡ node_list I (fields I) → IsFirst (messaging_fault t nodes) f → IsFirst (store_fault I) f
+unfolding store_fault
+messaging_first I t nodes f none table entries h = is_first_after (ndb_fault I) (messaging_fault (block_table I (fields I)) (node_list I (fields I))) f none (rw (table, entries) at h)
+
+pub messaging_fails : (I J : List ℕ) (t : Table) (nodes : List NodeEntry) (f : Fault) → J ≡ I → ndb_fault J ≡ None → t ≡ block_table J (fields J) → nodes ≡ node_list J (fields J) → IsFirst (messaging_fault t nodes) f → IsFirst (store_fault I) f
+messaging_fails I J t nodes f same none table entries h = rw same at (messaging_first J t nodes f none table entries h)
+
+-- ---- the report
+
+-- what was found, in the words of the store that the file spells
+spelt_report : (I : List ℕ) (map : MapReport) (work : Work) (counts : Counts) →
+    IsReport I (fields I) (space_claimed I (fields I)) map → MapsMark I (fields I) map → work.pages ≡ page_total I (fields I) →
+    work.sums ≡ length (block_list I (fields I)) → AreExpanded (table_in I (store_in I)) (entries_in I (store_in I)) work.expansions →
+    IsRaised (table_in I (store_in I)) (entries_in I (store_in I)) 0 work.contexts → counts.nodes ≡ length (entries_in I (store_in I)) →
+    counts.folders ≡ count_of is_folder (all_roots (entries_in I (store_in I))) →
+    counts.messages ≡ count_of is_message (all_roots (entries_in I (store_in I))) →
+    IsReportOf I (store_in I)
+    (record { pages = work.pages; blocks = work.sums; nodes = counts.nodes; folders = counts.folders; messages = counts.messages; order = map.order; lost = map.lost; work = work })
+unfolding store_in page_total block_list
+spelt_report I map work counts is marks pages sums expanded contexts nodes folders messages = record {
+  pages = pages;
+  blocks = sums;
+  nodes = nodes;
+  folders = folders;
+  messages = messages;
+  order = is.order;
+  lost = is.lost;
+  marks = marks;
+  decoded = refl;
+  summed = refl;
+  expanded = expanded;
+  contexts = contexts;
+}
+
+pub report_is : (I : List ℕ) (h : Header) (t : Table) (entries : List NodeEntry) (map : MapReport) (work : Work) (counts : Counts) →
+    h ≡ fields I → t ≡ block_table I h → entries ≡ node_list I h →
+    IsReport I (fields I) (space_claimed I (fields I)) map → MapsMark I (fields I) map → work.pages ≡ page_total I (fields I) →
+    work.sums ≡ length (block_list I (fields I)) → AreExpanded t entries work.expansions → IsRaised t entries 0 work.contexts →
+    counts.nodes ≡ length entries → counts.folders ≡ count_of is_folder (all_roots entries) →
+    counts.messages ≡ count_of is_message (all_roots entries) →
+    IsReportOf I (store_in I)
+    (record { pages = work.pages; blocks = work.sums; nodes = counts.nodes; folders = counts.folders; messages = counts.messages; order = map.order; lost = map.lost; work = work })
+report_is I h t entries map work counts is table nodes_are report marks pages sums expanded contexts nodes folders messages =
+    let a : t ≡ table_in I (store_in I) = table ∙ ap (block_table I) is ∙ sym (table_is I) in
+    let b : entries ≡ entries_in I (store_in I) = nodes_are ∙ ap (node_list I) is ∙ sym (entries_are I) in
+    spelt_report I map work counts report marks pages sums (rw (a, b) at expanded) (rw (a, b) at contexts) (rw b at nodes) (rw b at folders) (rw b at messages)
+
+-- ---- the answer
+
+-- a yes where there is no first fault, and a no with it
+pub tells : (first : Option Fault) (result : Result Verified Fault) → IfErr result (IsFirst first) → OnOk result (first ≡ None) → TellsFirst result first
+tells first (Ok v) refused none = none
+tells first (Err f) refused none = refused
+
+-- a yes is one
+pub answered : (I : List ℕ) (result : Result Verified Fault) → OnOk result (store_fault I ≡ None) → IfOk result (λ v. bytes_of_store v.store ≡ I) → IfOk result (λ v. IsReportOf I (store_in I) v.report) → IfOk result (IsVerified I)
+answered I (Ok v) none view report = record { store = sound_store I none; view = view; report = report }
+answered I (Err f) none view report = tt
+
+-- a store is refused for want of memory alone
+pub not_refused : (I : List ℕ) (s : StoreParts) (result : Result Verified Fault) → IfErr result (IsFirst (store_fault I)) → IsStore I s → IfErr result (λ f. f ≡ no_memory)
+not_refused I s (Ok v) first is = tt
+not_refused I s (Err f) first is = only_memory (store_fault I) f ((store_law I s).0 is).0 first

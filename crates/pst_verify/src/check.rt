@@ -1,0 +1,110 @@
+//! The check of a whole file.
+
+ghost use Rattle.std.specs.Prelude.{◌≡◌, None, IfOk, IfErr, OnOk, length};
+ghost use Rattle.pst_bytes.specs.Image.{bytes_of};
+ghost use Rattle.pst_fault.specs.Fault.{no_memory};
+ghost use Rattle.pst_fault.specs.First.{IsFirst};
+ghost use Rattle.pst_header.specs.Header.{fields};
+ghost use Rattle.pst_amap.specs.Report.{IsReport};
+ghost use Rattle.pst_ndb.specs.Counts.{AreExpanded};
+ghost use Rattle.pst_ndb.specs.Entries.{page_total, block_list};
+ghost use Rattle.pst_ndb.specs.Marks.{MapsMark};
+ghost use Rattle.pst_ndb.specs.Space.{space_claimed};
+ghost use Rattle.pst_ndb.specs.Views.{image_of_ndb, table_of_ndb, nodes_of};
+ghost use Rattle.pst_msg.specs.Counts.{IsRaised};
+ghost use Rattle.pst_store.specs.Fault.{store_fault};
+ghost use Rattle.pst_store.specs.Grammar.{IsStore};
+ghost use Rattle.pst_store.specs.Parts.{StoreParts};
+ghost use Rattle.pst_store.specs.Values.{store_in};
+ghost use Rattle.pst_store.specs.View.{bytes_of_store};
+ghost use Rattle.pst_verify.specs.Report.{IsReportOf};
+ghost use Rattle.pst_verify.specs.Verified.{IsVerified, TellsFirst};
+
+use crate::counts::count_nodes;
+use crate::report::Report;
+use pst_amap::MapReport;
+use pst_bytes::Image;
+use pst_fault::Fault;
+use pst_msg::check_messaging;
+use pst_ndb::{Ndb, Work, check_ndb};
+use pst_store::Store;
+use std::alloc::Global;
+
+/// What is found in a file that is a store.
+#[derive(Drop)]
+pub struct Verified<'a> {
+    /// The store: what it is asked cannot fail any more.
+    pub store: Store<'a>,
+    /// What is reported of it.
+    pub report: Report,
+}
+
+// What is reported of a node database, whose maps say this, and whose check was so much work.
+fn report_of(ndb: &Ndb, map: MapReport, work: Work) -> Report
+    requires map { let I = bytes_of (image_of_ndb ndb.now) in
+        IsReport I (fields I) (space_claimed I (fields I)) map }
+    requires marks { let I = bytes_of (image_of_ndb ndb.now) in MapsMark I (fields I) map }
+    requires pages { let I = bytes_of (image_of_ndb ndb.now) in
+        work.pages ≡ page_total I (fields I) }
+    requires sums { let I = bytes_of (image_of_ndb ndb.now) in
+        work.sums ≡ length (block_list I (fields I)) }
+    requires expansions { AreExpanded (table_of_ndb ndb.now) (nodes_of ndb.now) work.expansions }
+    requires contexts { IsRaised (table_of_ndb ndb.now) (nodes_of ndb.now) 0 work.contexts }
+    ensures { let I = bytes_of (image_of_ndb ndb.now) in IsReportOf I (store_in I) result }
+{
+    ndb.is_sound();
+    let counts = count_nodes(ndb);
+    Report {
+        pages: work.pages,
+        blocks: work.sums,
+        nodes: counts.nodes,
+        folders: counts.folders,
+        messages: counts.messages,
+        order: map.order,
+        lost: map.lost,
+        work,
+    }
+}
+
+// The check, with the fault that it gives.
+fn check_exactly<'a>(alloc: Global, bytes: &'a [u8]) -> Result<Verified<'a>, Fault>
+    ensures first { IfErr result (IsFirst (store_fault bytes.now)) }
+    ensures none { OnOk result (store_fault bytes.now ≡ None) }
+    ensures view { IfOk result (λ v. bytes_of_store v.store ≡ bytes.now) }
+    ensures report { IfOk result (λ v. IsReportOf bytes.now (store_in bytes.now) v.report) }
+{
+    let checked = check_ndb(alloc, Image::new(bytes))?;
+    let ndb = checked.ndb;
+    let mut work = checked.work;
+    check_messaging(alloc, &ndb, &mut work)?;
+    let store = Store::known(ndb);
+    let report = report_of(&ndb, checked.map, work);
+    Ok(Verified { store, report })
+}
+
+/// Checks whether bytes are a store ([MS-PST]), and gives the store, with what is reported of it; or the first fault, in this
+/// order:
+///
+/// 1. of the header;
+/// 2. of the pages of the block B-tree, once all allocation map and page map pages are claimed;
+/// 3. of the pages of the node B-tree;
+/// 4. of the blocks, in order of their keys;
+/// 5. of the allocation maps;
+/// 6. node by node, their identifiers rising, of the data tree and then of the subnodes;
+/// 7. of messaging: of the nodes of the message store and of the root folder, and then of each node that is a folder or a message, their
+///    identifiers rising.
+///
+/// In each phase it is that of the call that checks it: `check_ndb` has 1 to 6, `check_messaging` the seventh. What is shared is looked
+/// at once. NoMemory where memory is refused.
+pub fn verify<'a>(alloc: Global, bytes: &'a [u8]) -> Result<Verified<'a>, Fault>
+    // Whenever the answer is yes, of any bytes, they are a store: that which is given, and of which is reported.
+    ensures yes { IfOk result (IsVerified bytes.now) }
+
+    // Of bytes that are a store the answer is yes, unless memory ran out.
+    ensures no { (s : StoreParts) → IsStore bytes.now s → IfErr result (λ f. f ≡ no_memory) }
+
+    // The answer is the first fault of the bytes, in the order above.
+    ensures exact { TellsFirst result (store_fault bytes.now) }
+{
+    check_exactly(alloc, bytes)
+}

@@ -1,0 +1,43 @@
+//! How many nodes there are of each kind.
+
+ghost use Rattle.std.specs.Prelude.{◌≡◌, length};
+ghost use Rattle.pst_ndb.specs.Roots.{all_roots};
+ghost use Rattle.pst_ndb.specs.Views.{nodes_of};
+ghost use Rattle.pst_msg.specs.Values.{is_folder as folder_kind, is_message as message_kind};
+ghost use Rattle.pst_verify.specs.Counts.{count_of};
+
+use pst_msg::{is_folder, is_message};
+use pst_ndb::Ndb;
+
+/// How many nodes there are, and how many of them are folders and messages.
+#[derive(Clone, Copy, Debug, PartialEq, Eq)]
+pub(crate) struct Counts {
+    pub(crate) nodes: u64,
+    pub(crate) folders: u64,
+    pub(crate) messages: u64,
+}
+
+/// Counts the nodes of a node database.
+#[tactic(auto, using(crate::proofs::CountLemmas::room, crate::proofs::CountLemmas::step, crate::proofs::CountLemmas::counted, crate::proofs::CountLemmas::rises_on, crate::proofs::CountLemmas::none_left, crate::proofs::CountLemmas::all_counted))]
+pub(crate) fn count_nodes(ndb: &Ndb) -> Counts
+    ensures nodes { result.nodes ≡ length (nodes_of ndb.now) }
+    ensures folders { result.folders ≡ count_of folder_kind (all_roots (nodes_of ndb.now)) }
+    ensures messages { result.messages ≡ count_of message_kind (all_roots (nodes_of ndb.now)) }
+{
+    ndb.nodes_rise();
+    let mut nodes = 0;
+    let mut folders = 0;
+    let mut messages = 0;
+    let mut rest = ndb.nodes();
+    while let Some(node) = rest.next() {
+        let nid = node.top();
+        nodes += 1;
+        folders += u64::from(is_folder(nid));
+        messages += u64::from(is_message(nid));
+    }
+    Counts {
+        nodes,
+        folders,
+        messages,
+    }
+}

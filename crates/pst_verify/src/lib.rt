@@ -1,0 +1,14 @@
+//! The check of a whole file: whether it is a store.
+//!
+//! Begin with `verify`, and with pst_store's `specs/Grammar.antt`, the page that says what a store is.
+#![tactic(auto)]
+
+mod check;
+mod counts;
+mod report;
+
+pub use check::{Verified, verify};
+pub use report::Report;
+
+#[cfg(test)]
+mod tests;
