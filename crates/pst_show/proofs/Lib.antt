@@ -1,5 +1,6 @@
-pub mod LineLemmas
+pub mod AnswerLemmas
+pub mod CommandLaws
 pub mod ListingLemmas
 pub mod Loading
-pub mod NodeLemmas
+pub mod NidLemmas
 pub mod WordLemmas

@@ -1,16 +1,17 @@
 -- What the matches of the words ask for.
-use Rattle.std.proofs.Common.{◌≡◌, true, List, [], ◌∷◌, Option, Some, None, refl, sym, ap, ◌∙◌, codes}
-use Rattle.std.specs.Prelude.{option_map, option_and_then}
-use Rattle.std.specs.Prelude.{ℕ, nat_eq, false}
+use Rattle.std.proofs.Common.{◌≡◌, ◌+◌, ◌<◌, true, Bool, List, [], ◌∷◌, length, drop, get_or, Option, Some, None, Result, Ok, refl, sym, ap, ◌∙◌, codes}
+use Rattle.std.specs.Prelude.{option_map, find, ℕ, nat_eq, false}
+use Rattle.std.proofs.lemmas.List.{at_drop_more}
 use Rattle.std.proofs.lemmas.Bool.{ne_eqb}
-use Rattle.clap.specs.Words.{fault_of, Text, Row, first_of, first_value, found_of, rows_of, subcommand_name_of, subcommand_rows_of, is_simple, is_simple_and_free, HasMatchesOf}
+use Rattle.clap.specs.Words.{App, fault_of, Text, Row, first_of, first_value, found_of, rows_of, subcommand_name_of, subcommand_rows_of, is_simple, is_simple_and_free, HasMatchesOf}
 use Rattle.clap.specs.declared.parser.matches.ArgMatches.{ArgMatches}
 use Rattle.clap.specs.declared.parser.matches.ArgMatches.TheViews.{out-ArgMatches}
 use Rattle.clap.proofs.OnLiterals.{clap_on_literals}
 use Rattle.clap.proofs.WalkLemmas.{first_value-rows}
-use Rattle.pst_show.specs.declared.words.Ask.{Ask}
-use Rattle.pst_show.specs.declared.words.Ask.TheVariants.{Head, Nodes}
-use Rattle.pst_show.specs.Words.{IsAsked, HeadLaw, NodesLaw, ask_of, asked, asked_of, named, show_app}
+use Rattle.pst_show.specs.Ask.{asked_in, asked_with}
+use Rattle.pst_show.specs.Verbs.{verb_of}
+use Rattle.pst_show.specs.declared.verb.Verb.{Verb}
+use Rattle.pst_show.specs.Words.{asked, show_app, with_verb, with_verbs}
 
 abbrev paired : {Z : Type 0} → (Z → Text) → (Z → List Row) → Z → Text × List Row
 paired f g b = (f b, g b)
@@ -21,16 +22,13 @@ both_of None f g n rows p q = absurd cc
 both_of (Some z) f g n rows p q = cc
 
 -- a command that was used is its name and its rows
-command_is : (m : ArgMatches) (n : Text) (rows : List Row) → Some n ≡ subcommand_name_of m → Some rows ≡ option_map (λ (p : Text × List Row). p.1) (subcommand_rows_of m)
+pub command_is : (m : ArgMatches) (n : Text) (rows : List Row) → Some n ≡ subcommand_name_of m → Some rows ≡ option_map (λ (p : Text × List Row). p.1) (subcommand_rows_of m)
     → subcommand_rows_of m ≡ Some (n, rows)
 command_is m n rows p q = both_of (out-ArgMatches m).subcommand _ _ n rows p q
 
--- what is asked for by the name and the file that stand in the matches
-pub order_is : (m inner : ArgMatches) (n : Text) (ask : Option Ask) (file : Option Text) → Some n ≡ subcommand_name_of m → Some (rows_of (found_of inner)) ≡ option_map (λ (p : Text × List Row). p.1) (subcommand_rows_of m)
-    → ask ≡ ask_of n → file ≡ first_value (found_of inner) (codes "FILE") → option_and_then (λ a. option_map (asked_of a) file) ask ≡ option_and_then named (subcommand_rows_of m)
-order_is m inner n ask file p q asks names =
-    let from : file ≡ first_of (codes "FILE") (rows_of (found_of inner)) = names ∙ first_value-rows (found_of inner) (codes "FILE") in
-    rw (command_is m n (rows_of (found_of inner)) p q, asks, from) refl
+-- the value of an argument
+pub text_is : (m : ArgMatches) (id : Text) → first_value (found_of m) id ≡ first_of id (rows_of (found_of m))
+text_is m id = first_value-rows (found_of m) id
 
 pub is_free_show : is_simple_and_free show_app ≡ true
 unfolding clap_on_literals
@@ -41,43 +39,26 @@ unfolding clap_on_literals
 is_simple_show = refl
 
 -- what the words ask for is what their matches ask for
-pub asked_is : (words : List Text) (m : ArgMatches) → HasMatchesOf show_app words m → asked words ≡ option_and_then named (subcommand_rows_of m)
+pub asked_is : (words : List Text) (m : ArgMatches) → HasMatchesOf show_app words m → asked words ≡ asked_in (subcommand_rows_of m)
 unfolding asked
-asked_is words m h = ap (option_and_then named) (sym (h is_simple_show).1)
+asked_is words m h = ap asked_in (sym (h is_simple_show).1)
 
--- a command and a file's name, by its first byte
-accepts_name : (b : ℕ) (rest : List ℕ) → nat_eq b 45 ≡ false → fault_of show_app (codes "head" ∷ (b ∷ rest) ∷ []) ≡ []
-unfolding clap_on_literals
-accepts_name b rest other = simp other
+-- ---- a command by its name
 
-asks_name : (b : ℕ) (rest : List ℕ) → nat_eq b 45 ≡ false → asked (codes "head" ∷ (b ∷ rest) ∷ []) ≡ Some (asked_of Head (b ∷ rest))
-unfolding clap_on_literals asked
-asks_name b rest other = simp other
+-- it is none of those before
+pub find_next : {X : Type 0} (test : X → Bool) (xs : List X) (i : ℕ) (d : X) (whole : Option X) → i < length xs → test (get_or xs i d) ≡ false
+    → find test (drop i xs) ≡ whole → find test (drop (i + 1) xs) ≡ whole
+find_next test xs i d whole inside other so_far =
+    let next = at_drop_more (find test) xs i d inside in
+    sym (rw other at next) ∙ so_far
 
-empty_name : IsAsked (codes "head" ∷ [] ∷ []) (asked_of Head [])
-unfolding clap_on_literals asked
-empty_name = record { accepted = refl; is = refl }
+-- what is asked for by the command that was used, with its matches
+pub order_is : (m inner : ArgMatches) (n : Text) → Some n ≡ subcommand_name_of m → Some (rows_of (found_of inner)) ≡ option_map (λ (p : Text × List Row). p.1) (subcommand_rows_of m)
+    → asked_in (subcommand_rows_of m) ≡ asked_with (verb_of n) (rows_of (found_of inner))
+order_is m inner n p q = ap asked_in (command_is m n (rows_of (found_of inner)) p q)
 
-pub head_law : HeadLaw
-head_law [] no_option = empty_name
-head_law (b ∷ rest) no_option =
-    let other = ne_eqb b 45 no_option in
-    record { accepted = accepts_name b rest other; is = asks_name b rest other }
-
-accepts_nodes : (b : ℕ) (rest : List ℕ) → nat_eq b 45 ≡ false → fault_of show_app (codes "nodes" ∷ (b ∷ rest) ∷ []) ≡ []
-unfolding clap_on_literals
-accepts_nodes b rest other = simp other
-
-asks_nodes : (b : ℕ) (rest : List ℕ) → nat_eq b 45 ≡ false → asked (codes "nodes" ∷ (b ∷ rest) ∷ []) ≡ Some (asked_of Nodes (b ∷ rest))
-unfolding clap_on_literals asked
-asks_nodes b rest other = simp other
-
-empty_nodes : IsAsked (codes "nodes" ∷ [] ∷ []) (asked_of Nodes [])
-unfolding clap_on_literals asked
-empty_nodes = record { accepted = refl; is = refl }
-
-pub nodes_law : NodesLaw
-nodes_law [] no_option = empty_nodes
-nodes_law (b ∷ rest) no_option =
-    let other = ne_eqb b 45 no_option in
-    record { accepted = accepts_nodes b rest other; is = asks_nodes b rest other }
+-- one command more
+pub verbs_next : (a b : App) (xs : List Verb) (i : ℕ) (d : Verb) (whole : App) → i < length xs → b ≡ with_verb a (get_or xs i d)
+    → with_verbs a (drop i xs) ≡ whole → with_verbs b (drop (i + 1) xs) ≡ whole
+verbs_next a b xs i d whole inside is so_far =
+    ap (λ x. with_verbs x (drop (i + 1) xs)) is ∙ sym (at_drop_more (with_verbs a) xs i d inside) ∙ so_far

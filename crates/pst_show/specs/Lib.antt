@@ -1,9 +1,10 @@
 pub mod Answer
-pub mod Head
+pub mod Ask
 pub mod Listing
 pub mod Loading
+pub mod Nid
 pub mod Nodes
-pub mod Output
 pub mod Refusal
 pub mod Run
+pub mod Verbs
 pub mod Words

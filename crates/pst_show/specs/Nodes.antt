@@ -1,10 +1,7 @@
--- The nodes of a file: the walks that find them, the document of a list of nodes, and its line.
-use Rattle.std.specs.Prelude.{◌≡◌, ◌⊎◌, ℕ, List, [], ◌∷◌, ◌++◌, map, codes, Result, Ok, Err}
-use Rattle.serde_json.specs.Data.{Data, string, array, object, member, no_members}
-use Rattle.serde_json.specs.View.{items_of}
-use Rattle.serde_json.specs.Written.{compact_text}
+-- The nodes of a file: the walks that find them.
+use Rattle.std.specs.Prelude.{◌≡◌, ◌⊎◌, ℕ, List, map, Result, Ok, Err}
 use Rattle.pst_fault.specs.declared.fault.Fault.{Fault}
-use Rattle.pst_fault.specs.Fault.{hex, no_memory}
+use Rattle.pst_fault.specs.Fault.{no_memory}
 use Rattle.pst_fault.specs.First.{answer}
 use Rattle.pst_header.specs.declared.header.Header.{Header}
 use Rattle.pst_header.specs.Header.{header_fault, fields, end_of}
@@ -16,9 +13,6 @@ use Rattle.pst_space.specs.Step.{Step, ◌>>=◌}
 use Rattle.pst_btree.specs.declared.node_tree.NodeTree.{NodeTree}
 use Rattle.pst_btree.specs.Trees.{node_entries}
 use Rattle.pst_btree.specs.Walk.{Found, tree_walk}
-use Rattle.pst_show.specs.Head.{count}
-
--- ---- the walks
 
 -- The walks of both trees ([MS-PST] 2.2.2.7.7) of a file with this header. Before the first, the map pages are claimed.
 -- The block B-tree is walked, then the node B-tree, in what is left.
@@ -45,26 +39,3 @@ nodes_of I = listed_under I (answer (header_fault I) (fields I))
 abbrev pub Lists : Result NodeTree Fault → Result (List NodeEntry) Fault → Type 0
 Lists (Ok tree) answer = answer ≡ Ok (node_entries tree)
 Lists (Err f) answer = (f ≡ no_memory) ⊎ (answer ≡ Err f)
-
--- ---- the document
-
--- the text of a node's identifier ([MS-PST] 2.2.2.1)
-abbrev pub nid_text : ℕ → List ℕ
-nid_text nid = codes "0x" ++ hex nid
-
--- the members stand in the order of their keys' bytes
-abbrev pub node_data : NodeEntry → Data
-node_data entry =
-    object
-    (member (codes "data_bid") (count entry.bid_data)
-    (member (codes "nid") (string (nid_text entry.nid))
-    (member (codes "parent") (string (nid_text entry.parent))
-    (member (codes "sub_bid") (count entry.bid_sub)
-    no_members))))
-
-abbrev pub nodes_data : List NodeEntry → Data
-nodes_data entries = object (member (codes "nodes") (array (items_of (map node_data entries))) no_members)
-
--- the line that shows nodes
-abbrev pub nodes_line : List NodeEntry → List ℕ
-nodes_line entries = compact_text (nodes_data entries) ++ 10 ∷ []

@@ -3,6 +3,8 @@ use Rattle.std.specs.Prelude.{ℕ, Bool, true, false, if◌then◌else◌}
 use Rattle.pst_fault.specs.declared.fault.Fault.{Fault}
 use Rattle.pst_fault.specs.declared.kind.Kind.{Kind}
 use Rattle.pst_fault.specs.declared.kind.Kind.TheVariants.{NoMemory}
+use Rattle.pst_json.specs.declared.fault.DocFault.{DocFault}
+use Rattle.pst_json.specs.declared.fault.DocFault.TheVariants as doc
 use Rattle.pst_show.specs.declared.refusal.Refusal.{Refusal}
 use Rattle.pst_show.specs.declared.refusal.Refusal.TheVariants as refusal
 
@@ -15,9 +17,18 @@ is_memory kind = false
 abbrev pub refusal_of : Fault → Refusal
 refusal_of f = if is_memory f.kind then refusal.Memory else refusal.Fault f
 
+-- what comes of a document that there is not, of the node with an identifier
+abbrev pub refusal_for : ℕ → DocFault → Refusal
+refusal_for nid doc.NoFolder = refusal.NoFolder nid
+refusal_for nid doc.NoNode = refusal.NoNode nid
+refusal_for nid (doc.Bad f) = refusal_of f
+refusal_for nid doc.Memory = refusal.Memory
+
 -- what may come from reading
 abbrev pub IsOfInput : Refusal → Type 0
 IsOfInput (refusal.Fault f) = ⊥
+IsOfInput (refusal.NoFolder nid) = ⊥
+IsOfInput (refusal.NoNode nid) = ⊥
 IsOfInput refusal.Input = Unit {0}
 IsOfInput refusal.Output = ⊥
 IsOfInput refusal.Memory = Unit {0}
@@ -25,6 +36,8 @@ IsOfInput refusal.Memory = Unit {0}
 -- the status with which a run ends that is refused
 abbrev pub status_of : Refusal → ℕ
 status_of (refusal.Fault f) = 1
+status_of (refusal.NoFolder nid) = 1
+status_of (refusal.NoNode nid) = 1
 status_of refusal.Input = 3
 status_of refusal.Output = 3
 status_of refusal.Memory = 4

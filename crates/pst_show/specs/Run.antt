@@ -1,33 +1,41 @@
 -- What a run writes, and its status.
-use Rattle.std.specs.Prelude.{◌≡◌, ℕ, ◌⊎◌, List, Option, Result, Ok, Err}
+use Rattle.std.specs.Prelude.{◌≡◌, ℕ, Bool, true, false, ◌⊎◌, List, Option, Result, Ok, Err}
 use Rattle.std.specs.Io.KnownBytes.{Appends, Keeps}
+use Rattle.pst_json.specs.Output.{AppendsFront}
 use Rattle.pst_show.specs.declared.refusal.Refusal.{Refusal}
 use Rattle.pst_show.specs.declared.refusal.Refusal.TheVariants as refusal
-use Rattle.pst_show.specs.Output.{AppendsFront}
+use Rattle.pst_show.specs.Answer.{Told}
 use Rattle.pst_show.specs.Refusal.{status_of}
 
--- the answer is a text, and all of it is written
-abbrev pub Shows : Result (List ℕ) Refusal → Option (List ℕ) → Option (List ℕ) → Type 0
-Shows answer old new = (text : List ℕ) × (answer ≡ Ok text) × Appends old new text
+-- the status of a text that is shown
+abbrev pub shown_status : Bool → ℕ
+shown_status true = 1
+shown_status false = 0
+
+-- the answer is a text, which fails so, and all of it is written
+abbrev pub Shows : Result Told Refusal → Bool → Option (List ℕ) → Option (List ℕ) → Type 0
+Shows answer fails old new = (told : Told) × (answer ≡ Ok told) × (fails ≡ told.fails) × Appends old new told.text
 
 -- the answer is a text, and a front of it is written
-abbrev pub ShowsFront : Result (List ℕ) Refusal → Option (List ℕ) → Option (List ℕ) → Type 0
-ShowsFront answer old new = (text : List ℕ) × (answer ≡ Ok text) × AppendsFront old new text
+abbrev pub ShowsFront : Result Told Refusal → Option (List ℕ) → Option (List ℕ) → Type 0
+ShowsFront answer old new = (told : Told) × (answer ≡ Ok told) × AppendsFront old new told.text
 
 -- How showing an answer ends, and what the output then holds: all of the answer; at a refusal nothing; and where the
 -- output failed, a front of the answer.
-abbrev pub Ends : Result (Unit {0}) Refusal → Result (List ℕ) Refusal → Option (List ℕ) → Option (List ℕ) → Type 0
-Ends (Ok done) answer old new = Shows answer old new
+abbrev pub Ends : Result Bool Refusal → Result Told Refusal → Option (List ℕ) → Option (List ℕ) → Type 0
+Ends (Ok fails) answer old new = Shows answer fails old new
 Ends (Err (refusal.Fault f)) answer old new = (answer ≡ Err (refusal.Fault f)) × Keeps old new
+Ends (Err (refusal.NoFolder nid)) answer old new = (answer ≡ Err (refusal.NoFolder nid)) × Keeps old new
+Ends (Err (refusal.NoNode nid)) answer old new = (answer ≡ Err (refusal.NoNode nid)) × Keeps old new
 Ends (Err refusal.Input) answer old new = Keeps old new
 Ends (Err refusal.Output) answer old new = ShowsFront answer old new
 Ends (Err refusal.Memory) answer old new = Keeps old new
 
--- The status is 0 and the answer is written; or it is that of a refusal of these bytes, and nothing is written. Only a
+-- The answer is written, and the status is its; or it is that of a refusal of these bytes, and nothing is written. Only a
 -- file that cannot be read (3), an output that cannot be written (3) and want of memory (4) give another status.
-abbrev pub Answers : Result (List ℕ) Refusal → ℕ → Option (List ℕ) → Option (List ℕ) → Type 0
+abbrev pub Answers : Result Told Refusal → ℕ → Option (List ℕ) → Option (List ℕ) → Type 0
 Answers answer status old new =
-    ((status ≡ 0) × Shows answer old new)
+    ((fails : Bool) × (status ≡ shown_status fails) × Shows answer fails old new)
     ⊎ (((r : Refusal) × (answer ≡ Err r) × (status ≡ status_of r) × Keeps old new)
     ⊎ (((status ≡ 3) × Keeps old new)
     ⊎ (((status ≡ 3) × ShowsFront answer old new)

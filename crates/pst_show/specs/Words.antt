@@ -1,17 +1,23 @@
 -- What the words after the program's name ask for.
-use Rattle.std.specs.Prelude.{◌≡◌, ◌≢◌, ◌⊎◌, ℕ, true, List, [], ◌∷◌, map, Option, Some, None, option_and_then, option_map, if◌then◌else◌, codes, string_bytes, String}
+use Rattle.std.specs.Prelude.{◌≡◌, ◌≢◌, ◌⊎◌, ⊤, ℕ, true, false, List, [], ◌∷◌, map, Option, Some, None, Result, Ok, Err, codes, string_bytes, String}
 use Rattle.std.specs.Global.{Global}
-use Rattle.std.specs.Str.{bytes_eq}
-use Rattle.clap.specs.Words.{App, Shape, AddsSubcommand, app_of, Rule, Text, new_app, new_rule, with_rule, with_subcommand, subcommand_of, first_of, Row, fault_of, HasKind, IsAmong, Kinds}
+use Rattle.clap.specs.Words.{App, Shape, AddsSubcommand, app_of, Rule, Text, new_app, new_rule, with_rule, with_subcommand, subcommand_of, fault_of, HasKind, IsAmong, Kinds}
+use Rattle.clap.specs.declared.builder.action.ArgAction.TheVariants.{SetTrue}
 use Rattle.clap.specs.declared.builder.command.Command.{Command}
 use Rattle.clap.specs.declared.error.Error.{Error}
 use Rattle.clap.specs.declared.error.kind.ErrorKind.{ErrorKind}
 use Rattle.clap.specs.declared.error.kind.ErrorKind.TheVariants as kind
+use Rattle.pst_show.specs.declared.ask.Ask.{Ask}
+use Rattle.pst_show.specs.declared.ask.Ask.TheVariants as ask
+use Rattle.pst_show.specs.declared.ask.Lack.{Lack}
+use Rattle.pst_show.specs.declared.verb.Takes.{Takes}
+use Rattle.pst_show.specs.declared.verb.Takes.TheVariants.{File, Strict, Node}
+use Rattle.pst_show.specs.declared.verb.Verb.{Verb}
 use Rattle.pst_show.specs.declared.words.NoOrder.{NoOrder}
-use Rattle.pst_show.specs.declared.words.NoOrder.TheVariants.{Words, Nothing}
-use Rattle.pst_show.specs.declared.words.Order.{Order}
-use Rattle.pst_show.specs.declared.words.Ask.{Ask}
-use Rattle.pst_show.specs.declared.words.Ask.TheVariants.{Head, Nodes}
+use Rattle.pst_show.specs.declared.words.NoOrder.TheVariants.{Words, Lacks}
+use Rattle.pst_show.specs.Ask.{Asked, asked_of, asked_in}
+use Rattle.pst_show.specs.Nid.{nid_of_word}
+use Rattle.pst_show.specs.Verbs.{name_of, takes_of, verbs}
 
 abbrev pub texts : List (String Global) → List Text
 texts = map string_bytes
@@ -22,9 +28,22 @@ texts = map string_bytes
 abbrev pub file_rule : Rule
 file_rule = record (new_rule (codes "FILE")) { required = true }
 
--- a command of this name, over a file
-abbrev pub file_app : Text → App
-file_app name = with_rule (new_app name) file_rule
+-- a node, which has to be named
+abbrev pub node_rule : Rule
+node_rule = record (new_rule (codes "NID")) { required = true }
+
+-- the flag `--strict`
+abbrev pub strict_rule : Rule
+strict_rule = record (new_rule (codes "strict")) { long = Some (codes "strict"); action = Some SetTrue }
+
+-- a command of a name, and what stands behind that
+abbrev pub app_taking : Takes → Text → App
+app_taking File name = with_rule (new_app name) file_rule
+app_taking Strict name = with_rule (with_rule (new_app name) strict_rule) file_rule
+app_taking Node name = with_rule (with_rule (new_app name) file_rule) node_rule
+
+abbrev pub app_for : Verb → App
+app_for verb = app_taking (takes_of verb) (name_of verb)
 
 -- a command line that gains this command gains this shape
 abbrev pub AddsAs : Shape → Command → Type 0
@@ -34,59 +53,52 @@ AddsAs shape command = (old new : Command) → AddsSubcommand old command new �
 abbrev pub base : App
 base = let a = new_app (codes "pst_show") in record a { top = record a.top { has_version = true; no_binary_name = true; subcommand_required = true } }
 
+abbrev pub with_verb : App → Verb → App
+with_verb a verb = with_subcommand a (app_for verb).top
+
+abbrev pub with_verbs : App → List Verb → App
+with_verbs a [] = a
+with_verbs a (verb ∷ rest) = with_verbs (with_verb a verb) rest
+
 -- the command line of the program
 abbrev pub show_app : App
-show_app = with_subcommand (with_subcommand base (file_app (codes "head")).top) (file_app (codes "nodes")).top
+show_app = with_verbs base verbs
 
 -- ---- what is asked for
 
--- what is to be shown, and of which file
-pub record Asked : Type 0 where
-  pub ask : Ask
-  pub file : Text
-
-abbrev pub asked_of : Ask → Text → Asked
-asked_of ask file = record { ask = ask; file = file }
-
--- what the command of this name asks for
-abbrev pub ask_of : Text → Option Ask
-ask_of name = if bytes_eq name (codes "head") then Some Head else if bytes_eq name (codes "nodes") then Some Nodes else None
-
--- what the rows of the command of this name ask for
-abbrev pub named : Text × List Row → Option Asked
-named p = option_and_then (λ ask. option_map (asked_of ask) (first_of (codes "FILE") p.1)) (ask_of p.0)
-
--- what the words ask for
-unfoldable pub asked : List Text → Option Asked
-asked words = option_and_then named (subcommand_of show_app words)
+-- what the words ask for, where they are accepted
+unfoldable pub asked : List Text → Result Asked Lack
+asked words = asked_in (subcommand_of show_app words)
 
 -- the words are accepted, and ask for this
 pub record IsAsked (words : List Text) (a : Asked) : Type 0 where
   pub accepted : fault_of show_app words ≡ []
-  pub is : asked words ≡ Some a
+  pub is : asked words ≡ Ok a
 
 -- a word that begins with no hyphen
 abbrev pub IsNoOption : Text → Type 0
-IsNoOption [] = Unit {0}
+IsNoOption [] = ⊤
 IsNoOption (b ∷ rest) = b ≢ 45
 
--- the words `head` and any other word that begins with no hyphen are accepted, and ask for the header of that file
-abbrev pub HeadLaw : Type 0
-HeadLaw = (file : Text) → IsNoOption file → IsAsked (codes "head" ∷ file ∷ []) (asked_of Head file)
-
--- the words `nodes` and such a word are accepted, and ask for the nodes of that file
-abbrev pub NodesLaw : Type 0
-NodesLaw = (file : Text) → IsNoOption file → IsAsked (codes "nodes" ∷ file ∷ []) (asked_of Nodes file)
-
-abbrev pub order_of : Order → Asked
-order_of order = asked_of order.ask order.file.now
+-- Each command and a file, whatever its name, if it begins with no hyphen, are accepted, and ask for what the command shows of
+-- that file; of `contents` and `props` with the identifier of a node behind the file.
+pub record WordsLaw : Type 0 where
+  pub check : (file : Text) → IsNoOption file → IsAsked (codes "check" ∷ file ∷ []) (asked_of (ask.Check false) file)
+  pub strict : (file : Text) → IsNoOption file → IsAsked (codes "check" ∷ codes "--strict" ∷ file ∷ []) (asked_of (ask.Check true) file)
+  pub head : (file : Text) → IsNoOption file → IsAsked (codes "head" ∷ file ∷ []) (asked_of ask.Head file)
+  pub nodes : (file : Text) → IsNoOption file → IsAsked (codes "nodes" ∷ file ∷ []) (asked_of ask.Nodes file)
+  pub folders : (file : Text) → IsNoOption file → IsAsked (codes "folders" ∷ file ∷ []) (asked_of ask.Folders file)
+  pub contents : (file word : Text) (nid : ℕ) → IsNoOption file → nid_of_word word ≡ Some nid
+      → IsAsked (codes "contents" ∷ file ∷ word ∷ []) (asked_of (ask.Contents nid) file)
+  pub props : (file word : Text) (nid : ℕ) → IsNoOption file → nid_of_word word ≡ Some nid
+      → IsAsked (codes "props" ∷ file ∷ word ∷ []) (asked_of (ask.Props nid) file)
 
 -- ---- where nothing is done
 
 -- why nothing is done for these words
 abbrev pub Declines : List Text → NoOrder → Type 0
 Declines words (Words e) = HasKind (fault_of show_app words) e
-Declines words Nothing = (fault_of show_app words ≡ []) × (asked words ≡ None)
+Declines words (Lacks lack) = (fault_of show_app words ≡ []) × (asked words ≡ Err lack)
 
 -- the status where clap answers with an error of this kind
 abbrev pub IsStatusOf : ErrorKind → ℕ → Type 0
@@ -102,4 +114,4 @@ IsRefused kinds status = (status ≡ 4) ⊎ ((k : ErrorKind) × IsAmong k kinds 
 -- a fact for the error of clap, and one where there is none
 abbrev pub MatchNone : NoOrder → (Error → Type 0) → Type 0 → Type 0
 MatchNone (Words e) P Q = P e
-MatchNone Nothing P Q = Q
+MatchNone (Lacks lack) P Q = Q

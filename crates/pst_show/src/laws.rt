@@ -1,18 +1,12 @@
 //! Laws of the words and of what is shown, each the contract of a function that does nothing.
 
 ghost use Rattle.pst_show.specs.Listing.{ListingLaw};
-ghost use Rattle.pst_show.specs.Words.{HeadLaw, NodesLaw};
+ghost use Rattle.pst_show.specs.Words.{WordsLaw};
 
-/// The words `head FILE` are accepted, and ask for the header of that file, whatever its name, if it begins with no
-/// hyphen.
-pub fn head_is_asked()
-    ensures { HeadLaw }
-{}
-
-/// The words `nodes FILE` are accepted, and ask for the nodes of that file, whatever its name, if it begins with no
-/// hyphen.
-pub fn nodes_is_asked()
-    ensures { NodesLaw }
+/// The words of each command are accepted, and ask for what it shows of the file that they name, whatever its name, if it begins
+/// with no hyphen.
+pub fn commands_are_asked()
+    ensures { WordsLaw }
 {}
 
 /// Nodes are listed exactly where the file has a good header and two trees without fault whose pages have no byte in

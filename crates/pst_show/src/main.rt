@@ -1,18 +1,18 @@
-//! Shows what stands in a Personal Folders File ([MS-PST]).
+//! Checks and shows a Personal Folders File ([MS-PST]).
 #![tactic(auto)]
 
 mod answer;
-mod head;
+mod ask;
 mod input;
 mod laws;
+mod nid;
 mod nodes;
-mod output;
 mod refusal;
 mod run;
 mod source;
 #[cfg(test)]
 mod tests;
-mod text;
+mod verb;
 mod words;
 
 use clap::error::ErrorKind;

@@ -2,11 +2,11 @@
 
 ghost use Rattle.std.specs.Prelude.{◌≡◌};
 ghost use Rattle.pst_show.specs.declared.refusal.Refusal.TheVariants as refusal;
-ghost use Rattle.pst_show.specs.Refusal.{IsOfInput, refusal_of, status_of};
+ghost use Rattle.pst_show.specs.Refusal.{IsOfInput, refusal_of, refusal_for, status_of};
 
 use crate::input::LoadFault;
-use crate::output::EmitFault;
 use pst_fault::{Fault, Kind};
+use pst_json::{DocFault, EmitFault};
 use std::alloc::AllocError;
 use thiserror::Error;
 
@@ -16,6 +16,12 @@ pub enum Refusal {
     /// The file is not what it has to be. The kind is not NoMemory.
     #[error("{0}")]
     Fault(Fault),
+    /// The store has no folder with this identifier.
+    #[error("no folder 0x{0:x}")]
+    NoFolder(u32),
+    /// The store has no node with this identifier.
+    #[error("no node 0x{0:x}")]
+    NoNode(u32),
     /// The file cannot be read, or is too long.
     #[error("cannot read the file")]
     Input,
@@ -33,9 +39,21 @@ impl Refusal {
         ensures { result ≡ status_of self }
     {
         match self {
-            Refusal::Fault(_) => 1,
+            Refusal::Fault(_) | Refusal::NoFolder(_) | Refusal::NoNode(_) => 1,
             Refusal::Input | Refusal::Output => 3,
             Refusal::Memory => 4,
+        }
+    }
+
+    /// What comes of a document that there is not, of the node with an identifier.
+    pub fn of_document(nid: u32, fault: DocFault) -> Refusal
+        ensures { result ≡ refusal_for nid fault }
+    {
+        match fault {
+            DocFault::NoFolder => Refusal::NoFolder(nid),
+            DocFault::NoNode => Refusal::NoNode(nid),
+            DocFault::Bad(fault) => Refusal::from(fault),
+            DocFault::Memory => Refusal::Memory,
         }
     }
 }

@@ -1,35 +1,37 @@
 //! One run of the program.
 
-ghost use Rattle.std.specs.Prelude.{◌≡◌, ◌≢◌, ◌⊎◌, [], IfSome};
+ghost use Rattle.std.specs.Prelude.{◌≡◌, ◌≢◌, ◌⊎◌, [], Err, IfSome};
 ghost use Rattle.clap.specs.Words.{fault_of, kind_of};
 ghost use Rattle.pst_show.specs.Answer.{answer_to};
 ghost use Rattle.pst_show.specs.Refusal.{status_of};
 ghost use Rattle.pst_show.specs.Run.{Ends, Answers};
-ghost use Rattle.pst_show.specs.Words.{Asked, IsAsked, IsStatusOf, IsRefused, show_app, texts, MatchNone};
+ghost use Rattle.pst_show.specs.Ask.{Asked};
+ghost use Rattle.pst_show.specs.Words.{IsAsked, IsStatusOf, IsRefused, asked, show_app, texts, MatchNone};
 
 use crate::answer::answer;
+use crate::ask::{Ask, Lack};
 use crate::input::load;
-use crate::output::emit;
 use crate::refusal::Refusal;
-use crate::words::{Ask, NoOrder, parse};
+use crate::words::{NoOrder, parse};
 use clap::error::ErrorKind;
+use pst_json::emit;
 use std::alloc::Global;
 use std::io::{Read, Write};
 
-// Shows what is asked for of what the reader gives.
+// Shows what is asked for of what the reader gives, and tells whether that fails.
 fn show<R: Read, W: Write>(
     alloc: Global,
     ask: Ask,
     input: &mut R,
     out: &mut W,
-) -> Result<(), Refusal>
+) -> Result<bool, Refusal>
     ensures { IfSome (R.remaining input.old) (λ bytes.
         Ends result (answer_to ask bytes) (W.contents out.old) (W.contents out.new)) }
 {
     let bytes = load(alloc, input)?;
-    let text = answer(alloc, ask, &bytes)?;
-    emit(&text, out)?;
-    Ok(())
+    let shown = answer(alloc, ask, &bytes)?;
+    emit(&shown.text, out)?;
+    Ok(shown.fails)
 }
 
 /// Says on the error output why nothing is shown, and gives the status for it. A line that cannot be written changes
@@ -60,7 +62,11 @@ fn decline<W: Write, E: Write>(none: NoOrder, out: &mut W, err: &mut E) -> u8
                 }
             }
         }
-        NoOrder::Nothing => {
+        NoOrder::Lacks(Lack::Nid) => {
+            let _ = writeln!(err, "bad node id");
+            2
+        }
+        NoOrder::Lacks(Lack::Nothing) => {
             let _ = writeln!(err, "nothing is asked for");
             2
         }
@@ -68,9 +74,10 @@ fn decline<W: Write, E: Write>(none: NoOrder, out: &mut W, err: &mut E) -> u8
 }
 
 /// Runs what the words after the program's name ask for, and gives the status with which the program ends: 0 where it
-/// is shown (or help, or the version), 1 where the file is refused, 2 where the words are, 3 where the file cannot be
-/// read or the output cannot be written, 4 where memory is refused. Each other status than 0 comes with a line on
-/// `err`; a fault of `err` changes nothing.
+/// is shown (or help, or the version), 1 where the file is refused, or has no such folder or node, or has lost space and the
+/// check is strict, 2 where the words are refused, 3 where the file cannot be read or the output cannot be written, 4 where
+/// memory is refused. Each other status than 0 comes with a line on `err`, but for lost space; a fault of `err` changes
+/// nothing.
 pub fn run<R: Read, W: Write, E: Write>(
     alloc: Global,
     words: &[String],
@@ -87,12 +94,17 @@ pub fn run<R: Read, W: Write, E: Write>(
     ensures refused { fault_of show_app (texts words.entry.now) ≢ [] → IsRefused (fault_of show_app (texts words.entry.now)) result }
     ensures unread { fault_of show_app (texts words.entry.now) ≢ [] → input.new ≡ input.old }
 
+    // The same where they are accepted and ask for nothing that can be done, as for a node that no word names.
+    ensures lacks { (lack : Lack) → fault_of show_app (texts words.entry.now) ≡ [] → asked (texts words.entry.now) ≡ Err lack
+        → ((result ≡ 2) ⊎ (result ≡ 4)) × (input.new ≡ input.old) }
+
     // Nothing is written to the output where the words are refused.
     ensures quiet { result ≡ 2 → out.new ≡ out.old }
 {
     match parse(alloc, words) {
         Ok(order) => match show(alloc, order.ask, input, out) {
-            Ok(()) => 0,
+            Ok(false) => 0,
+            Ok(true) => 1,
             Err(refusal) => refuse(refusal, err),
         },
         Err(none) => decline(none, out, err),

@@ -1,11 +1,22 @@
 //! Runs over small images and failing readers and writers, from the words to the status.
 
+mod change;
+mod check_cases;
+mod check_contexts;
+mod check_files;
+mod check_folders;
+mod check_good;
+mod check_kinds;
+mod check_messages;
+mod check_nodes;
+mod check_order;
 mod nodes;
+mod stores;
 
 use crate::input::{LoadFault, Reads, load, load_counted};
-use crate::output::{EmitFault, emit};
 use crate::run::run;
 use crate::source::Source;
+use pst_json::{EmitFault, emit};
 use std::alloc::Global;
 use std::io;
 use std::io::{ErrorKind, Read, Write};
@@ -99,8 +110,20 @@ fn outcome_of<R: Abort + AllocGlobal, I: Read>(
     out: &str,
     err: &str,
 ) -> Result<(), Fail> {
+    run_of(rt, &[command, "store.pst"], input, status, out, err)
+}
+
+// Runs words over a reader, and compares the status and both outputs.
+fn run_of<R: Abort + AllocGlobal, I: Read>(
+    rt: &R,
+    words: &[&str],
+    input: &mut I,
+    status: u8,
+    out: &str,
+    err: &str,
+) -> Result<(), Fail> {
     let alloc = rt.alloc();
-    let words = words_of(alloc, &[command, "store.pst"])?;
+    let words = words_of(alloc, words)?;
     let mut written = Vec::new(alloc);
     let mut said = Vec::new(alloc);
     let got = run(alloc, &words, input, &mut written, &mut said);
@@ -417,8 +440,14 @@ fn an_error_output_that_fails(rt: HostRuntime) -> Result<(), Fail> {
 #[test]
 fn words_that_are_refused(rt: HostRuntime) -> Result<(), Fail> {
     let alloc = rt.alloc();
-    let rows: [&[&str]; 8] = [
+    let rows: [&[&str]; 14] = [
         &[],
+        &["check"],
+        &["check", "--strict"],
+        &["check", "a.pst", "0x21"],
+        &["head", "--strict", "a.pst"],
+        &["contents", "a.pst"],
+        &["props", "a.pst"],
         &["head"],
         &["nodes"],
         &["head", "a.pst", "b.pst"],
@@ -446,12 +475,9 @@ fn help_and_the_version_are_shown(rt: HostRuntime) -> Result<(), Fail> {
     let rows: [(&[&str], &[u8]); 8] = [
         (
             &["--help"],
-            b"Shows what stands in a Personal Folders File (.pst)\n",
+            b"Checks and shows Personal Folders Files (.pst)\n",
         ),
-        (
-            &["-h"],
-            b"Shows what stands in a Personal Folders File (.pst)\n",
-        ),
+        (&["-h"], b"Checks and shows Personal Folders Files (.pst)\n"),
         (&["help", "head"], b"Shows the fields of the header\n"),
         (&["head", "--help"], b"Shows the fields of the header\n"),
         (&["help", "nodes"], b"Lists the nodes\n"),

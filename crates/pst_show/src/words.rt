@@ -1,40 +1,25 @@
 //! What the words after the program's name ask for.
 
-ghost use Rattle.std.specs.Prelude.{◌≡◌, IfOk, IfErr, false, option_map, option_and_then};
-ghost use Rattle.clap.specs.Words.{FailsBy, HasMatchesOf, app_of, fault_of, rule_of, subcommand_rows_of};
-ghost use Rattle.pst_show.specs.Words.{AddsAs, file_rule, file_app, show_app, texts, ask_of, named, order_of, IsAsked, Declines};
+ghost use Rattle.std.specs.Prelude.{◌≡◌, IfOk, IfErr, false};
+ghost use Rattle.clap.specs.Words.{FailsBy, HasMatchesOf, app_of, fault_of, rule_of};
+ghost use Rattle.pst_show.specs.Ask.{order_of};
+ghost use Rattle.pst_show.specs.Words.{AddsAs, file_rule, node_rule, strict_rule, app_taking, base, with_verb, show_app, texts, IsAsked, Declines};
 
-use clap::{Arg, ArgMatches, Command, Error};
+use crate::ask::{Lack, Order, order_in};
+use crate::verb::{Takes, Verb};
+use clap::{Arg, ArgAction, ArgMatches, Command, Error};
 use std::alloc::{AllocError, Global};
 
 // What `--version` prints after the program's name.
 const VERSION: &str = "0.1.0";
-
-/// What is to be shown of a file.
-#[derive(Clone, Copy, Debug, PartialEq, Eq)]
-pub enum Ask {
-    /// The fields of its header.
-    Head,
-    /// The entries of its node B-tree.
-    Nodes,
-}
-
-/// What the words ask for.
-#[derive(Clone, Copy, Debug, PartialEq, Eq)]
-pub struct Order<'a> {
-    /// What is to be shown.
-    pub ask: Ask,
-    /// The name of the file of which it is to be shown.
-    pub file: &'a str,
-}
 
 /// Why there is nothing to be done.
 #[derive(Drop)]
 pub enum NoOrder {
     /// The words are refused, or ask for help or the version.
     Words(Error),
-    /// The words name nothing that is known here.
-    Nothing,
+    /// The words are accepted, and ask for nothing that can be done.
+    Lacks(Lack),
 }
 
 // The argument that names the file.
@@ -47,27 +32,78 @@ fn file_arg<'a>(alloc: Global) -> Arg<'a>
         .required(true)
 }
 
-// A command over a file.
-fn file_command<'a>(alloc: Global, name: &'a str, about: &'a str) -> Result<Command<'a>, AllocError>
-    ensures { IfOk result (AddsAs (file_app name.entry.now).top) }
+// The argument that names a node.
+fn node_arg<'a>(alloc: Global) -> Arg<'a>
+    ensures rule { rule_of result ≡ node_rule }
+    ensures local { result.global ≡ false }
 {
-    Command::new(alloc, name).about(about).arg(file_arg(alloc))
+    Arg::new(alloc, "NID")
+        .help("The identifier of a node, as 0x122")
+        .required(true)
+}
+
+// The flag of a strict check.
+fn strict_arg<'a>(alloc: Global) -> Arg<'a>
+    ensures rule { rule_of result ≡ strict_rule }
+    ensures local { result.global ≡ false }
+{
+    Arg::new(alloc, "strict")
+        .long("strict")
+        .help("Ends with status 1 where space is lost, too")
+        .action(ArgAction::SetTrue)
+}
+
+// A command of a name, and what stands behind that.
+fn command_taking<'a>(
+    alloc: Global,
+    takes: Takes,
+    name: &'a str,
+    about: &'a str,
+) -> Result<Command<'a>, AllocError>
+    ensures { IfOk result (AddsAs (app_taking takes name.entry.now).top) }
+{
+    let command = Command::new(alloc, name).about(about);
+    match takes {
+        Takes::File => command.arg(file_arg(alloc)),
+        Takes::Strict => command.arg(strict_arg(alloc))?.arg(file_arg(alloc)),
+        Takes::Node => command.arg(file_arg(alloc))?.arg(node_arg(alloc)),
+    }
+}
+
+// The program, and a command.
+fn with_command<'a>(
+    alloc: Global,
+    program: Command<'a>,
+    verb: Verb,
+) -> Result<Command<'a>, AllocError>
+    ensures { IfOk result (λ c. app_of c ≡ with_verb (app_of program.entry) verb) }
+{
+    let (name, about, takes) = verb.line();
+    program.subcommand(command_taking(alloc, takes, name, about)?)
+}
+
+// The program without its commands.
+fn program<'a>(alloc: Global) -> Result<Command<'a>, AllocError>
+    ensures { IfOk result (λ c. app_of c ≡ base) }
+{
+    let program = Command::new(alloc, "pst_show")
+        .bin_name("pst_show")?
+        .about("Checks and shows Personal Folders Files (.pst)")
+        .version(VERSION)
+        .no_binary_name(true)
+        .subcommand_required(true);
+    Ok(program)
 }
 
 // The command line of the program.
 fn command_line<'a>(alloc: Global) -> Result<Command<'a>, AllocError>
     ensures { IfOk result (λ c. app_of c ≡ show_app) }
 {
-    let head = file_command(alloc, "head", "Shows the fields of the header")?;
-    let nodes = file_command(alloc, "nodes", "Lists the nodes")?;
-    Command::new(alloc, "pst_show")
-        .bin_name("pst_show")?
-        .about("Shows what stands in a Personal Folders File (.pst)")
-        .version(VERSION)
-        .no_binary_name(true)
-        .subcommand_required(true)
-        .subcommand(head)?
-        .subcommand(nodes)
+    let mut line = program(alloc)?;
+    for verb in Verb::ALL {
+        line = with_command(alloc, line, verb)?;
+    }
+    Ok(line)
 }
 
 // The matches of the words.
@@ -79,29 +115,6 @@ fn matches_of<'a>(alloc: Global, words: &'a [String]) -> Result<ArgMatches<'a>, 
     command.try_get_matches_from(words)
 }
 
-// What the command of this name asks for.
-fn ask_in(name: &str) -> Option<Ask>
-    ensures { result ≡ ask_of name.now }
-{
-    if name == "head" {
-        Some(Ask::Head)
-    } else if name == "nodes" {
-        Some(Ask::Nodes)
-    } else {
-        None
-    }
-}
-
-// What the words were taken for.
-fn order_in<'a>(matches: &ArgMatches<'a>) -> Option<Order<'a>>
-    ensures { option_map order_of result ≡ option_and_then named (subcommand_rows_of matches.now) }
-{
-    let (name, found) = matches.subcommand()?;
-    let ask = ask_in(name)?;
-    let file = found.get_str("FILE")?;
-    Some(Order { ask, file })
-}
-
 /// What the words ask for, or why there is nothing to be done.
 pub fn parse<'a>(alloc: Global, words: &'a [String]) -> Result<Order<'a>, NoOrder>
     ensures ok { IfOk result (λ order. IsAsked (texts words.entry.now) (order_of order)) }
@@ -109,8 +122,8 @@ pub fn parse<'a>(alloc: Global, words: &'a [String]) -> Result<Order<'a>, NoOrde
 {
     match matches_of(alloc, words) {
         Ok(matches) => match order_in(&matches) {
-            Some(order) => Ok(order),
-            None => Err(NoOrder::Nothing),
+            Ok(order) => Ok(order),
+            Err(lack) => Err(NoOrder::Lacks(lack)),
         },
         Err(error) => Err(NoOrder::Words(error)),
     }

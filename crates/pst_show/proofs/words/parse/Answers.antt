@@ -3,11 +3,11 @@ use Rattle.pst_show.specs.Words.{texts}
 use Rattle.pst_show.proofs.WordLemmas.{asked_is}
 use Rattle.pst_show.proofs.words.parse.Goals as goal
 
-pub returns-in-Some-clause-ok : goal.returns-in-Some-clause-ok
-returns-in-Some-clause-ok c = record {
+pub returns-in-Ok-order_in-clause-ok : goal.returns-in-Ok-order_in-clause-ok
+returns-in-Ok-order_in-clause-ok c = record {
   accepted = c.in-Ok.ensures.kinds;
-  is = asked_is (texts c.args.words.now) c.in-Ok.matches c.in-Ok.ensures.ok ∙ sym c.in-Some.ensures;
+  is = asked_is (texts c.args.words.now) c.in-Ok.matches c.in-Ok.ensures.ok ∙ sym c.in-Ok-order_in.ensures;
 }
 
 pub returns-in-Ok-clause-err : goal.returns-in-Ok-clause-err
-returns-in-Ok-clause-err c = (c.in-Ok.ensures.kinds, asked_is (texts c.args.words.now) c.in-Ok.matches c.in-Ok.ensures.ok ∙ sym c.in-None.ensures)
+returns-in-Ok-clause-err c = (c.in-Ok.ensures.kinds, asked_is (texts c.args.words.now) c.in-Ok.matches c.in-Ok.ensures.ok ∙ sym c.in-Err-order_in.ensures)

@@ -1,0 +1,71 @@
+-- The report of a check as a document, and its line.
+use Rattle.std.specs.Prelude.{ℕ, false, List, [], ◌∷◌, ◌++◌, codes}
+use Rattle.serde_json.specs.Data.{Data, string, object, member, no_members}
+use Rattle.serde_json.specs.Written.{compact_text}
+use Rattle.pst_bytes.specs.declared.span.Span.{Span}
+use Rattle.pst_amap.specs.declared.report.BitOrder.{BitOrder}
+use Rattle.pst_amap.specs.declared.report.BitOrder.TheVariants.{High, Low}
+use Rattle.pst_verify.specs.declared.report.Report.{Report}
+use Rattle.pst_json.specs.Parts.{natural, list_data}
+use Rattle.pst_json.specs.Line.{line_of, rows_text}
+
+-- ---- what is shown of a report
+
+pub record ReportParts : Type 0 where
+  pub pages : ℕ
+  pub blocks : ℕ
+  pub nodes : ℕ
+  pub folders : ℕ
+  pub messages : ℕ
+  pub order : BitOrder
+  pub lost : List Span
+
+abbrev pub report_parts : Report → ReportParts
+report_parts r = record { pages = r.pages; blocks = r.blocks; nodes = r.nodes; folders = r.folders; messages = r.messages; order = r.order; lost = r.lost.items }
+
+-- ---- the document
+
+-- a lost run
+unfoldable pub lost_data : Span → Data
+lost_data s = object (member (codes "at") (natural s.at) (member (codes "len") (natural s.len) no_members))
+
+abbrev pub order_data : BitOrder → Data
+order_data High = string (codes "high")
+order_data Low = string (codes "low")
+
+-- the verdict
+abbrev pub yes_data : Data
+yes_data = string (codes "yes")
+
+-- the members stand in the order of their keys' bytes
+unfoldable pub check_data : ReportParts → Data
+check_data r =
+    object
+    (member (codes "blocks") (natural r.blocks)
+    (member (codes "folders") (natural r.folders)
+    (member (codes "lost") (list_data lost_data r.lost)
+    (member (codes "messages") (natural r.messages)
+    (member (codes "nodes") (natural r.nodes)
+    (member (codes "order") (order_data r.order)
+    (member (codes "pages") (natural r.pages)
+    (member (codes "verdict") yes_data
+    no_members))))))))
+
+-- the line that shows a report
+unfoldable pub check_line : ReportParts → List ℕ
+check_line r = line_of (check_data r)
+
+-- ---- its text in three parts: up to the lost runs, up to the order, and the rest
+
+unfoldable pub check_front : ReportParts → List ℕ
+check_front r =
+    ((((codes "{\"blocks\":" ++ compact_text (natural r.blocks)) ++ codes ",\"folders\":") ++ compact_text (natural r.folders)) ++ codes ",\"lost\":[")
+    ++ rows_text lost_data false r.lost
+
+unfoldable pub check_middle : ReportParts → List ℕ
+check_middle r =
+    ((((codes ",\"messages\":" ++ compact_text (natural r.messages)) ++ codes ",\"nodes\":") ++ compact_text (natural r.nodes)) ++ codes ",\"order\":")
+    ++ compact_text (order_data r.order)
+
+unfoldable pub check_back : ReportParts → List ℕ
+check_back r = (((codes ",\"pages\":" ++ compact_text (natural r.pages)) ++ codes ",\"verdict\":") ++ compact_text yes_data) ++ (125 ∷ 10 ∷ [])

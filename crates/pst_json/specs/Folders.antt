@@ -1,0 +1,54 @@
+-- The folders of a store as a document ([MS-PST] 2.4.4).
+use Rattle.std.specs.Prelude.{ℕ, nat_eq, Option, Some, None, List, length, codes, if◌then◌else◌}
+use Rattle.serde_json.specs.Data.{Data, null, object, member, no_members}
+use Rattle.pst_page.specs.declared.entry.NodeEntry.{NodeEntry}
+use Rattle.pst_block.specs.Table.{Table}
+use Rattle.pst_btree.specs.Entries.{first_with}
+use Rattle.pst_ndb.specs.Roots.{Roots, all_roots}
+use Rattle.pst_pc.specs.Values.{Property, id_of, props_of}
+use Rattle.pst_tc.specs.Values.{RowParts}
+use Rattle.pst_msg.specs.declared.items.Items.TheVariants.{Subfolders, Messages, Associated}
+use Rattle.pst_msg.specs.Shown.{rows_there, folder_table}
+use Rattle.pst_msg.specs.Values.{is_folder}
+use Rattle.pst_store.specs.Kind.{of_kind}
+use Rattle.pst_json.specs.declared.texts.TheConstants.{NAME}
+use Rattle.pst_json.specs.Line.{line_of}
+use Rattle.pst_json.specs.Names.{nid_data}
+use Rattle.pst_json.specs.Parts.{natural, list_data}
+use Rattle.pst_json.specs.Value.{text_data}
+
+-- the text of a property, where it is there and is text
+abbrev pub text_or_null : Option Property → Data
+text_or_null None = null
+text_or_null (Some p) = if nat_eq p.kind 0x001F then text_data p.bytes else null
+
+-- that of the property with an identifier
+unfoldable pub text_property : Table → Roots → ℕ → Data
+text_property t r id = text_or_null (first_with id_of id (props_of t r))
+
+-- the identifier of a row
+abbrev pub row_nid : RowParts → Data
+row_nid x = nid_data x.id
+
+-- how many rows a table has, where it is there
+abbrev pub row_total : Table → Option Roots → ℕ
+row_total t table = length (rows_there t table)
+
+-- a folder: how many messages belong to it and are in it, its name, its identifier, and those of its subfolders
+unfoldable pub folder_data : Table → List NodeEntry → Roots → Data
+folder_data t nodes r =
+    object
+    (member (codes "associated") (natural (row_total t (folder_table nodes Associated r.top)))
+    (member (codes "messages") (natural (row_total t (folder_table nodes Messages r.top)))
+    (member (codes "name") (text_property t r NAME)
+    (member (codes "nid") (nid_data r.top)
+    (member (codes "subfolders") (list_data row_nid (rows_there t (folder_table nodes Subfolders r.top)))
+    no_members)))))
+
+-- all folders and search folders, their identifiers rising
+unfoldable pub folders_data : Table → List NodeEntry → Data
+folders_data t nodes = object (member (codes "folders") (list_data (folder_data t nodes) (of_kind is_folder (all_roots nodes))) no_members)
+
+-- the line that shows them
+unfoldable pub folders_line : Table → List NodeEntry → List ℕ
+folders_line t nodes = line_of (folders_data t nodes)

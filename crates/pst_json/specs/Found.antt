@@ -1,0 +1,13 @@
+-- What has a document of its properties.
+use Rattle.std.specs.Prelude.{ℕ}
+use Rattle.serde_json.specs.Data.{Data}
+use Rattle.pst_ndb.specs.Views.{table_of_node, roots_of}
+use Rattle.pst_pc.specs.View.{node_of_pc}
+use Rattle.pst_msg.specs.View.{node_of_message}
+use Rattle.pst_json.specs.declared.node.Found.{Found}
+use Rattle.pst_json.specs.declared.node.Found.TheVariants.{Message, Pc}
+use Rattle.pst_json.specs.Node.{message_data, node_props_data}
+
+abbrev pub found_data : ℕ → Found → Data
+found_data nid (Message m) = message_data (table_of_node (node_of_message m)) (roots_of (node_of_message m)) nid
+found_data nid (Pc p) = node_props_data (table_of_node (node_of_pc p)) (roots_of (node_of_pc p)) nid

@@ -1,0 +1,17 @@
+pub mod Names
+pub mod Parts
+pub mod Line
+pub mod Plain
+pub mod Head
+pub mod Nodes
+pub mod Form
+pub mod Value
+pub mod Props
+pub mod Cells
+pub mod Check
+pub mod Told
+pub mod Folders
+pub mod Contents
+pub mod Node
+pub mod Found
+pub mod Output

@@ -1,0 +1,102 @@
+-- The properties of a node as a document ([MS-PST] 2.3.3), and of a message also its attachments and recipients (2.4.5).
+use Rattle.std.specs.Prelude.{ℕ, Option, Some, None, option_map, option_and_then, List, [], ◌++◌, false, Result, Ok, Err, map, codes, if◌then◌else◌}
+use Rattle.serde_json.specs.Data.{Data, array, no_items, object, member, no_members}
+use Rattle.serde_json.specs.Written.{compact_text}
+use Rattle.pst_fault.specs.declared.fault.Fault.{Fault}
+use Rattle.pst_page.specs.declared.entry.NodeEntry.{NodeEntry}
+use Rattle.pst_block.specs.Table.{Table}
+use Rattle.pst_ndb.specs.Roots.{Roots, node_in, subnode_of}
+use Rattle.pst_pc.specs.Fault.{pc_fault}
+use Rattle.pst_pc.specs.Values.{Property, props_of}
+use Rattle.pst_tc.specs.Values.{tc_rows}
+use Rattle.pst_msg.specs.declared.object.Object.{Object}
+use Rattle.pst_msg.specs.Shown.{Shown, row_shown, attachment_rows}
+use Rattle.pst_msg.specs.Values.{is_message, embedded_of}
+use Rattle.pst_json.specs.declared.fault.DocFault.{DocFault}
+use Rattle.pst_json.specs.declared.fault.DocFault.TheVariants.{NoNode, Bad}
+use Rattle.pst_json.specs.Cells.{table_row_data}
+use Rattle.pst_json.specs.Line.{rows_text}
+use Rattle.pst_json.specs.Names.{nid_data, nid_or_null}
+use Rattle.pst_json.specs.Parts.{list_data}
+use Rattle.pst_json.specs.Props.{prop_data}
+use Rattle.pst_json.specs.Told.{lined}
+
+-- the properties of a node
+abbrev pub props_data : Table → Roots → Data
+props_data t r = list_data prop_data (props_of t r)
+
+-- of a subnode, where that is there
+abbrev pub props_there : Table → Option Roots → List Property
+props_there t None = []
+props_there t (Some r) = props_of t r
+
+-- the identifier of the message that an attachment embeds
+abbrev pub nid_of_object : Object → ℕ
+nid_of_object o = o.nid
+
+abbrev pub embedded_there : Table → Option Roots → Option ℕ
+embedded_there t None = None
+embedded_there t (Some r) = option_map nid_of_object (embedded_of t r)
+
+-- an attachment: the message that it embeds, its identifier, and its properties
+unfoldable pub attachment_data : Table → Shown → Data
+attachment_data t s =
+    object
+    (member (codes "embedded") (nid_or_null (embedded_there t s.roots))
+    (member (codes "nid") (nid_data s.nid)
+    (member (codes "props") (list_data prop_data (props_there t s.roots))
+    no_members)))
+
+abbrev pub attachments_data : Table → Roots → Data
+attachments_data t r = list_data (attachment_data t) (map (row_shown t r) (attachment_rows t r))
+
+-- the identifier of the recipient table among the subnodes of a message
+abbrev pub recipient_nid : ℕ
+recipient_nid = 0x692
+
+-- the recipients: the rows of a table, where it is there
+abbrev pub recipients_there : Table → Option Roots → Data
+recipients_there t None = array no_items
+recipients_there t (Some x) = list_data (table_row_data t x) (tc_rows t x)
+
+-- a message, under the identifier of its node
+unfoldable pub message_data : Table → Roots → ℕ → Data
+message_data t r nid =
+    object
+    (member (codes "attachments") (attachments_data t r)
+    (member (codes "nid") (nid_data nid)
+    (member (codes "props") (props_data t r)
+    (member (codes "recipients") (recipients_there t (subnode_of t r recipient_nid))
+    no_members))))
+
+-- any other property context
+unfoldable pub node_props_data : Table → Roots → ℕ → Data
+node_props_data t r nid = object (member (codes "nid") (nid_data nid) (member (codes "props") (props_data t r) no_members))
+
+abbrev pub unless_bad : Option Fault → Data → Result Data DocFault
+unless_bad None d = Ok d
+unless_bad (Some f) d = Err (Bad f)
+
+abbrev pub node_there : Table → ℕ → Option Roots → Result Data DocFault
+node_there t nid None = Err NoNode
+node_there t nid (Some r) =
+    if is_message nid then Ok (message_data t r nid) else unless_bad (pc_fault t r) (node_props_data t r nid)
+
+-- The document of a node: of a message or of another property context. There is none where there is no such node, or where
+-- it is neither.
+unfoldable pub props_told : Table → List NodeEntry → ℕ → Result Data DocFault
+props_told t nodes nid = node_there t nid (node_in nodes nid)
+
+-- the line that shows it
+unfoldable pub props_line : Table → List NodeEntry → ℕ → Result (List ℕ) DocFault
+props_line t nodes nid = lined (props_told t nodes nid)
+
+-- ---- the texts before the properties of an attachment, and of a message
+
+unfoldable pub attachment_front : Table → Shown → List ℕ
+attachment_front t s =
+    (((codes "{\"embedded\":" ++ compact_text (nid_or_null (embedded_there t s.roots))) ++ codes ",\"nid\":") ++ compact_text (nid_data s.nid)) ++ codes ",\"props\":["
+
+unfoldable pub message_front : Table → Roots → ℕ → List ℕ
+message_front t r nid =
+    (((codes "{\"attachments\":[" ++ rows_text (attachment_data t) false (map (row_shown t r) (attachment_rows t r))) ++ codes ",\"nid\":") ++ compact_text (nid_data nid)) ++ codes ",\"props\":["

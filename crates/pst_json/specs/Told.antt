@@ -1,0 +1,19 @@
+-- What a call answers that may have no document.
+use Rattle.std.specs.Prelude.{◌≡◌, ℕ, List, Result, Ok, Err}
+use Rattle.serde_json.specs.Data.{Data}
+use Rattle.pst_json.specs.declared.fault.DocFault.{DocFault}
+use Rattle.pst_json.specs.declared.fault.DocFault.TheVariants.{NoFolder, NoNode, Bad, Memory}
+use Rattle.pst_json.specs.Line.{line_of}
+
+-- what is given shows the answer, or the answer is this fault, unless memory ran out
+abbrev pub Shows : {X Y : Type 0} → (Y → X) → Result Y DocFault → Result X DocFault → Type 0
+Shows shown (Ok y) answer = answer ≡ Ok (shown y)
+Shows shown (Err NoFolder) answer = answer ≡ Err NoFolder
+Shows shown (Err NoNode) answer = answer ≡ Err NoNode
+Shows shown (Err (Bad f)) answer = answer ≡ Err (Bad f)
+Shows shown (Err Memory) answer = Unit {0}
+
+-- the line of a document, where there is one
+abbrev pub lined : Result Data DocFault → Result (List ℕ) DocFault
+lined (Ok d) = Ok (line_of d)
+lined (Err f) = Err f

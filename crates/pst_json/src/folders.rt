@@ -1,0 +1,140 @@
+//! The folders of a store as a document.
+
+ghost use Rattle.std.specs.Prelude.{◌≡◌, ◌++◌, IfOk, OnOk, IfSome, false, length, option_map};
+ghost use Rattle.serde_json.specs.View.{view};
+ghost use Rattle.pst_block.specs.Table.{Table};
+ghost use Rattle.pst_ndb.specs.Views.{table_of_ndb, nodes_of, table_of_node, roots_of};
+ghost use Rattle.pst_tc.specs.Tc.{node_of_tc};
+ghost use Rattle.pst_tc.specs.Values.{tc_rows};
+ghost use Rattle.pst_msg.specs.Shown.{rows_there};
+ghost use Rattle.pst_msg.specs.View.{tc_roots, ndb_of_folder, folder_roots};
+ghost use Rattle.pst_store.specs.View.{ndb_of_store, folders_left, folders_ndb};
+ghost use Rattle.pst_json.specs.Folders.{row_nid, folder_data, folders_data, folders_line as line_of_folders};
+ghost use Rattle.pst_json.specs.Line.{rows_text};
+ghost use Rattle.pst_json.specs.Parts.{list_data};
+
+use crate::compact::put_row;
+use crate::names::nid_text;
+use crate::texts::{NAME, text_property_doc};
+use pst_msg::Folder;
+use pst_store::{Folders, Store};
+use pst_tc::{Tc, tc_ids_rise};
+use serde_json::{Value as Doc, json};
+use std::alloc::{AllocError, Global};
+
+// How many rows a table has.
+#[tactic(auto, using(crate::proofs::CountLemmas::counts_on))]
+fn row_count(tc: &Tc) -> u64
+    ensures { let node = node_of_tc tc.now in
+        result ≡ length (tc_rows (table_of_node node) (roots_of node)) }
+{
+    tc.is_sound();
+    tc_ids_rise();
+    let mut count = 0;
+    for row in tc.rows() {
+        let _id = row.id();
+        count += 1;
+    }
+    count
+}
+
+// How many rows a table has, 0 where it is not there.
+fn count_of(table: Option<Tc>) -> u64
+    ensures { (t : Table) → IfSome table.entry (λ x. table_of_node (node_of_tc x) ≡ t)
+        → result ≡ length (rows_there t (option_map tc_roots table.entry)) }
+{
+    match table {
+        Some(tc) => row_count(&tc),
+        None => 0,
+    }
+}
+
+// The identifiers of the rows of a table, as a list.
+fn row_nids_doc(alloc: Global, tc: &Tc) -> Result<Doc, AllocError>
+    ensures { let node = node_of_tc tc.now in
+        IfOk result (λ d. view d ≡ list_data row_nid (tc_rows (table_of_node node) (roots_of node))) }
+{
+    let mut docs = Vec::new(alloc);
+    for row in tc.rows() {
+        docs.push(Doc::from(nid_text(alloc, row.id())?))?;
+    }
+    Ok(Doc::from(docs))
+}
+
+// The same, of no rows where the table is not there.
+fn nids_of(alloc: Global, table: Option<Tc>) -> Result<Doc, AllocError>
+    ensures { (t : Table) → IfSome table.entry (λ x. table_of_node (node_of_tc x) ≡ t)
+        → IfOk result (λ d. view d ≡ list_data row_nid (rows_there t (option_map tc_roots table.entry))) }
+{
+    match table {
+        Some(tc) => row_nids_doc(alloc, &tc),
+        None => Ok(Doc::from(Vec::<Doc>::new(alloc))),
+    }
+}
+
+// A folder as an object.
+#[tactic(auto, unfolding(crate::specs::Folders::folder_data))]
+fn folder_doc(alloc: Global, folder: Folder) -> Result<Doc, AllocError>
+    ensures { let ndb = ndb_of_folder folder.entry in
+        IfOk result (λ d. view d ≡ folder_data (table_of_ndb ndb) (nodes_of ndb) (folder_roots folder.entry)) }
+{
+    folder.is_sound();
+    let associated = count_of(folder.associated());
+    let messages = count_of(folder.contents());
+    let name = text_property_doc(alloc, &folder.pc(), NAME)?;
+    let nid = nid_text(alloc, folder.nid())?;
+    let subfolders = nids_of(alloc, folder.hierarchy())?;
+    json!(in alloc; {
+        "associated": associated,
+        "messages": messages,
+        "name": name,
+        "nid": nid,
+        "subfolders": subfolders,
+    })
+}
+
+/// The folders and search folders of a store as a JSON object with one member, an array that has an object for each, in
+/// order of their identifiers. A folder has the numbers of the messages that belong to it and that are in it, its name or
+/// null, its identifier, and those of its subfolders.
+#[tactic(auto, unfolding(crate::specs::Folders::folders_data))]
+pub fn folders_doc(alloc: Global, store: &Store) -> Result<Doc, AllocError>
+    ensures { let ndb = ndb_of_store store.now in
+        IfOk result (λ d. view d ≡ folders_data (table_of_ndb ndb) (nodes_of ndb)) }
+{
+    let mut docs = Vec::new(alloc);
+    for folder in store.folders() {
+        docs.push(folder_doc(alloc, folder)?)?;
+    }
+    json!(in alloc; {"folders": docs})
+}
+
+// Puts folders and the bracket that closes their list behind a text.
+#[tactic(auto, using(crate::proofs::RowLemmas::put_next, crate::proofs::RowLemmas::put_end, crate::proofs::FolderLemmas::folder_has_none))]
+fn put_folders(alloc: Global, folders: Folders, text: &mut Vec<u8>) -> Result<(), AllocError>
+    ensures { let ndb = folders_ndb folders.entry in
+        let shown = folder_data (table_of_ndb ndb) (nodes_of ndb) in
+        OnOk result (text.new.items ≡ text.old.items ++ rows_text shown false (folders_left folders.entry)) }
+{
+    let mut later = false;
+    for folder in folders {
+        let doc = folder_doc(alloc, folder)?;
+        put_row(alloc, &doc, later, text)?;
+        later = true;
+    }
+    text.push(b']')?;
+    Ok(())
+}
+
+/// The line that shows the folders of a store: the compact text of their document, and a line feed. It is made folder by
+/// folder: beside the text, memory is taken for one folder at a time.
+#[tactic(auto, using(crate::proofs::FolderLemmas::folders_line_of))]
+pub fn folders_line(alloc: Global, store: &Store) -> Result<Vec<u8>, AllocError>
+    ensures { let ndb = ndb_of_store store.now in
+        IfOk result (λ t. t.items ≡ line_of_folders (table_of_ndb ndb) (nodes_of ndb)) }
+{
+    let mut text = Vec::new(alloc);
+    text.extend_from_slice(b"{\"folders\":[")?;
+    put_folders(alloc, store.folders(), &mut text)?;
+    text.extend_from_slice(b"}\n")?;
+    Ok(text)
+}

@@ -1,0 +1,40 @@
+//! The texts among the properties of folders and messages.
+
+ghost use Rattle.std.specs.Prelude.{◌≡◌, IfOk};
+ghost use Rattle.serde_json.specs.View.{view};
+ghost use Rattle.pst_ndb.specs.Views.{table_of_node, roots_of};
+ghost use Rattle.pst_pc.specs.View.{node_of_pc};
+ghost use Rattle.pst_json.specs.Folders.{text_property};
+
+use crate::scalar::text_doc;
+use pst_pc::Pc;
+use pst_value::PropType;
+use serde_json::Value as Doc;
+use std::alloc::{AllocError, Global};
+
+/// The name of a folder (PidTagDisplayName).
+pub(crate) const NAME: u16 = 0x3001;
+
+/// The class of a message (PidTagMessageClass).
+pub(crate) const CLASS: u16 = 0x001A;
+
+/// The name of who sent a message (PidTagSenderName).
+pub(crate) const SENDER: u16 = 0x0C1A;
+
+/// The subject of a message (PidTagSubject).
+pub(crate) const SUBJECT: u16 = 0x0037;
+
+// The type of texts of 16-bit units (PtypString).
+const TEXT: PropType = PropType(0x001F);
+
+/// The text of the property with an identifier; null where there is none, or it has another type.
+#[tactic(auto, unfolding(crate::specs::Folders::text_property))]
+pub(crate) fn text_property_doc(alloc: Global, pc: &Pc, id: u16) -> Result<Doc, AllocError>
+    ensures { let node = node_of_pc pc.now in
+        IfOk result (λ d. view d ≡ text_property (table_of_node node) (roots_of node) id) }
+{
+    match pc.get(id) {
+        Some(prop) if prop.kind == TEXT => text_doc(alloc, prop.value),
+        _ => Ok(Doc::Null),
+    }
+}
