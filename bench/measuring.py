@@ -1,0 +1,103 @@
+"""Runs programs one after another on one core, and tells what they cost."""
+import os
+import statistics
+import subprocess
+import time
+
+MEGABYTE = 1_000_000
+BENCH = os.path.dirname(os.path.abspath(__file__))
+OUT = os.path.join(BENCH, "out")
+PROGRAM = os.path.join(BENCH, "..", "crates", "pst_show", "out", "pst_show")
+
+
+class Cost:
+    """What the runs of one command cost: processor seconds and elapsed seconds of each, the greatest memory of any."""
+
+    def __init__(self):
+        self.seconds, self.elapsed, self.peak, self.ending = [], [], 0, ""
+
+    def add(self, status, nanos, elapsed, memory, refusal):
+        """One run more, as run_alone tells of it, and its line of refusal."""
+        self.seconds.append(nanos / 1e9)
+        self.elapsed.append(elapsed / 1e9)
+        self.peak = max(self.peak, memory)
+        if os.WIFSIGNALED(status):
+            self.ending = f"ended by signal {os.WTERMSIG(status)} after {self.seconds[-1]:.0f} s"
+        elif status:
+            self.ending = f"status {os.WEXITSTATUS(status)}: {refusal}"
+
+    @property
+    def least(self):
+        """The fewest processor seconds of a run."""
+        return min(self.seconds)
+
+    @property
+    def median(self):
+        """The processor seconds of the run in the middle."""
+        return statistics.median(self.seconds)
+
+
+class Bench:
+    """How often and how long programs are run, where the stores are, and how many aims were met and missed. First it
+    builds the programs of C."""
+
+    def __init__(self, turns, limit, program):
+        self.turns, self.limit, self.program = turns, limit, program
+        self.met = self.missed = 0
+        os.makedirs(OUT, exist_ok=True)
+        for name in ("run_alone", "read_and_sum"):
+            subprocess.run(["cc", "-O2", "-o", f"{OUT}/{name}", f"{BENCH}/{name}.c"], check=True)
+
+    def store(self, name, *words):
+        """Makes a store."""
+        path = os.path.join(OUT, "_".join((name, *map(str, words))) + ".pst")
+        subprocess.run([f"{BENCH}/make_store", name, path, *map(str, words)], check=True)
+        return path
+
+    def knows(self, *command):
+        """Whether the program has this command, here without its file."""
+        words = [self.program, command[0], os.devnull, *command[1:]]
+        return subprocess.run(words, capture_output=True, check=False).returncode != 2
+
+    def costs(self, commands, turns=None):
+        """What each of these commands costs; they take turns. There are fewer turns where they take long."""
+        made = [Cost() for _ in commands]
+        begin = time.monotonic()
+        for _ in range(turns or self.turns):
+            for command, cost in zip(commands, made):
+                cost.add(*self.run(command))
+            if time.monotonic() - begin > self.limit or any(cost.ending for cost in made):
+                break
+        return made
+
+    def run(self, words):
+        """Runs a command; answers what run_alone tells of it, and its line of refusal."""
+        told = subprocess.run([f"{OUT}/run_alone", str(self.limit), *words], check=True, capture_output=True)
+        return *map(int, told.stdout.split()), told.stderr.decode(errors="replace").split("\n")[0]
+
+    def judge(self, cost, value, aim):
+        """Says whether a value is at most what is aimed at; it is missed where a run did not end well."""
+        if value <= aim and not cost.ending:
+            self.met += 1
+            return f"at most {aim}: met"
+        self.missed += 1
+        return f"at most {aim}: **missed**"
+
+
+def megabytes(count):
+    """A number of bytes in megabytes, to be printed."""
+    return f"{count / MEGABYTE:.1f}"
+
+
+def seconds(number):
+    """A number of seconds, to be printed."""
+    return f"{number:.3f}" if number < 10 else f"{number:.1f}"
+
+
+def print_table(heads, rows):
+    """Prints a table as markdown."""
+    print("| " + " | ".join(heads) + " |")
+    print("|" + "---|" * len(heads))
+    for row in rows:
+        print("| " + " | ".join(map(str, row)) + " |")
+    print(flush=True)

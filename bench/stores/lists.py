@@ -1,0 +1,72 @@
+"""Data trees and lists of subnodes over the blocks of a NodeDatabase ([MS-PST] 2.2.2.8.3)."""
+import struct
+
+from stores.database import LONGEST_BODY
+
+BLOCKS_IN_A_LIST = 1021
+SUBNODES_IN_A_LEAF = 340
+
+
+def xblock(store, blocks, total):
+    """An XBLOCK (2.2.2.8.3.2.1): the blocks of a data tree in order, and the number of all their bytes."""
+    return _block_list(store, 1, blocks, total)
+
+
+def xxblock(store, xblocks, total):
+    """An XXBLOCK (2.2.2.8.3.2.2): XBLOCKs in order, and the number of all bytes below them."""
+    return _block_list(store, 2, xblocks, total)
+
+
+def _block_list(store, level, blocks, total):
+    head = struct.pack("<BBHI", 1, level, len(blocks), total)
+    return store.block(head + struct.pack(f"<{len(blocks)}Q", *blocks), internal=True)
+
+
+def data_tree(store, bodies):
+    """The data tree over these bodies (2.2.2.8.3.2): none, one block, an XBLOCK, or an XXBLOCK over XBLOCKs."""
+    if not bodies:
+        return 0
+    blocks = [store.block(body) for body in bodies]
+    if len(blocks) == 1:
+        return blocks[0]
+    lists, total = [], 0
+    for first in range(0, len(blocks), BLOCKS_IN_A_LIST):
+        length = sum(len(body) for body in bodies[first:first + BLOCKS_IN_A_LIST])
+        lists.append(xblock(store, blocks[first:first + BLOCKS_IN_A_LIST], length))
+        total += length
+    return lists[0] if len(lists) == 1 else xxblock(store, lists, total)
+
+
+def data_of(store, data):
+    """The data tree over these bytes, cut into blocks of 8,176."""
+    return data_tree(store, [data[first:first + LONGEST_BODY] for first in range(0, len(data), LONGEST_BODY)])
+
+
+def leaf_list(store, entries):
+    """An SLBLOCK (2.2.2.8.3.3.1) of at most 340 entries: identifier, data, subnodes."""
+    head = struct.pack("<BBHI", 2, 0, len(entries), 0)
+    return store.block(head + b"".join(struct.pack("<QQQ", *entry) for entry in entries), internal=True)
+
+
+def leaf_lists(store, entries):
+    """SLBLOCKs of these entries in the order given: pairs of the first identifier and the SLBLOCK."""
+    leaves = []
+    for first in range(0, len(entries), SUBNODES_IN_A_LEAF):
+        mine = entries[first:first + SUBNODES_IN_A_LEAF]
+        leaves.append((mine[0][0], leaf_list(store, mine)))
+    return leaves
+
+
+def list_over(store, leaves):
+    """An SIBLOCK (2.2.2.8.3.3.2) over SLBLOCKs, given as `leaf_lists` answers them."""
+    head = struct.pack("<BBHI", 2, 1, len(leaves), 0)
+    return store.block(head + b"".join(struct.pack("<QQ", *leaf) for leaf in leaves), internal=True)
+
+
+def subnode_list(store, entries):
+    """The list of these subnodes in the order given: none, an SLBLOCK, or an SIBLOCK over SLBLOCKs. The standard wants
+    the identifiers to rise; the program takes them in any order."""
+    leaves = leaf_lists(store, entries)
+    if len(leaves) > 1:
+        return list_over(store, leaves)
+    return leaves[0][1] if leaves else 0
