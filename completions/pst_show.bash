@@ -1,0 +1,40 @@
+# Completion of pst_show for bash.
+
+_pst_show() {
+    local word=${COMP_WORDS[COMP_CWORD]} command='' index files=0
+    local commands='check head nodes folders contents props help'
+    COMPREPLY=()
+    for ((index = 1; index < COMP_CWORD; index++)); do
+        case ${COMP_WORDS[index]} in
+            -*) ;;
+            *)
+                if [[ -z $command ]]; then
+                    command=${COMP_WORDS[index]}
+                else
+                    ((files++))
+                fi
+                ;;
+        esac
+    done
+    if [[ -z $command ]]; then
+        [[ $word == -* ]] && commands='--help --version'
+        mapfile -t COMPREPLY < <(compgen -W "$commands" -- "$word")
+        return
+    fi
+    if [[ $word == -* ]]; then
+        local options='--help'
+        [[ $command == check ]] && options='--help --strict'
+        mapfile -t COMPREPLY < <(compgen -W "$options" -- "$word")
+        return
+    fi
+    ((files == 0)) || return
+    case $command in
+        help) mapfile -t COMPREPLY < <(compgen -W "$commands" -- "$word") ;;
+        check | head | nodes | folders | contents | props)
+            compopt -o filenames 2>/dev/null
+            mapfile -t COMPREPLY < <(compgen -d -- "$word"; compgen -f -X '!*.[pP][sS][tT]' -- "$word")
+            ;;
+    esac
+}
+
+complete -F _pst_show pst_show
