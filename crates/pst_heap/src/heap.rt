@@ -1,6 +1,8 @@
 //! A heap, and its items.
 
 ghost use Rattle.std.specs.Prelude.{◌≡◌, None};
+ghost use Rattle.pst_bytes.specs.Image.{IsInside};
+ghost use Rattle.pst_datatree.specs.Spans.{first_span};
 ghost use Rattle.pst_heap.specs.Fault.{heap_fault};
 ghost use Rattle.pst_heap.specs.Values.{data_of_node};
 
@@ -14,11 +16,15 @@ use pst_ndb::Node;
 #[derive(Clone, Copy)]
 pub struct Heap<'a> {
     node: Node<'a>,
+    // The first span, with the header; most heaps have no other.
+    first: Span,
     ghost sound: { heap_fault (data_of_node node) ≡ None },
+    ghost first_is: { first ≡ first_span (data_of_node node).spans },
+    ghost inside: { IsInside (data_of_node node).image first },
 }
 
 impl<'a> Heap<'a> {
-    ghost use Rattle.std.specs.Prelude.{◌≡◌, ◌+◌, ◌≤◌, length, IfOk, IfSome, None, option_map};
+    ghost use Rattle.std.specs.Prelude.{◌≡◌, ◌+◌, ◌≤◌, length, IfOk, IfSome, None, option_map, slice_get};
     ghost use Rattle.pst_bytes.specs.Image.{bytes_of, bytes_at, IsInside, IsPartOf};
     ghost use Rattle.pst_fault.specs.First.{Checks};
     ghost use Rattle.pst_datatree.specs.Spans.{first_span};
@@ -30,12 +36,14 @@ impl<'a> Heap<'a> {
     ghost use Rattle.pst_heap.specs.Fault.{told_of as told};
     ghost use Rattle.pst_heap.specs.View.{node_of, data_of, file_of_heap};
 
-    // The heap of a node whose data has no first fault.
+    // The heap of a node whose data has no first fault. Its first span is looked up.
+    #[tactic(auto, using(crate::proofs::HeapLemmas::first_there))]
     pub(crate) fn known(node: Node<'a>) -> Heap<'a>
         requires { heap_fault (data_of_node node) ≡ None }
         ensures { node_of result ≡ node.entry }
     {
-        Heap { node }
+        let first = node.leaf(0).unwrap();
+        Heap { node, first }
     }
 
     /// What is known of every heap: it has no first fault.
@@ -59,13 +67,25 @@ impl<'a> Heap<'a> {
     }
 
     // The first span, with the header.
-    #[tactic(auto, using(crate::proofs::HeapLemmas::first_there))]
+    #[tactic(auto, using(crate::proofs::HeapLemmas::first_long))]
     fn first(&self) -> Span
         ensures value { result ≡ first_span (data_of self.now).spans }
         ensures inside { IsInside (data_of self.now).image result }
         ensures long { 12 ≤ result.len }
     {
-        self.node.leaf(0).unwrap()
+        self.first
+    }
+
+    // The span with a number.
+    #[tactic(auto, using(crate::proofs::HeapLemmas::first_there))]
+    fn span(&self, n: u32) -> Option<Span>
+        ensures value { result ≡ slice_get (data_of self.now).spans n }
+        ensures inside { IfSome result (IsInside (data_of self.now).image) }
+    {
+        if n == 0 {
+            return Some(self.first());
+        }
+        self.node.leaf(u64::from(n))
     }
 
     /// The client signature of the header (bClientSig, [MS-PST] 2.3.1.2).
@@ -98,7 +118,7 @@ impl<'a> Heap<'a> {
         ensures value { result ≡ item_of (data_of self.now) hid }
         ensures inside { IfSome result (IsInside (data_of self.now).image) }
     {
-        let span = self.node.leaf(u64::from(hid / 65_536))?;
+        let span = self.span(hid / 65_536)?;
         let Some(map) = PageMap::open(self.image(), span) else {
             unreachable!()
         };
