@@ -1,14 +1,15 @@
 -- The maps mark exactly what is claimed, and the lost runs.
-use Rattle.std.proofs.Common.{◌≡◌, ℕ, suc, zero, ◌+◌, ◌-◌, ◌*◌, ◌/◌, ◌<◌, ◌≤◌, Bool, true, false, not, ◌&&◌, cond, List, [], ◌∷◌, length, Option, Some, None, refl, sym, ap, subst, ◌∙◌, arith, ◌⊎◌, inl, inr}
-use Rattle.std.proofs.lemmas.Bool.{cases_lt}
+use Rattle.std.proofs.Common.{◌≡◌, ℕ, suc, zero, ◌+◌, ◌-◌, ◌*◌, ◌/◌, ◌<◌, ◌≤◌, Bool, true, false, not, ◌&&◌, cond, List, [], ◌∷◌, length, Option, Some, None, refl, sym, ap, subst, ◌∙◌, arith, inl, inr}
+use Rattle.std.proofs.lemmas.Bool.{cases_lt, cases_Bool}
+use Rattle.std.proofs.lemmas.Option.{cond_some}
 use Rattle.pst_bytes.specs.declared.span.Span.{Span}
 use Rattle.pst_header.specs.Header.{end_of, amap_place, amap_count_of}
 use Rattle.pst_space.specs.Claimed.{Claimed, flag_of, first_unit, with_span, claim_of, page_at}
 use Rattle.pst_space.proofs.MarkLemmas.{filled_out}
 use Rattle.pst_space.proofs.MapLemmas.{length_with_span}
 use Rattle.pst_amap.specs.declared.report.BitOrder.{BitOrder}
-use Rattle.pst_amap.specs.Lost.{is_lost, lost_runs, IsRun, AreRuns, LiesIn}
-use Rattle.pst_amap.specs.Marks.{is_marked, order_of}
+use Rattle.pst_amap.specs.Lost.{is_lost, lost_runs, IsRun, AreRuns, LiesInSome}
+use Rattle.pst_amap.specs.Marks.{is_marked, bit_order_of}
 use Rattle.pst_amap.specs.Old.{OldMaps, are_marked, looks_old, with_old, old_step, old_below}
 use Rattle.pst_amap.specs.Report.{old_maps, IsMarked}
 use Rattle.pst_amap.proofs.MapsLaws.{maps_law}
@@ -35,15 +36,11 @@ old_are_marked : (order : BitOrder) (I : List ℕ) (end at : ℕ) → looks_old 
 unfolding looks_old
 old_are_marked order I end at e = (and_both _ _ e).1
 
-claim_made : (b : Bool) (x y : Claimed) → cond b (Some x) None ≡ Some y → x ≡ y
-claim_made true x y e = cc
-claim_made false x y e = absurd cc
-
 -- a page more is claimed, all of whose units are marked
 page_marked : (order : BitOrder) (I : List ℕ) (old more : Claimed) (at : ℕ) → are_marked order I ((at - 17408) / 64) 8 ≡ true → claim_of old (page_at at) ≡ Some more → IsMarked order I old → IsMarked order I more
 unfolding claim_of with_span
 page_marked order I old more at units e marked unit lt flag =
-    let is : with_span old (page_at at) ≡ more = claim_made _ _ _ e in
+    let is : with_span old (page_at at) ≡ more = (cond_some _ _ _ e).1 in
     let long : length more ≡ length old = ap length (sym is) ∙ length_with_span old (page_at at) in
     elim (cases_lt unit (first_unit (page_at at))) [
       | inl before ↦ marked unit (omega (arith, long)) (sym (filled_out old (first_unit (page_at at)) 8 unit (inl before)) ∙ ap (λ (m : Claimed). flag_of m unit) is ∙ flag)
@@ -82,7 +79,7 @@ run_picked picked n s unit run low high =
     let len : s.len ≡ 64 * run.count = ap (λ (s : Span). s.len) run.is in
     run.all unit (omega (arith, at)) (omega (arith, at, len))
 
-runs_picked : (picked : ℕ → Bool) (n from unit : ℕ) (spans : List Span) → AreRuns picked n from spans → LiesIn unit spans → picked unit ≡ true
+runs_picked : (picked : ℕ → Bool) (n from unit : ℕ) (spans : List Span) → AreRuns picked n from spans → LiesInSome unit spans → picked unit ≡ true
 runs_picked picked n from unit [] runs lies = absurd lies
 runs_picked picked n from unit (s ∷ spans) runs (inl here) = run_picked picked n s unit runs.1 here.0 here.1
 runs_picked picked n from unit (s ∷ spans) runs (inr later) = runs_picked picked n (s.at + s.len) unit spans runs.2 later
@@ -97,14 +94,10 @@ unclaimed_is_lost : (order : BitOrder) (I : List ℕ) (claimed : Claimed) (unit 
 unfolding is_lost
 unclaimed_is_lost order I claimed unit e f = rw (e, f) refl
 
-flag_known : (b : Bool) → (b ≡ true) ⊎ (b ≡ false)
-flag_known true = inl refl
-flag_known false = inr refl
-
 mark_exactly : (order : BitOrder) (I : List ℕ) (claimed : Claimed) → IsMarked order I claimed → MarkExactly order I claimed (lost_runs order I claimed)
 mark_exactly order I claimed marked unit lt =
     let runs = runs_law (is_lost order I claimed) (length claimed) in (
-      λ e. elim (flag_known (flag_of claimed unit)) [
+      λ e. elim (cases_Bool (flag_of claimed unit)) [
         | inl flag ↦ inl flag
         | inr none ↦ inr (runs.1 unit lt (unclaimed_is_lost order I claimed unit e none))
       ],
@@ -118,8 +111,8 @@ mark_exactly order I claimed marked unit lt =
 pub exact_law : ExactLaw
 unfolding old_maps
 exact_law I h claimed report none r =
-    let maps = (maps_law I h claimed (order_of I claimed)).1 (none, refl) in
-    let old = old_marked (order_of I claimed) I (end_of h) (amap_count_of h) (record { claimed = claimed; count = 0 }) maps.marked in
-    let exactly = mark_exactly (order_of I claimed) I (old_maps I h claimed).claimed old in
+    let maps = (maps_law I h claimed (bit_order_of I claimed)).1 (none, refl) in
+    let old = old_marked (bit_order_of I claimed) I (end_of h) (amap_count_of h) (record { claimed = claimed; count = 0 }) maps.marked in
+    let exactly = mark_exactly (bit_order_of I claimed) I (old_maps I h claimed).claimed old in
     let P : BitOrder → List Span → Type 0 = λ o lost. MarkExactly o I (old_maps I h claimed).claimed lost in
-    subst (λ (o : BitOrder). P o report.lost.items) (sym r.order) (subst (P (order_of I claimed)) (sym r.lost) exactly)
+    subst (λ (o : BitOrder). P o report.lost.items) (sym r.order) (subst (P (bit_order_of I claimed)) (sym r.lost) exactly)

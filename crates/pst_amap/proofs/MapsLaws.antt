@@ -3,12 +3,13 @@ use Rattle.std.proofs.Common.{◌≡◌, ℕ, zero, suc, ◌<◌, Bool, true, fa
 use Rattle.pst_fault.specs.declared.fault.Fault.{Fault}
 use Rattle.pst_fault.specs.First.{◌then◌, first_below}
 use Rattle.pst_fault.proofs.FirstLemmas.{none_then, both_none, none_below, all_none, holds_or_none, holds_or_true, holds_or_some}
+use Rattle.pst_fault.proofs.GeneralLemmas.{true_false}
 use Rattle.pst_header.specs.Header.{amap_count_of}
 use Rattle.pst_space.specs.Claimed.{Claimed, flag_of}
 use Rattle.pst_amap.specs.declared.report.BitOrder.{BitOrder}
 use Rattle.pst_amap.specs.declared.report.BitOrder.TheVariants.{High, Low}
 use Rattle.pst_amap.specs.Map.{amap_fault, amaps_fault}
-use Rattle.pst_amap.specs.Marks.{is_marked, unit_fault, marks_fault, missing_of, missing_fault, order_from, order_of}
+use Rattle.pst_amap.specs.Marks.{is_marked, unit_fault, marks_fault, missing_of, missing_fault, order_from, bit_order_of}
 use Rattle.pst_amap.specs.Report.{maps_fault, IsMarked, MapsLaw}
 
 -- ---- one unit
@@ -55,9 +56,6 @@ some_unmarked order I claimed f e =
 
 -- ---- the order
 
-true_false : (b : Bool) → b ≡ true → b ≡ false → ⊥
-true_false b e f = cc
-
 none_is_some : (o : Option Fault) (f : Fault) → o ≡ None → o ≡ Some f → ⊥
 none_is_some o f e g = cc
 
@@ -93,7 +91,7 @@ order_is I claimed Low marked other =
 -- ---- the maps
 
 pub maps_law : MapsLaw
-unfolding maps_fault missing_fault order_of amap_fault
+unfolding maps_fault missing_fault bit_order_of amap_fault
 maps_law I h claimed order = (
   λ m.
       let parts = order_is I claimed order m.marked m.other in

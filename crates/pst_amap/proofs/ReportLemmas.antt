@@ -8,7 +8,7 @@ use Rattle.pst_header.specs.Header.{end_of, amap_count_of}
 use Rattle.pst_space.specs.Claimed.{Claimed}
 use Rattle.pst_amap.specs.declared.report.BitOrder.{BitOrder}
 use Rattle.pst_amap.specs.declared.report.MapReport.{MapReport}
-use Rattle.pst_amap.specs.Marks.{order_of}
+use Rattle.pst_amap.specs.Marks.{bit_order_of}
 use Rattle.pst_amap.specs.Old.{OldMaps, old_below}
 use Rattle.pst_amap.specs.Lost.{lost_runs}
 use Rattle.pst_amap.specs.Report.{maps_fault, old_maps, IsReport}
@@ -30,27 +30,27 @@ found_none first x y e = (answer_ok first x y (sym e)).0
 found_order : (first : Option Fault) (x y : BitOrder) → Ok y ≡ answer first x → y ≡ x
 found_order first x y e = sym (answer_ok first x y (sym e)).1
 
-pub old_are : (I : List ℕ) (h : Header) (claimed new : Claimed) (order : BitOrder) (count : ℕ) → Ok order ≡ answer (maps_fault I h claimed) (order_of I claimed)
+pub old_are : (I : List ℕ) (h : Header) (claimed new : Claimed) (order : BitOrder) (count : ℕ) → Ok order ≡ answer (maps_fault I h claimed) (bit_order_of I claimed)
     → old_below order I (end_of h) (record { claimed = claimed; count = 0 }) (amap_count_of h) ≡ record { claimed = new; count = count }
     → old_maps I h claimed ≡ record { claimed = new; count = count }
 unfolding old_maps
-old_are I h claimed new order count e found = rw (← found_order (maps_fault I h claimed) (order_of I claimed) order e) found
+old_are I h claimed new order count e found = rw (← found_order (maps_fault I h claimed) (bit_order_of I claimed) order e) found
 
-pub claims_are : (I : List ℕ) (h : Header) (claimed new : Claimed) (order : BitOrder) (count : ℕ) → Ok order ≡ answer (maps_fault I h claimed) (order_of I claimed)
+pub claims_are : (I : List ℕ) (h : Header) (claimed new : Claimed) (order : BitOrder) (count : ℕ) → Ok order ≡ answer (maps_fault I h claimed) (bit_order_of I claimed)
     → old_below order I (end_of h) (record { claimed = claimed; count = 0 }) (amap_count_of h) ≡ record { claimed = new; count = count }
     → new ≡ (old_maps I h claimed).claimed
 claims_are I h claimed new order count e found = ap (λ (o : OldMaps). o.claimed) (sym (old_are I h claimed new order count e found))
 
-pub report_is : (I : List ℕ) (h : Header) (claimed new : Claimed) (report : MapReport) → Ok report.order ≡ answer (maps_fault I h claimed) (order_of I claimed)
+pub report_is : (I : List ℕ) (h : Header) (claimed new : Claimed) (report : MapReport) → Ok report.order ≡ answer (maps_fault I h claimed) (bit_order_of I claimed)
     → old_below report.order I (end_of h) (record { claimed = claimed; count = 0 }) (amap_count_of h) ≡ record { claimed = new; count = report.old_maps }
     → report.lost.items ≡ lost_runs report.order I new
     → IsReport I h claimed report
 report_is I h claimed new report e found lost =
-    let order_is = found_order (maps_fault I h claimed) (order_of I claimed) report.order e in
+    let order_is = found_order (maps_fault I h claimed) (bit_order_of I claimed) report.order e in
     let old_is = old_are I h claimed new report.order report.old_maps e found in
     let new_is : new ≡ (old_maps I h claimed).claimed = ap (λ (o : OldMaps). o.claimed) (sym old_is) in
     record {
       order = order_is;
-      lost = lost ∙ ap (λ (o : BitOrder). lost_runs o I new) order_is ∙ ap (λ (c : Claimed). lost_runs (order_of I claimed) I c) new_is;
+      lost = lost ∙ ap (λ (o : BitOrder). lost_runs o I new) order_is ∙ ap (λ (c : Claimed). lost_runs (bit_order_of I claimed) I c) new_is;
       old_maps = ap (λ (o : OldMaps). o.count) (sym old_is);
     }

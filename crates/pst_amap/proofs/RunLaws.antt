@@ -1,8 +1,9 @@
 -- The runs are the runs of the picked units.
 use Rattle.std.proofs.Common.{◌≡◌, ℕ, zero, suc, ◌+◌, ◌-◌, ◌*◌, ◌<◌, ◌≤◌, ◌⊎◌, inl, inr, Bool, true, false, List, ◌++◌, refl, sym, ap, ◌∙◌, arith}
-use Rattle.std.proofs.lemmas.Bool.{cases_lt}
+use Rattle.std.proofs.lemmas.Bool.{cases_lt, cases_Bool}
 use Rattle.pst_bytes.specs.declared.span.Span.{Span}
-use Rattle.pst_amap.specs.Lost.{units_at, run_before, runs_from, IsRun, AreRuns, LiesIn, RunsLaw}
+use Rattle.pst_fault.proofs.GeneralLemmas.{true_false}
+use Rattle.pst_amap.specs.Lost.{units_at, run_before, runs_from, IsRun, AreRuns, LiesInSome, RunsLaw}
 
 -- the last so many units before one are picked
 abbrev ArePicked : (ℕ → Bool) → ℕ → ℕ → Type 0
@@ -32,7 +33,7 @@ lies_here run unit u le low high = (omega arith, omega arith)
 
 -- what the runs from a unit on are, once the last so many before it were picked
 abbrev AreGood : (ℕ → Bool) → ℕ → ℕ → ℕ → ℕ → List Span → Type 0
-AreGood picked total from run unit spans = AreRuns picked total from spans × ((u : ℕ) → unit - run ≤ u → u < total → picked u ≡ true → LiesIn u spans)
+AreGood picked total from run unit spans = AreRuns picked total from spans × ((u : ℕ) → unit - run ≤ u → u < total → picked u ≡ true → LiesInSome u spans)
 
 last_run : (picked : ℕ → Bool) (total from run unit : ℕ) → run ≤ unit → total ≡ unit → from ≤ 17408 + 64 * (unit - run) → ArePicked picked run unit → BeginsHere picked (unit - run) → AreGood picked total from run unit (run_before unit run)
 last_run picked total from zero unit le e low all before = (tt, λ u above below is. absurd (omega arith))
@@ -40,9 +41,6 @@ last_run picked total from (suc run) unit le e low all before = (
   (low, one_run picked total run unit le (omega arith) all before (inl (sym e)), tt),
   λ u above below is. inl (lies_here run unit u le above (omega arith)),
 )
-
-true_false : (b : Bool) → b ≡ true → b ≡ false → ⊥
-true_false b e f = cc
 
 -- a unit that is not picked ends a run
 ended_run : (picked : ℕ → Bool) (total from run unit : ℕ) (rest : List Span) → run ≤ unit → unit < total → from ≤ 17408 + 64 * (unit - run) → ArePicked picked run unit → BeginsHere picked (unit - run) → picked unit ≡ false
@@ -77,16 +75,12 @@ picked_more picked run unit all here u low high =
       | inr more ↦ let e : u ≡ unit = omega arith in ap picked e ∙ here
     ]
 
-flag_known : (b : Bool) → (b ≡ true) ⊎ (b ≡ false)
-flag_known true = inl refl
-flag_known false = inr refl
-
 all_runs : (picked : ℕ → Bool) (n total from run unit : ℕ) → run ≤ unit → total ≡ unit + n → from ≤ 17408 + 64 * (unit - run) → ArePicked picked run unit → BeginsHere picked (unit - run) → AreGood picked total from run unit (runs_from picked run unit n)
 unfolding runs_from
 all_runs picked zero total from run unit le e low all before = last_run picked total from run unit le (omega arith) low all before
 all_runs picked (suc n) total from run unit le e low all before =
     let same : (unit + 1) - suc run ≡ unit - run = omega arith in
-    elim (flag_known (picked unit)) [
+    elim (cases_Bool (picked unit)) [
       | inl here ↦
           let more : AreGood picked total from (suc run) (unit + 1) (runs_from picked (suc run) (unit + 1) n) =
           all_runs picked n total from (suc run) (unit + 1) (omega arith) (omega arith) (omega arith) (picked_more picked run unit all here) (rw same before) in

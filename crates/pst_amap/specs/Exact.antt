@@ -5,14 +5,14 @@ use Rattle.pst_header.specs.declared.header.Header.{Header}
 use Rattle.pst_space.specs.Claimed.{Claimed, flag_of}
 use Rattle.pst_amap.specs.declared.report.BitOrder.{BitOrder}
 use Rattle.pst_amap.specs.declared.report.MapReport.{MapReport}
-use Rattle.pst_amap.specs.Lost.{LiesIn}
+use Rattle.pst_amap.specs.Lost.{LiesInSome}
 use Rattle.pst_amap.specs.Marks.{is_marked}
 use Rattle.pst_amap.specs.Report.{maps_fault, old_maps, IsReport}
 
 -- a unit of the mapped part is marked exactly where it is claimed or lies in one of these runs
 abbrev pub MarkExactly : BitOrder → List ℕ → Claimed → List Span → Type 0
 MarkExactly order I claimed lost =
-    (unit : ℕ) → unit < length claimed → (is_marked order I unit ≡ true) ↔ ((flag_of claimed unit ≡ true) ⊎ LiesIn unit lost)
+    (unit : ℕ) → unit < length claimed → (is_marked order I unit ≡ true) ↔ ((flag_of claimed unit ≡ true) ⊎ LiesInSome unit lost)
 
 -- Maps without fault mark exactly what is claimed, the old map pages, and the lost runs of their report.
 abbrev pub ExactLaw : Type 0

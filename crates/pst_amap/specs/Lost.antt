@@ -47,11 +47,11 @@ AreRuns picked n from [] = ⊤
 AreRuns picked n from (s ∷ ss) = (from ≤ s.at) × IsRun picked n s × AreRuns picked n (s.at + s.len) ss
 
 -- a unit lies in one of the spans
-abbrev pub LiesIn : ℕ → List Span → Type 0
-LiesIn unit [] = ⊥
-LiesIn unit (s ∷ ss) = ((s.at ≤ 17408 + 64 * unit) × (17408 + 64 * unit < s.at + s.len)) ⊎ LiesIn unit ss
+abbrev pub LiesInSome : ℕ → List Span → Type 0
+LiesInSome unit [] = ⊥
+LiesInSome unit (s ∷ ss) = ((s.at ≤ 17408 + 64 * unit) × (17408 + 64 * unit < s.at + s.len)) ⊎ LiesInSome unit ss
 
 -- The runs are the runs of the picked units, in order, and each picked unit lies in one.
 abbrev pub RunsLaw : Type 0
 RunsLaw = (picked : ℕ → Bool) (n : ℕ) →
-    AreRuns picked n 0 (runs_from picked 0 0 n) × ((unit : ℕ) → unit < n → picked unit ≡ true → LiesIn unit (runs_from picked 0 0 n))
+    AreRuns picked n 0 (runs_from picked 0 0 n) × ((unit : ℕ) → unit < n → picked unit ≡ true → LiesInSome unit (runs_from picked 0 0 n))

@@ -45,8 +45,8 @@ unfoldable pub missing_fault : List ℕ → Claimed → Option Fault
 missing_fault I claimed = missing_of (marks_fault High I claimed) (marks_fault Low I claimed)
 
 -- the order of a file: the most significant bit first where that fits
-unfoldable pub order_of : List ℕ → Claimed → BitOrder
-order_of I claimed = order_from (marks_fault High I claimed)
+unfoldable pub bit_order_of : List ℕ → Claimed → BitOrder
+bit_order_of I claimed = order_from (marks_fault High I claimed)
 
 -- the order that fits, of what was found of both
 abbrev pub chosen_of : {X : Type 0} → Result X Fault → Result X Fault → Result BitOrder Fault

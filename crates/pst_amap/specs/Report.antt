@@ -9,7 +9,7 @@ use Rattle.pst_amap.specs.declared.report.BitOrder.{BitOrder}
 use Rattle.pst_amap.specs.declared.report.MapReport.{MapReport}
 use Rattle.pst_amap.specs.declared.report.BitOrder.TheVariants.{High, Low}
 use Rattle.pst_amap.specs.Map.{amaps_fault, is_amap}
-use Rattle.pst_amap.specs.Marks.{missing_fault, order_of, is_marked}
+use Rattle.pst_amap.specs.Marks.{missing_fault, bit_order_of, is_marked}
 use Rattle.pst_amap.specs.Old.{OldMaps, old_below}
 use Rattle.pst_amap.specs.Lost.{lost_runs}
 
@@ -19,12 +19,12 @@ maps_fault I h claimed = amaps_fault I (amap_count_of h) then missing_fault I cl
 
 -- the old map pages of a file, and what is claimed with them
 unfoldable pub old_maps : List ℕ → Header → Claimed → OldMaps
-old_maps I h claimed = old_below (order_of I claimed) I (end_of h) (record { claimed = claimed; count = 0 }) (amap_count_of h)
+old_maps I h claimed = old_below (bit_order_of I claimed) I (end_of h) (record { claimed = claimed; count = 0 }) (amap_count_of h)
 
 -- the report says the order of bits, the lost runs and how many old map pages there are
 pub record IsReport (I : List ℕ) (h : Header) (claimed : Claimed) (report : MapReport) : Type 0 where
-  pub order : report.order ≡ order_of I claimed
-  pub lost : report.lost.items ≡ lost_runs (order_of I claimed) I (old_maps I h claimed).claimed
+  pub order : report.order ≡ bit_order_of I claimed
+  pub lost : report.lost.items ≡ lost_runs (bit_order_of I claimed) I (old_maps I h claimed).claimed
   pub old_maps : report.old_maps ≡ (old_maps I h claimed).count
 
 -- all that is claimed is marked
@@ -39,4 +39,4 @@ pub record Maps (I : List ℕ) (h : Header) (claimed : Claimed) (order : BitOrde
   pub other : order ≡ Low → (unit : ℕ) × (unit < length claimed) × (flag_of claimed unit ≡ true) × (is_marked High I unit ≡ false)
 
 abbrev pub MapsLaw : Type 0
-MapsLaw = (I : List ℕ) (h : Header) (claimed : Claimed) (order : BitOrder) → Maps I h claimed order ↔ ((maps_fault I h claimed ≡ None) × (order ≡ order_of I claimed))
+MapsLaw = (I : List ℕ) (h : Header) (claimed : Claimed) (order : BitOrder) → Maps I h claimed order ↔ ((maps_fault I h claimed ≡ None) × (order ≡ bit_order_of I claimed))

@@ -7,7 +7,7 @@ ghost use Rattle.pst_fault.specs.First.{answer, IsFirst};
 ghost use Rattle.pst_header.specs.Head.{Head};
 ghost use Rattle.pst_header.specs.Header.{amap_count_of};
 ghost use Rattle.pst_space.specs.Claimed.{unit_total};
-ghost use Rattle.pst_amap.specs.Marks.{order_of};
+ghost use Rattle.pst_amap.specs.Marks.{bit_order_of};
 ghost use Rattle.pst_amap.specs.Report.{maps_fault, old_maps, IsReport};
 
 use crate::lost::find_lost;
@@ -26,7 +26,8 @@ use std::alloc::Global;
 fn check_order(image: Image, header: &Header, claims: &Claims) -> Result<BitOrder, Fault>
     requires head { Head (bytes_of image) header.now }
     requires units { length claims.now ≡ unit_total header.now }
-    ensures { result ≡ answer (maps_fault (bytes_of image.entry) header.now claims.now) (order_of (bytes_of image.entry) claims.now) }
+    ensures { result ≡ answer (maps_fault (bytes_of image.entry) header.now claims.now)
+        (bit_order_of (bytes_of image.entry) claims.now) }
 {
     check_amaps(image, header)?;
     find_order(image, header, claims)
@@ -47,14 +48,16 @@ pub fn compare(
     requires units { length claims.old ≡ unit_total header.now }
 
     // Which fault it is, and that there is none where a report is given.
-    ensures first { IfErr result (IsFirst (maps_fault (bytes_of image.entry) header.now claims.old)) }
+    ensures first { IfErr result
+        (IsFirst (maps_fault (bytes_of image.entry) header.now claims.old)) }
     ensures none { OnOk result (maps_fault (bytes_of image.entry) header.now claims.old ≡ None) }
 
     // What is found.
     ensures report { IfOk result (IsReport (bytes_of image.entry) header.now claims.old) }
 
     // What is claimed afterwards: the old map pages too; at a fault of the file nothing more.
-    ensures claims { OnOk result (claims.new ≡ (old_maps (bytes_of image.entry) header.now claims.old).claimed) }
+    ensures claims { OnOk result (claims.new ≡
+        (old_maps (bytes_of image.entry) header.now claims.old).claimed) }
     ensures kept { IfErr result (λ f. (claims.new ≡ claims.old)
         ⊎ ((f ≡ no_memory) × (claims.new ≡ (old_maps (bytes_of image.entry) header.now claims.old).claimed))) }
     ensures units { length claims.new ≡ length claims.old }

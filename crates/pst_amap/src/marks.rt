@@ -5,7 +5,7 @@ ghost use Rattle.pst_bytes.specs.Image.{bytes_of};
 ghost use Rattle.pst_fault.specs.First.{answer};
 ghost use Rattle.pst_header.specs.Head.{Head};
 ghost use Rattle.pst_space.specs.Claimed.{unit_total};
-ghost use Rattle.pst_amap.specs.Marks.{is_marked as marked, mark_place, mark_bit, marks_fault, unit_fault, missing_fault, order_of, chosen_of};
+ghost use Rattle.pst_amap.specs.Marks.{is_marked as marked, mark_place, mark_bit, marks_fault, unit_fault, missing_fault, bit_order_of, chosen_of};
 
 use crate::report::BitOrder;
 use pst_bytes::Image;
@@ -62,11 +62,12 @@ fn check_marks(image: Image, header: &Header, order: BitOrder, claims: &Claims) 
 
 /// The order of bits in which each claimed unit is marked: the most significant first where that fits, else the least
 /// significant. MapMissing at the lowest unit that is claimed and not marked most significant first, where neither fits.
-#[tactic(auto, using(crate::proofs::OrderLemmas::order_found), unfolding(crate::specs::Marks::missing_fault, crate::specs::Marks::order_of))]
+#[tactic(auto, using(crate::proofs::OrderLemmas::order_found), unfolding(crate::specs::Marks::missing_fault, crate::specs::Marks::bit_order_of))]
 pub fn find_order(image: Image, header: &Header, claims: &Claims) -> Result<BitOrder, Fault>
     requires head { Head (bytes_of image) header.now }
     requires units { length claims.now ≡ unit_total header.now }
-    ensures { result ≡ answer (missing_fault (bytes_of image.entry) claims.now) (order_of (bytes_of image.entry) claims.now) }
+    ensures { result ≡ answer (missing_fault (bytes_of image.entry) claims.now)
+        (bit_order_of (bytes_of image.entry) claims.now) }
 {
     let high = check_marks(image, header, BitOrder::High, claims);
     let low = check_marks(image, header, BitOrder::Low, claims);

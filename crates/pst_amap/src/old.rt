@@ -58,7 +58,9 @@ fn claim_old(image: Image, header: &Header, order: BitOrder, at: u64, claims: &m
     requires place { (17408 ≤ at) × (at % 64 ≡ 0) }
     requires fits { at + 512 < 2 ^ 64 }
     requires units { length claims.old ≡ unit_total header.now }
-    ensures found { (n : ℕ) → old_step order (bytes_of image.entry) (end_of header.now) (record { claimed = claims.old; count = n }) at ≡ record { claimed = claims.new; count = n + result } }
+    ensures found { (n : ℕ) → old_step order (bytes_of image.entry)
+        (end_of header.now) (record { claimed = claims.old; count = n }) at ≡
+        record { claimed = claims.new; count = n + result } }
     ensures units { length claims.new ≡ length claims.old }
     ensures most { result ≤ 1 }
 {
@@ -76,7 +78,9 @@ fn claim_old(image: Image, header: &Header, order: BitOrder, at: u64, claims: &m
 pub fn claim_old_maps(image: Image, header: &Header, order: BitOrder, claims: &mut Claims) -> u64
     requires head { Head (bytes_of image) header.now }
     requires units { length claims.old ≡ unit_total header.now }
-    ensures found { old_below order (bytes_of image.entry) (end_of header.now) (record { claimed = claims.old; count = 0 }) (amap_count_of header.now) ≡ record { claimed = claims.new; count = result } }
+    ensures found { old_below order (bytes_of image.entry) (end_of header.now)
+        (record { claimed = claims.old; count = 0 }) (amap_count_of header.now) ≡
+        record { claimed = claims.new; count = result } }
     ensures units { length claims.new ≡ length claims.old }
 {
     let mut count = 0;

@@ -5,21 +5,21 @@ use Rattle.pst_fault.specs.declared.fault.Fault.{Fault}
 use Rattle.pst_fault.specs.First.{Checks}
 use Rattle.pst_fault.proofs.FirstLemmas.{none_then, both_none, holds_or_none, holds_or_true}
 use Rattle.pst_page.specs.declared.entry.BlockEntry.{BlockEntry}
-use Rattle.pst_block.specs.Fault.{place_fault, trailer_fault, block_fault}
-use Rattle.pst_block.specs.Good.{IsPlace, HasTrailer, GoodBlock, BlockLaw}
+use Rattle.pst_block.specs.Fault.{block_place_fault, block_trailer_fault, block_fault}
+use Rattle.pst_block.specs.Good.{IsBlockPlace, HasBlockTrailer, GoodBlock, BlockLaw}
 use Rattle.pst_block.proofs.BlockLemmas.{is_place_good, good_is_place, has_trailer_good, good_has_trailer}
 
 -- ---- the parts
 
-pub place_law : (end : ℕ) (e : BlockEntry) → IsPlace end e ↔ (place_fault end e ≡ None)
-unfolding place_fault
+pub place_law : (end : ℕ) (e : BlockEntry) → IsBlockPlace end e ↔ (block_place_fault end e ≡ None)
+unfolding block_place_fault
 place_law end e = (
   λ p. holds_or_true _ _ (good_is_place end e p),
   λ none. is_place_good end e (holds_or_none _ _ none),
 )
 
-pub trailer_law : (I : List ℕ) (e : BlockEntry) → HasTrailer I e ↔ (trailer_fault I e ≡ None)
-unfolding trailer_fault
+pub trailer_law : (I : List ℕ) (e : BlockEntry) → HasBlockTrailer I e ↔ (block_trailer_fault I e ≡ None)
+unfolding block_trailer_fault
 trailer_law I e = (
   λ t. holds_or_true _ _ (good_has_trailer I e t),
   λ none. has_trailer_good I e (holds_or_none _ _ none),
@@ -30,9 +30,9 @@ trailer_law I e = (
 pub block_law : BlockLaw
 unfolding block_fault
 block_law I end e = (
-  λ g. both_none (place_fault end e) (trailer_fault I e) ((place_law end e).0 g.place) ((trailer_law I e).0 g.trailer),
+  λ g. both_none (block_place_fault end e) (block_trailer_fault I e) ((place_law end e).0 g.place) ((trailer_law I e).0 g.trailer),
   λ none.
-      let both = none_then (place_fault end e) (trailer_fault I e) none in
+      let both = none_then (block_place_fault end e) (block_trailer_fault I e) none in
       record { place = (place_law end e).1 both.0; trailer = (trailer_law I e).1 both.1 },
 )
 

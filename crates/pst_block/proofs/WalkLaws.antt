@@ -4,15 +4,17 @@ use Rattle.std.specs.Prelude.{OnOk, IsOk, ◌↔◌}
 use Rattle.pst_bytes.specs.declared.span.Span.{Span}
 use Rattle.pst_fault.specs.declared.fault.Fault.{Fault}
 use Rattle.pst_fault.proofs.FirstLemmas.{both_none}
+use Rattle.pst_fault.proofs.GeneralLemmas.{some_is, none_is}
 use Rattle.pst_page.specs.declared.entry.BlockEntry.{BlockEntry}
 use Rattle.pst_space.specs.Claimed.{Claimed, claim_of, claim_all}
-use Rattle.pst_space.specs.Step.{Step, ◌>>=◌, unless, claimed_or, ClaimsSome}
+use Rattle.pst_space.specs.Step.{Step, ◌>>=◌, unless, claimed_or, ClaimsSome, EndsStep}
 use Rattle.pst_block.specs.Block.{block_span}
-use Rattle.pst_block.specs.Fault.{place_fault, trailer_fault, block_fault}
+use Rattle.pst_block.specs.Fault.{block_place_fault, block_trailer_fault, block_fault}
 use Rattle.pst_block.specs.Good.{GoodBlock}
-use Rattle.pst_block.specs.Walk.{block_step, blocks_walk, blocks_fault, block_spans, Ends, AreGood, BlocksLaw}
+use Rattle.pst_block.specs.Walk.{block_step, blocks_walk, blocks_fault, block_spans, AreGood, BlocksLaw}
 use Rattle.pst_block.proofs.BlockLaws.{place_law, trailer_law, block_law}
 use Rattle.pst_space.proofs.ApartLemmas.{claims_law}
+use Rattle.pst_space.proofs.StepLemmas.{claims_none}
 use Rattle.pst_block.proofs.WalkLemmas.{go_on, stop, done}
 use Rattle.pst_block.proofs.UnitLemmas.{blocks_units}
 
@@ -45,7 +47,7 @@ err_parts (Some g) claim trailer span bid old new f e = inl (err_is old new g f 
 step_good : (end : ℕ) (I : List ℕ) (old new : Claimed) (e : BlockEntry) → block_step end I old e ≡ Ok new → GoodBlock I end e × (claim_of old (block_span e) ≡ Some new)
 unfolding block_step
 step_good end I old new e h =
-    let p = ok_parts (place_fault end e) (claim_of old (block_span e)) (trailer_fault I e) (block_span e) e.bid old new h in
+    let p = ok_parts (block_place_fault end e) (claim_of old (block_span e)) (block_trailer_fault I e) (block_span e) e.bid old new h in
     (record { place = (place_law end e).1 p.0; trailer = (trailer_law I e).1 p.2 }, p.1)
 
 good_step : (end : ℕ) (I : List ℕ) (old new : Claimed) (e : BlockEntry) → GoodBlock I end e → claim_of old (block_span e) ≡ Some new → block_step end I old e ≡ Ok new
@@ -54,12 +56,9 @@ good_step end I old new e g c = rw ((place_law end e).0 g.place, c, (trailer_law
 
 step_claims : (end : ℕ) (I : List ℕ) (old new : Claimed) (e : BlockEntry) (f : Fault) → block_step end I old e ≡ Err (new, f) → (new ≡ old) ⊎ (claim_of old (block_span e) ≡ Some new)
 unfolding block_step
-step_claims end I old new e f h = err_parts (place_fault end e) (claim_of old (block_span e)) (trailer_fault I e) (block_span e) e.bid old new f h
+step_claims end I old new e f h = err_parts (block_place_fault end e) (claim_of old (block_span e)) (block_trailer_fault I e) (block_span e) e.bid old new f h
 
 -- ---- all blocks
-
-some_is : (x y : Claimed) → (let o : Option Claimed = Some x in o ≡ Some y) → x ≡ y
-some_is x y e = cc
 
 ok_is : (x y : Claimed) → (let r : Step Claimed = Ok x in r ≡ Ok y) → x ≡ y
 ok_is x y e = cc
@@ -69,9 +68,6 @@ err_ok x y e = cc
 
 ok_err : (x : Claimed) (y : Claimed × Fault) → (let r : Step Claimed = Ok x in r ≡ Err y) → ⊥
 ok_err x y e = cc
-
-none_is : (y : Claimed) → (let o : Option Claimed = None in o ≡ Some y) → ⊥
-none_is y e = cc
 
 -- claims, one and then the rest
 claim_first : (old next new : Claimed) (s : Span) (ss : List Span) → claim_of old s ≡ Some next → claim_all next ss ≡ Some new → claim_all old (s ∷ ss) ≡ Some new
@@ -122,21 +118,17 @@ no_fault end I (e ∷ rest) g = both_none (block_fault end I e) (blocks_fault en
 pub walked_no_fault : (end : ℕ) (I : List ℕ) (old new : Claimed) (entries : List BlockEntry) → blocks_walk end I old entries ≡ Ok new → blocks_fault end I entries ≡ None
 walked_no_fault end I old new entries h = no_fault end I entries (walked_good end I old new entries h).0
 
-pub good_if : {X : Type 0} (end : ℕ) (I : List ℕ) (old new : Claimed) (entries : List BlockEntry) (r : Result X Fault) → Ends r new (blocks_walk end I old entries) → OnOk r (AreGood I end entries)
+pub good_if : {X : Type 0} (end : ℕ) (I : List ℕ) (old new : Claimed) (entries : List BlockEntry) (r : Result X Fault) → EndsStep r new (blocks_walk end I old entries) → OnOk r (AreGood I end entries)
 good_if end I old new entries (Ok x) h = (walked_good end I old new entries h).0
 good_if end I old new entries (Err f) h = tt
 
-pub claimed_if : {X : Type 0} (end : ℕ) (I : List ℕ) (old new : Claimed) (entries : List BlockEntry) (r : Result X Fault) → Ends r new (blocks_walk end I old entries) → OnOk r (claim_all old (block_spans entries) ≡ Some new)
+pub claimed_if : {X : Type 0} (end : ℕ) (I : List ℕ) (old new : Claimed) (entries : List BlockEntry) (r : Result X Fault) → EndsStep r new (blocks_walk end I old entries) → OnOk r (claim_all old (block_spans entries) ≡ Some new)
 claimed_if end I old new entries (Ok x) h = (walked_good end I old new entries h).1
 claimed_if end I old new entries (Err f) h = tt
 
-pub only_if : {X : Type 0} (end : ℕ) (I : List ℕ) (old left new : Claimed) (entries : List BlockEntry) (r : Result X Fault) → Ends r left (blocks_walk end I old entries) → AreGood I end entries → claim_all old (block_spans entries) ≡ Some new → IsOk r
+pub only_if : {X : Type 0} (end : ℕ) (I : List ℕ) (old left new : Claimed) (entries : List BlockEntry) (r : Result X Fault) → EndsStep r left (blocks_walk end I old entries) → AreGood I end entries → claim_all old (block_spans entries) ≡ Some new → IsOk r
 only_if end I old left new entries (Ok x) h g c = refl
 only_if end I old left new entries (Err f) h g c = let walked = good_walked end I old new entries g c in cc
-
-some_none : (claimed : Claimed) (spans : List Span) → ClaimsSome claimed claimed spans
-some_none claimed [] = refl
-some_none claimed (s ∷ ss) = inl refl
 
 -- at a fault the blocks from the first up to some one are claimed
 refused_some : (end : ℕ) (I : List ℕ) (old new : Claimed) (entries : List BlockEntry) (f : Fault) → blocks_walk end I old entries ≡ Err (new, f) → ClaimsSome old new (block_spans entries)
@@ -145,7 +137,7 @@ refused_some end I old new (e ∷ rest) f h = by_step (block_step end I old e) r
   where
     at_fault : (new ≡ old) ⊎ (claim_of old (block_span e) ≡ Some new) → ClaimsSome old new (block_spans (e ∷ rest))
     at_fault (inl is) = inl is
-    at_fault (inr c) = inr (new, c, some_none new (block_spans rest))
+    at_fault (inr c) = inr (new, c, claims_none new (block_spans rest))
 
     by_step : (s : Step Claimed) → block_step end I old e ≡ s → ((more : Claimed) → blocks_walk end I more rest ≡ Err (new, f) → ClaimsSome more new (block_spans rest)) → ClaimsSome old new (block_spans (e ∷ rest))
     by_step (Ok more) is later_of = inr (more, (step_good end I old more e is).1, later_of more (sym (go_on end I old more e rest is) ∙ h))
@@ -155,6 +147,6 @@ claimed_some : (old new : Claimed) (spans : List Span) → claim_all old spans �
 claimed_some old new [] c = sym (some_is old new c)
 claimed_some old new (s ∷ ss) c = let one = first_claim old new s ss _ refl c in inr (one.0, one.1, claimed_some one.0 new ss one.2)
 
-pub some_if : {X : Type 0} (end : ℕ) (I : List ℕ) (old new : Claimed) (entries : List BlockEntry) (r : Result X Fault) → Ends r new (blocks_walk end I old entries) → ClaimsSome old new (block_spans entries)
+pub some_if : {X : Type 0} (end : ℕ) (I : List ℕ) (old new : Claimed) (entries : List BlockEntry) (r : Result X Fault) → EndsStep r new (blocks_walk end I old entries) → ClaimsSome old new (block_spans entries)
 some_if end I old new entries (Ok x) h = claimed_some old new (block_spans entries) (walked_good end I old new entries h).1
 some_if end I old new entries (Err f) h = refused_some end I old new entries f h

@@ -6,11 +6,11 @@ use Rattle.pst_page.specs.declared.entry.BlockEntry.{BlockEntry}
 use Rattle.pst_space.specs.Claimed.{Claimed}
 use Rattle.pst_space.specs.Step.{Step, claim_step}
 use Rattle.pst_block.specs.Block.{block_span}
-use Rattle.pst_block.specs.Fault.{place_fault}
+use Rattle.pst_block.specs.Fault.{block_place_fault}
 use Rattle.pst_block.specs.Walk.{block_step, blocks_walk}
 
 -- a block in its place whose claim is refused
-pub step_refused : (end : ℕ) (I : List ℕ) (old new : Claimed) (e : BlockEntry) (f : Fault) → place_fault end e ≡ None → claim_step (block_span e) e.bid old ≡ Err (new, f) → block_step end I old e ≡ Err (new, f)
+pub step_refused : (end : ℕ) (I : List ℕ) (old new : Claimed) (e : BlockEntry) (f : Fault) → block_place_fault end e ≡ None → claim_step (block_span e) e.bid old ≡ Err (new, f) → block_step end I old e ≡ Err (new, f)
 unfolding block_step
 step_refused end I old new e f none c = rw (none, c) refl
 

@@ -11,8 +11,8 @@ use Rattle.pst_block.specs.Block.{block_size, body_span, trailer_at, bid_key}
 
 -- A body has at most 8,176 bytes, and the block lies in the mapped part, which begins at 0x4400 and ends at `end`, on a
 -- multiple of 64.
-unfoldable pub is_place : ℕ → BlockEntry → Bool
-is_place end e = nat_le e.cb 8176 && nat_eq (e.ib % 64) 0 && nat_le 17408 e.ib && nat_le (e.ib + block_size e.cb) end
+unfoldable pub is_block_place : ℕ → BlockEntry → Bool
+is_block_place end e = nat_le e.cb 8176 && nat_eq (e.ib % 64) 0 && nat_le 17408 e.ib && nat_le (e.ib + block_size e.cb) end
 
 -- The trailer that begins at an offset: cb is the entry's, bid the entry's apart from its bit 0, wSig the signature of
 -- the block's place and the bid that stands here, and dwCRC the check value of the body.
@@ -23,16 +23,16 @@ is_trailer I e at =
     && nat_eq (num I (at + 2) 2) (signature_of e.ib (num I (at + 8) 8))
     && nat_eq (num I (at + 4) 4) (crc (bytes_at I (body_span e)))
 
-unfoldable pub has_trailer : List ℕ → BlockEntry → Bool
-has_trailer I e = is_trailer I e (trailer_at e)
+unfoldable pub has_block_trailer : List ℕ → BlockEntry → Bool
+has_block_trailer I e = is_trailer I e (trailer_at e)
 
-unfoldable pub place_fault : ℕ → BlockEntry → Option Fault
-place_fault end e = holds_or (is_place end e) (fault_in BlockPlace e.ib e.bid)
+unfoldable pub block_place_fault : ℕ → BlockEntry → Option Fault
+block_place_fault end e = holds_or (is_block_place end e) (fault_in BlockPlace e.ib e.bid)
 
 -- of a block that is in its place
-unfoldable pub trailer_fault : List ℕ → BlockEntry → Option Fault
-trailer_fault I e = holds_or (has_trailer I e) (fault_in BlockTrailer e.ib e.bid)
+unfoldable pub block_trailer_fault : List ℕ → BlockEntry → Option Fault
+block_trailer_fault I e = holds_or (has_block_trailer I e) (fault_in BlockTrailer e.ib e.bid)
 
 -- of a block, whatever its entry says
 unfoldable pub block_fault : ℕ → List ℕ → BlockEntry → Option Fault
-block_fault end I e = place_fault end e then trailer_fault I e
+block_fault end I e = block_place_fault end e then block_trailer_fault I e

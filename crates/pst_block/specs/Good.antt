@@ -7,14 +7,14 @@ use Rattle.pst_block.specs.Block.{block_size, body_span, trailer_at, bid_key}
 use Rattle.pst_block.specs.Fault.{block_fault}
 
 -- a block's place in the mapped part, which ends at `end` ([MS-PST] 2.2.2.8)
-pub record IsPlace (end : ℕ) (e : BlockEntry) : Type 0 where
+pub record IsBlockPlace (end : ℕ) (e : BlockEntry) : Type 0 where
   pub small : e.cb ≤ 8176
   pub whole_units : e.ib % 64 ≡ 0
   pub mapped : 17408 ≤ e.ib
   pub inside : e.ib + block_size e.cb ≤ end
 
 -- its trailer (2.2.2.8.1): cb, wSig, dwCRC, bid
-pub record HasTrailer (I : List ℕ) (e : BlockEntry) : Type 0 where
+pub record HasBlockTrailer (I : List ℕ) (e : BlockEntry) : Type 0 where
   pub length : num I (trailer_at e) 2 ≡ e.cb
   pub signature : num I (trailer_at e + 2) 2 ≡ signature_of e.ib (num I (trailer_at e + 8) 8)
   pub check : num I (trailer_at e + 4) 4 ≡ crc (bytes_at I (body_span e))
@@ -22,8 +22,8 @@ pub record HasTrailer (I : List ℕ) (e : BlockEntry) : Type 0 where
 
 -- The block of an entry is good: it is in the mapped part, and its trailer is right.
 pub record GoodBlock (I : List ℕ) (end : ℕ) (e : BlockEntry) : Type 0 where
-  pub place : IsPlace end e
-  pub trailer : HasTrailer I e
+  pub place : IsBlockPlace end e
+  pub trailer : HasBlockTrailer I e
 
 -- a block is good exactly where it has no first fault
 abbrev pub BlockLaw : Type 0

@@ -1,6 +1,6 @@
 -- All blocks of a file, in the order of their keys: what is claimed once they are, or the first fault. The place, the claim
 -- and the trailer of one block come before the next block.
-use Rattle.std.specs.Prelude.{◌≡◌, ⊤, ℕ, ◌-◌, ◌/◌, ◌↔◌, List, [], ◌∷◌, length, map, Option, None, Result, Ok, Err}
+use Rattle.std.specs.Prelude.{◌≡◌, ⊤, ℕ, ◌-◌, ◌/◌, ◌↔◌, List, [], ◌∷◌, length, map, Option, None, Ok}
 use Rattle.pst_bytes.specs.declared.span.Span.{Span}
 use Rattle.pst_fault.specs.declared.fault.Fault.{Fault}
 use Rattle.pst_fault.specs.First.{◌then◌}
@@ -9,15 +9,15 @@ use Rattle.pst_space.specs.Claimed.{Claimed, with_spans}
 use Rattle.pst_space.specs.Apart.{AreFree, AreApart}
 use Rattle.pst_space.specs.Step.{Step, ◌>>=◌, unless, claim_step}
 use Rattle.pst_block.specs.Block.{block_span}
-use Rattle.pst_block.specs.Fault.{place_fault, trailer_fault, block_fault}
+use Rattle.pst_block.specs.Fault.{block_place_fault, block_trailer_fault, block_fault}
 use Rattle.pst_block.specs.Good.{GoodBlock}
 
 -- one block: its place, its claim, its trailer
 unfoldable pub block_step : ℕ → List ℕ → Claimed → BlockEntry → Step Claimed
 block_step end I claimed e =
-    unless (place_fault end e) claimed (do
+    unless (block_place_fault end e) claimed (do
       more ← claim_step (block_span e) e.bid claimed
-      unless (trailer_fault I e) more (Ok more))
+      unless (block_trailer_fault I e) more (Ok more))
 
 -- all blocks, one after another
 unfoldable pub blocks_walk : ℕ → List ℕ → Claimed → List BlockEntry → Step Claimed
@@ -25,11 +25,6 @@ blocks_walk end I claimed [] = Ok claimed
 blocks_walk end I claimed (e ∷ rest) = do
   more ← block_step end I claimed e
   blocks_walk end I more rest
-
--- What a function that takes no memory returned, and what it left claimed, is what a step gives.
-abbrev pub Ends : {X : Type 0} → Result X Fault → Claimed → Step Claimed → Type 0
-Ends (Ok x) claimed step = step ≡ Ok claimed
-Ends (Err f) claimed step = step ≡ Err (claimed, f)
 
 -- the first fault of blocks, whatever is claimed
 unfoldable pub blocks_fault : ℕ → List ℕ → List BlockEntry → Option Fault

@@ -66,8 +66,10 @@ impl<'a> Blocks<'a> {
 
     /// The body of a block, in the file's own memory; None exactly where the block B-tree has no such block.
     pub fn body(&self, bid: u64) -> Option<&'a [u8]>
-        ensures value { option_map (λ s. s.now) result ≡ option_map (body_of (table_of self.now)) (entry_of (table_of self.now) bid) }
-        ensures own { IfSome result (λ s. IfSome (entry_of (table_of self.now) bid) (λ e. IsPartOf (image_of self.now) (body_span e) s)) }
+        ensures value { option_map (λ s. s.now) result ≡
+            option_map (body_of (table_of self.now)) (entry_of (table_of self.now) bid) }
+        ensures own { IfSome result (λ s. IfSome (entry_of (table_of self.now) bid) (λ e.
+            IsPartOf (image_of self.now) (body_span e) s)) }
     {
         let entry = self.entry(bid)?;
         Some(self.body_at(entry))

@@ -6,11 +6,11 @@ ghost use Rattle.pst_header.specs.Head.{Head};
 ghost use Rattle.pst_header.specs.Header.{end_of};
 ghost use Rattle.pst_btree.specs.Trees.{block_entries};
 ghost use Rattle.pst_space.specs.Claimed.{Claimed, IsUnits, claim_all, unit_total};
-ghost use Rattle.pst_space.specs.Step.{ClaimsSome, claim_step};
+ghost use Rattle.pst_space.specs.Step.{ClaimsSome, claim_step, EndsStep};
 ghost use Rattle.pst_block.specs.Block.{block_span};
 ghost use Rattle.pst_block.specs.Table.{table_with};
 ghost use Rattle.pst_block.specs.Blocks.{table_of, image_of, mapped_end};
-ghost use Rattle.pst_block.specs.Walk.{block_step, blocks_walk, block_spans, Ends, AreGood};
+ghost use Rattle.pst_block.specs.Walk.{block_step, blocks_walk, block_spans, AreGood};
 
 use crate::blocks::Blocks;
 use crate::read::{block_place, check_trailer};
@@ -26,7 +26,7 @@ fn claim_block(claims: &mut Claims, span: Span, entry: BlockEntry) -> Result<(),
     requires place { span ≡ block_span entry }
     requires units { IsUnits claims.old (block_span entry) }
     ensures same { length claims.new ≡ length claims.old }
-    ensures ends { Ends result claims.new (claim_step (block_span entry) entry.bid claims.old) }
+    ensures ends { EndsStep result claims.new (claim_step (block_span entry) entry.bid claims.old) }
 {
     match claims.claim(span) {
         Ok(()) => Ok(()),
@@ -47,7 +47,8 @@ fn check_block(
     requires units { length claims.old ≡ unit_total header.now }
     requires room { sums.old + 1 < 2 ^ 64 }
     ensures same { length claims.new ≡ length claims.old }
-    ensures ends { Ends result claims.new (block_step (end_of header.now) (bytes_of image.entry) claims.old entry) }
+    ensures ends { EndsStep result claims.new
+        (block_step (end_of header.now) (bytes_of image.entry) claims.old entry) }
     ensures counted { OnOk result (sums.new ≡ sums.old + 1) }
 {
     let span = block_place(header, entry)?;
@@ -65,7 +66,8 @@ fn check_each(
     requires head { Head (bytes_of image) header.now }
     requires units { length claims.old ≡ unit_total header.now }
     ensures same { length claims.new ≡ length claims.old }
-    ensures ends { Ends result claims.new (blocks_walk (end_of header.now) (bytes_of image.entry) claims.old entries.now) }
+    ensures ends { EndsStep result claims.new
+        (blocks_walk (end_of header.now) (bytes_of image.entry) claims.old entries.now) }
     ensures counted { IfOk result (λ sums. sums ≡ length entries.now) }
 {
     let mut sums = 0;
@@ -90,15 +92,18 @@ pub fn sum_blocks<'a>(
     ensures same_units { length claims.new ≡ length claims.old }
 
     // Whether all are good and apart, and what is claimed; or which fault it is, and what is claimed by then.
-    ensures exact { Ends result claims.new (blocks_walk (end_of header.now) (bytes_of image.entry) claims.old (block_entries tree.entry)) }
+    ensures exact { EndsStep result claims.new (blocks_walk (end_of header.now)
+        (bytes_of image.entry) claims.old (block_entries tree.entry)) }
 
     // Then they are claimed, and so many were summed.
-    ensures claims { OnOk result (claim_all claims.old (block_spans (block_entries tree.entry)) ≡ Some claims.new) }
+    ensures claims { OnOk result (claim_all claims.old (block_spans (block_entries tree.entry)) ≡
+        Some claims.new) }
     ensures sums { IfOk result (λ x. x.1 ≡ length (block_entries tree.entry)) }
 
     // Which blocks they are.
     ensures image { IfOk result (λ x. image_of x.0 ≡ image.entry) }
-    ensures table { IfOk result (λ x. table_of x.0 ≡ table_with (bytes_of image.entry) (block_entries tree.entry)) }
+    ensures table { IfOk result (λ x.
+        table_of x.0 ≡ table_with (bytes_of image.entry) (block_entries tree.entry)) }
     ensures end { IfOk result (λ x. mapped_end x.0 ≡ end_of header.now) }
 {
     let sums = check_each(image, header, entries, claims)?;
@@ -126,21 +131,27 @@ pub fn check_blocks<'a>(
     ensures same_units { length claims.new ≡ length claims.old }
 
     // Whether all are good and apart, and what is claimed; or which fault it is, and what is claimed by then.
-    ensures exact { Ends result claims.new (blocks_walk (end_of header.now) (bytes_of image.entry) claims.old (block_entries tree.entry)) }
+    ensures exact { EndsStep result claims.new (blocks_walk (end_of header.now)
+        (bytes_of image.entry) claims.old (block_entries tree.entry)) }
 
     // Then all blocks are good, and claimed.
-    ensures found { OnOk result (AreGood (bytes_of image.entry) (end_of header.now) (block_entries tree.entry)) }
-    ensures claims { OnOk result (claim_all claims.old (block_spans (block_entries tree.entry)) ≡ Some claims.new) }
+    ensures found { OnOk result (AreGood (bytes_of image.entry)
+        (end_of header.now) (block_entries tree.entry)) }
+    ensures claims { OnOk result (claim_all claims.old (block_spans (block_entries tree.entry)) ≡
+        Some claims.new) }
 
     // Good blocks that can be claimed are answered.
-    ensures only { (new : Claimed) → AreGood (bytes_of image.entry) (end_of header.now) (block_entries tree.entry) → claim_all claims.old (block_spans (block_entries tree.entry)) ≡ Some new → IsOk result }
+    ensures only { (new : Claimed) →
+        AreGood (bytes_of image.entry) (end_of header.now) (block_entries tree.entry) →
+        claim_all claims.old (block_spans (block_entries tree.entry)) ≡ Some new → IsOk result }
 
     // Whatever the answer, the blocks from the first up to some one are claimed.
     ensures some { ClaimsSome claims.old claims.new (block_spans (block_entries tree.entry)) }
 
     // Which blocks they are.
     ensures image { IfOk result (λ b. image_of b ≡ image.entry) }
-    ensures table { IfOk result (λ b. table_of b ≡ table_with (bytes_of image.entry) (block_entries tree.entry)) }
+    ensures table { IfOk result (λ b.
+        table_of b ≡ table_with (bytes_of image.entry) (block_entries tree.entry)) }
     ensures end { IfOk result (λ b. mapped_end b ≡ end_of header.now) }
 {
     let (blocks, _) = sum_blocks(image, header, tree, entries, claims)?;

@@ -7,7 +7,7 @@ ghost use Rattle.pst_fault.specs.First.{answer, Checks};
 ghost use Rattle.pst_header.specs.Head.{Head};
 ghost use Rattle.pst_header.specs.Header.{end_of};
 ghost use Rattle.pst_block.specs.Block.{block_span, body_span, block_size as size_of};
-ghost use Rattle.pst_block.specs.Fault.{is_trailer, place_fault, trailer_fault, block_fault};
+ghost use Rattle.pst_block.specs.Fault.{is_trailer, block_place_fault, block_trailer_fault, block_fault};
 ghost use Rattle.pst_block.specs.Good.{GoodBlock};
 
 use crate::size::{block_size, body_span};
@@ -32,9 +32,10 @@ pub struct Block<'a> {
 }
 
 /// The span of a block, or BlockPlace.
-#[tactic(auto, unfolding(crate::specs::Fault::place_fault, crate::specs::Fault::is_place))]
+#[tactic(auto, unfolding(crate::specs::Fault::block_place_fault, crate::specs::Fault::is_block_place))]
 pub(crate) fn block_place(header: &Header, entry: BlockEntry) -> Result<Span, Fault>
-    ensures exact { result ≡ answer (place_fault (end_of header.now) entry) (block_span entry) }
+    ensures exact { result ≡ answer (block_place_fault (end_of header.now) entry)
+        (block_span entry) }
     ensures whole_units { OnOk result (entry.ib % 64 ≡ 0) }
     ensures mapped { OnOk result (17408 ≤ entry.ib) }
     ensures inside { OnOk result (entry.ib + size_of entry.cb ≤ end_of header.now) }
@@ -76,11 +77,11 @@ fn is_trailer(image: Image, entry: BlockEntry, at: u64, sums: &mut u64) -> bool
 }
 
 /// The trailer of a block in its place, or BlockTrailer; and the count of sums with the block's.
-#[tactic(auto, unfolding(crate::specs::Fault::trailer_fault, crate::specs::Fault::has_trailer))]
+#[tactic(auto, unfolding(crate::specs::Fault::block_trailer_fault, crate::specs::Fault::has_block_trailer))]
 pub(crate) fn check_trailer(image: Image, entry: BlockEntry, sums: &mut u64) -> Result<(), Fault>
     requires inside { entry.ib + size_of entry.cb ≤ length (bytes_of image) }
     requires room { sums.old + 1 < 2 ^ 64 }
-    ensures exact { result ≡ answer (trailer_fault (bytes_of image.entry) entry) tt }
+    ensures exact { result ≡ answer (block_trailer_fault (bytes_of image.entry) entry) tt }
     ensures counted { OnOk result (sums.new ≡ sums.old + 1) }
 {
     let at = entry.ib + block_size(entry.cb) - 16;
@@ -106,7 +107,8 @@ fn checked<'a>(image: Image<'a>, header: &Header, entry: BlockEntry) -> Result<B
     requires { Head (bytes_of image) header.now }
     ensures exact { Checks result (block_fault (end_of header.now) (bytes_of image.entry) entry) }
     ensures entry { IfOk result (λ b. b.entry ≡ entry) }
-    ensures body { IfOk result (λ b. b.body.now ≡ bytes_at (bytes_of image.entry) (body_span entry)) }
+    ensures body { IfOk result (λ b.
+        b.body.now ≡ bytes_at (bytes_of image.entry) (body_span entry)) }
     ensures own { IfOk result (λ b. IsPartOf image.entry (body_span entry) b.body) }
 {
     let mut sums = 0;
@@ -139,7 +141,8 @@ pub fn read_block<'a>(
 
     // Which block it is.
     ensures entry { IfOk result (λ b. b.entry ≡ entry) }
-    ensures body { IfOk result (λ b. b.body.now ≡ bytes_at (bytes_of image.entry) (body_span entry)) }
+    ensures body { IfOk result (λ b.
+        b.body.now ≡ bytes_at (bytes_of image.entry) (body_span entry)) }
     ensures own { IfOk result (λ b. IsPartOf image.entry (body_span entry) b.body) }
 {
     checked(image, header, entry)

@@ -1,3 +1,6 @@
+mod claims;
+mod many;
+
 use super::*;
 use pst_btree::walk_blocks;
 use pst_bytes::{Image, Span};
@@ -244,117 +247,5 @@ fn a_trailer_may_have_bit_0_of_its_bid(rt: HostRuntime) -> Result<(), Fail> {
     flip(&mut bytes, TRAILER.saturating_add(8))?;
     seal_block(&mut bytes, 0x4c40, 38);
     assert!(rt; blocks_in(rt.alloc(), Image::new(&bytes)).is_ok());
-    Ok(())
-}
-
-// Whether the units of the two blocks, and the one after them, are claimed once blocks are refused.
-fn claimed_after<R: Abort>(
-    rt: &R,
-    alloc: Global,
-    image: &[u8],
-    wanted: [bool; 3],
-) -> Result<(), Fail> {
-    let image = Image::new(image);
-    let Ok(header) = read_header(image) else {
-        return Err(Fail::from("no header"));
-    };
-    let mut claims = Claims::new(alloc, &header)?;
-    let Ok((tree, entries)) = walk_blocks(alloc, image, &header, &mut claims) else {
-        return Err(Fail::from("no tree"));
-    };
-    assert!(rt; check_blocks(image, &header, tree, &entries, &mut claims).is_err());
-    let claimed = [
-        claims.is_claimed(32),
-        claims.is_claimed(33),
-        claims.is_claimed(34),
-    ];
-    assert_eq!(rt; claimed, wanted);
-    Ok(())
-}
-
-#[test]
-fn a_refusal_keeps_the_claims_before_it(rt: HostRuntime) -> Result<(), Fail> {
-    let mut bytes = m0(rt.alloc())?;
-    flip(&mut bytes, 0x4c74)?;
-    claimed_after(&rt, rt.alloc(), &bytes, [true, true, false])?;
-    set_entry(&mut bytes, 16, &8177_u16.to_le_bytes())?;
-    claimed_after(&rt, rt.alloc(), &bytes, [true, false, false])?;
-    flip(&mut bytes, 0x4c34)?;
-    claimed_after(&rt, rt.alloc(), &bytes, [true, false, false])
-}
-
-// Fronts of the file, with an end of file that says so: the first block that does not lie in what is left is told.
-#[test]
-fn fronts_that_cut_the_blocks(rt: HostRuntime) -> Result<(), Fail> {
-    let whole = m0(rt.alloc())?;
-    for (len, cut) in [
-        (19_456_usize, Some(FIRST)),
-        (19_520, Some(SECOND)),
-        (19_584, None),
-        (271_296, None),
-    ] {
-        let front = whole.get(..len).ok_or("too short")?;
-        let mut bytes = Vec::from_slice(rt.alloc(), front)?;
-        set(&mut bytes, 184, &(len as u64).to_le_bytes())?;
-        if bytes.len() < 564 {
-            return Err(Fail::from("too short"));
-        }
-        seal_header(&mut bytes);
-        let fault = cut.map(|entry| fault_of(Kind::BlockPlace, entry));
-        assert_eq!(rt;
-            blocks_in(rt.alloc(), Image::new(&bytes)).err(),
-            fault,
-            "of {len}"
-        );
-    }
-    Ok(())
-}
-
-// The n-th of many empty blocks of a made store, whose node B-tree has one page, at 0x4800, and whose block B-tree has the
-// 24 pages from 0x4a00 on. Then come the blocks, of 64 bytes each.
-fn nth_block(n: u64) -> BlockEntry {
-    BlockEntry {
-        bid: n.saturating_mul(4).saturating_add(4),
-        ib: n.saturating_mul(64).saturating_add(0x7a00),
-        cb: 0,
-    }
-}
-
-// A store of so many empty blocks.
-fn many_blocks(alloc: Global, count: u64) -> Result<Vec<u8>, Fail> {
-    let mut blocks = Vec::new(alloc);
-    for n in 0..count {
-        let body = Vec::new(alloc);
-        let bid = nth_block(n).bid;
-        blocks.push(BlockPlan { bid, body })?;
-    }
-    let nodes = Vec::new(alloc);
-    build(alloc, &Plan { blocks, nodes }).map_err(|_| Fail::from("not made"))
-}
-
-// 401 entries take 21 leaves, 2 branches and a root.
-#[test]
-fn each_of_many_blocks_is_found(rt: HostRuntime) -> Result<(), Fail> {
-    let bytes = many_blocks(rt.alloc(), 401)?;
-    let image = Image::new(&bytes);
-    let Ok(header) = read_header(image) else {
-        panic!(rt; "no header");
-    };
-    let mut claims = Claims::new(rt.alloc(), &header)?;
-    let Ok((tree, entries)) = walk_blocks(rt.alloc(), image, &header, &mut claims) else {
-        panic!(rt; "no tree");
-    };
-    assert_eq!(rt; entries.len(), 401);
-    assert_eq!(rt; tree.pages(), 24);
-    assert!(rt; tree.level() == 2);
-    for n in 0..401 {
-        let entry = nth_block(n);
-        assert_eq!(rt; tree.find_steps(entry.bid), (Some(entry), 3), "block {n}");
-    }
-    let Ok((blocks, sums)) = sum_blocks(image, &header, tree, &entries, &mut claims) else {
-        panic!(rt; "no blocks");
-    };
-    assert_eq!(rt; sums, 401);
-    assert_eq!(rt; blocks.entry(1604), Some(nth_block(400)));
     Ok(())
 }

@@ -8,9 +8,10 @@ use Rattle.pst_page.specs.Page.{entries_at, places, count_at, width_at}
 use Rattle.pst_page.specs.Entry.{key_at, child_at}
 use Rattle.pst_btree.specs.Find.{first_at, IsUpTo}
 use Rattle.pst_btree.specs.Order.{Rises}
-use Rattle.pst_btree.specs.Tree.{Forest, entries_of, forest_entries, keys_of, SpellsEach, BoundedEach, tree_at, forest_at, IsTreeAt, IsPage}
+use Rattle.pst_btree.specs.Tree.{Forest, entries_of, forest_entries, forest_keys, SpellsEach, BoundedEach, tree_at, forest_at, IsTreeAt, IsPage}
 use Rattle.pst_btree.proofs.FindLemmas.{first_here, first_later, first_none, first_none-append, spelt_page}
 use Rattle.pst_btree.proofs.RiseLemmas.{tree_rises, forest_rises}
+use Rattle.pst_btree.proofs.EntryLemmas.{at_least}
 
 -- ---- a key that is not there
 
@@ -32,21 +33,13 @@ unfolding first_at
 none_after kind I key [] ys e = e
 none_after kind I key (x ∷ xs) ys e = ap (cond (eqb (key_at kind I x) key) (Some x)) (none_after kind I key xs ys e)
 
--- keys that rise are at least their lower bound
-at_least : (kind : PageKind) (I : List ℕ) (low : ℕ) (high : Option ℕ) (ps : List ℕ) (i : ℕ) → i < length ps → Rises low high (map (key_at kind I) ps) → low ≤ key_at kind I (get_or ps i 0)
-at_least kind I low high [] i lt r = absurd (omega arith)
-at_least kind I low high (p ∷ ps) zero lt r = r.0
-at_least kind I low high (p ∷ ps) (suc i) lt r =
-    let rest = at_least kind I (key_at kind I p + 1) high ps i (omega arith) r.2 in
-    omega (arith, rest, r.0)
-
 -- ---- one step down
 
 module _ (kind : PageKind) (I : List ℕ) (end below key : ℕ) where
   abbrev trees_at : List ℕ → Forest
   trees_at ps = forest_at kind I (tree_at kind I below) ps
 
-  keys_at : (ps : List ℕ) → keys_of (trees_at ps) ≡ map (key_at kind I) ps
+  keys_at : (ps : List ℕ) → forest_keys (trees_at ps) ≡ map (key_at kind I) ps
   keys_at [] = refl
   keys_at (p ∷ ps) = ap (λ (ks : List ℕ). key_at kind I p ∷ ks) (keys_at ps)
 
@@ -57,7 +50,7 @@ module _ (kind : PageKind) (I : List ℕ) (end below key : ℕ) where
     tree : IsTreeAt kind I end below child low high
     same : first_at kind I key (entries_of (tree_at kind I below child)) ≡ first_at kind I key (forest_entries (trees_at ps))
 
-  steps_down : (ps : List ℕ) (i low : ℕ) (high : Option ℕ) → SpellsEach kind I end below (trees_at ps) ps → BoundedEach kind I (trees_at ps) high → Rises low high (keys_of (trees_at ps))
+  steps_down : (ps : List ℕ) (i low : ℕ) (high : Option ℕ) → SpellsEach kind I end below (trees_at ps) ps → BoundedEach kind I (trees_at ps) high → Rises low high (forest_keys (trees_at ps))
       → i < length ps → key_at kind I (get_or ps i 0) ≤ key → (suc i < length ps → key < key_at kind I (get_or ps (suc i) 0)) → StepsDown ps (child_at I (get_or ps i 0))
   steps_down [] i low high s b r lt le after = absurd (omega arith)
   steps_down (p ∷ []) zero low high s b r lt le after = record {
@@ -79,7 +72,7 @@ module _ (kind : PageKind) (I : List ℕ) (end below key : ℕ) where
   steps_down (p ∷ q ∷ ps) (suc i) low high s b r lt le after =
       let rest = steps_down (q ∷ ps) i (key_at kind I p + 1) high s.3 b.1 r.2 (omega arith) le (λ h. after (omega arith)) in
       let keys : Rises (key_at kind I q) high (map (key_at kind I) (q ∷ ps)) = (le_refl (key_at kind I q), r.2.1, subst (λ (ks : List ℕ). Rises (key_at kind I q + 1) high ks) (keys_at ps) r.2.2) in
-      let reach : key_at kind I q ≤ key_at kind I (get_or (q ∷ ps) i 0) = at_least kind I (key_at kind I q) high (q ∷ ps) i (omega arith) keys in
+      let reach : key_at kind I q ≤ key_at kind I (get_or (q ∷ ps) i 0) = at_least (key_at kind I) (key_at kind I q) high (q ∷ ps) i 0 (omega arith) keys in
       let rises = tree_rises kind I (tree_at kind I below (child_at I p)) (key_at kind I p) (Some (key_at kind I q)) b.0 in
       let no : first_at kind I key (entries_of (tree_at kind I below (child_at I p))) ≡ None = none_high kind I key (key_at kind I p) (key_at kind I q) _ (omega arith) rises in
       record {
@@ -95,7 +88,7 @@ leaf_some : (kind : PageKind) (I : List ℕ) (key low : ℕ) (high : Option ℕ)
 leaf_some kind I key low high [] i r lt e = absurd (omega arith)
 leaf_some kind I key low high (p ∷ ps) zero r lt e = first_here kind I key p ps e
 leaf_some kind I key low high (p ∷ ps) (suc i) r lt e =
-    let reach = at_least kind I (key_at kind I p + 1) high ps i (omega arith) r.2 in
+    let reach = at_least (key_at kind I) (key_at kind I p + 1) high ps i 0 (omega arith) r.2 in
     let ne : key_at kind I p ≢ key = λ same. omega (arith, reach, e, same) in
     first_later kind I key p ps ne ∙ leaf_some kind I key (key_at kind I p + 1) high ps i r.2 (omega arith) e
 
@@ -106,7 +99,7 @@ leaf_none kind I key low high (p ∷ []) zero r lt less after = first_later kind
 leaf_none kind I key low high (p ∷ q ∷ ps) zero r lt less after =
     first_later kind I key p (q ∷ ps) (λ e. omega (arith, less, e)) ∙ none_low kind I key (key_at kind I q) high (q ∷ ps) (after (omega arith)) (le_refl (key_at kind I q), r.2.1, r.2.2)
 leaf_none kind I key low high (p ∷ ps) (suc i) r lt less after =
-    let reach = at_least kind I (key_at kind I p + 1) high ps i (omega arith) r.2 in
+    let reach = at_least (key_at kind I) (key_at kind I p + 1) high ps i 0 (omega arith) r.2 in
     let ne : key_at kind I p ≢ key = λ same. omega (arith, reach, less, same) in
     first_later kind I key p ps ne ∙ leaf_none kind I key (key_at kind I p + 1) high ps i r.2 (omega arith) less (λ h. after (omega arith))
 
@@ -114,7 +107,7 @@ none_before : (kind : PageKind) (I : List ℕ) (key low : ℕ) (high : Option �
 none_before kind I key low high [] r h = first_none kind I key
 none_before kind I key low high (p ∷ ps) r h = none_low kind I key (key_at kind I p) high (p ∷ ps) (h (omega arith)) (le_refl (key_at kind I p), r.1, r.2)
 
-none_in_forest : (kind : PageKind) (I : List ℕ) (below key low : ℕ) (high : Option ℕ) (ps : List ℕ) → BoundedEach kind I (forest_at kind I (tree_at kind I below) ps) high → Rises low high (keys_of (forest_at kind I (tree_at kind I below) ps))
+none_in_forest : (kind : PageKind) (I : List ℕ) (below key low : ℕ) (high : Option ℕ) (ps : List ℕ) → BoundedEach kind I (forest_at kind I (tree_at kind I below) ps) high → Rises low high (forest_keys (forest_at kind I (tree_at kind I below) ps))
     → (0 < length ps → key < key_at kind I (get_or ps 0 0)) → first_at kind I key (forest_entries (forest_at kind I (tree_at kind I below) ps)) ≡ None
 none_in_forest kind I below key low high [] b r h = first_none kind I key
 none_in_forest kind I below key low high (p ∷ ps) b r h =

@@ -3,6 +3,8 @@ use Rattle.std.proofs.Common.{◌≡◌, ◌≢◌, ℕ, suc, zero, ◌+◌, ◌
 use Rattle.std.specs.Prelude.{option_map}
 use Rattle.std.specs.List.{Contains}
 use Rattle.std.proofs.lemmas.Bool.{eqb-true, eq-eqb, ne_eqb}
+use Rattle.pst_fault.proofs.GeneralLemmas.{some_is}
+use Rattle.pst_fault.proofs.EachLemmas.{contains_later}
 use Rattle.pst_header.specs.declared.header.Bref.{Bref}
 use Rattle.pst_page.specs.declared.kind.PageKind.TheVariants.{Bbt, Nbt}
 use Rattle.pst_page.specs.declared.entry.BlockEntry.{BlockEntry}
@@ -39,12 +41,6 @@ node_with_first I nid (at ∷ rest) = by_test (eqb (key_at Nbt I at) nid) (node_
 
 -- ---- a list whose keys rise is a finite map
 
-some_is : {X : Type 0} (x y : X) → (let o : Option X = Some x in o ≡ Some y) → x ≡ y
-some_is x y e = cc
-
-later : {X : Type 0} (x : X) (xs : List X) (e : X) → Contains xs e → Contains (x ∷ xs) e
-later x xs e (i, lt, is) = (suc i, omega arith, is)
-
 with_contains : {X : Type 0} (key_in : X → ℕ) (entries : List X) (key : ℕ) (e : X) → first_with key_in key entries ≡ Some e → Contains entries e × (key_in e ≡ key)
 unfolding first_with
 with_contains key_in [] key e h = absurd cc
@@ -54,9 +50,9 @@ with_contains key_in (x ∷ xs) key e h = by_test (eqb (key_in x) key) (λ t. eq
     by_test true is ih same =
         let s = some_is x e same in
         ((zero, omega arith, s), ap key_in (sym s) ∙ is refl)
-    by_test false is ih same = let c = ih same in (later x xs e c.0, c.1)
+    by_test false is ih same = let c = ih same in (contains_later x e xs c.0, c.1)
 
-at_least : {X : Type 0} (key_in : X → ℕ) (low : ℕ) (high : Option ℕ) (entries : List X) (i : ℕ) (d : X) → i < length entries → Rises low high (map key_in entries) → low ≤ key_in (get_or entries i d)
+pub at_least : {X : Type 0} (key_in : X → ℕ) (low : ℕ) (high : Option ℕ) (entries : List X) (i : ℕ) (d : X) → i < length entries → Rises low high (map key_in entries) → low ≤ key_in (get_or entries i d)
 at_least key_in low high [] i d lt r = absurd (omega arith)
 at_least key_in low high (x ∷ xs) zero d lt r = r.0
 at_least key_in low high (x ∷ xs) (suc i) d lt r =

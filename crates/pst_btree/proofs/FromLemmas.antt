@@ -9,7 +9,7 @@ use Rattle.pst_page.specs.Fault.{has_shape}
 use Rattle.pst_page.proofs.EntryLemmas.{entries_from_start, entries_from_next}
 use Rattle.pst_btree.specs.Find.{first_from, rest_from, IsUpTo}
 use Rattle.pst_btree.specs.Order.{Rises}
-use Rattle.pst_btree.specs.Tree.{entries_of, forest_entries, keys_of, tree_at, forest_at, SpellsEach, BoundedEach, IsTreeAt, HasTreeAt}
+use Rattle.pst_btree.specs.Tree.{entries_of, forest_entries, forest_keys, tree_at, forest_at, SpellsEach, BoundedEach, IsTreeAt, HasTreeAt}
 use Rattle.pst_btree.proofs.FindLemmas.{leaf_entries, below_start, below_next, below_end, below_from, forest_from, spelt_page, page_inside, page_shape}
 use Rattle.pst_btree.proofs.RiseLemmas.{from_none, from_later, tree_rises, rest_some, rest_none}
 
@@ -46,12 +46,12 @@ from_end kind I low level ib i le = rw (below_end kind I level ib i le) (from_no
 
 unfoldable pub AreKept : PageKind → List ℕ → ℕ → ℕ → ℕ → ℕ → Type 0
 AreKept kind I end level ib i = (low : ℕ) × (high : Option ℕ) × SpellsEach kind I end level (forest_from kind I level ib i) (entries_from I ib i)
-    × BoundedEach kind I (forest_from kind I level ib i) high × Rises low high (keys_of (forest_from kind I level ib i))
+    × BoundedEach kind I (forest_from kind I level ib i) high × Rises low high (forest_keys (forest_from kind I level ib i))
 
 -- the same, of the entries at some places
 abbrev KeptAt : PageKind → List ℕ → ℕ → ℕ → List ℕ → Type 0
 KeptAt kind I end level ps = (low : ℕ) × (high : Option ℕ) × SpellsEach kind I end level (forest_at kind I (tree_at kind I level) ps) ps
-    × BoundedEach kind I (forest_at kind I (tree_at kind I level) ps) high × Rises low high (keys_of (forest_at kind I (tree_at kind I level) ps))
+    × BoundedEach kind I (forest_at kind I (tree_at kind I level) ps) high × Rises low high (forest_keys (forest_at kind I (tree_at kind I level) ps))
 
 pub has_tree : (kind : PageKind) (I : List ℕ) (end level : ℕ) (page : Bref) → IsTreeAt kind I end level page 0 None → HasTreeAt kind I end level page
 has_tree kind I end level page t = record { low = 0; high = None; tree = t }

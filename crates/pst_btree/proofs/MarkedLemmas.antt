@@ -1,5 +1,6 @@
 -- How many units are claimed: 8 for each page, so that pages can be counted.
-use Rattle.std.proofs.Common.{◌≡◌, ℕ, suc, zero, ◌+◌, ◌<◌, ◌≤◌, Bool, true, false, not, ◌&&◌, cond, [], ◌∷◌, length, get_or, set, Some, None, refl, sym, ap, ◌∙◌, arith, inl, length-set}
+use Rattle.std.proofs.Common.{◌≡◌, ℕ, suc, zero, ◌+◌, ◌<◌, ◌≤◌, Bool, true, false, not, ◌&&◌, [], ◌∷◌, length, get_or, set, Some, refl, sym, ap, ◌∙◌, arith, inl, length-set}
+use Rattle.std.proofs.lemmas.Option.{cond_some}
 use Rattle.pst_header.specs.declared.header.Bref.{Bref}
 use Rattle.pst_space.specs.Claimed.{Claimed, IsUnits, is_clear, filled, first_unit, with_span, claim_of}
 use Rattle.pst_space.proofs.MarkLemmas.{clear_filled}
@@ -34,13 +35,9 @@ marked_filled m u (suc n) le e =
     let more = marked_filled (set m u true) (u + 1) n long rest in
     omega (arith, one, more)
 
-claim_made : (b : Bool) (x y : Claimed) → cond b (Some x) None ≡ Some y → (b ≡ true) × (x ≡ y)
-claim_made true x y e = (refl, cc)
-claim_made false x y e = absurd cc
-
 pub marked_page : (old new : Claimed) (page : Bref) → IsUnits old (span_of page) → claim_of old (span_of page) ≡ Some new → marked new ≡ marked old + 8
 unfolding claim_of with_span
 marked_page old new page u e =
-    let c = claim_made _ _ _ e in
+    let c = cond_some _ _ _ e in
     let more = marked_filled old (first_unit (span_of page)) 8 u.inside c.0 in
     ap marked (sym c.1) ∙ more

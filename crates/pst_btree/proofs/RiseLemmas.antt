@@ -2,11 +2,12 @@
 use Rattle.std.proofs.Common.{◌≡◌, ℕ, ◌+◌, ◌<◌, ◌≤◌, List, [], ◌∷◌, ◌++◌, map, Option, Some, None, refl, ap, subst, arith, inl, inr, le_refl}
 use Rattle.std.proofs.lemmas.Bool.{le-leb, lt-leb, ltb-true, lt-ltb, cases_lt}
 use Rattle.std.proofs.lemmas.List.{map-append, append-nil}
+use Rattle.pst_fault.proofs.GeneralLemmas.{some_is}
 use Rattle.pst_page.specs.declared.kind.PageKind.{PageKind}
 use Rattle.pst_page.specs.Entry.{key_at}
 use Rattle.pst_btree.specs.Find.{first_from, rest_from}
 use Rattle.pst_btree.specs.Order.{Rises, IsBelow}
-use Rattle.pst_btree.specs.Tree.{Tree, leaf, branch, Forest, none, more, entries_of, forest_entries, keys_of, Bounded, BoundedEach}
+use Rattle.pst_btree.specs.Tree.{Tree, leaf, branch, Forest, none, more, entries_of, forest_entries, forest_keys, Bounded, BoundedEach}
 
 pub lower : (low less : ℕ) (high : Option ℕ) (keys : List ℕ) → less ≤ low → Rises low high keys → Rises less high keys
 lower low less high [] le r = tt
@@ -28,7 +29,7 @@ mutual
   tree_rises kind I (leaf page entries) low high b = b
   tree_rises kind I (branch page children) low high b = forest_rises kind I children low high b.0 b.1
 
-  pub forest_rises : (kind : PageKind) (I : List ℕ) (forest : Forest) (low : ℕ) (high : Option ℕ) → Rises low high (keys_of forest) → BoundedEach kind I forest high → Rises low high (map (key_at kind I) (forest_entries forest))
+  pub forest_rises : (kind : PageKind) (I : List ℕ) (forest : Forest) (low : ℕ) (high : Option ℕ) → Rises low high (forest_keys forest) → BoundedEach kind I forest high → Rises low high (map (key_at kind I) (forest_entries forest))
   forest_rises kind I none low high r b = tt
   forest_rises kind I (more key tree none) low high r b =
       rw (map-append (key_at kind I) (entries_of tree) [], append-nil (map (key_at kind I) (entries_of tree))) (lower key low high _ r.0 (tree_rises kind I tree key high b.0))
@@ -53,9 +54,6 @@ from_none kind I low = refl
 
 some_none : (at : ℕ) → (let a : Option ℕ = Some at in a ≡ None) → ⊥
 some_none at e = cc
-
-some_is : (x y : ℕ) → (let a : Option ℕ = Some x in a ≡ Some y) → x ≡ y
-some_is x y e = cc
 
 -- what is found is at least low
 pub from_at : (kind : PageKind) (I : List ℕ) (low : ℕ) (entries : List ℕ) (at : ℕ) → first_from kind I low entries ≡ Some at → low ≤ key_at kind I at

@@ -3,10 +3,10 @@ use Rattle.std.proofs.Common.{◌≡◌, ℕ, suc, zero, ◌+◌, ◌≤◌, Boo
 use Rattle.std.specs.Prelude.{option_and_then, IfErr, ◌↔◌}
 use Rattle.std.proofs.lemmas.Bool.{leb-true, le-leb}
 use Rattle.std.proofs.lemmas.List.{append-nil, map-append, length-append}
-use Rattle.pst_bytes.specs.declared.span.Span.{Span}
 use Rattle.pst_fault.specs.declared.fault.Fault.{Fault}
 use Rattle.pst_fault.specs.Fault.{no_memory}
 use Rattle.pst_fault.proofs.FirstLemmas.{none_then, both_none}
+use Rattle.pst_fault.proofs.GeneralLemmas.{some_is}
 use Rattle.pst_header.specs.declared.header.Bref.{Bref}
 use Rattle.pst_page.specs.declared.kind.PageKind.{PageKind}
 use Rattle.pst_page.specs.Page.{entries_at, level_at}
@@ -14,17 +14,14 @@ use Rattle.pst_page.specs.Entry.{key_at, child_at}
 use Rattle.pst_page.specs.Fault.{open_fault, level_fault}
 use Rattle.pst_page.proofs.PageLaws.{place_law, open_law, level_law}
 use Rattle.pst_space.specs.Claimed.{Claimed, claim_of, claim_all}
-use Rattle.pst_space.specs.Step.{Step, ◌>>=◌, unless, claimed_or, GivesBy}
+use Rattle.pst_space.specs.Step.{Step, unless, claimed_or, GivesStepBy}
 use Rattle.pst_space.proofs.ApartLemmas.{claims_law}
+use Rattle.pst_space.proofs.StepLemmas.{bind_ok, claim_all-append}
 use Rattle.pst_btree.specs.Laws.{WalkLaw, OneTreeLaw}
 use Rattle.pst_btree.specs.Order.{order_fault, Rises}
 use Rattle.pst_btree.specs.Walk.{Found, found_so_far, nothing_found, Visit, body_fault, children, walk_of, tree_walk, opened, next_key}
-use Rattle.pst_btree.specs.Tree.{tree_at, forest_at, IsTreeAt, IsTree, Tree, leaf, branch, Forest, none, more, root_of, entries_of, forest_entries, pages_of, forest_pages, span_of, tree_spans, IsPage, Spells, SpellsEach, keys_of, next_of, Bounded, BoundedEach}
+use Rattle.pst_btree.specs.Tree.{tree_at, forest_at, IsTreeAt, IsTree, Tree, leaf, branch, Forest, none, more, root_of, entries_of, forest_entries, pages_of, forest_pages, span_of, page_spans, IsPage, Spells, SpellsEach, forest_keys, next_of, Bounded, BoundedEach}
 use Rattle.pst_btree.proofs.UnitLemmas.{tree_units}
-
-bind_ok : {A B : Type 0} (r : Step A) (f : A → Step B) (y : B) → (r >>= f) ≡ Ok y → (x : A) × (r ≡ Ok x) × (f x ≡ Ok y)
-bind_ok (Ok x) f y e = (x, refl, e)
-bind_ok (Err d) f y e = absurd cc
 
 unless_ok : {A : Type 0} (o : Option Fault) (c : Claimed) (s : Step A) (y : A) → unless o c s ≡ Ok y → (o ≡ None) × (s ≡ Ok y)
 unless_ok None c s y e = (refl, e)
@@ -85,14 +82,6 @@ opened_ok kind I end level claimed new page low high e =
       rises = order_none kind I page.bid low high (entries_at I page.ib) f.2;
     }
 
-claim_all-append : (claimed : Claimed) (xs ys : List Span) → claim_all claimed (xs ++ ys) ≡ option_and_then (λ next. claim_all next ys) (claim_all claimed xs)
-claim_all-append claimed [] ys = refl
-claim_all-append claimed (x ∷ xs) ys =
-    elim (claim_of claimed x) as (λ o. option_and_then (λ next. claim_all next (xs ++ ys)) o ≡ option_and_then (λ next. claim_all next ys) (option_and_then (λ next. claim_all next xs) o)) [
-      | None ↦ refl
-      | Some c ↦ claim_all-append c xs ys
-    ]
-
 -- what a walk that found no fault says: there is a tree, and this is it
 pub record IsFound (kind : PageKind) (I : List ℕ) (end level : ℕ) (found new : Found) (page : Bref) (low : ℕ) (high : Option ℕ) : Type 0 where
   pub tree : Tree
@@ -106,7 +95,7 @@ pub record IsFound (kind : PageKind) (I : List ℕ) (end level : ℕ) (found new
 record AreFound (kind : PageKind) (I : List ℕ) (end level : ℕ) (found new : Found) (places : List ℕ) (high : Option ℕ) : Type 0 where
   forest : Forest
   spells : SpellsEach kind I end level forest places
-  keys : keys_of forest ≡ map (key_at kind I) places
+  keys : forest_keys forest ≡ map (key_at kind I) places
   next : next_of forest high ≡ next_key kind I places high
   bounded : BoundedEach kind I forest high
   entries : new.entries ≡ found.entries ++ forest_entries forest
@@ -195,11 +184,8 @@ pub then_some : {A B : Type 0} (f : A → Option B) (o : Option A) (y : B) → o
 then_some f None y e = absurd cc
 then_some f (Some x) y e = (x, refl, e)
 
-pub some_is : {A : Type 0} (x y : A) → (let a : Option A = Some x in a ≡ Some y) → x ≡ y
-some_is x y e = cc
-
 module _ (kind : PageKind) (I : List ℕ) (end level : ℕ) where
-  keys_again : (forest : Forest) (places : List ℕ) → SpellsEach kind I end level forest places → keys_of forest ≡ map (key_at kind I) places
+  keys_again : (forest : Forest) (places : List ℕ) → SpellsEach kind I end level forest places → forest_keys forest ≡ map (key_at kind I) places
   keys_again none [] s = refl
   keys_again none (at ∷ rest) s = absurd s
   keys_again (more key tree forest) [] s = absurd s
@@ -273,19 +259,19 @@ pub record HasWalked (kind : PageKind) (I : List ℕ) (end level : ℕ) (found n
   pub tree : IsTreeAt kind I end level page low high
   pub entries : new.entries ≡ found.entries ++ entries_of (tree_at kind I level page)
   pub pages : new.pages ≡ found.pages + length (pages_of (tree_at kind I level page))
-  pub claims : claim_all found.claimed (tree_spans (tree_at kind I level page)) ≡ Some new.claimed
+  pub claims : claim_all found.claimed (page_spans (tree_at kind I level page)) ≡ Some new.claimed
 
 pub has_walked : (kind : PageKind) (I : List ℕ) (end level : ℕ) (found new : Found) (page : Bref) (low : ℕ) (high : Option ℕ) → walk_of kind I end level found page low high ≡ Ok new → HasWalked kind I end level found new page low high
 has_walked kind I end level found new page low high e =
     let f = walk_found kind I end level found new page low high e in
     let same : f.tree ≡ tree_at kind I level page = tree_is kind I end level f.tree f.spells ∙ ap (tree_at kind I level) f.root in
-    let P : Tree → Type 0 = λ t. Spells kind I end level t × Bounded kind I t low high × (new.entries ≡ found.entries ++ entries_of t) × (new.pages ≡ found.pages + length (pages_of t)) × (claim_all found.claimed (tree_spans t) ≡ Some new.claimed) in
+    let P : Tree → Type 0 = λ t. Spells kind I end level t × Bounded kind I t low high × (new.entries ≡ found.entries ++ entries_of t) × (new.pages ≡ found.pages + length (pages_of t)) × (claim_all found.claimed (page_spans t) ≡ Some new.claimed) in
     let all = subst P same (f.spells, f.bounded, f.entries, f.pages, f.claims) in
     record { tree = record { spells = all.0; bounded = all.1 }; entries = all.2; pages = all.3; claims = all.4 }
 
 -- the same, of a whole tree
 pub walked : (kind : PageKind) (I : List ℕ) (end level : ℕ) (old new : Claimed) (entries : List ℕ) (pages : ℕ) (page : Bref) → walk_of kind I end level (nothing_found old) page 0 None ≡ Ok (found_so_far new entries pages)
-    → IsTreeAt kind I end level page 0 None × (entries ≡ entries_of (tree_at kind I level page)) × (pages ≡ length (pages_of (tree_at kind I level page))) × (claim_all old (tree_spans (tree_at kind I level page)) ≡ Some new)
+    → IsTreeAt kind I end level page 0 None × (entries ≡ entries_of (tree_at kind I level page)) × (pages ≡ length (pages_of (tree_at kind I level page))) × (claim_all old (page_spans (tree_at kind I level page)) ≡ Some new)
 walked kind I end level old new entries pages page e =
     let h = has_walked kind I end level (nothing_found old) (found_so_far new entries pages) page 0 None e in
     (h.tree, h.entries, h.pages ∙ omega arith, h.claims)
@@ -306,7 +292,7 @@ pub low_there : (kind : PageKind) (I : List ℕ) (end level : ℕ) (page : Bref)
 low_there kind I end level page low high t = tree_low kind I end level (tree_at kind I level page) t.spells
 
 -- where there is a tree that can be claimed, the walk finds it
-pub tree_is_walked : (kind : PageKind) (I : List ℕ) (end level : ℕ) (claimed new : Claimed) (tree : Tree) (page : Bref) → IsTree kind I end page level tree → claim_all claimed (tree_spans tree) ≡ Some new
+pub tree_is_walked : (kind : PageKind) (I : List ℕ) (end level : ℕ) (claimed new : Claimed) (tree : Tree) (page : Bref) → IsTree kind I end page level tree → claim_all claimed (page_spans tree) ≡ Some new
     → tree_walk kind I end claimed page ≡ Ok (found_so_far new (entries_of tree) (length (pages_of tree)))
 tree_is_walked kind I end level claimed new tree page t c =
     let ok = walk_again kind I end level (nothing_found claimed) new tree 0 None t.spells t.bounded c in
@@ -316,7 +302,7 @@ tree_is_walked kind I end level claimed new tree page t c =
 
 -- so only memory can refuse it
 pub not_refused : {X : Type 0} (view : X → Found) (result : Result X Fault) (kind : PageKind) (I : List ℕ) (end level : ℕ) (claimed now new : Claimed) (tree : Tree) (page : Bref) → IsTree kind I end page level tree
-    → claim_all claimed (tree_spans tree) ≡ Some new → GivesBy view result now (tree_walk kind I end claimed page) → IfErr result (λ f. f ≡ no_memory)
+    → claim_all claimed (page_spans tree) ≡ Some new → GivesStepBy view result now (tree_walk kind I end claimed page) → IfErr result (λ f. f ≡ no_memory)
 not_refused view (Ok x) kind I end level claimed now new tree page t c g = tt
 not_refused view (Err f) kind I end level claimed now new tree page t c (inl e) = e
 not_refused view (Err f) kind I end level claimed now new tree page t c (inr e) =
@@ -340,7 +326,7 @@ found_is found entries pages e p = rw (← e, ← p) refl
 pub record IsClaimedOf (claimed : Claimed) (found : Found) (tree : Tree) : Type 0 where
   pub entries : found.entries ≡ entries_of tree
   pub pages : found.pages ≡ length (pages_of tree)
-  pub claims : claim_all claimed (tree_spans tree) ≡ Some found.claimed
+  pub claims : claim_all claimed (page_spans tree) ≡ Some found.claimed
 
 pub walk_claims : (kind : PageKind) (I : List ℕ) (end : ℕ) (claimed : Claimed) (root : Bref) (found : Found) →
     (tree_walk kind I end claimed root ≡ Ok found) ↔ ((level : ℕ) × (tree : Tree) × IsTree kind I end root level tree × IsClaimedOf claimed found tree)
@@ -357,10 +343,10 @@ walk_law kind I end claimed root found long =
     let claims = walk_claims kind I end claimed root found in (
       λ e.
           let (level, tree, t, f) = claims.0 e in
-          let apart = (claims_law claimed found.claimed (tree_spans tree) (tree_units kind I end level claimed tree long t.spells)).0 f.claims in
+          let apart = (claims_law claimed found.claimed (page_spans tree) (tree_units kind I end level claimed tree long t.spells)).0 f.claims in
           (level, tree, t, record { entries = f.entries; pages = f.pages; free = apart.0; apart = apart.1; claims = apart.2 }),
       λ (level, tree, t, f).
-          let all = (claims_law claimed found.claimed (tree_spans tree) (tree_units kind I end level claimed tree long t.spells)).1 (f.free, f.apart, f.claims) in
+          let all = (claims_law claimed found.claimed (page_spans tree) (tree_units kind I end level claimed tree long t.spells)).1 (f.free, f.apart, f.claims) in
           claims.1 (level, tree, t, record { entries = f.entries; pages = f.pages; claims = all }),
     )
 

@@ -4,13 +4,13 @@ use Rattle.std.proofs.lemmas.List.{map-append}
 use Rattle.pst_header.specs.declared.header.Bref.{Bref}
 use Rattle.pst_page.specs.declared.kind.PageKind.{PageKind}
 use Rattle.pst_page.specs.Page.{entries_at}
-use Rattle.pst_page.specs.Good.{IsPlace}
+use Rattle.pst_page.specs.Good.{IsPagePlace}
 use Rattle.pst_space.specs.Claimed.{Claimed, IsUnits}
 use Rattle.pst_space.specs.Apart.{AreUnits}
 use Rattle.pst_space.proofs.ApartLemmas.{units_append}
-use Rattle.pst_btree.specs.Tree.{Tree, leaf, branch, Forest, none, more, pages_of, forest_pages, span_of, tree_spans, Spells, SpellsEach}
+use Rattle.pst_btree.specs.Tree.{Tree, leaf, branch, Forest, none, more, pages_of, forest_pages, span_of, page_spans, Spells, SpellsEach}
 
-page_units : (end : ℕ) (m : Claimed) (page : Bref) → length m ≡ (end - 17408) / 64 → IsPlace end page.ib → IsUnits m (span_of page)
+page_units : (end : ℕ) (m : Claimed) (page : Bref) → length m ≡ (end - 17408) / 64 → IsPagePlace end page.ib → IsUnits m (span_of page)
 page_units end m page long p = record {
   mapped = p.mapped;
   whole = p.whole_units;
@@ -20,7 +20,7 @@ page_units end m page long p = record {
 }
 
 mutual
-  pub tree_units : (kind : PageKind) (I : List ℕ) (end level : ℕ) (m : Claimed) (tree : Tree) → length m ≡ (end - 17408) / 64 → Spells kind I end level tree → AreUnits m (tree_spans tree)
+  pub tree_units : (kind : PageKind) (I : List ℕ) (end level : ℕ) (m : Claimed) (tree : Tree) → length m ≡ (end - 17408) / 64 → Spells kind I end level tree → AreUnits m (page_spans tree)
   tree_units kind I end zero m (leaf page entries) long s = (page_units end m page long s.0.good.place, tt)
   tree_units kind I end zero m (branch page children) long s = absurd s
   tree_units kind I end (suc level) m (leaf page entries) long s = absurd s

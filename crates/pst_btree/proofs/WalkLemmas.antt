@@ -7,7 +7,7 @@ use Rattle.pst_header.specs.declared.header.Bref.{Bref}
 use Rattle.pst_page.specs.declared.kind.PageKind.{PageKind}
 use Rattle.pst_page.specs.Page.{entries_at, entries_from, count_at, width_at}
 use Rattle.pst_page.specs.Entry.{key_at, child_at}
-use Rattle.pst_page.specs.Fault.{place_fault}
+use Rattle.pst_page.specs.Fault.{page_place_fault}
 use Rattle.pst_page.proofs.EntryLemmas.{entries_from_next}
 use Rattle.pst_space.specs.Claimed.{Claimed}
 use Rattle.pst_space.specs.Step.{Step}
@@ -68,11 +68,11 @@ child_fails kind I visit high found ib i total f new child key bound lt a b c (i
     let one : visit found (child_at I at) (key_at kind I at) (next_key kind I (entries_from I ib (i + 1)) high) ≡ Err (new, f) = rw (← a, ← b, ← c) e in
     inr (sym so_far ∙ rw (entries_from_next I ib i lt) (children_fail kind I visit high found at (entries_from I ib (i + 1)) (new, f) one))
 
-pub opened_no_place : (kind : PageKind) (I : List ℕ) (end level : ℕ) (old : Claimed) (page : Bref) (low : ℕ) (high : Option ℕ) (f : Fault) → place_fault end page ≡ Some f → opened kind I end level old page low high ≡ Err (old, f)
+pub opened_no_place : (kind : PageKind) (I : List ℕ) (end level : ℕ) (old : Claimed) (page : Bref) (low : ℕ) (high : Option ℕ) (f : Fault) → page_place_fault end page ≡ Some f → opened kind I end level old page low high ≡ Err (old, f)
 unfolding opened
 opened_no_place kind I end level old page low high f e = rw e refl
 
-pub walk_no_place : (kind : PageKind) (I : List ℕ) (end level : ℕ) (old : Claimed) (entries : List ℕ) (pages : ℕ) (page : Bref) (low : ℕ) (high : Option ℕ) (f : Fault) → place_fault end page ≡ Some f → walk_of kind I end level (found_so_far old entries pages) page low high ≡ Err (old, f)
+pub walk_no_place : (kind : PageKind) (I : List ℕ) (end level : ℕ) (old : Claimed) (entries : List ℕ) (pages : ℕ) (page : Bref) (low : ℕ) (high : Option ℕ) (f : Fault) → page_place_fault end page ≡ Some f → walk_of kind I end level (found_so_far old entries pages) page low high ≡ Err (old, f)
 walk_no_place kind I end level old entries pages page low high f e = walk_fail kind I end level old entries pages page low high (old, f) (opened_no_place kind I end level old page low high f e)
 
 -- a child that is walked without fault leaves the rest

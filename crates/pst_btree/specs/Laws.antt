@@ -4,7 +4,7 @@ use Rattle.pst_header.specs.declared.header.Bref.{Bref}
 use Rattle.pst_page.specs.declared.kind.PageKind.{PageKind}
 use Rattle.pst_space.specs.Claimed.{Claimed, with_spans}
 use Rattle.pst_space.specs.Apart.{AreFree, AreApart}
-use Rattle.pst_btree.specs.Tree.{Tree, IsTree, entries_of, pages_of, tree_spans}
+use Rattle.pst_btree.specs.Tree.{Tree, IsTree, entries_of, pages_of, page_spans}
 use Rattle.pst_btree.specs.Walk.{Found, tree_walk}
 
 -- what was found is of this tree
@@ -12,10 +12,10 @@ pub record IsFoundOf (claimed : Claimed) (found : Found) (tree : Tree) : Type 0 
   pub entries : found.entries ≡ entries_of tree
   pub pages : found.pages ≡ length (pages_of tree)
   -- its pages have no byte in common with what was claimed, and none with each other
-  pub free : AreFree claimed (tree_spans tree)
-  pub apart : AreApart (tree_spans tree)
+  pub free : AreFree claimed (page_spans tree)
+  pub apart : AreApart (page_spans tree)
   -- and they are claimed now
-  pub claims : found.claimed ≡ with_spans claimed (tree_spans tree)
+  pub claims : found.claimed ≡ with_spans claimed (page_spans tree)
 
 -- Where each unit of the mapped part has its flag, there is no fault exactly where the image spells a tree under the root,
 -- whose keys keep their bounds and whose pages lie on nothing that is claimed and not on each other; and what is found is

@@ -70,9 +70,9 @@ abbrev mutual
 
 -- ---- the bounds of its keys
 
-abbrev pub keys_of : Forest → List ℕ
-keys_of none = []
-keys_of (more key tree rest) = key ∷ keys_of rest
+abbrev pub forest_keys : Forest → List ℕ
+forest_keys none = []
+forest_keys (more key tree rest) = key ∷ forest_keys rest
 
 -- the next key, or the bound of the page
 abbrev pub next_of : Forest → Option ℕ → Option ℕ
@@ -84,7 +84,7 @@ abbrev mutual
   -- and below the next entry's key or, for the last entry, below the bound of the page.
   pub Bounded : PageKind → List ℕ → Tree → ℕ → Option ℕ → Type 0
   Bounded kind I (leaf page entries) low high = Rises low high (map (key_at kind I) entries)
-  Bounded kind I (branch page children) low high = Rises low high (keys_of children) × BoundedEach kind I children high
+  Bounded kind I (branch page children) low high = Rises low high (forest_keys children) × BoundedEach kind I children high
 
   pub BoundedEach : PageKind → List ℕ → Forest → Option ℕ → Type 0
   BoundedEach kind I none high = ⊤
@@ -102,8 +102,8 @@ abbrev pub span_of : Bref → Span
 span_of page = page_span page.ib
 
 -- the spans of its pages, each before its children
-abbrev pub tree_spans : Tree → List Span
-tree_spans tree = map span_of (pages_of tree)
+abbrev pub page_spans : Tree → List Span
+page_spans tree = map span_of (pages_of tree)
 
 -- ---- the tree that lies at a place, read with no check
 
@@ -115,8 +115,8 @@ unfoldable pub tree_at : PageKind → List ℕ → ℕ → Bref → Tree
 tree_at kind I zero page = leaf page (entries_at I page.ib)
 tree_at kind I (suc level) page = branch page (forest_at kind I (tree_at kind I level) (entries_at I page.ib))
 
-unfoldable pub spans_at : PageKind → List ℕ → ℕ → Bref → List Span
-spans_at kind I level page = tree_spans (tree_at kind I level page)
+unfoldable pub page_spans_at : PageKind → List ℕ → ℕ → Bref → List Span
+page_spans_at kind I level page = page_spans (tree_at kind I level page)
 
 -- the image spells the tree that lies there, and its keys keep their bounds
 pub record IsTreeAt (kind : PageKind) (I : List ℕ) (end level : ℕ) (page : Bref) (low : ℕ) (high : Option ℕ) : Type 0 where

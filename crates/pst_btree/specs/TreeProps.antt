@@ -5,14 +5,14 @@ use Rattle.pst_header.specs.declared.header.Bref.{Bref}
 use Rattle.pst_page.specs.declared.kind.PageKind.{PageKind}
 use Rattle.pst_page.specs.Page.{entries_at}
 use Rattle.pst_page.specs.Entry.{key_at}
-use Rattle.pst_page.specs.Good.{IsPlace, HasTrailer, GoodPage, HasShape}
+use Rattle.pst_page.specs.Good.{IsPagePlace, HasPageTrailer, GoodPage, HasShape}
 use Rattle.pst_btree.specs.Order.{Rises}
-use Rattle.pst_btree.specs.Tree.{Tree, leaf, branch, Forest, none, more, Spells, SpellsEach, Bounded, BoundedEach, tree_at, IsTreeAt, IsPage, keys_of, next_of}
+use Rattle.pst_btree.specs.Tree.{Tree, leaf, branch, Forest, none, more, Spells, SpellsEach, Bounded, BoundedEach, tree_at, IsTreeAt, IsPage, forest_keys, next_of}
 
-pub IsPlace-prop : (end ib : ℕ) → IsProp (IsPlace end ib)
+pub IsPlace-prop : (end ib : ℕ) → IsProp (IsPagePlace end ib)
 IsPlace-prop end ib = hlevel props
 
-pub HasTrailer-prop : (I : List ℕ) (kind : PageKind) (page : Bref) → IsProp (HasTrailer I kind page)
+pub HasTrailer-prop : (I : List ℕ) (kind : PageKind) (page : Bref) → IsProp (HasPageTrailer I kind page)
 HasTrailer-prop I kind page = hlevel props
 
 pub GoodPage-prop : (I : List ℕ) (end : ℕ) (kind : PageKind) (page : Bref) → IsProp (GoodPage I end kind page)
@@ -44,7 +44,7 @@ mutual
 mutual
   pub Bounded-prop : (kind : PageKind) (I : List ℕ) (tree : Tree) (low : ℕ) (high : Option ℕ) → IsProp (Bounded kind I tree low high)
   Bounded-prop kind I (leaf page entries) low high = Rises-prop low high (map (key_at kind I) entries)
-  Bounded-prop kind I (branch page children) low high = hlevel (props, Rises-prop low high (keys_of children), BoundedEach-prop kind I children high)
+  Bounded-prop kind I (branch page children) low high = hlevel (props, Rises-prop low high (forest_keys children), BoundedEach-prop kind I children high)
 
   pub BoundedEach-prop : (kind : PageKind) (I : List ℕ) (children : Forest) (high : Option ℕ) → IsProp (BoundedEach kind I children high)
   BoundedEach-prop kind I none high = hlevel props

@@ -9,11 +9,11 @@ use Rattle.pst_space.specs.Claimed.{Claimed}
 use Rattle.pst_btree.specs.Tree.{Tree, tree_at, entries_of, pages_of}
 use Rattle.pst_btree.specs.Walk.{Found, found_so_far}
 
-abbrev pub image_of : TreeView → List ℕ
-image_of view = bytes_of view.image
+abbrev pub bytes_of_view : TreeView → List ℕ
+bytes_of_view view = bytes_of view.image
 
 abbrev pub tree_of : TreeView → Tree
-tree_of view = tree_at view.kind (image_of view) view.level view.root
+tree_of view = tree_at view.kind (bytes_of_view view) view.level view.root
 
 -- the places of its entries, from left to right
 abbrev pub entries : TreeView → List ℕ
@@ -21,10 +21,10 @@ entries view = entries_of (tree_of view)
 
 -- what stands there in the block B-tree, and in the node B-tree
 abbrev pub block_entries_of : TreeView → List BlockEntry
-block_entries_of view = map (block_entry_at (image_of view)) (entries view)
+block_entries_of view = map (block_entry_at (bytes_of_view view)) (entries view)
 
 abbrev pub node_entries_of : TreeView → List NodeEntry
-node_entries_of view = map (node_entry_at (image_of view)) (entries view)
+node_entries_of view = map (node_entry_at (bytes_of_view view)) (entries view)
 
 -- what a walk has found once it has this view
 abbrev pub found_in : Claimed → TreeView → Found

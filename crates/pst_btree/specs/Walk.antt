@@ -7,7 +7,7 @@ use Rattle.pst_header.specs.declared.header.Bref.{Bref}
 use Rattle.pst_page.specs.declared.kind.PageKind.{PageKind}
 use Rattle.pst_page.specs.Page.{entries_at, level_at}
 use Rattle.pst_page.specs.Entry.{key_at, child_at}
-use Rattle.pst_page.specs.Fault.{place_fault, open_fault, level_fault}
+use Rattle.pst_page.specs.Fault.{page_place_fault, open_fault, level_fault}
 use Rattle.pst_space.specs.Claimed.{Claimed}
 use Rattle.pst_space.specs.Step.{Step, ◌>>=◌, unless, claim_step}
 use Rattle.pst_btree.specs.Order.{order_fault}
@@ -34,7 +34,7 @@ body_fault kind I level page low high =
 -- a page alone: its place, its claim, and then the rest
 unfoldable pub opened : PageKind → List ℕ → ℕ → ℕ → Claimed → Bref → ℕ → Option ℕ → Step Claimed
 opened kind I end level claimed page low high =
-    unless (place_fault end page) claimed (do
+    unless (page_place_fault end page) claimed (do
       more ← claim_step (span_of page) page.bid claimed
       unless (body_fault kind I level page low high) more (Ok more))
 

@@ -21,7 +21,7 @@ impl<'a> BlockTree<'a> {
     ghost use Rattle.pst_btree.specs.Entries.{block_with};
     ghost use Rattle.pst_btree.specs.Find.{first_at};
     ghost use Rattle.pst_btree.specs.Tree.{pages_of};
-    ghost use Rattle.pst_btree.specs.View.{image_of, tree_of, entries};
+    ghost use Rattle.pst_btree.specs.View.{bytes_of_view, tree_of, entries};
     ghost use Rattle.pst_btree.specs.Trees.{block_view, block_entries};
 
     /// The entry of a block, by its identifier with its bit 0 ignored; and how many pages were decoded: the pages of one
@@ -30,7 +30,9 @@ impl<'a> BlockTree<'a> {
     pub fn find_steps(&self, bid: u64) -> (Option<BlockEntry>, u32)
         // The entry with that key, and by its place.
         ensures entry { result.0 ≡ block_with (key_of Bbt bid) (block_entries self.now) }
-        ensures place { result.0 ≡ option_map (entry_at (image_of (block_view self.now))) (first_at Bbt (image_of (block_view self.now)) (key_of Bbt bid) (entries (block_view self.now))) }
+        ensures place { result.0 ≡ option_map (entry_at (bytes_of_view (block_view self.now)))
+            (first_at Bbt (bytes_of_view (block_view self.now))
+            (key_of Bbt bid) (entries (block_view self.now))) }
 
         // How many pages.
         ensures most { result.1 ≤ (block_view self.now).level + 1 }
@@ -46,7 +48,9 @@ impl<'a> BlockTree<'a> {
     /// The entry of a block, by its identifier with its bit 0 ignored.
     pub fn find(&self, bid: u64) -> Option<BlockEntry>
         ensures entry { result ≡ block_with (key_of Bbt bid) (block_entries self.now) }
-        ensures place { result ≡ option_map (entry_at (image_of (block_view self.now))) (first_at Bbt (image_of (block_view self.now)) (key_of Bbt bid) (entries (block_view self.now))) }
+        ensures place { result ≡ option_map (entry_at (bytes_of_view (block_view self.now)))
+            (first_at Bbt (bytes_of_view (block_view self.now))
+            (key_of Bbt bid) (entries (block_view self.now))) }
     {
         self.find_steps(bid).0
     }

@@ -21,7 +21,7 @@ impl<'a> NodeTree<'a> {
     ghost use Rattle.pst_btree.specs.Entries.{node_with};
     ghost use Rattle.pst_btree.specs.Find.{first_at};
     ghost use Rattle.pst_btree.specs.Tree.{pages_of};
-    ghost use Rattle.pst_btree.specs.View.{image_of, tree_of, entries};
+    ghost use Rattle.pst_btree.specs.View.{bytes_of_view, tree_of, entries};
     ghost use Rattle.pst_btree.specs.Trees.{node_view, node_entries};
 
     /// The entry of a node, by its identifier; and how many pages were decoded: the pages of one path, `level() + 1`
@@ -30,7 +30,8 @@ impl<'a> NodeTree<'a> {
     pub fn find_steps(&self, nid: u32) -> (Option<NodeEntry>, u32)
         // The entry with that key, and by its place.
         ensures entry { result.0 ≡ node_with nid (node_entries self.now) }
-        ensures place { result.0 ≡ option_map (entry_at (image_of (node_view self.now))) (first_at Nbt (image_of (node_view self.now)) nid (entries (node_view self.now))) }
+        ensures place { result.0 ≡ option_map (entry_at (bytes_of_view (node_view self.now)))
+            (first_at Nbt (bytes_of_view (node_view self.now)) nid (entries (node_view self.now))) }
 
         // How many pages.
         ensures most { result.1 ≤ (node_view self.now).level + 1 }
@@ -46,7 +47,8 @@ impl<'a> NodeTree<'a> {
     /// The entry of a node, by its identifier.
     pub fn find(&self, nid: u32) -> Option<NodeEntry>
         ensures entry { result ≡ node_with nid (node_entries self.now) }
-        ensures place { result ≡ option_map (entry_at (image_of (node_view self.now))) (first_at Nbt (image_of (node_view self.now)) nid (entries (node_view self.now))) }
+        ensures place { result ≡ option_map (entry_at (bytes_of_view (node_view self.now)))
+            (first_at Nbt (bytes_of_view (node_view self.now)) nid (entries (node_view self.now))) }
     {
         self.find_steps(nid).0
     }

@@ -26,10 +26,12 @@ struct Found {
 #[tactic(auto, using(pst_page::proofs::EntryLemmas::entries_from_start, pst_page::proofs::EntryLemmas::entries_from_next, pst_page::proofs::EntryLemmas::entries_from_end, crate::proofs::RiseLemmas::from_here, crate::proofs::RiseLemmas::from_later, crate::proofs::RiseLemmas::from_none))]
 fn entry_from(page: &Page, low: u64) -> Option<Found>
     requires { level_at (bytes_of page.now.image) page.now.bref.ib ≡ 0 }
-    ensures first { option_map (λ e. e.at) result ≡ first_from page.now.kind (bytes_of page.now.image) low (entries_at (bytes_of page.now.image) page.now.bref.ib) }
+    ensures first { option_map (λ e. e.at) result ≡ first_from page.now.kind
+        (bytes_of page.now.image) low (entries_at (bytes_of page.now.image) page.now.bref.ib) }
     ensures key { IfSome result (λ e. e.key ≡ key_at page.now.kind (bytes_of page.now.image) e.at) }
     ensures small { IfSome result (λ e. e.key + 1 < 2 ^ 64) }
-    ensures inside { IfSome result (λ e. e.at + entry_size page.now.kind 0 ≤ length (bytes_of page.now.image)) }
+    ensures inside { IfSome result (λ e.
+        e.at + entry_size page.now.kind 0 ≤ length (bytes_of page.now.image)) }
 {
     for i in 0..page.count() {
         let key = page.key(i);
@@ -55,7 +57,8 @@ fn entry_below(
 ) -> Option<Found>
     requires inside { end ≤ length (bytes_of image) }
     requires tree { HasTreeAt kind (bytes_of image) end level bref }
-    ensures first { option_map (λ e. e.at) result ≡ first_from kind (bytes_of image.entry) low (entries_of (tree_at kind (bytes_of image.entry) level bref)) }
+    ensures first { option_map (λ e. e.at) result ≡ first_from kind
+        (bytes_of image.entry) low (entries_of (tree_at kind (bytes_of image.entry) level bref)) }
     ensures key { IfSome result (λ e. e.key ≡ key_at kind (bytes_of image.entry) e.at) }
     ensures small { IfSome result (λ e. e.key + 1 < 2 ^ 64) }
     ensures inside { IfSome result (λ e. e.at + entry_size kind 0 ≤ length (bytes_of image.entry)) }

@@ -24,7 +24,8 @@ fn is_below(key: u64, high: Option<u64>) -> bool
 /// entry whose key does not, with the identifier of the page.
 #[tactic(auto, using(pst_page::proofs::EntryLemmas::entries_from_start, pst_page::proofs::EntryLemmas::entries_from_next, pst_page::proofs::EntryLemmas::entries_from_end, crate::proofs::OrderLemmas::order_goes_on, crate::proofs::OrderLemmas::order_low, crate::proofs::OrderLemmas::order_high, crate::proofs::OrderLemmas::order_done))]
 pub fn check_order(page: &Page, low: u64, high: Option<u64>) -> Result<(), Fault>
-    ensures { result ≡ answer (order_fault page.now.kind (bytes_of page.now.image) page.now.bref.bid low high (entries_at (bytes_of page.now.image) page.now.bref.ib)) tt }
+    ensures { result ≡ answer (order_fault page.now.kind (bytes_of page.now.image)
+        page.now.bref.bid low high (entries_at (bytes_of page.now.image) page.now.bref.ib)) tt }
 {
     let mut least = low;
     for i in 0..page.count() {
@@ -41,7 +42,8 @@ pub fn check_order(page: &Page, low: u64, high: Option<u64>) -> Result<(), Fault
 #[tactic(auto, using(pst_page::proofs::EntryLemmas::entries_from_next, pst_page::proofs::EntryLemmas::entries_from_end))]
 pub fn bound_of(page: &Page, i: u8, high: Option<u64>) -> Option<u64>
     requires { i < count_at (bytes_of page.now.image) page.now.bref.ib }
-    ensures { result ≡ next_key page.now.kind (bytes_of page.now.image) (entries_from (bytes_of page.now.image) page.now.bref.ib (i + 1)) high }
+    ensures { result ≡ next_key page.now.kind (bytes_of page.now.image)
+        (entries_from (bytes_of page.now.image) page.now.bref.ib (i + 1)) high }
 {
     let count = page.count();
     if i + 1 < count {

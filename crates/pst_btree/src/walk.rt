@@ -8,9 +8,9 @@ ghost use Rattle.pst_header.specs.Head.{Head};
 ghost use Rattle.pst_header.specs.Header.{end_of};
 ghost use Rattle.pst_page.specs.Page.{entries_at};
 ghost use Rattle.pst_space.specs.Claimed.{claim_of, IsUnits, unit_total};
-ghost use Rattle.pst_space.specs.Step.{Gives, ClaimsSome, claim_step};
+ghost use Rattle.pst_space.specs.Step.{GivesStep, ClaimsSome, claim_step};
 ghost use Rattle.pst_btree.specs.Marked.{marked};
-ghost use Rattle.pst_btree.specs.Tree.{span_of, spans_at};
+ghost use Rattle.pst_btree.specs.Tree.{span_of, page_spans_at};
 ghost use Rattle.pst_btree.specs.Walk.{body_fault, opened, walk_of, found_so_far};
 
 use crate::order::{bound_of, check_order};
@@ -35,8 +35,10 @@ fn claim_page(claims: &mut Claims, span: Span, bref: Bref) -> Result<(), Fault>
     requires place { span ≡ span_of bref }
     requires units { IsUnits claims.old (span_of bref) }
     ensures same { length claims.new ≡ length claims.old }
-    ensures gives { Gives result claims.new claims.new (claim_step (span_of bref) bref.bid claims.old) }
-    ensures held { (claims.new ≡ claims.old) ⊎ (claim_of claims.old (span_of bref) ≡ Some claims.new) }
+    ensures gives { GivesStep result claims.new claims.new
+        (claim_step (span_of bref) bref.bid claims.old) }
+    ensures held { (claims.new ≡ claims.old)
+        ⊎ (claim_of claims.old (span_of bref) ≡ Some claims.new) }
     ensures claimed { OnOk result (claim_of claims.old (span_of bref) ≡ Some claims.new) }
     ensures marked { OnOk result (marked claims.new ≡ marked claims.old + 8) }
 {
@@ -85,8 +87,10 @@ fn open_in<'a>(
     requires head { Head (bytes_of image) header.now }
     requires units { length claims.old ≡ unit_total header.now }
     ensures same { length claims.new ≡ length claims.old }
-    ensures gives { Gives result claims.new claims.new (opened kind (bytes_of image.entry) (end_of header.now) level claims.old bref low high) }
-    ensures held { (claims.new ≡ claims.old) ⊎ (claim_of claims.old (span_of bref) ≡ Some claims.new) }
+    ensures gives { GivesStep result claims.new claims.new
+        (opened kind (bytes_of image.entry) (end_of header.now) level claims.old bref low high) }
+    ensures held { (claims.new ≡ claims.old)
+        ⊎ (claim_of claims.old (span_of bref) ≡ Some claims.new) }
     ensures claimed { OnOk result (claim_of claims.old (span_of bref) ≡ Some claims.new) }
     ensures marked { OnOk result (marked claims.new ≡ marked claims.old + 8) }
     ensures image { IfOk result (λ p. p.image ≡ image.entry) }
@@ -101,7 +105,8 @@ fn open_in<'a>(
 // Notes the places of the entries of a leaf.
 #[tactic(auto, using(pst_page::proofs::EntryLemmas::entries_from_start, pst_page::proofs::EntryLemmas::entries_from_next, pst_page::proofs::EntryLemmas::entries_from_end, crate::proofs::WalkLemmas::appended, crate::proofs::WalkLemmas::append_none))]
 fn push_entries(page: &Page, places: &mut Vec<u64>) -> Result<(), Fault>
-    ensures ok { OnOk result (places.new.items ≡ places.old.items ++ entries_at (bytes_of page.now.image) page.now.bref.ib) }
+    ensures ok { OnOk result (places.new.items ≡
+        places.old.items ++ entries_at (bytes_of page.now.image) page.now.bref.ib) }
     ensures err { IfErr result (λ f. f ≡ no_memory) }
 {
     for i in 0..page.count() {
@@ -130,8 +135,11 @@ pub fn walk_page(
     requires counted { 8 * tally.old.pages ≤ marked claims.old }
     ensures same { length claims.new ≡ length claims.old }
     ensures counted { OnOk result (8 * tally.new.pages ≤ marked claims.new) }
-    ensures some { ClaimsSome claims.old claims.new (spans_at kind (bytes_of image.entry) level bref) }
-    ensures gives { Gives result (found_so_far claims.new tally.new.places.items tally.new.pages) claims.new (walk_of kind (bytes_of image.entry) (end_of header.now) level (found_so_far claims.old tally.old.places.items tally.old.pages) bref low high) }
+    ensures some { ClaimsSome claims.old claims.new
+        (page_spans_at kind (bytes_of image.entry) level bref) }
+    ensures gives { GivesStep result (found_so_far claims.new tally.new.places.items
+        tally.new.pages) claims.new (walk_of kind (bytes_of image.entry) (end_of header.now) level
+        (found_so_far claims.old tally.old.places.items tally.old.pages) bref low high) }
 {
     let page = open_in(image, header, kind, level, bref, low, high, claims)?;
     tally.pages += 1;

@@ -9,8 +9,8 @@ ghost use Rattle.pst_page.specs.declared.kind.PageKind.TheVariants.{Bbt, Nbt};
 ghost use Rattle.pst_page.specs.Entry.{block_entry_at as block_at, node_entry_at as node_at};
 ghost use Rattle.pst_page.specs.Page.{level_at};
 ghost use Rattle.pst_space.specs.Claimed.{Claimed, claim_all, unit_total};
-ghost use Rattle.pst_space.specs.Step.{GivesBy, ClaimsSome};
-ghost use Rattle.pst_btree.specs.Tree.{Tree, IsTree, tree_spans, spans_at};
+ghost use Rattle.pst_space.specs.Step.{GivesStepBy, ClaimsSome};
+ghost use Rattle.pst_btree.specs.Tree.{Tree, IsTree, page_spans, page_spans_at};
 ghost use Rattle.pst_btree.specs.Trees.{block_view, block_entries, node_view, node_entries};
 ghost use Rattle.pst_btree.specs.View.{tree_of, found_in};
 ghost use Rattle.pst_btree.specs.Walk.{tree_walk};
@@ -59,23 +59,28 @@ fn blocks_exact<'a>(
     ensures same_units { length claims.new ≡ length claims.old }
 
     // Whether there is a tree, what it is, and what is claimed; or which fault it is, and what is claimed by then.
-    ensures exact { GivesBy (λ x. found_in claims.new (block_view x.0)) result claims.new (tree_walk Bbt (bytes_of image.entry) (end_of header.now) claims.old header.now.bbt) }
+    ensures exact { GivesStepBy (λ x. found_in claims.new (block_view x.0)) result claims.new
+        (tree_walk Bbt (bytes_of image.entry) (end_of header.now) claims.old header.now.bbt) }
 
     // What is answered is a tree that the image spells, whose keys keep their bounds. Its entries are these, and its pages
     // are claimed.
-    ensures tree { IfOk result (λ x. IsTree Bbt (bytes_of image.entry) (end_of header.now) header.now.bbt (block_view x.0).level (tree_of (block_view x.0))) }
+    ensures tree { IfOk result (λ x. IsTree Bbt (bytes_of image.entry)
+        (end_of header.now) header.now.bbt (block_view x.0).level (tree_of (block_view x.0))) }
     ensures entries { IfOk result (λ x. x.1.items ≡ block_entries x.0) }
-    ensures claims { IfOk result (λ x. claim_all claims.old (tree_spans (tree_of (block_view x.0))) ≡ Some claims.new) }
+    ensures claims { IfOk result (λ x.
+        claim_all claims.old (page_spans (tree_of (block_view x.0))) ≡ Some claims.new) }
 
     // Whatever the answer, the pages from the first up to some one are claimed.
-    ensures some { ClaimsSome claims.old claims.new (spans_at Bbt (bytes_of image.entry) (level_at (bytes_of image.entry) header.now.bbt.ib) header.now.bbt) }
+    ensures some { ClaimsSome claims.old claims.new (page_spans_at Bbt
+        (bytes_of image.entry) (level_at (bytes_of image.entry) header.now.bbt.ib) header.now.bbt) }
 
     // Which tree it is.
     ensures image { IfOk result (λ x. (block_view x.0).image ≡ image.entry) }
     ensures end { IfOk result (λ x. (block_view x.0).end ≡ end_of header.now) }
     ensures kind { IfOk result (λ x. (block_view x.0).kind ≡ Bbt) }
     ensures root { IfOk result (λ x. (block_view x.0).root ≡ header.now.bbt) }
-    ensures level { IfOk result (λ x. (block_view x.0).level ≡ level_at (bytes_of image.entry) header.now.bbt.ib) }
+    ensures level { IfOk result (λ x.
+        (block_view x.0).level ≡ level_at (bytes_of image.entry) header.now.bbt.ib) }
 {
     let (view, places) = walk(alloc, image, header, PageKind::Bbt, header.bbt, claims)?;
     let entries = blocks_at(alloc, image, &places)?;
@@ -102,26 +107,33 @@ pub fn walk_blocks<'a>(
     ensures same_units { length claims.new ≡ length claims.old }
 
     // Whether there is a tree, what it is, and what is claimed; or which fault it is, and what is claimed by then.
-    ensures exact { GivesBy (λ x. found_in claims.new (block_view x.0)) result claims.new (tree_walk Bbt (bytes_of image.entry) (end_of header.now) claims.old header.now.bbt) }
+    ensures exact { GivesStepBy (λ x. found_in claims.new (block_view x.0)) result claims.new
+        (tree_walk Bbt (bytes_of image.entry) (end_of header.now) claims.old header.now.bbt) }
 
     // What is answered is a tree that the image spells, whose keys keep their bounds. Its entries are these, and its pages
     // are claimed.
-    ensures tree { IfOk result (λ x. IsTree Bbt (bytes_of image.entry) (end_of header.now) header.now.bbt (block_view x.0).level (tree_of (block_view x.0))) }
+    ensures tree { IfOk result (λ x. IsTree Bbt (bytes_of image.entry)
+        (end_of header.now) header.now.bbt (block_view x.0).level (tree_of (block_view x.0))) }
     ensures entries { IfOk result (λ x. x.1.items ≡ block_entries x.0) }
-    ensures claims { IfOk result (λ x. claim_all claims.old (tree_spans (tree_of (block_view x.0))) ≡ Some claims.new) }
+    ensures claims { IfOk result (λ x.
+        claim_all claims.old (page_spans (tree_of (block_view x.0))) ≡ Some claims.new) }
 
     // Whatever the answer, the pages from the first up to some one are claimed.
-    ensures some { ClaimsSome claims.old claims.new (spans_at Bbt (bytes_of image.entry) (level_at (bytes_of image.entry) header.now.bbt.ib) header.now.bbt) }
+    ensures some { ClaimsSome claims.old claims.new (page_spans_at Bbt
+        (bytes_of image.entry) (level_at (bytes_of image.entry) header.now.bbt.ib) header.now.bbt) }
 
     // Which tree it is.
     ensures image { IfOk result (λ x. (block_view x.0).image ≡ image.entry) }
     ensures end { IfOk result (λ x. (block_view x.0).end ≡ end_of header.now) }
     ensures kind { IfOk result (λ x. (block_view x.0).kind ≡ Bbt) }
     ensures root { IfOk result (λ x. (block_view x.0).root ≡ header.now.bbt) }
-    ensures level { IfOk result (λ x. (block_view x.0).level ≡ level_at (bytes_of image.entry) header.now.bbt.ib) }
+    ensures level { IfOk result (λ x.
+        (block_view x.0).level ≡ level_at (bytes_of image.entry) header.now.bbt.ib) }
 
     // A tree whose pages can be claimed is answered, unless memory ran out.
-    ensures only { (level : ℕ) (tree : Tree) (new : Claimed) → IsTree Bbt (bytes_of image.entry) (end_of header.now) header.now.bbt level tree → claim_all claims.old (tree_spans tree) ≡ Some new → IfErr result (λ f. f ≡ no_memory) }
+    ensures only { (level : ℕ) (tree : Tree) (new : Claimed) →
+        IsTree Bbt (bytes_of image.entry) (end_of header.now) header.now.bbt level tree →
+        claim_all claims.old (page_spans tree) ≡ Some new → IfErr result (λ f. f ≡ no_memory) }
 {
     blocks_exact(alloc, image, header, claims)
 }
@@ -138,23 +150,28 @@ fn nodes_exact<'a>(
     ensures same_units { length claims.new ≡ length claims.old }
 
     // Whether there is a tree, what it is, and what is claimed; or which fault it is, and what is claimed by then.
-    ensures exact { GivesBy (λ x. found_in claims.new (node_view x.0)) result claims.new (tree_walk Nbt (bytes_of image.entry) (end_of header.now) claims.old header.now.nbt) }
+    ensures exact { GivesStepBy (λ x. found_in claims.new (node_view x.0)) result claims.new
+        (tree_walk Nbt (bytes_of image.entry) (end_of header.now) claims.old header.now.nbt) }
 
     // What is answered is a tree that the image spells, whose keys keep their bounds. Its entries are these, and its pages
     // are claimed.
-    ensures tree { IfOk result (λ x. IsTree Nbt (bytes_of image.entry) (end_of header.now) header.now.nbt (node_view x.0).level (tree_of (node_view x.0))) }
+    ensures tree { IfOk result (λ x. IsTree Nbt (bytes_of image.entry)
+        (end_of header.now) header.now.nbt (node_view x.0).level (tree_of (node_view x.0))) }
     ensures entries { IfOk result (λ x. x.1.items ≡ node_entries x.0) }
-    ensures claims { IfOk result (λ x. claim_all claims.old (tree_spans (tree_of (node_view x.0))) ≡ Some claims.new) }
+    ensures claims { IfOk result (λ x.
+        claim_all claims.old (page_spans (tree_of (node_view x.0))) ≡ Some claims.new) }
 
     // Whatever the answer, the pages from the first up to some one are claimed.
-    ensures some { ClaimsSome claims.old claims.new (spans_at Nbt (bytes_of image.entry) (level_at (bytes_of image.entry) header.now.nbt.ib) header.now.nbt) }
+    ensures some { ClaimsSome claims.old claims.new (page_spans_at Nbt
+        (bytes_of image.entry) (level_at (bytes_of image.entry) header.now.nbt.ib) header.now.nbt) }
 
     // Which tree it is.
     ensures image { IfOk result (λ x. (node_view x.0).image ≡ image.entry) }
     ensures end { IfOk result (λ x. (node_view x.0).end ≡ end_of header.now) }
     ensures kind { IfOk result (λ x. (node_view x.0).kind ≡ Nbt) }
     ensures root { IfOk result (λ x. (node_view x.0).root ≡ header.now.nbt) }
-    ensures level { IfOk result (λ x. (node_view x.0).level ≡ level_at (bytes_of image.entry) header.now.nbt.ib) }
+    ensures level { IfOk result (λ x.
+        (node_view x.0).level ≡ level_at (bytes_of image.entry) header.now.nbt.ib) }
 {
     let (view, places) = walk(alloc, image, header, PageKind::Nbt, header.nbt, claims)?;
     let entries = nodes_at(alloc, image, &places)?;
@@ -174,26 +191,33 @@ pub fn walk_nodes<'a>(
     ensures same_units { length claims.new ≡ length claims.old }
 
     // Whether there is a tree, what it is, and what is claimed; or which fault it is, and what is claimed by then.
-    ensures exact { GivesBy (λ x. found_in claims.new (node_view x.0)) result claims.new (tree_walk Nbt (bytes_of image.entry) (end_of header.now) claims.old header.now.nbt) }
+    ensures exact { GivesStepBy (λ x. found_in claims.new (node_view x.0)) result claims.new
+        (tree_walk Nbt (bytes_of image.entry) (end_of header.now) claims.old header.now.nbt) }
 
     // What is answered is a tree that the image spells, whose keys keep their bounds. Its entries are these, and its pages
     // are claimed.
-    ensures tree { IfOk result (λ x. IsTree Nbt (bytes_of image.entry) (end_of header.now) header.now.nbt (node_view x.0).level (tree_of (node_view x.0))) }
+    ensures tree { IfOk result (λ x. IsTree Nbt (bytes_of image.entry)
+        (end_of header.now) header.now.nbt (node_view x.0).level (tree_of (node_view x.0))) }
     ensures entries { IfOk result (λ x. x.1.items ≡ node_entries x.0) }
-    ensures claims { IfOk result (λ x. claim_all claims.old (tree_spans (tree_of (node_view x.0))) ≡ Some claims.new) }
+    ensures claims { IfOk result (λ x.
+        claim_all claims.old (page_spans (tree_of (node_view x.0))) ≡ Some claims.new) }
 
     // Whatever the answer, the pages from the first up to some one are claimed.
-    ensures some { ClaimsSome claims.old claims.new (spans_at Nbt (bytes_of image.entry) (level_at (bytes_of image.entry) header.now.nbt.ib) header.now.nbt) }
+    ensures some { ClaimsSome claims.old claims.new (page_spans_at Nbt
+        (bytes_of image.entry) (level_at (bytes_of image.entry) header.now.nbt.ib) header.now.nbt) }
 
     // Which tree it is.
     ensures image { IfOk result (λ x. (node_view x.0).image ≡ image.entry) }
     ensures end { IfOk result (λ x. (node_view x.0).end ≡ end_of header.now) }
     ensures kind { IfOk result (λ x. (node_view x.0).kind ≡ Nbt) }
     ensures root { IfOk result (λ x. (node_view x.0).root ≡ header.now.nbt) }
-    ensures level { IfOk result (λ x. (node_view x.0).level ≡ level_at (bytes_of image.entry) header.now.nbt.ib) }
+    ensures level { IfOk result (λ x.
+        (node_view x.0).level ≡ level_at (bytes_of image.entry) header.now.nbt.ib) }
 
     // A tree whose pages can be claimed is answered, unless memory ran out.
-    ensures only { (level : ℕ) (tree : Tree) (new : Claimed) → IsTree Nbt (bytes_of image.entry) (end_of header.now) header.now.nbt level tree → claim_all claims.old (tree_spans tree) ≡ Some new → IfErr result (λ f. f ≡ no_memory) }
+    ensures only { (level : ℕ) (tree : Tree) (new : Claimed) →
+        IsTree Nbt (bytes_of image.entry) (end_of header.now) header.now.nbt level tree →
+        claim_all claims.old (page_spans tree) ≡ Some new → IfErr result (λ f. f ≡ no_memory) }
 {
     nodes_exact(alloc, image, header, claims)
 }

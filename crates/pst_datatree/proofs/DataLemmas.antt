@@ -1,15 +1,16 @@
 -- What a data tree without fault has.
 use Rattle.std.proofs.Common.{◌≡◌, ℕ, zero, suc, ◌+◌, ◌*◌, ◌<◌, ◌≤◌, Bool, true, false, List, length, Option, Some, None, refl, ap, ◌∙◌, arith, length-append, subst}
-use Rattle.std.specs.Prelude.{slice_get, nat_eq, if◌then◌else◌, cond}
+use Rattle.std.specs.Prelude.{slice_get, if◌then◌else◌, cond}
 use Rattle.std.proofs.lemmas.Bool.Decides.{nat_tests}
 use Rattle.pst_fault.specs.declared.fault.Fault.{Fault}
 use Rattle.pst_fault.specs.First.{◌then◌, holds_or, first_below, join_below}
 use Rattle.pst_fault.proofs.FirstLemmas.{none_then, none_below, first_below_front, slice_get-join, holds_or_none}
+use Rattle.pst_fault.proofs.GeneralLemmas.{number_of_test}
 use Rattle.pst_page.specs.declared.entry.BlockEntry.{BlockEntry}
 use Rattle.pst_block.specs.Table.{Table, entry_of, body_of}
 use Rattle.pst_datatree.specs.Bid.{is_internal}
 use Rattle.pst_datatree.specs.List.{count_in, total_in, bid_in, is_block_list, has_level_two}
-use Rattle.pst_datatree.specs.Data.{size_of, fault_or, block_missing, bad_tree, leaf_spans, leaf_fault, xblock_spans, xblock_fault, child_fault, xxblock_spans, xxblock_fault, tree_spans, tree_fault}
+use Rattle.pst_datatree.specs.Data.{size_of, fault_or, block_missing, bad_tree, leaf_spans, data_leaf_fault, xblock_spans, xblock_fault, child_fault, xxblock_spans, xxblock_fault, tree_spans, tree_fault}
 
 pub list_fits : (level : ℕ) (body : List ℕ) → is_block_list level body ≡ true → 8 + 8 * count_in body ≤ length body
 unfolding is_block_list
@@ -20,12 +21,12 @@ pub record IsSound (fault : ℕ → Option Fault) (t : Table) (e : BlockEntry) :
   pub fits : 8 + 8 * count_in (body_of t e) ≤ length (body_of t e)
   pub parts : first_below fault (count_in (body_of t e)) ≡ None
 
-pub sound_xblock : (t : Table) (e : BlockEntry) → xblock_fault t e ≡ None → IsSound (leaf_fault t e) t e
+pub sound_xblock : (t : Table) (e : BlockEntry) → xblock_fault t e ≡ None → IsSound (data_leaf_fault t e) t e
 unfolding xblock_fault
 sound_xblock t e h =
     let body = body_of t e in
     let p = none_then (holds_or (is_block_list 1 body) (bad_tree e)) _ h in
-    let q = none_then (first_below (leaf_fault t e) (count_in body)) _ p.1 in
+    let q = none_then (first_below (data_leaf_fault t e) (count_in body)) _ p.1 in
     record { fits = list_fits 1 body (holds_or_none _ _ p.0); parts = q.0 }
 
 -- an XXBLOCK without fault
@@ -43,8 +44,8 @@ fault_or_none f part None h = cc
 fault_or_none f part (Some x) h = (x, refl, h)
 
 -- a data block that an XBLOCK names
-pub one_leaf : (t : Table) (e : BlockEntry) (i : ℕ) → leaf_fault t e i ≡ None → length (leaf_spans t (body_of t e) i) ≡ 1
-unfolding leaf_fault leaf_spans
+pub one_leaf : (t : Table) (e : BlockEntry) (i : ℕ) → data_leaf_fault t e i ≡ None → length (leaf_spans t (body_of t e) i) ≡ 1
+unfolding data_leaf_fault leaf_spans
 one_leaf t e i h =
     let bid = bid_in (body_of t e) i in
     let w = fault_or_none (block_missing bid) (λ _. if is_internal bid then Some (bad_tree e) else None) (entry_of t bid) h in
@@ -62,10 +63,10 @@ one_child t e i h =
     from_test true o f h = h
     from_test false o f h = cc
 
-pub length_leaves : (t : Table) (e : BlockEntry) (n : ℕ) → first_below (leaf_fault t e) n ≡ None → length (join_below (leaf_spans t (body_of t e)) n) ≡ n
+pub length_leaves : (t : Table) (e : BlockEntry) (n : ℕ) → first_below (data_leaf_fault t e) n ≡ None → length (join_below (leaf_spans t (body_of t e)) n) ≡ n
 length_leaves t e zero h = refl
 length_leaves t e (suc n) h =
-    let both = none_then (first_below (leaf_fault t e) n) (leaf_fault t e n) h in
+    let both = none_then (first_below (data_leaf_fault t e) n) (data_leaf_fault t e n) h in
     omega (arith, length-append (join_below (leaf_spans t (body_of t e)) n) (leaf_spans t (body_of t e) n), length_leaves t e n both.0, one_leaf t e n both.1)
 
 -- ---- the spans of an XBLOCK by their numbers
@@ -83,16 +84,16 @@ xblock_head t e h = omega (arith, xblock_fits t e h)
 pub xblock_room : (t : Table) (e : BlockEntry) (i : ℕ) → xblock_fault t e ≡ None → i < length (xblock_spans t e) → 16 + 8 * i ≤ length (body_of t e)
 xblock_room t e i h lt = omega (arith, xblock_fits t e h, length_xblock t e h)
 
-pub leaf_of_xblock : (t : Table) (e : BlockEntry) (i : ℕ) → xblock_fault t e ≡ None → i < length (xblock_spans t e) → leaf_fault t e i ≡ None
-leaf_of_xblock t e i h lt = none_below (leaf_fault t e) (count_in (body_of t e)) i (sound_xblock t e h).parts (omega (arith, length_xblock t e h))
+pub leaf_of_xblock : (t : Table) (e : BlockEntry) (i : ℕ) → xblock_fault t e ≡ None → i < length (xblock_spans t e) → data_leaf_fault t e i ≡ None
+leaf_of_xblock t e i h lt = none_below (data_leaf_fault t e) (count_in (body_of t e)) i (sound_xblock t e h).parts (omega (arith, length_xblock t e h))
 
 span_in_xblock : (t : Table) (e : BlockEntry) (i : ℕ) → xblock_fault t e ≡ None → i < count_in (body_of t e) → slice_get (xblock_spans t e) i ≡ slice_get (leaf_spans t (body_of t e) i) 0
 unfolding xblock_spans
 span_in_xblock t e i h lt =
     let s = sound_xblock t e h in
-    let none = none_below (leaf_fault t e) (count_in (body_of t e)) i s.parts lt in
+    let none = none_below (data_leaf_fault t e) (count_in (body_of t e)) i s.parts lt in
     let one = one_leaf t e i none in
-    let before = length_leaves t e i (first_below_front (leaf_fault t e) (count_in (body_of t e)) i s.parts (omega arith)) in
+    let before = length_leaves t e i (first_below_front (data_leaf_fault t e) (count_in (body_of t e)) i s.parts (omega arith)) in
     let at = slice_get-join (leaf_spans t (body_of t e)) (count_in (body_of t e)) i 0 lt (omega arith) in
     ap (slice_get (join_below (leaf_spans t (body_of t e)) (count_in (body_of t e)))) (omega (arith, before)) ∙ at
 
@@ -115,15 +116,12 @@ child_of_xxblock t e h i lt = none_below (child_fault t e) (count_in (body_of t 
 
 -- ---- how many bytes an internal block has
 
-number_of_test : (a b : ℕ) → nat_eq a b ≡ true → a ≡ b
-number_of_test a b h = grind (arith, nat_tests)
-
 pub total_of_xblock : (t : Table) (e : BlockEntry) → xblock_fault t e ≡ None → size_of (xblock_spans t e) ≡ total_in (body_of t e)
 unfolding xblock_fault
 total_of_xblock t e h =
     let body = body_of t e in
     let p = none_then (holds_or (is_block_list 1 body) (bad_tree e)) _ h in
-    let q = none_then (first_below (leaf_fault t e) (count_in body)) _ p.1 in
+    let q = none_then (first_below (data_leaf_fault t e) (count_in body)) _ p.1 in
     number_of_test _ _ (holds_or_none _ _ q.1)
 
 total_of_xxblock : (t : Table) (e : BlockEntry) → xxblock_fault t e ≡ None → size_of (xxblock_spans t e) ≡ total_in (body_of t e)

@@ -2,7 +2,7 @@
 use Rattle.std.proofs.Common.{◌≡◌, ℕ, zero, suc, ◌+◌, ◌-◌, ◌≤◌, min, Bool, true, false, cond, List, [], ◌∷◌, ◌++◌, length, drop, Option, Some, None, refl, arith, inl, inr}
 use Rattle.std.proofs.lemmas.Bool.{cases_lt}
 use Rattle.pst_bytes.specs.declared.span.Span.{Span}
-use Rattle.pst_fault.specs.First.{join_below}
+use Rattle.pst_fault.specs.First.{join_below, join_from}
 use Rattle.pst_page.specs.declared.entry.BlockEntry.{BlockEntry}
 use Rattle.pst_block.specs.Table.{Table, entry_of, body_of, AreWithin}
 use Rattle.pst_datatree.specs.declared.position.Position.{Position}
@@ -11,7 +11,7 @@ use Rattle.pst_datatree.specs.List.{count_in, bid_in, has_level_two}
 use Rattle.pst_datatree.specs.Data.{spans_at, data_block_spans, leaf_spans, xblock_spans, child_spans, data_spans}
 use Rattle.pst_datatree.specs.Spans.{AreInside}
 use Rattle.pst_datatree.specs.Cut.{cut, shown}
-use Rattle.pst_datatree.specs.Position.{join_from, xblock_left, xxblock_left, tree_left, block_left, data_left}
+use Rattle.pst_datatree.specs.Position.{xblock_left, xxblock_left, tree_left, block_left, data_left}
 use Rattle.pst_datatree.proofs.CutLemmas.{cut_with, cut_without, cut_nil}
 use Rattle.pst_datatree.proofs.PositionLemmas.{data_from_start}
 

@@ -9,7 +9,7 @@ use Rattle.pst_btree.specs.Entries.{block_with}
 use Rattle.pst_block.specs.Block.{bid_key}
 use Rattle.pst_block.specs.Table.{Table, entry_of}
 use Rattle.pst_datatree.specs.Bid.{is_no_block}
-use Rattle.pst_datatree.specs.Data.{data_spans, data_fault, block_fault, block_missing, fault_or}
+use Rattle.pst_datatree.specs.Data.{data_spans, data_fault, data_root_fault, block_missing, fault_or}
 use Rattle.pst_datatree.specs.Laws.{SameDataLaw}
 
 pub none_same : (a b : ℕ) → bid_key a ≡ bid_key b → is_no_block a ≡ is_no_block b
@@ -24,17 +24,17 @@ pub data_spans_same : (t : Table) (a b : ℕ) → bid_key a ≡ bid_key b → da
 unfolding data_spans
 data_spans_same t a b e = rw (none_same a b e, entry_same t a b e) refl
 
-or_none : (f g : Fault) (part : BlockEntry → Option Fault) (o : Option BlockEntry) → fault_or f part o ≡ None → fault_or g part o ≡ None
-or_none f g part None h = cc
-or_none f g part (Some e) h = h
+pub missing_same : (f g : Fault) (part : BlockEntry → Option Fault) (o : Option BlockEntry) → fault_or f part o ≡ None → fault_or g part o ≡ None
+missing_same f g part None h = cc
+missing_same f g part (Some e) h = h
 
 data_none_same : (t : Table) (a b : ℕ) → bid_key a ≡ bid_key b → data_fault t a ≡ None → data_fault t b ≡ None
 unfolding data_fault
 data_none_same t a b e h = rw (← none_same a b e, ← entry_same t a b e) (by_name (is_no_block a) h)
   where
-    by_name : (v : Bool) → cond v None (fault_or (block_missing a) (block_fault t) (entry_of t a)) ≡ None → cond v None (fault_or (block_missing b) (block_fault t) (entry_of t a)) ≡ None
+    by_name : (v : Bool) → cond v None (fault_or (block_missing a) (data_root_fault t) (entry_of t a)) ≡ None → cond v None (fault_or (block_missing b) (data_root_fault t) (entry_of t a)) ≡ None
     by_name true p = refl
-    by_name false p = or_none (block_missing a) (block_missing b) (block_fault t) (entry_of t a) p
+    by_name false p = missing_same (block_missing a) (block_missing b) (data_root_fault t) (entry_of t a) p
 
 pub same_data_law : SameDataLaw
 same_data_law t a b e = (data_spans_same t a b e, (data_none_same t a b e, data_none_same t b a (sym e)))

@@ -8,7 +8,7 @@ use Rattle.pst_page.specs.declared.entry.BlockEntry.{BlockEntry}
 use Rattle.pst_block.specs.Table.{Table, entry_of, body_of}
 use Rattle.pst_datatree.specs.Bid.{is_internal, is_no_block}
 use Rattle.pst_datatree.specs.List.{count_in, total_in, bid_in, is_block_list, has_level_two}
-use Rattle.pst_datatree.specs.Data.{size_of, fault_or, block_missing, bad_tree, told_at, leaf_fault, xblock_spans, xblock_fault, child_fault, xxblock_spans, xxblock_fault, tree_fault, block_fault, data_fault}
+use Rattle.pst_datatree.specs.Data.{size_of, fault_or, block_missing, bad_tree, told_at, data_leaf_fault, xblock_spans, xblock_fault, child_fault, xxblock_spans, xxblock_fault, tree_fault, data_root_fault, data_fault}
 
 -- a fact of the faults that a data tree can have
 module _ (Is : Option Fault → Type 0) (none : Is None) (missing : (bid : ℕ) → Is (Some (block_missing bid))) (bad : (e : BlockEntry) → Is (Some (bad_tree e))) where
@@ -32,8 +32,8 @@ module _ (Is : Option Fault → Type 0) (none : Is None) (missing : (bid : ℕ) 
   if_is true x y h k = h
   if_is false x y h k = k
 
-  leaf_is : (t : Table) (e : BlockEntry) (i : ℕ) → Is (leaf_fault t e i)
-  unfolding leaf_fault
+  leaf_is : (t : Table) (e : BlockEntry) (i : ℕ) → Is (data_leaf_fault t e i)
+  unfolding data_leaf_fault
   leaf_is t e i = let bid = bid_in (body_of t e) i in or_is bid (λ _. if is_internal bid then Some (bad_tree e) else None) (entry_of t bid) (λ _. if_is (is_internal bid) (Some (bad_tree e)) None (bad e) none)
 
   xblock_is : (t : Table) (e : BlockEntry) → Is (xblock_fault t e)
@@ -41,7 +41,7 @@ module _ (Is : Option Fault → Type 0) (none : Is None) (missing : (bid : ℕ) 
   xblock_is t e =
       let body = body_of t e in
       then_is (holds_or (is_block_list 1 body) (bad_tree e)) _ (holds_is (is_block_list 1 body) e)
-      (then_is (first_below (leaf_fault t e) (count_in body)) _ (below_is (leaf_fault t e) (count_in body) (leaf_is t e)) (holds_is (nat_eq (size_of (xblock_spans t e)) (total_in body)) e))
+      (then_is (first_below (data_leaf_fault t e) (count_in body)) _ (below_is (data_leaf_fault t e) (count_in body) (leaf_is t e)) (holds_is (nat_eq (size_of (xblock_spans t e)) (total_in body)) e))
 
   child_is : (t : Table) (e : BlockEntry) (i : ℕ) → Is (child_fault t e i)
   unfolding child_fault
@@ -56,15 +56,15 @@ module _ (Is : Option Fault → Type 0) (none : Is None) (missing : (bid : ℕ) 
       then_is (holds_or (is_block_list 2 body) (bad_tree e)) _ (holds_is (is_block_list 2 body) e)
       (then_is (first_below (child_fault t e) (count_in body)) _ (below_is (child_fault t e) (count_in body) (child_is t e)) (holds_is (nat_eq (size_of (xxblock_spans t e)) (total_in body)) e))
 
-  block_is : (t : Table) (e : BlockEntry) → Is (block_fault t e)
-  unfolding block_fault tree_fault
+  block_is : (t : Table) (e : BlockEntry) → Is (data_root_fault t e)
+  unfolding data_root_fault tree_fault
   block_is t e =
       if_is (is_internal e.bid) (if has_level_two (body_of t e) then xxblock_fault t e else xblock_fault t e) None
       (if_is (has_level_two (body_of t e)) (xxblock_fault t e) (xblock_fault t e) (xxblock_is t e) (xblock_is t e)) none
 
   data_is : (t : Table) (bid : ℕ) → Is (data_fault t bid)
   unfolding data_fault
-  data_is t bid = if_is (is_no_block bid) None (fault_or (block_missing bid) (block_fault t) (entry_of t bid)) none (or_is bid (block_fault t) (entry_of t bid) (block_is t))
+  data_is t bid = if_is (is_no_block bid) None (fault_or (block_missing bid) (data_root_fault t) (entry_of t bid)) none (or_is bid (data_root_fault t) (entry_of t bid) (block_is t))
 
 pub data_no_node : (t : Table) (bid : ℕ) → option_map (at_node 0) (data_fault t bid) ≡ data_fault t bid
 data_no_node t bid = data_is (λ o. option_map (at_node 0) o ≡ o) refl (λ bid. refl) (λ e. refl) t bid

@@ -9,7 +9,8 @@ use Rattle.pst_datatree.specs.List.{count_in}
 use Rattle.pst_datatree.specs.Data.{size_of, xblock_spans, child_spans}
 use Rattle.pst_datatree.specs.Cut.{cut}
 use Rattle.pst_datatree.specs.Spans.{nonempty}
-use Rattle.pst_datatree.specs.Position.{join_from, xxblock_left, Passes}
+use Rattle.pst_fault.specs.First.{join_from}
+use Rattle.pst_datatree.specs.Position.{xxblock_left, Passes}
 use Rattle.pst_datatree.proofs.CutLemmas.{size_of_cons, cut_with, cut_without, cut_nil}
 use Rattle.pst_datatree.proofs.ValueLemmas.{with_bytes, without_bytes}
 use Rattle.pst_datatree.proofs.PositionLemmas.{from_step, xxblock_pass}

@@ -3,15 +3,15 @@ use Rattle.std.proofs.Common.{◌≡◌, Bool, true, false, ℕ, zero, suc, ◌+
 use Rattle.std.specs.Prelude.{slice_get, cond}
 use Rattle.std.proofs.lemmas.List.{drop_all, append-nil, append_assoc}
 use Rattle.pst_bytes.specs.declared.span.Span.{Span}
-use Rattle.pst_fault.specs.First.{join_below}
+use Rattle.pst_fault.specs.First.{join_below, join_from}
 use Rattle.pst_page.specs.declared.entry.BlockEntry.{BlockEntry}
 use Rattle.pst_block.specs.Block.{body_span}
 use Rattle.pst_block.specs.Table.{Table, entry_of, body_of}
 use Rattle.pst_datatree.specs.declared.position.Position.{Position}
 use Rattle.pst_datatree.specs.Bid.{is_internal, is_no_block}
 use Rattle.pst_datatree.specs.List.{count_in, has_level_two}
-use Rattle.pst_datatree.specs.Data.{spans_at, data_block_spans, leaf_spans, xblock_spans, xblock_fault, child_spans, xxblock_spans, tree_spans, block_spans, data_spans}
-use Rattle.pst_datatree.specs.Position.{join_from, xblock_left, xxblock_left, tree_left, block_left, data_left}
+use Rattle.pst_datatree.specs.Data.{spans_at, data_block_spans, leaf_spans, xblock_spans, xblock_fault, child_spans, xxblock_spans, tree_spans, data_root_spans, data_spans}
+use Rattle.pst_datatree.specs.Position.{xblock_left, xxblock_left, tree_left, block_left, data_left}
 use Rattle.pst_datatree.proofs.DataLemmas.{span_of_xblock}
 
 -- ---- lists
@@ -124,8 +124,8 @@ tree_from t e n = by_level (has_level_two (body_of t e))
     by_level true = xxblock_from t e n
     by_level false = refl
 
-block_from : (t : Table) (e : BlockEntry) (n : ℕ) → block_left t e (record { child = 0; leaf = n }) ≡ drop n (block_spans t e)
-unfolding block_left block_spans
+block_from : (t : Table) (e : BlockEntry) (n : ℕ) → block_left t e (record { child = 0; leaf = n }) ≡ drop n (data_root_spans t e)
+unfolding block_left data_root_spans
 block_from t e n = by_kind (is_internal e.bid)
   where
     at : Position
@@ -142,11 +142,11 @@ data_from t bid n = by_name (is_no_block bid)
     at : Position
     at = record { child = 0; leaf = n }
 
-    by_entry : (o : Option BlockEntry) → spans_at (λ e. block_left t e at) o ≡ drop n (spans_at (block_spans t) o)
+    by_entry : (o : Option BlockEntry) → spans_at (λ e. block_left t e at) o ≡ drop n (spans_at (data_root_spans t) o)
     by_entry None = sym (drop_all n [] (omega arith))
     by_entry (Some e) = block_from t e n
 
-    by_name : (b : Bool) → cond b [] (spans_at (λ e. block_left t e at) (entry_of t bid)) ≡ drop n (cond b [] (spans_at (block_spans t) (entry_of t bid)))
+    by_name : (b : Bool) → cond b [] (spans_at (λ e. block_left t e at) (entry_of t bid)) ≡ drop n (cond b [] (spans_at (data_root_spans t) (entry_of t bid)))
     by_name true = sym (drop_all n [] (omega arith))
     by_name false = by_entry (entry_of t bid)
 

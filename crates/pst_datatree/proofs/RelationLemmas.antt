@@ -4,14 +4,15 @@ use Rattle.std.specs.Prelude.{cond, nat_eq, if◌then◌else◌}
 use Rattle.std.proofs.lemmas.Bool.Decides.{nat_tests}
 use Rattle.pst_bytes.specs.declared.span.Span.{Span}
 use Rattle.pst_fault.specs.declared.fault.Fault.{Fault}
-use Rattle.pst_fault.specs.First.{◌then◌, holds_or, first_below, join_below}
+use Rattle.pst_fault.specs.First.{◌then◌, holds_or, first_below, join_below, AreJoined}
 use Rattle.pst_fault.proofs.FirstLemmas.{none_then, then_none, none_below, holds_or_none, holds_or_true}
+use Rattle.pst_fault.proofs.GeneralLemmas.{number_of_test, test_of_number}
 use Rattle.pst_page.specs.declared.entry.BlockEntry.{BlockEntry}
 use Rattle.pst_block.specs.Table.{Table, entry_of, body_of}
 use Rattle.pst_datatree.specs.Bid.{is_internal, is_no_block}
 use Rattle.pst_datatree.specs.List.{count_in, total_in, bid_in, is_block_list, has_level_two}
-use Rattle.pst_datatree.specs.Data.{size_of, spans_at, fault_or, data_block_spans, block_missing, bad_tree, leaf_spans, leaf_fault, xblock_spans, xblock_fault, child_spans, child_fault, xxblock_spans, xxblock_fault, tree_spans, tree_fault, block_spans, block_fault, data_spans, data_fault}
-use Rattle.pst_datatree.specs.Relation.{AreJoined, IsLeaf, IsXblock, IsChild, IsXxblock, IsDataBlock, IsTree, HasData, DataLaw}
+use Rattle.pst_datatree.specs.Data.{size_of, spans_at, fault_or, data_block_spans, block_missing, bad_tree, leaf_spans, data_leaf_fault, xblock_spans, xblock_fault, child_spans, child_fault, xxblock_spans, xxblock_fault, tree_spans, tree_fault, data_root_spans, data_root_fault, data_spans, data_fault}
+use Rattle.pst_datatree.specs.Relation.{IsDataLeaf, IsXblock, IsChild, IsXxblock, IsDataBlock, IsDataTree, HasData, DataLaw}
 use Rattle.pst_datatree.proofs.DataLemmas.{fault_or_none}
 
 -- parts that are as told, each by its function, are as told together
@@ -32,14 +33,8 @@ module _ (IsPart : ℕ → List Span → Type 0) (fault : ℕ → Option Fault) 
     (λ w. (spans, (λ i lt. (law i (spans i)).1 (none_below fault n i w.0 lt, refl)), w.1)),
   )
 
-same_number : (n : ℕ) → nat_eq n n ≡ true
-same_number n = grind (arith, nat_tests)
-
-number_of_test : (a b : ℕ) → nat_eq a b ≡ true → a ≡ b
-number_of_test a b h = grind (arith, nat_tests)
-
-leaf_law : (t : Table) (e : BlockEntry) (i : ℕ) (xs : List Span) → IsLeaf t e i xs ↔ ((leaf_fault t e i ≡ None) × (xs ≡ leaf_spans t (body_of t e) i))
-unfolding leaf_fault leaf_spans
+leaf_law : (t : Table) (e : BlockEntry) (i : ℕ) (xs : List Span) → IsDataLeaf t e i xs ↔ ((data_leaf_fault t e i ≡ None) × (xs ≡ leaf_spans t (body_of t e) i))
+unfolding data_leaf_fault leaf_spans
 leaf_law t e i xs =
     let bid = bid_in (body_of t e) i in (
       (λ w. (rw (w.1, w.2) refl, w.3 ∙ sym (rw w.1 refl))),
@@ -56,14 +51,14 @@ xblock_law : (t : Table) (e : BlockEntry) (xs : List Span) → IsXblock t e xs �
 unfolding xblock_fault xblock_spans
 xblock_law t e xs =
     let body = body_of t e in
-    let law = joined_law (IsLeaf t e) (leaf_fault t e) (leaf_spans t body) (leaf_law t e) (count_in body) xs in (
+    let law = joined_law (IsDataLeaf t e) (data_leaf_fault t e) (leaf_spans t body) (leaf_law t e) (count_in body) xs in (
       (λ w.
           let j = law.0 w.1 in
-          let total : nat_eq (size_of (join_below (leaf_spans t body) (count_in body))) (total_in body) ≡ true = rw (← j.1) (rw w.2 (same_number (total_in body))) in
+          let total : nat_eq (size_of (join_below (leaf_spans t body) (count_in body))) (total_in body) ≡ true = rw (← j.1) (rw w.2 (test_of_number (total_in body) (total_in body) refl)) in
           (then_none _ _ (holds_or_true _ _ w.0) ∙ (then_none _ _ j.0 ∙ holds_or_true _ _ total), j.1)),
       (λ w.
           let p = none_then (holds_or (is_block_list 1 body) (bad_tree e)) _ w.0 in
-          let q = none_then (first_below (leaf_fault t e) (count_in body)) _ p.1 in
+          let q = none_then (first_below (data_leaf_fault t e) (count_in body)) _ p.1 in
           let total = holds_or_none _ _ q.1 in
           (holds_or_none _ _ p.0, law.1 (q.0, w.1), rw w.1 (number_of_test _ _ total))),
     )
@@ -92,7 +87,7 @@ xxblock_law t e xs =
     let law = joined_law (IsChild t e) (child_fault t e) (child_spans t body) (child_law t e) (count_in body) xs in (
       (λ w.
           let j = law.0 w.1 in
-          let total : nat_eq (size_of (join_below (child_spans t body) (count_in body))) (total_in body) ≡ true = rw (← j.1) (rw w.2 (same_number (total_in body))) in
+          let total : nat_eq (size_of (join_below (child_spans t body) (count_in body))) (total_in body) ≡ true = rw (← j.1) (rw w.2 (test_of_number (total_in body) (total_in body) refl)) in
           (then_none _ _ (holds_or_true _ _ w.0) ∙ (then_none _ _ j.0 ∙ holds_or_true _ _ total), j.1)),
       (λ w.
           let p = none_then (holds_or (is_block_list 2 body) (bad_tree e)) _ w.0 in
@@ -123,15 +118,15 @@ tree_law t e xs = (to, from (has_level_two (body_of t e)) refl)
     from true l w = inr ((xxblock_law t e xs).1 ((rw l at w.0), (rw l at w.1)))
     from false l w = inl ((xblock_law t e xs).1 ((rw l at w.0), (rw l at w.1)))
 
-block_law : (t : Table) (e : BlockEntry) (xs : List Span) → (IsDataBlock t e xs ⊎ IsTree t e xs) ↔ ((block_fault t e ≡ None) × (xs ≡ block_spans t e))
-unfolding block_fault block_spans
+block_law : (t : Table) (e : BlockEntry) (xs : List Span) → (IsDataBlock t e xs ⊎ IsDataTree t e xs) ↔ ((data_root_fault t e ≡ None) × (xs ≡ data_root_spans t e))
+unfolding data_root_fault data_root_spans
 block_law t e xs = (to, from (is_internal e.bid) refl)
   where
-    to : (IsDataBlock t e xs ⊎ IsTree t e xs) → (cond (is_internal e.bid) (tree_fault t e) None ≡ None) × (xs ≡ cond (is_internal e.bid) (tree_spans t e) (data_block_spans e))
+    to : (IsDataBlock t e xs ⊎ IsDataTree t e xs) → (cond (is_internal e.bid) (tree_fault t e) None ≡ None) × (xs ≡ cond (is_internal e.bid) (tree_spans t e) (data_block_spans e))
     to (inl w) = (rw w.0 refl, rw w.0 w.1)
     to (inr w) = let p = (tree_law t e xs).0 w.1 in (rw w.0 p.0, rw w.0 p.1)
 
-    from : (b : Bool) → is_internal e.bid ≡ b → (cond (is_internal e.bid) (tree_fault t e) None ≡ None) × (xs ≡ cond (is_internal e.bid) (tree_spans t e) (data_block_spans e)) → (IsDataBlock t e xs ⊎ IsTree t e xs)
+    from : (b : Bool) → is_internal e.bid ≡ b → (cond (is_internal e.bid) (tree_fault t e) None ≡ None) × (xs ≡ cond (is_internal e.bid) (tree_spans t e) (data_block_spans e)) → (IsDataBlock t e xs ⊎ IsDataTree t e xs)
     from true l w = inr (l, (tree_law t e xs).1 ((rw l at w.0), (rw l at w.1)))
     from false l w = inl (l, (rw l at w.1))
 
@@ -139,15 +134,15 @@ pub data_law : DataLaw
 unfolding data_fault data_spans
 data_law t bid xs = (to, from (is_no_block bid) refl)
   where
-    to : HasData t bid xs → (cond (is_no_block bid) None (fault_or (block_missing bid) (block_fault t) (entry_of t bid)) ≡ None) × (xs ≡ cond (is_no_block bid) [] (spans_at (block_spans t) (entry_of t bid)))
+    to : HasData t bid xs → (cond (is_no_block bid) None (fault_or (block_missing bid) (data_root_fault t) (entry_of t bid)) ≡ None) × (xs ≡ cond (is_no_block bid) [] (spans_at (data_root_spans t) (entry_of t bid)))
     to (inl w) = (rw w.0 refl, rw w.0 w.1)
     to (inr w) =
         let named = w.1 in
         let p = (block_law t named.0 xs).0 named.2 in
         (rw (w.0, named.1) p.0, rw (w.0, named.1) p.1)
 
-    from : (b : Bool) → is_no_block bid ≡ b → (cond (is_no_block bid) None (fault_or (block_missing bid) (block_fault t) (entry_of t bid)) ≡ None) × (xs ≡ cond (is_no_block bid) [] (spans_at (block_spans t) (entry_of t bid))) → HasData t bid xs
+    from : (b : Bool) → is_no_block bid ≡ b → (cond (is_no_block bid) None (fault_or (block_missing bid) (data_root_fault t) (entry_of t bid)) ≡ None) × (xs ≡ cond (is_no_block bid) [] (spans_at (data_root_spans t) (entry_of t bid))) → HasData t bid xs
     from true l w = inl (l, (rw l at w.1))
     from false l w =
-        let x = fault_or_none (block_missing bid) (block_fault t) (entry_of t bid) (rw l at w.0) in
-        inr (l, (x.0, x.1, (block_law t x.0 xs).1 (x.2, (rw l at w.1) ∙ ap (spans_at (block_spans t)) x.1)))
+        let x = fault_or_none (block_missing bid) (data_root_fault t) (entry_of t bid) (rw l at w.0) in
+        inr (l, (x.0, x.1, (block_law t x.0 xs).1 (x.2, (rw l at w.1) ∙ ap (spans_at (data_root_spans t)) x.1)))

@@ -17,7 +17,7 @@ use Rattle.pst_block.specs.Table.{Table, entry_of, body_of}
 use Rattle.pst_datatree.specs.declared.seen.Seen.{Seen}
 use Rattle.pst_datatree.specs.List.{is_block_list, has_level_two}
 use Rattle.pst_datatree.specs.Data.{bad_tree, xblock_spans, xblock_fault, xxblock_spans, xxblock_fault, tree_spans, tree_fault}
-use Rattle.pst_datatree.specs.Seen.{has, holds, keys_of, raised, NoNewTwo, IsTrueOf}
+use Rattle.pst_datatree.specs.Seen.{has_tree, holds_tree, tree_keys, raised, NoNewTwo, IsSeenTrue}
 
 -- what is in a set after an insertion was there, or is the key
 pub only_new : (old new : BTreeSet ℕ) (k : ℕ) → ((q : ℕ) → contains nat_cmp new q ≡ cond (is_at (nat_cmp k) q) true (contains nat_cmp old q)) → (q : ℕ) → contains nat_cmp new q ≡ true → (contains nat_cmp old q ≡ true) ⊎ (k ≡ q)
@@ -28,13 +28,13 @@ only_new old new k more q e = by_test (eq_by_cmp nat_cmp k q) refl (sym (more q)
     by_test false here h = inl h
 
 -- nothing is known
-pub nothing_true : (t : Table) (s : Seen) → IsEmpty s.trees → IsTrueOf t s
-unfolding has
+pub nothing_true : (t : Table) (s : Seen) → IsEmpty s.trees → IsSeenTrue t s
+unfolding has_tree
 nothing_true t s empty = record { holds = λ bid e there known. let bad : false ≡ true = (rw empty at known) in cc }
 
 -- the same is known
-pub same_true : (t : Table) (old new : Seen) → new.trees ≡ old.trees → IsTrueOf t old → IsTrueOf t new
-unfolding has
+pub same_true : (t : Table) (old new : Seen) → new.trees ≡ old.trees → IsSeenTrue t old → IsSeenTrue t new
+unfolding has_tree
 same_true t old new same true_of = record { holds = λ bid e there known. true_of.holds bid e there (rw same at known) }
 
 -- identifiers of the same key have the same entry
@@ -43,10 +43,10 @@ unfolding entry_of
 same_key t a b h = rw h refl
 
 -- one more is known
-pub put_true : (t : Table) (old new : Seen) (bid : ℕ) (e : BlockEntry) → ((other : ℕ) → has new other ≡ true → (has old other ≡ true) ⊎ (bid_key bid ≡ bid_key other)) → entry_of t bid ≡ Some e → tree_fault t e ≡ None → IsTrueOf t old → IsTrueOf t new
+pub put_true : (t : Table) (old new : Seen) (bid : ℕ) (e : BlockEntry) → ((other : ℕ) → has_tree new other ≡ true → (has_tree old other ≡ true) ⊎ (bid_key bid ≡ bid_key other)) → entry_of t bid ≡ Some e → tree_fault t e ≡ None → IsSeenTrue t old → IsSeenTrue t new
 put_true t old new bid e only listed none true_of = record { holds = each }
   where
-    each : (other : ℕ) (x : BlockEntry) → entry_of t other ≡ Some x → has new other ≡ true → tree_fault t x ≡ None
+    each : (other : ℕ) (x : BlockEntry) → entry_of t other ≡ Some x → has_tree new other ≡ true → tree_fault t x ≡ None
     each other x there known =
         elim (only other known) [
           | inl was ↦ true_of.holds other x there was
@@ -92,7 +92,7 @@ pub put_ahead : (count n m k : ℕ) → m ≡ n + 1 → count ≡ raised n (k + 
 put_ahead count n m k more is = omega (arith, more, is)
 
 -- an XBLOCK is put in
-pub put_level : (t : Table) (old mid new : Seen) (e : BlockEntry) → entry_of t e.bid ≡ Some e → has_level_two (body_of t e) ≡ false → ((q : ℕ) → has mid q ≡ has old q) → ((other : ℕ) → has new other ≡ true → (has mid other ≡ true) ⊎ (bid_key e.bid ≡ bid_key other)) → NoNewTwo t old new
+pub put_level : (t : Table) (old mid new : Seen) (e : BlockEntry) → entry_of t e.bid ≡ Some e → has_level_two (body_of t e) ≡ false → ((q : ℕ) → has_tree mid q ≡ has_tree old q) → ((other : ℕ) → has_tree new other ≡ true → (has_tree mid other ≡ true) ⊎ (bid_key e.bid ≡ bid_key other)) → NoNewTwo t old new
 put_level t old mid new e listed level same only bid x there two known =
     elim (only bid known) [
       | inl was ↦ sym (same bid) ∙ was
@@ -107,12 +107,12 @@ put_level t old mid new e listed level same only bid x there two known =
 pub nothing_held : (trees : BTreeSet ℕ) → IsEmpty trees → (key : ℕ) → contains nat_cmp trees key ≡ false
 nothing_held trees empty key = rw empty refl
 
-pub held_key : (s : Seen) (key : ℕ) → holds s key ≡ true → Contains (keys_of s) key
+pub held_key : (s : Seen) (key : ℕ) → holds_tree s key ≡ true → Contains (tree_keys s) key
 held_key s key is = Contains-from_any (λ x y h. tells_apart exact_unsigned x y h) key s.trees.keys is
 
-pub key_held : (s : Seen) (key : ℕ) → Contains (keys_of s) key → holds s key ≡ true
+pub key_held : (s : Seen) (key : ℕ) → Contains (tree_keys s) key → holds_tree s key ≡ true
 key_held s key w = list_any-from_Contains (eq_by_cmp_equiv nat_cmp_total) key s.trees.keys w
 
-pub has_held : (s : Seen) (bid : ℕ) → has s bid ≡ holds s (bid_key bid)
-unfolding has
+pub has_held : (s : Seen) (bid : ℕ) → has_tree s bid ≡ holds_tree s (bid_key bid)
+unfolding has_tree
 has_held s bid = refl

@@ -51,12 +51,12 @@ unfoldable pub tree_spans : Table → BlockEntry → List Span
 tree_spans t e = if has_level_two (body_of t e) then xxblock_spans t e else xblock_spans t e
 
 -- of a block
-unfoldable pub block_spans : Table → BlockEntry → List Span
-block_spans t e = if is_internal e.bid then tree_spans t e else data_block_spans e
+unfoldable pub data_root_spans : Table → BlockEntry → List Span
+data_root_spans t e = if is_internal e.bid then tree_spans t e else data_block_spans e
 
 -- of a block identifier: none where it names no block
 unfoldable pub data_spans : Table → ℕ → List Span
-data_spans t bid = if is_no_block bid then [] else spans_at (block_spans t) (entry_of t bid)
+data_spans t bid = if is_no_block bid then [] else spans_at (data_root_spans t) (entry_of t bid)
 
 -- ---- the first fault
 
@@ -74,8 +74,8 @@ fault_or missing part None = Some missing
 fault_or missing part (Some e) = part e
 
 -- a block that an XBLOCK names is there, and is a data block
-unfoldable pub leaf_fault : Table → BlockEntry → ℕ → Option Fault
-leaf_fault t holder i =
+unfoldable pub data_leaf_fault : Table → BlockEntry → ℕ → Option Fault
+data_leaf_fault t holder i =
     let bid = bid_in (body_of t holder) i in
     fault_or (block_missing bid) (λ _. if is_internal bid then Some (bad_tree holder) else None) (entry_of t bid)
 
@@ -84,7 +84,7 @@ unfoldable pub xblock_fault : Table → BlockEntry → Option Fault
 xblock_fault t e =
     let body = body_of t e in
     holds_or (is_block_list 1 body) (bad_tree e)
-    then first_below (leaf_fault t e) (count_in body)
+    then first_below (data_leaf_fault t e) (count_in body)
     then holds_or (nat_eq (size_of (xblock_spans t e)) (total_in body)) (bad_tree e)
 
 -- a block that an XXBLOCK names is there, is internal, and is an XBLOCK without fault
@@ -106,19 +106,19 @@ unfoldable pub tree_fault : Table → BlockEntry → Option Fault
 tree_fault t e = if has_level_two (body_of t e) then xxblock_fault t e else xblock_fault t e
 
 -- a block
-unfoldable pub block_fault : Table → BlockEntry → Option Fault
-block_fault t e = if is_internal e.bid then tree_fault t e else None
+unfoldable pub data_root_fault : Table → BlockEntry → Option Fault
+data_root_fault t e = if is_internal e.bid then tree_fault t e else None
 
 -- a block identifier: one that names no block has no fault
 unfoldable pub data_fault : Table → ℕ → Option Fault
-data_fault t bid = if is_no_block bid then None else fault_or (block_missing bid) (block_fault t) (entry_of t bid)
+data_fault t bid = if is_no_block bid then None else fault_or (block_missing bid) (data_root_fault t) (entry_of t bid)
 
 -- ---- the same under a node
 
 -- a fault of this kind, told of a node; that memory ran out is told of none
-abbrev pub placed : Kind → ℕ → Fault → Fault
-placed NoMemory nid f = f
-placed _ nid f = at_node nid f
+abbrev pub data_placed : Kind → ℕ → Fault → Fault
+data_placed NoMemory nid f = f
+data_placed _ nid f = at_node nid f
 
 abbrev pub told_at : ℕ → Fault → Fault
-told_at nid f = placed f.kind nid f
+told_at nid f = data_placed f.kind nid f

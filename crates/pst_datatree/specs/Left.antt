@@ -18,8 +18,8 @@ abbrev pub file_of : Pieces → Image
 file_of p = image_of p.blocks
 
 -- the table of blocks, the block identifier of the data tree, and the position in it
-abbrev pub table_left : Pieces → Table
-table_left p = table_of p.blocks
+abbrev pub pieces_table : Pieces → Table
+pieces_table p = table_of p.blocks
 
 abbrev pub bid_left : Pieces → ℕ
 bid_left p = p.bid
@@ -29,7 +29,7 @@ position_left p = p.at
 
 -- all spans of the data tree from a position on
 abbrev pub spans_from : Pieces → Position → List Span
-spans_from p at = data_left (table_left p) (bid_left p) at
+spans_from p at = data_left (pieces_table p) (bid_left p) at
 
 -- the spans that are left
 abbrev pub spans_left : Pieces → List Span

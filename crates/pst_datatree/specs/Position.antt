@@ -1,7 +1,8 @@
 -- What is left of a data tree from a position on: of the XBLOCKs that an XXBLOCK names, those from the child's number on,
 -- and of their data blocks (or of an XBLOCK's) all but so many first ones.
-use Rattle.std.specs.Prelude.{◌≡◌, ℕ, zero, suc, ◌+◌, ◌-◌, ◌<◌, ◌≤◌, ⊤, Option, Some, None, List, [], ◌∷◌, ◌++◌, drop, length, if◌then◌else◌}
+use Rattle.std.specs.Prelude.{◌≡◌, ℕ, ◌+◌, ◌-◌, ◌<◌, ◌≤◌, ⊤, Option, Some, None, List, [], ◌∷◌, drop, length, if◌then◌else◌}
 use Rattle.pst_bytes.specs.declared.span.Span.{Span}
+use Rattle.pst_fault.specs.First.{join_from}
 use Rattle.pst_page.specs.declared.entry.BlockEntry.{BlockEntry}
 use Rattle.pst_block.specs.Table.{Table, entry_of, body_of}
 use Rattle.pst_datatree.specs.declared.position.Position.{Position}
@@ -9,11 +10,6 @@ use Rattle.pst_datatree.specs.Bid.{is_internal, is_no_block}
 use Rattle.pst_datatree.specs.List.{count_in, has_level_two}
 use Rattle.pst_datatree.specs.Cut.{cut}
 use Rattle.pst_datatree.specs.Data.{spans_at, data_block_spans, xblock_spans, child_spans}
-
--- n lists, that with the number i first, joined
-unfoldable pub join_from : {X : Type 0} → (ℕ → List X) → ℕ → ℕ → List X
-join_from part i zero = []
-join_from part i (suc n) = part i ++ join_from part (i + 1) n
 
 unfoldable pub xblock_left : Table → BlockEntry → Position → List Span
 xblock_left t e at = drop at.leaf (xblock_spans t e)

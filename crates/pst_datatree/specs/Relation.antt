@@ -1,8 +1,8 @@
 -- The grammar of data trees ([MS-PST] 2.2.2.8.3): which list of spans a block identifier has. It speaks of no fault.
-use Rattle.std.specs.Prelude.{◌≡◌, ℕ, ◌<◌, true, false, Some, None, List, [], ◌∷◌, ◌⊎◌, ◌↔◌, option_map}
+use Rattle.std.specs.Prelude.{◌≡◌, ℕ, true, false, Some, None, List, [], ◌∷◌, ◌⊎◌, ◌↔◌, option_map}
 use Rattle.pst_bytes.specs.declared.span.Span.{Span}
 use Rattle.pst_fault.specs.Fault.{at_node}
-use Rattle.pst_fault.specs.First.{join_below}
+use Rattle.pst_fault.specs.First.{AreJoined}
 use Rattle.pst_page.specs.declared.entry.BlockEntry.{BlockEntry}
 use Rattle.pst_block.specs.Block.{body_span}
 use Rattle.pst_block.specs.Table.{Table, entry_of, body_of}
@@ -10,13 +10,9 @@ use Rattle.pst_datatree.specs.Bid.{is_internal, is_no_block}
 use Rattle.pst_datatree.specs.List.{count_in, total_in, bid_in, is_block_list}
 use Rattle.pst_datatree.specs.Data.{size_of, data_spans, data_fault}
 
--- the lists with the numbers below n, each as told, joined
-abbrev pub AreJoined : (ℕ → List Span → Type 0) → ℕ → List Span → Type 0
-AreJoined IsPart n spans = (parts : ℕ → List Span) × ((i : ℕ) → i < n → IsPart i (parts i)) × (spans ≡ join_below parts n)
-
 -- what an XBLOCK names with a number is a data block that the block B-tree has: its body is the span
-abbrev pub IsLeaf : Table → BlockEntry → ℕ → List Span → Type 0
-IsLeaf t holder i spans =
+abbrev pub IsDataLeaf : Table → BlockEntry → ℕ → List Span → Type 0
+IsDataLeaf t holder i spans =
     let bid = bid_in (body_of t holder) i in
     (e : BlockEntry) × (entry_of t bid ≡ Some e) × (is_internal bid ≡ false) × (spans ≡ body_span e ∷ [])
 
@@ -24,7 +20,7 @@ IsLeaf t holder i spans =
 abbrev pub IsXblock : Table → BlockEntry → List Span → Type 0
 IsXblock t e spans =
     let body = body_of t e in
-    (is_block_list 1 body ≡ true) × AreJoined (IsLeaf t e) (count_in body) spans × (size_of spans ≡ total_in body)
+    (is_block_list 1 body ≡ true) × AreJoined (IsDataLeaf t e) (count_in body) spans × (size_of spans ≡ total_in body)
 
 -- what an XXBLOCK names with a number is an XBLOCK that the block B-tree has
 abbrev pub IsChild : Table → BlockEntry → ℕ → List Span → Type 0
@@ -42,13 +38,13 @@ IsXxblock t e spans =
 abbrev pub IsDataBlock : Table → BlockEntry → List Span → Type 0
 IsDataBlock t e spans = (is_internal e.bid ≡ false) × (spans ≡ body_span e ∷ [])
 
-abbrev pub IsTree : Table → BlockEntry → List Span → Type 0
-IsTree t e spans = (is_internal e.bid ≡ true) × (IsXblock t e spans ⊎ IsXxblock t e spans)
+abbrev pub IsDataTree : Table → BlockEntry → List Span → Type 0
+IsDataTree t e spans = (is_internal e.bid ≡ true) × (IsXblock t e spans ⊎ IsXxblock t e spans)
 
 -- A block identifier has a data tree with these spans: it names no block, and there are none; or it names one of the blocks.
 abbrev pub NamesTree : Table → ℕ → List Span → Type 0
 NamesTree t bid spans =
-    (is_no_block bid ≡ false) × ((e : BlockEntry) × (entry_of t bid ≡ Some e) × (IsDataBlock t e spans ⊎ IsTree t e spans))
+    (is_no_block bid ≡ false) × ((e : BlockEntry) × (entry_of t bid ≡ Some e) × (IsDataBlock t e spans ⊎ IsDataTree t e spans))
 
 abbrev pub HasData : Table → ℕ → List Span → Type 0
 HasData t bid spans = ((is_no_block bid ≡ true) × (spans ≡ [])) ⊎ NamesTree t bid spans
@@ -58,5 +54,5 @@ abbrev pub DataLaw : Type 0
 DataLaw = (t : Table) (bid : ℕ) (spans : List Span) → HasData t bid spans ↔ ((data_fault t bid ≡ None) × (spans ≡ data_spans t bid))
 
 -- The first fault of a data tree is told of no node.
-abbrev pub NodeLaw : Type 0
-NodeLaw = (t : Table) (bid : ℕ) → option_map (at_node 0) (data_fault t bid) ≡ data_fault t bid
+abbrev pub UntoldLaw : Type 0
+UntoldLaw = (t : Table) (bid : ℕ) → option_map (at_node 0) (data_fault t bid) ≡ data_fault t bid

@@ -14,12 +14,12 @@ use Rattle.pst_datatree.specs.Left.{spans_left, slices_left, file_of}
 
 -- A value shows spans of a file: as one slice, the file's own memory, exactly where at most one of them has bytes. Where none
 -- has, the slice is empty and its place is 0.
-abbrev pub Shows : Image → List Span → Value → Type 0
-Shows file spans (Whole at slice) =
+abbrev pub ShowsSpans : Image → List Span → Value → Type 0
+ShowsSpans file spans (Whole at slice) =
     (length (nonempty spans) ≤ 1) × (at ≡ (first_span (nonempty spans)).at)
     × (slice.now ≡ bytes_at (bytes_of file) (first_span (nonempty spans)))
     × IsPartOf file (first_span (nonempty spans)) slice
-Shows file spans (Pieces p) = (1 < length (nonempty spans)) × (spans_left p ≡ spans) × (file_of p ≡ file)
+ShowsSpans file spans (Pieces p) = (1 < length (nonempty spans)) × (spans_left p ≡ spans) × (file_of p ≡ file)
 
 -- the bytes of a value, how many they are, and where the first one lies
 abbrev pub bytes_in : Value → List ℕ
@@ -45,4 +45,4 @@ IsSlice place bytes other from (Pieces p) = ⊥
 abbrev pub IsPart : ℕ → ℕ → Value → Value → Type 0
 IsPart from to (Whole at slice) part =
     IsSlice (if nat_lt from to then min (at + from) (2 ^ 64 - 1) else 0) (slice_range slice.now from to) slice from part
-IsPart from to (Pieces p) part = Shows (file_of p) (cut from to (spans_left p)) part
+IsPart from to (Pieces p) part = ShowsSpans (file_of p) (cut from to (spans_left p)) part

@@ -1,301 +1,20 @@
-//! The check of a data tree, and how many bytes it has.
+//! The check of a data tree.
 
-ghost use Rattle.std.specs.Prelude.{◌≡◌, ℕ, ◌+◌, ◌*◌, ◌^◌, ◌<◌, ◌≤◌, true, List, length, option_map, IfErr, IfOk, None, Some, OnOk};
+ghost use Rattle.std.specs.Prelude.{◌≡◌, ◌<◌, ◌≤◌, true, List, option_map, IfErr, None, OnOk};
 ghost use Rattle.pst_bytes.specs.declared.span.Span.{Span};
 ghost use Rattle.pst_fault.specs.Fault.{at_node, no_memory};
-ghost use Rattle.pst_fault.specs.First.{answer, Tells, first_below, join_below};
-ghost use Rattle.pst_block.specs.Block.{bid_key};
-ghost use Rattle.pst_block.specs.Table.{Table, body_of, entry_of, IsWithin};
+ghost use Rattle.pst_fault.specs.First.{Tells};
 ghost use Rattle.pst_block.specs.Blocks.{table_of};
-ghost use Rattle.pst_datatree.specs.Data.{size_of, leaf_spans, leaf_fault, xblock_spans, xblock_fault, child_spans, child_fault, xxblock_spans, xxblock_fault, tree_spans, tree_fault, block_spans, block_fault, data_spans, data_fault, block_missing, bad_tree, told_at};
+ghost use Rattle.pst_datatree.specs.Data.{data_spans, data_fault, told_at};
 ghost use Rattle.pst_datatree.specs.Relation.{HasData};
-ghost use Rattle.pst_datatree.specs.List.{has_level_two, bid_in};
-ghost use Rattle.pst_datatree.specs.Bid.{is_internal as is_internal_block};
-ghost use Rattle.pst_datatree.specs.Names.{NamesBlock, IsKeyOf, IsUnder, IsInTree};
-ghost use Rattle.pst_datatree.specs.Seen.{expansions_of, has, holds, IsTrueOf, IsKnown, NamesKnown, Adds, KeepsCount, RaisesCount, NoNewTwo};
+ghost use Rattle.pst_datatree.specs.Names.{IsInTree};
+ghost use Rattle.pst_datatree.specs.Seen.{tree_expansions, IsSeenTrue, IsKnownTree, AddsTrees, KeepsCount};
 
-use crate::bid::{is_internal, is_no_block};
-use crate::list::{bid_at, body_in, is_list, is_xxblock};
-use crate::look::tree_size;
+use crate::lengths::data_len;
 use crate::seen::Seen;
-use pst_block::{BlockEntry, Blocks};
+use pst_block::Blocks;
 use pst_fault::{Fault, Kind};
 use std::alloc::Global;
-
-/// The fault of a block that is named and that the block B-tree lacks.
-pub fn missing_block(bid: u64) -> Fault
-    ensures { result ≡ block_missing bid }
-{
-    Fault::within(Kind::BlockMissing, 0, bid)
-}
-
-// The fault of a breach in an internal block.
-fn tree_breach(entry: BlockEntry) -> Fault
-    ensures { result ≡ bad_tree entry }
-{
-    Fault::within(Kind::DataTree, entry.ib, entry.bid)
-}
-
-// How many bytes the data block has that an XBLOCK names with a number.
-#[tactic(auto, unfolding(crate::specs::Data::leaf_spans, crate::specs::Data::leaf_fault))]
-fn leaf_len(blocks: &Blocks, holder: BlockEntry, i: u16) -> Result<u64, Fault>
-    requires within { IsWithin (table_of blocks.now).image holder }
-    requires fits { 16 + 8 * i ≤ length (body_of (table_of blocks.now) holder) }
-    ensures value { let t = table_of blocks.now in
-        result ≡ answer (leaf_fault t holder i) (size_of (leaf_spans t (body_of t holder) i)) }
-    ensures small { IfOk result (λ n. n < 65536) }
-{
-    let bid = bid_at(body_in(blocks, holder), i);
-    let Some(entry) = blocks.entry(bid) else {
-        return Err(missing_block(bid));
-    };
-    if is_internal(bid) {
-        return Err(tree_breach(holder));
-    }
-    Ok(u64::from(entry.cb))
-}
-
-// How many bytes the first data blocks have that an XBLOCK names.
-fn leaves_len(blocks: &Blocks, holder: BlockEntry, count: u16) -> Result<u64, Fault>
-    requires within { IsWithin (table_of blocks.now).image holder }
-    requires fits { 8 + 8 * count ≤ length (body_of (table_of blocks.now) holder) }
-    ensures value { let t = table_of blocks.now in
-        result ≡ answer (first_below (leaf_fault t holder) count) (size_of (join_below (leaf_spans t (body_of t holder)) count)) }
-    ensures small { IfOk result (λ n. n ≤ 65536 * count) }
-{
-    let mut total = 0u64;
-    for i in 0..count {
-        total += leaf_len(blocks, holder, i)?;
-    }
-    Ok(total)
-}
-
-// How many bytes an XBLOCK has, which is expanded for that.
-#[tactic(auto, unfolding(crate::specs::Data::xblock_spans, crate::specs::Data::xblock_fault))]
-fn xblock_len(blocks: &Blocks, entry: BlockEntry, seen: &mut Seen) -> Result<u64, Fault>
-    requires within { IsWithin (table_of blocks.now).image entry }
-    ensures value { let t = table_of blocks.now in
-        result ≡ answer (xblock_fault t entry) (size_of (xblock_spans t entry)) }
-    ensures small { IfOk result (λ n. n < 2 ^ 32) }
-    ensures known { (t : Table) → IsTrueOf t seen.old → IsTrueOf t seen.new }
-    ensures raises { OnOk result (RaisesCount seen.old seen.new) }
-    ensures same { (bid : ℕ) → has seen.new bid ≡ has seen.old bid }
-    ensures keys { (key : ℕ) → holds seen.new key ≡ holds seen.old key }
-    ensures grows { expansions_of seen.old ≤ expansions_of seen.new }
-{
-    let body = body_in(blocks, entry);
-    if !is_list(1, body) {
-        return Err(tree_breach(entry));
-    }
-    seen.expand();
-    let total = leaves_len(blocks, entry, body.number16(2))?;
-    if total != u64::from(body.number32(4)) {
-        return Err(tree_breach(entry));
-    }
-    Ok(total)
-}
-
-// How many bytes an XBLOCK has, which is expanded unless it is known. An XXBLOCK is none, whether it is known or not.
-#[tactic(auto, using(crate::proofs::SeenLemmas::xblock_of_two, crate::proofs::SeenLemmas::tree_of_one, crate::proofs::SeenLemmas::spans_of_one))]
-fn xblock_once(blocks: &Blocks, entry: BlockEntry, seen: &mut Seen) -> Result<u64, Fault>
-    requires within { IsWithin (table_of blocks.now).image entry }
-    requires listed { entry_of (table_of blocks.now) entry.bid ≡ Some entry }
-    requires known { IsTrueOf (table_of blocks.now) seen.old }
-    ensures value { let t = table_of blocks.now in
-        Tells result (xblock_fault t entry) (size_of (xblock_spans t entry)) }
-    ensures small { IfOk result (λ n. n < 2 ^ 32) }
-    ensures known { IsTrueOf (table_of blocks.now) seen.new }
-    ensures counts { OnOk result (KeepsCount seen.old seen.new) }
-    ensures levels { NoNewTwo (table_of blocks.now) seen.old seen.new }
-    ensures adds { Adds (table_of blocks.now) (λ key. bid_key entry.bid ≡ key) seen.old seen.new }
-    ensures there { OnOk result (has seen.new entry.bid ≡ true) }
-    ensures grows { expansions_of seen.old ≤ expansions_of seen.new }
-{
-    if is_xxblock(body_in(blocks, entry)) {
-        return Err(tree_breach(entry));
-    }
-    if seen.knows(entry.bid) {
-        return Ok(tree_size(blocks, entry));
-    }
-    let total = xblock_len(blocks, entry, seen)?;
-    seen.put(entry.bid)?;
-    Ok(total)
-}
-
-// How many bytes the XBLOCK has that an XXBLOCK names with a number.
-#[tactic(auto, unfolding(crate::specs::Data::child_spans, crate::specs::Data::child_fault))]
-fn child_len(blocks: &Blocks, holder: BlockEntry, i: u16, seen: &mut Seen) -> Result<u64, Fault>
-    requires within { IsWithin (table_of blocks.now).image holder }
-    requires fits { 16 + 8 * i ≤ length (body_of (table_of blocks.now) holder) }
-    requires known { IsTrueOf (table_of blocks.now) seen.old }
-    ensures value { let t = table_of blocks.now in
-        Tells result (child_fault t holder i) (size_of (child_spans t (body_of t holder) i)) }
-    ensures small { IfOk result (λ n. n < 2 ^ 32) }
-    ensures known { IsTrueOf (table_of blocks.now) seen.new }
-    ensures counts { OnOk result (KeepsCount seen.old seen.new) }
-    ensures levels { NoNewTwo (table_of blocks.now) seen.old seen.new }
-    ensures adds { let t = table_of blocks.now in
-        Adds t (IsKeyOf t (bid_in (body_of t holder) i)) seen.old seen.new }
-    ensures there { let t = table_of blocks.now in
-        OnOk result (has seen.new (bid_in (body_of t holder) i) ≡ true) }
-    ensures grows { expansions_of seen.old ≤ expansions_of seen.new }
-{
-    let bid = bid_at(body_in(blocks, holder), i);
-    let Some(entry) = blocks.entry(bid) else {
-        return Err(missing_block(bid));
-    };
-    if !is_internal(bid) {
-        return Err(tree_breach(holder));
-    }
-    xblock_once(blocks, entry, seen)
-}
-
-// How many bytes the first XBLOCKs have that an XXBLOCK names.
-#[tactic(auto, using(crate::proofs::AddLemmas::adds_next, crate::proofs::AddLemmas::there_next))]
-fn children_len(
-    blocks: &Blocks,
-    holder: BlockEntry,
-    count: u16,
-    seen: &mut Seen,
-) -> Result<u64, Fault>
-    requires within { IsWithin (table_of blocks.now).image holder }
-    requires fits { 8 + 8 * count ≤ length (body_of (table_of blocks.now) holder) }
-    requires known { IsTrueOf (table_of blocks.now) seen.old }
-    ensures value { let t = table_of blocks.now in
-        Tells result (first_below (child_fault t holder) count) (size_of (join_below (child_spans t (body_of t holder)) count)) }
-    ensures known { IsTrueOf (table_of blocks.now) seen.new }
-    ensures counts { OnOk result (KeepsCount seen.old seen.new) }
-    ensures levels { NoNewTwo (table_of blocks.now) seen.old seen.new }
-    ensures adds { let t = table_of blocks.now in
-        Adds t (λ key. (i : ℕ) × (i < count) × IsKeyOf t (bid_in (body_of t holder) i) key) seen.old seen.new }
-    ensures there { let t = table_of blocks.now in
-        OnOk result ((i : ℕ) → i < count → has seen.new (bid_in (body_of t holder) i) ≡ true) }
-    ensures grows { expansions_of seen.old ≤ expansions_of seen.new }
-{
-    let mut total = 0u64;
-    for i in 0..count {
-        total += child_len(blocks, holder, i, seen)?;
-    }
-    Ok(total)
-}
-
-// How many bytes an XXBLOCK has, which is expanded for that.
-#[tactic(auto, unfolding(crate::specs::Data::xxblock_spans, crate::specs::Data::xxblock_fault))]
-fn xxblock_len(blocks: &Blocks, entry: BlockEntry, seen: &mut Seen) -> Result<u64, Fault>
-    requires within { IsWithin (table_of blocks.now).image entry }
-    requires known { IsTrueOf (table_of blocks.now) seen.old }
-    ensures value { let t = table_of blocks.now in
-        Tells result (xxblock_fault t entry) (size_of (xxblock_spans t entry)) }
-    ensures small { IfOk result (λ n. n < 2 ^ 32) }
-    ensures known { IsTrueOf (table_of blocks.now) seen.new }
-    ensures raises { OnOk result (RaisesCount seen.old seen.new) }
-    ensures levels { NoNewTwo (table_of blocks.now) seen.old seen.new }
-    ensures adds { let t = table_of blocks.now in
-        Adds t (λ key. (next : ℕ) × NamesBlock (body_of t entry) next × IsKeyOf t next key) seen.old seen.new }
-    ensures there { OnOk result (NamesKnown (table_of blocks.now) seen.new entry) }
-    ensures grows { expansions_of seen.old ≤ expansions_of seen.new }
-{
-    let body = body_in(blocks, entry);
-    if !is_list(2, body) {
-        return Err(tree_breach(entry));
-    }
-    seen.expand();
-    let total = children_len(blocks, entry, body.number16(2), seen)?;
-    if total != u64::from(body.number32(4)) {
-        return Err(tree_breach(entry));
-    }
-    Ok(total)
-}
-
-// How many bytes an XXBLOCK has, which is expanded unless it is known.
-#[tactic(auto, using(crate::proofs::SeenLemmas::tree_of_two, crate::proofs::SeenLemmas::spans_of_two))]
-fn xxblock_once(blocks: &Blocks, entry: BlockEntry, seen: &mut Seen) -> Result<u64, Fault>
-    requires within { IsWithin (table_of blocks.now).image entry }
-    requires listed { entry_of (table_of blocks.now) entry.bid ≡ Some entry }
-    requires level { has_level_two (body_of (table_of blocks.now) entry) ≡ true }
-    requires known { IsTrueOf (table_of blocks.now) seen.old }
-    ensures value { let t = table_of blocks.now in
-        Tells result (xxblock_fault t entry) (size_of (xxblock_spans t entry)) }
-    ensures known { IsTrueOf (table_of blocks.now) seen.new }
-    ensures counts { OnOk result (KeepsCount seen.old seen.new) }
-    ensures adds { let t = table_of blocks.now in
-        Adds t (IsUnder t entry) seen.old seen.new }
-    ensures there { OnOk result (has seen.new entry.bid ≡ true) }
-    ensures grows { expansions_of seen.old ≤ expansions_of seen.new }
-{
-    if seen.knows(entry.bid) {
-        return Ok(tree_size(blocks, entry));
-    }
-    let total = xxblock_len(blocks, entry, seen)?;
-    seen.put(entry.bid)?;
-    Ok(total)
-}
-
-// How many bytes an internal block has.
-#[tactic(auto, unfolding(crate::specs::Data::tree_spans, crate::specs::Data::tree_fault))]
-fn tree_len(blocks: &Blocks, entry: BlockEntry, seen: &mut Seen) -> Result<u64, Fault>
-    requires within { IsWithin (table_of blocks.now).image entry }
-    requires listed { entry_of (table_of blocks.now) entry.bid ≡ Some entry }
-    requires known { IsTrueOf (table_of blocks.now) seen.old }
-    ensures value { let t = table_of blocks.now in
-        Tells result (tree_fault t entry) (size_of (tree_spans t entry)) }
-    ensures known { IsTrueOf (table_of blocks.now) seen.new }
-    ensures counts { OnOk result (KeepsCount seen.old seen.new) }
-    ensures adds { let t = table_of blocks.now in
-        Adds t (IsUnder t entry) seen.old seen.new }
-    ensures there { OnOk result (has seen.new entry.bid ≡ true) }
-    ensures grows { expansions_of seen.old ≤ expansions_of seen.new }
-{
-    if is_xxblock(body_in(blocks, entry)) {
-        xxblock_once(blocks, entry, seen)
-    } else {
-        xblock_once(blocks, entry, seen)
-    }
-}
-
-// How many bytes a block has.
-#[tactic(auto, unfolding(crate::specs::Data::block_spans, crate::specs::Data::block_fault))]
-fn block_len(blocks: &Blocks, entry: BlockEntry, seen: &mut Seen) -> Result<u64, Fault>
-    requires within { IsWithin (table_of blocks.now).image entry }
-    requires listed { entry_of (table_of blocks.now) entry.bid ≡ Some entry }
-    requires known { IsTrueOf (table_of blocks.now) seen.old }
-    ensures value { let t = table_of blocks.now in
-        Tells result (block_fault t entry) (size_of (block_spans t entry)) }
-    ensures known { IsTrueOf (table_of blocks.now) seen.new }
-    ensures counts { OnOk result (KeepsCount seen.old seen.new) }
-    ensures adds { let t = table_of blocks.now in
-        Adds t (λ key. (is_internal_block entry.bid ≡ true) × IsUnder t entry key) seen.old seen.new }
-    ensures there { OnOk result (is_internal_block entry.bid ≡ true → has seen.new entry.bid ≡ true) }
-    ensures grows { expansions_of seen.old ≤ expansions_of seen.new }
-{
-    if is_internal(entry.bid) {
-        tree_len(blocks, entry, seen)
-    } else {
-        Ok(u64::from(entry.cb))
-    }
-}
-
-// How many bytes the data tree of a block identifier has.
-#[tactic(auto, unfolding(crate::specs::Data::data_spans, crate::specs::Data::data_fault))]
-fn data_len(blocks: &Blocks, bid: u64, seen: &mut Seen) -> Result<u64, Fault>
-    requires known { IsTrueOf (table_of blocks.now) seen.old }
-    ensures value { let t = table_of blocks.now in
-        Tells result (data_fault t bid) (size_of (data_spans t bid)) }
-    ensures known { IsTrueOf (table_of blocks.now) seen.new }
-    ensures counts { OnOk result (KeepsCount seen.old seen.new) }
-    ensures adds { let t = table_of blocks.now in
-        Adds t (IsInTree t bid) seen.old seen.new }
-    ensures there { OnOk result (IsKnown (table_of blocks.now) seen.new bid) }
-    ensures grows { expansions_of seen.old ≤ expansions_of seen.new }
-{
-    if is_no_block(bid) {
-        return Ok(0);
-    }
-    let Some(entry) = blocks.entry(bid) else {
-        return Err(missing_block(bid));
-    };
-    block_len(blocks, entry, seen)
-}
 
 // A fault of a data tree, told of a node; that memory ran out is told of none.
 fn fault_at(fault: Fault, nid: u32) -> Fault
@@ -310,15 +29,16 @@ fn fault_at(fault: Fault, nid: u32) -> Fault
 // The data tree of a block identifier, with its fault told of a node.
 #[tactic(auto, using(crate::proofs::NodeLemmas::data_first_told))]
 fn checked(blocks: &Blocks, bid: u64, nid: u32, seen: &mut Seen) -> Result<(), Fault>
-    requires known { IsTrueOf (table_of blocks.now) seen.old }
-    ensures first { Tells result (option_map (at_node nid) (data_fault (table_of blocks.now) bid)) tt }
+    requires known { IsSeenTrue (table_of blocks.now) seen.old }
+    ensures first { Tells result (option_map (at_node nid) (data_fault (table_of blocks.now) bid))
+        tt }
     ensures sound { OnOk result (data_fault (table_of blocks.now) bid ≡ None) }
-    ensures known { IsTrueOf (table_of blocks.now) seen.new }
+    ensures known { IsSeenTrue (table_of blocks.now) seen.new }
     ensures counts { OnOk result (KeepsCount seen.old seen.new) }
     ensures adds { let t = table_of blocks.now in
-        Adds t (IsInTree t bid) seen.old seen.new }
-    ensures there { OnOk result (IsKnown (table_of blocks.now) seen.new bid) }
-    ensures grows { expansions_of seen.old ≤ expansions_of seen.new }
+        AddsTrees t (IsInTree t bid) seen.old seen.new }
+    ensures there { OnOk result (IsKnownTree (table_of blocks.now) seen.new bid) }
+    ensures grows { tree_expansions seen.old ≤ tree_expansions seen.new }
 {
     match data_len(blocks, bid, seen) {
         Ok(_) => Ok(()),
@@ -345,26 +65,30 @@ pub fn check_data(
     seen: &mut Seen,
 ) -> Result<(), Fault>
     // What is known is true, and stays so.
-    requires known { IsTrueOf (table_of blocks.now) seen.old }
-    ensures known { IsTrueOf (table_of blocks.now) seen.new }
+    requires known { IsSeenTrue (table_of blocks.now) seen.old }
+    ensures known { IsSeenTrue (table_of blocks.now) seen.new }
 
     // No fault, or the first one; or that memory ran out.
-    ensures first { Tells result (option_map (at_node nid) (data_fault (table_of blocks.now) bid)) tt }
+    ensures first { Tells result (option_map (at_node nid) (data_fault (table_of blocks.now) bid))
+        tt }
 
     // Where there is none, the identifier has a data tree, with the spans that look-ups give.
     ensures sound { OnOk result (data_fault (table_of blocks.now) bid ≡ None) }
-    ensures found { OnOk result (HasData (table_of blocks.now) bid (data_spans (table_of blocks.now) bid)) }
+    ensures found { OnOk result (HasData (table_of blocks.now) bid
+        (data_spans (table_of blocks.now) bid)) }
 
     // An identifier that has a data tree is refused for want of memory alone.
-    ensures only { (spans : List Span) → HasData (table_of blocks.now) bid spans → IfErr result (λ f. f ≡ no_memory) }
+    ensures only { (spans : List Span) → HasData (table_of blocks.now) bid spans →
+        IfErr result (λ f. f ≡ no_memory) }
 
     // Only internal blocks of the data tree are known since; where there is no fault, all of them.
-    ensures adds { Adds (table_of blocks.now) (IsInTree (table_of blocks.now) bid) seen.old seen.new }
-    ensures there { OnOk result (IsKnown (table_of blocks.now) seen.new bid) }
+    ensures adds { AddsTrees (table_of blocks.now)
+        (IsInTree (table_of blocks.now) bid) seen.old seen.new }
+    ensures there { OnOk result (IsKnownTree (table_of blocks.now) seen.new bid) }
 
     // What is counted never falls.
     ensures counts { OnOk result (KeepsCount seen.old seen.new) }
-    ensures grows { expansions_of seen.old ≤ expansions_of seen.new }
+    ensures grows { tree_expansions seen.old ≤ tree_expansions seen.new }
 {
     checked(blocks, bid, nid, seen)
 }

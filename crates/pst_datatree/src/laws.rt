@@ -3,7 +3,7 @@
 ghost use Rattle.pst_block.specs.Blocks.{table_of};
 ghost use Rattle.pst_datatree.specs.Data.{data_spans};
 ghost use Rattle.pst_datatree.specs.Laws.{SameDataLaw};
-ghost use Rattle.pst_datatree.specs.Relation.{DataLaw, NodeLaw};
+ghost use Rattle.pst_datatree.specs.Relation.{DataLaw, UntoldLaw};
 ghost use Rattle.pst_datatree.specs.Spans.{AreInside};
 
 use pst_block::Blocks;
@@ -15,7 +15,7 @@ pub fn data_decides()
 
 /// The first fault of a data tree is told of no node: the check of a node sets it.
 pub fn data_names_no_node()
-    ensures { NodeLaw }
+    ensures { UntoldLaw }
 {}
 
 /// Block identifiers that differ in bit 0 alone have the same spans, and the one has a fault exactly where the other has.

@@ -5,6 +5,7 @@ mod bid;
 mod bytes;
 mod check;
 mod laws;
+mod lengths;
 mod list;
 mod look;
 mod make;
@@ -19,8 +20,9 @@ mod step;
 
 pub use bid::{is_internal, is_no_block};
 pub use bytes::Value;
-pub use check::{check_data, missing_block};
+pub use check::check_data;
 pub use laws::{data_decides, data_is_of_key, data_lies_inside, data_names_no_node};
+pub use lengths::missing_block;
 pub use look::leaf_count;
 pub use make::{empty_value, spans, value, value_at};
 pub use pieces::Pieces;

@@ -21,7 +21,8 @@ pub(crate) fn body_in<'a>(blocks: &Blocks<'a>, entry: BlockEntry) -> Image<'a>
 #[tactic(auto, unfolding(crate::specs::List::is_block_list))]
 pub(crate) fn is_list(level: u8, body: Image) -> bool
     ensures value { result ≡ is_block_list level (bytes_of body.entry) }
-    ensures fits { IsTrue result → 8 + 8 * count_in (bytes_of body.entry) ≤ length (bytes_of body.entry) }
+    ensures fits { IsTrue result →
+        8 + 8 * count_in (bytes_of body.entry) ≤ length (bytes_of body.entry) }
 {
     body.len() >= 8
         && body.number8(0) == 1

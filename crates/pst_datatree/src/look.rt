@@ -6,7 +6,7 @@ ghost use Rattle.pst_block.specs.Block.{body_span};
 ghost use Rattle.pst_block.specs.Table.{body_of, IsWithin};
 ghost use Rattle.pst_block.specs.Blocks.{table_of};
 ghost use Rattle.pst_datatree.specs.List.{count_in};
-ghost use Rattle.pst_datatree.specs.Data.{leaf_spans, leaf_fault, xblock_spans, xblock_fault, child_spans, child_fault, xxblock_spans, xxblock_fault, tree_spans, tree_fault, block_spans, block_fault, data_spans, data_fault, size_of};
+ghost use Rattle.pst_datatree.specs.Data.{leaf_spans, data_leaf_fault, xblock_spans, xblock_fault, child_spans, child_fault, xxblock_spans, xxblock_fault, tree_spans, tree_fault, data_root_spans, data_root_fault, data_spans, data_fault, size_of};
 
 use crate::bid::{is_internal, is_no_block};
 use crate::list::{bid_at, body_in, is_xxblock};
@@ -24,12 +24,13 @@ pub(crate) fn span_of(entry: BlockEntry) -> Span
 }
 
 // The span of the data block that an XBLOCK names with a number.
-#[tactic(auto, unfolding(crate::specs::Data::leaf_spans, crate::specs::Data::leaf_fault))]
+#[tactic(auto, unfolding(crate::specs::Data::leaf_spans, crate::specs::Data::data_leaf_fault))]
 pub(crate) fn leaf_span(blocks: &Blocks, holder: BlockEntry, i: u16) -> Span
     requires within { IsWithin (table_of blocks.now).image holder }
     requires fits { 16 + 8 * i ≤ length (body_of (table_of blocks.now) holder) }
-    requires sound { leaf_fault (table_of blocks.now) holder i ≡ None }
-    ensures value { leaf_spans (table_of blocks.now) (body_of (table_of blocks.now) holder) i ≡ result ∷ [] }
+    requires sound { data_leaf_fault (table_of blocks.now) holder i ≡ None }
+    ensures value { leaf_spans (table_of blocks.now) (body_of (table_of blocks.now) holder) i ≡
+        result ∷ [] }
     ensures inside { IsInside (table_of blocks.now).image result }
 {
     let bid = bid_at(body_in(blocks, holder), i);
@@ -66,7 +67,8 @@ pub(crate) fn child_entry(blocks: &Blocks, holder: BlockEntry, i: u16) -> BlockE
     requires within { IsWithin (table_of blocks.now).image holder }
     requires fits { 16 + 8 * i ≤ length (body_of (table_of blocks.now) holder) }
     requires sound { child_fault (table_of blocks.now) holder i ≡ None }
-    ensures value { child_spans (table_of blocks.now) (body_of (table_of blocks.now) holder) i ≡ xblock_spans (table_of blocks.now) result }
+    ensures value { child_spans (table_of blocks.now) (body_of (table_of blocks.now) holder) i ≡
+        xblock_spans (table_of blocks.now) result }
     ensures within { IsWithin (table_of blocks.now).image result }
     ensures sound { xblock_fault (table_of blocks.now) result ≡ None }
 {
@@ -118,11 +120,11 @@ fn tree_count(blocks: &Blocks, entry: BlockEntry) -> u64
 }
 
 // How many spans a block has.
-#[tactic(auto, unfolding(crate::specs::Data::block_spans, crate::specs::Data::block_fault))]
+#[tactic(auto, unfolding(crate::specs::Data::data_root_spans, crate::specs::Data::data_root_fault))]
 fn block_count(blocks: &Blocks, entry: BlockEntry) -> u64
     requires within { IsWithin (table_of blocks.now).image entry }
-    requires sound { block_fault (table_of blocks.now) entry ≡ None }
-    ensures { result ≡ length (block_spans (table_of blocks.now) entry) }
+    requires sound { data_root_fault (table_of blocks.now) entry ≡ None }
+    ensures { result ≡ length (data_root_spans (table_of blocks.now) entry) }
 {
     if is_internal(entry.bid) {
         tree_count(blocks, entry)
@@ -158,11 +160,11 @@ pub(crate) fn tree_size(blocks: &Blocks, entry: BlockEntry) -> u64
 }
 
 // How many bytes a block has.
-#[tactic(auto, unfolding(crate::specs::Data::block_spans, crate::specs::Data::block_fault))]
+#[tactic(auto, unfolding(crate::specs::Data::data_root_spans, crate::specs::Data::data_root_fault))]
 fn block_size(blocks: &Blocks, entry: BlockEntry) -> u64
     requires within { IsWithin (table_of blocks.now).image entry }
-    requires sound { block_fault (table_of blocks.now) entry ≡ None }
-    ensures value { result ≡ size_of (block_spans (table_of blocks.now) entry) }
+    requires sound { data_root_fault (table_of blocks.now) entry ≡ None }
+    ensures value { result ≡ size_of (data_root_spans (table_of blocks.now) entry) }
     ensures small { result < 2 ^ 32 }
 {
     if is_internal(entry.bid) {

@@ -5,7 +5,7 @@ ghost use Rattle.pst_bytes.specs.Image.{bytes_of, IsInside};
 ghost use Rattle.pst_block.specs.Blocks.{table_of, image_of};
 ghost use Rattle.pst_datatree.specs.Data.{data_spans, data_fault, size_of};
 ghost use Rattle.pst_datatree.specs.Left.{spans_left, file_of};
-ghost use Rattle.pst_datatree.specs.Shown.{Shows, bytes_in, size_in, place_in};
+ghost use Rattle.pst_datatree.specs.Shown.{ShowsSpans, bytes_in, size_in, place_in};
 ghost use Rattle.pst_datatree.specs.Spans.{nonempty, first_span, joined_bytes, OnlySpan};
 
 use crate::bytes::Value;
@@ -31,8 +31,9 @@ fn only_span(pieces: Pieces) -> Option<Span>
 // The value whose spans are left.
 #[tactic(auto, using(crate::proofs::ValueLemmas::bytes_of_pieces, crate::proofs::ValueLemmas::bytes_of_only, crate::proofs::ValueLemmas::size_of_only))]
 pub(crate) fn value_of(pieces: Pieces<'_>) -> Value<'_>
-    ensures shows { Shows (file_of pieces.entry) (spans_left pieces.entry) result }
-    ensures bytes { bytes_in result ≡ joined_bytes (bytes_of (file_of pieces.entry)) (spans_left pieces.entry) }
+    ensures shows { ShowsSpans (file_of pieces.entry) (spans_left pieces.entry) result }
+    ensures bytes { bytes_in result ≡
+        joined_bytes (bytes_of (file_of pieces.entry)) (spans_left pieces.entry) }
     ensures size { size_in result ≡ size_of (spans_left pieces.entry) }
     ensures place { place_in result ≡ (first_span (nonempty (spans_left pieces.entry))).at }
 {
@@ -46,10 +47,12 @@ pub(crate) fn value_of(pieces: Pieces<'_>) -> Value<'_>
 /// bytes, and else a piece for each span.
 pub fn value<'a>(blocks: &Blocks<'a>, bid: u64) -> Value<'a>
     requires { data_fault (table_of blocks.now) bid ≡ None }
-    ensures shows { Shows (image_of blocks.now) (data_spans (table_of blocks.now) bid) result }
-    ensures bytes { bytes_in result ≡ joined_bytes (table_of blocks.now).image (data_spans (table_of blocks.now) bid) }
+    ensures shows { ShowsSpans (image_of blocks.now) (data_spans (table_of blocks.now) bid) result }
+    ensures bytes { bytes_in result ≡
+        joined_bytes (table_of blocks.now).image (data_spans (table_of blocks.now) bid) }
     ensures size { size_in result ≡ size_of (data_spans (table_of blocks.now) bid) }
-    ensures place { place_in result ≡ (first_span (nonempty (data_spans (table_of blocks.now) bid))).at }
+    ensures place { place_in result ≡
+        (first_span (nonempty (data_spans (table_of blocks.now) bid))).at }
 {
     value_of(Pieces::new(blocks, bid))
 }
@@ -65,7 +68,7 @@ pub fn spans<'a>(blocks: &Blocks<'a>, bid: u64) -> Pieces<'a>
 
 /// The value that has no span: an empty slice, at no place.
 pub fn empty_value(image: Image<'_>) -> Value<'_>
-    ensures shows { Shows image.entry [] result }
+    ensures shows { ShowsSpans image.entry [] result }
     ensures bytes { bytes_in result ≡ [] }
     ensures size { size_in result ≡ 0 }
     ensures place { place_in result ≡ 0 }
@@ -76,7 +79,7 @@ pub fn empty_value(image: Image<'_>) -> Value<'_>
 /// The value of one span of the file, without a copy.
 pub fn value_at(image: Image<'_>, span: Span) -> Value<'_>
     requires { IsInside (bytes_of image) span }
-    ensures shows { Shows image.entry (span ∷ []) result }
+    ensures shows { ShowsSpans image.entry (span ∷ []) result }
     ensures bytes { bytes_in result ≡ joined_bytes (bytes_of image.entry) (span ∷ []) }
     ensures size { size_in result ≡ size_of (span ∷ []) }
     ensures place { place_in result ≡ (first_span (nonempty (span ∷ []))).at }

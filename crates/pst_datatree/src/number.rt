@@ -11,7 +11,8 @@ use pst_bytes::Image;
 // The bytes of slices that have at most eight, and what they do not fill.
 fn gather(slices: Slices) -> [u8; 8]
     requires { length (concat (slices_in slices)) ≤ 8 }
-    ensures { take (length (concat (slices_in slices.entry))) result ≡ concat (slices_in slices.entry) }
+    ensures { take (length (concat (slices_in slices.entry))) result ≡
+        concat (slices_in slices.entry) }
 {
     let mut bytes = [0u8; 8];
     let mut count = 0usize;

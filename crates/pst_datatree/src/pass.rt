@@ -4,7 +4,7 @@ ghost use Rattle.std.specs.Prelude.{◌≡◌, ℕ, ◌+◌, ◌≤◌, None, le
 ghost use Rattle.pst_block.specs.Table.{IsWithin};
 ghost use Rattle.pst_block.specs.Blocks.{table_of};
 ghost use Rattle.pst_datatree.specs.Cut.{cut};
-ghost use Rattle.pst_datatree.specs.Data.{xxblock_fault, tree_fault, block_fault, data_fault};
+ghost use Rattle.pst_datatree.specs.Data.{xxblock_fault, tree_fault, data_root_fault, data_fault};
 ghost use Rattle.pst_datatree.specs.Position.{Passes, xxblock_left, tree_left, block_left, data_left};
 
 use crate::bid::{is_internal, is_no_block};
@@ -68,7 +68,7 @@ fn pass_of_tree(
 }
 
 // The same of a block.
-#[tactic(auto, unfolding(crate::specs::Position::block_left, crate::specs::Data::block_fault))]
+#[tactic(auto, unfolding(crate::specs::Position::block_left, crate::specs::Data::data_root_fault))]
 fn pass_of_block(
     blocks: &Blocks,
     entry: BlockEntry,
@@ -76,7 +76,7 @@ fn pass_of_block(
     skip: u64,
 ) -> Option<(Position, u64)>
     requires within { IsWithin (table_of blocks.now).image entry }
-    requires sound { block_fault (table_of blocks.now) entry ≡ None }
+    requires sound { data_root_fault (table_of blocks.now) entry ≡ None }
     ensures { Passes (block_left (table_of blocks.now) entry) at skip result }
 {
     if is_internal(entry.bid) {
@@ -104,9 +104,11 @@ fn pass_of(blocks: &Blocks, bid: u64, at: Position, skip: u64) -> Option<(Positi
 // The position behind all XBLOCKs that can be passed over, and how many bytes are to be passed over from there.
 pub(crate) fn pass_all(blocks: &Blocks, bid: u64, at: Position, skip: u64) -> (Position, u64)
     requires { data_fault (table_of blocks.now) bid ≡ None }
-    ensures same { (more : ℕ) → cut skip (skip + more) (data_left (table_of blocks.now) bid at) ≡ cut result.1 (result.1 + more) (data_left (table_of blocks.now) bid result.0) }
+    ensures same { (more : ℕ) → cut skip (skip + more) (data_left (table_of blocks.now) bid at) ≡
+        cut result.1 (result.1 + more) (data_left (table_of blocks.now) bid result.0) }
     ensures small { result.1 ≤ skip }
-    ensures fewer { length (data_left (table_of blocks.now) bid result.0) ≤ length (data_left (table_of blocks.now) bid at) }
+    ensures fewer { length (data_left (table_of blocks.now) bid result.0) ≤ length
+        (data_left (table_of blocks.now) bid at) }
 {
     let mut place = at;
     let mut left = skip;

@@ -115,9 +115,11 @@ impl<'a> Pieces<'a> {
 
     // So many bytes from a position on, behind some that are passed over.
     fn part_from(self, at: Position, skip: u64, left: u64) -> Pieces<'a>
-        requires counted { left ≡ size_of (cut skip (skip + left) (data_left (table_of self.blocks) self.bid at)) }
+        requires counted { left ≡
+            size_of (cut skip (skip + left) (data_left (table_of self.blocks) self.bid at)) }
         requires small { skip + left < 2 ^ 64 }
-        ensures spans { spans_left result ≡ cut skip (skip + left) (data_left (table_of self.entry.blocks) self.entry.bid at) }
+        ensures spans { spans_left result ≡
+            cut skip (skip + left) (data_left (table_of self.entry.blocks) self.entry.bid at) }
         ensures file { file_of result ≡ file_of self.entry }
     {
         Pieces {
@@ -186,7 +188,9 @@ impl<'a> Pieces<'a> {
         requires within { to ≤ size_of (spans_left self.now) }
         ensures spans { spans_left result ≡ cut from to (spans_left self.now) }
         ensures file { file_of result ≡ file_of self.now }
-        ensures bytes { joined_bytes (bytes_of (file_of self.now)) (cut from to (spans_left self.now)) ≡ slice_range (joined_bytes (bytes_of (file_of self.now)) (spans_left self.now)) from to }
+        ensures bytes { joined_bytes (bytes_of (file_of self.now))
+            (cut from to (spans_left self.now)) ≡
+            slice_range (joined_bytes (bytes_of (file_of self.now)) (spans_left self.now)) from to }
     {
         self.lie_inside();
         if self.whole {

@@ -80,7 +80,8 @@ impl<'a> Value<'a> {
     #[tactic(auto, using(crate::proofs::ValueLemmas::bytes_of_pieces))]
     pub fn part(&self, from: u64, to: u64) -> Option<Value<'a>>
         ensures there { IsSome result ↔ ((from ≤ to) × (to ≤ size_in self.now)) }
-        ensures bytes { IfSome result (λ part. bytes_in part ≡ slice_range (bytes_in self.now) from to) }
+        ensures bytes { IfSome result (λ part.
+            bytes_in part ≡ slice_range (bytes_in self.now) from to) }
         ensures part { IfSome result (IsPart from to self.now) }
     {
         if from > to || to > self.len() {

@@ -4,7 +4,7 @@ ghost use Rattle.std.specs.Prelude.{◌≡◌, ◌+◌, ◌<◌, IfSome, None, o
 ghost use Rattle.pst_bytes.specs.Image.{IsInside};
 ghost use Rattle.pst_block.specs.Table.{IsWithin};
 ghost use Rattle.pst_block.specs.Blocks.{table_of};
-ghost use Rattle.pst_datatree.specs.Data.{xblock_fault, xxblock_fault, tree_fault, block_fault, data_spans, data_fault};
+ghost use Rattle.pst_datatree.specs.Data.{xblock_fault, xxblock_fault, tree_fault, data_root_fault, data_spans, data_fault};
 ghost use Rattle.pst_datatree.specs.Position.{Splits, xblock_left, xxblock_left, tree_left, block_left, data_left};
 
 use crate::bid::{is_internal, is_no_block};
@@ -81,10 +81,10 @@ fn next_of_tree(blocks: &Blocks, entry: BlockEntry, at: Position) -> Option<(Spa
 }
 
 // The next span of a block, and what is behind it.
-#[tactic(auto, using(crate::proofs::PositionLemmas::data_block_next, crate::proofs::PositionLemmas::data_block_end), unfolding(crate::specs::Position::block_left, crate::specs::Data::block_fault))]
+#[tactic(auto, using(crate::proofs::PositionLemmas::data_block_next, crate::proofs::PositionLemmas::data_block_end), unfolding(crate::specs::Position::block_left, crate::specs::Data::data_root_fault))]
 fn next_of_block(blocks: &Blocks, entry: BlockEntry, at: Position) -> Option<(Span, Position)>
     requires within { IsWithin (table_of blocks.now).image entry }
-    requires sound { block_fault (table_of blocks.now) entry ≡ None }
+    requires sound { data_root_fault (table_of blocks.now) entry ≡ None }
     ensures next { Splits (block_left (table_of blocks.now) entry) at result }
     ensures inside { IfSome result (λ n. IsInside (table_of blocks.now).image n.0) }
 {

@@ -58,3 +58,10 @@ none_of part (y ∷ rest) x none w = let both = none_then (part y) (first_of par
     by_place : (k : ℕ) → k < length (y ∷ rest) → slice_index_or (y ∷ rest) k x ≡ x → part y ≡ None → (Contains rest x → part x ≡ None) → part x ≡ None
     by_place zero lt is one later = rw (← is) one
     by_place (suc k) lt is one later = later (k, omega arith, is)
+
+-- ---- parts that say the same
+
+pub first_of_same : {X : Type 0} (part other : X → Option Fault) → ((x : X) → part x ≡ other x) → (xs : List X) → first_of part xs ≡ first_of other xs
+unfolding first_of
+first_of_same part other same [] = refl
+first_of_same part other same (x ∷ rest) = rw (same x, first_of_same part other same rest) refl

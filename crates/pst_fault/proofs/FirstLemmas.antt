@@ -91,6 +91,11 @@ first_front part (suc n) i f e h =
       | inr eq ↦ let same : first_below part (suc n) ≡ Some f = (rw eq at e) in same
     ]
 
+-- parts that say the same
+pub first_below_same : (part other : ℕ → Option Fault) → ((i : ℕ) → part i ≡ other i) → (n : ℕ) → first_below part n ≡ first_below other n
+first_below_same part other same zero = refl
+first_below_same part other same (suc n) = rw (same n, first_below_same part other same n) refl
+
 -- ---- joined lists
 
 pub join_more : {X : Type 0} (part : ℕ → List X) (i : ℕ) → join_below part (i + 1) ≡ join_below part i ++ part i

@@ -1,3 +1,4 @@
 pub mod EachLemmas
 pub mod FirstLemmas
+pub mod GeneralLemmas
 pub mod ToldLemmas

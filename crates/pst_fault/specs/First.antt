@@ -1,6 +1,6 @@
 -- The first fault of a part of the file: of the conditions and the parts that it is made of, in their order.
 -- These words are shared by every layer that checks something.
-use Rattle.std.specs.Prelude.{◌≡◌, ℕ, zero, suc, Bool, true, false, Option, Some, None, Result, Ok, Err, List, [], ◌++◌, ◌⊎◌}
+use Rattle.std.specs.Prelude.{◌≡◌, ℕ, zero, suc, ◌+◌, ◌<◌, Bool, true, false, Option, Some, None, Result, Ok, Err, List, [], ◌++◌, ◌⊎◌}
 use Rattle.pst_fault.specs.declared.fault.Fault.{Fault}
 use Rattle.pst_fault.specs.Fault.{no_memory}
 
@@ -25,6 +25,15 @@ abbrev pub join_below : {X : Type 0} → (ℕ → List X) → ℕ → List X
 join_below part zero = []
 join_below part (suc n) = join_below part n ++ part n
 
+-- the lists with the numbers i, i + 1, .. so many, joined
+unfoldable pub join_from : {X : Type 0} → (ℕ → List X) → ℕ → ℕ → List X
+join_from part i zero = []
+join_from part i (suc n) = part i ++ join_from part (i + 1) n
+
+-- the lists with the numbers below n, each as told, joined
+abbrev pub AreJoined : {X : Type 0} → (ℕ → List X → Type 0) → ℕ → List X → Type 0
+AreJoined {X} IsPart n list = (parts : ℕ → List X) × ((i : ℕ) → i < n → IsPart i (parts i)) × (list ≡ join_below parts n)
+
 -- what a check answers: the value where there is no fault, else the fault
 abbrev pub answer : {X : Type 0} → Option Fault → X → Result X Fault
 answer None x = Ok x
@@ -44,3 +53,8 @@ Tells (Err f) first value = IsFirst first f
 abbrev pub Checks : {X : Type 0} → Result X Fault → Option Fault → Type 0
 Checks (Ok x) first = first ≡ None
 Checks (Err f) first = first ≡ Some f
+
+-- The same, where memory may run out: a view exactly where there is no fault, else the first one.
+abbrev pub TellsFirst : {X : Type 0} → Result X Fault → Option Fault → Type 0
+TellsFirst (Ok x) first = first ≡ None
+TellsFirst (Err f) first = IsFirst first f

@@ -1,7 +1,7 @@
 //! The kinds of fault.
 
 ghost use Rattle.std.specs.Prelude.{◌≡◌, Some};
-ghost use Rattle.pst_fault.specs.Kind.{number_of, name_of, kind_text};
+ghost use Rattle.pst_fault.specs.Kind.{number_of, kind_name, kind_text};
 
 use std::fmt;
 
@@ -105,7 +105,7 @@ impl Kind {
 
     // The name alone, without the number that a kind may carry.
     fn name(self) -> &'static str
-        ensures { result.now ≡ name_of self }
+        ensures { result.now ≡ kind_name self }
     {
         match self {
             Kind::Short => "Short",

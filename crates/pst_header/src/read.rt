@@ -105,7 +105,8 @@ fn check_root(image: Image) -> Result<(), Fault>
 // The header, or its first fault.
 #[tactic(auto, unfolding(crate::specs::Header::header_fault))]
 fn checked(image: Image) -> Result<Header, Fault>
-    ensures { result ≡ answer (header_fault (bytes_of image.entry)) (fields (bytes_of image.entry)) }
+    ensures { result ≡ answer (header_fault (bytes_of image.entry))
+        (fields (bytes_of image.entry)) }
 {
     if image.len() < 564 {
         return Err(Fault::at(Kind::Short, 0));
@@ -142,7 +143,8 @@ pub fn read_header(image: Image) -> Result<Header, Fault>
     ensures only { (h : Header) → Head (bytes_of image.entry) h → result ≡ Ok h }
 
     // Which fault it is, and where.
-    ensures exact { result ≡ answer (header_fault (bytes_of image.entry)) (fields (bytes_of image.entry)) }
+    ensures exact { result ≡ answer (header_fault (bytes_of image.entry))
+        (fields (bytes_of image.entry)) }
 {
     checked(image)
 }

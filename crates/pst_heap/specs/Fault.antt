@@ -64,8 +64,8 @@ abbrev pub in_context : ℕ → ℕ → Fault → Fault
 in_context bid nid f = record { kind = f.kind; place = record { at = f.place.at; bid = bid; nid = nid } }
 
 -- of a node that is named by its roots, and of a node
-abbrev pub told_in : Roots → Fault → Fault
-told_in r f = in_context r.bid_data r.top f
+abbrev pub told_under : Roots → Fault → Fault
+told_under r f = in_context r.bid_data r.top f
 
 abbrev pub told_of : Node → Fault → Fault
-told_of node f = told_in (roots_of node) f
+told_of node f = told_under (roots_of node) f

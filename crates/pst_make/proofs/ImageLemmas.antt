@@ -6,7 +6,7 @@ use Rattle.std.specs.Global.{Vec}
 use Rattle.std.specs.declared.alloc.AllocError.{AllocError}
 use Rattle.pst_make.specs.declared.plan.BlockPlan.{BlockPlan}
 use Rattle.pst_make.specs.declared.plan.Plan.{Plan}
-use Rattle.pst_make.specs.Layout.{layout_end, tree_pages, branch_pages, place_of, end_of, store_length}
+use Rattle.pst_make.specs.Layout.{layout_end, tree_pages, branch_pages, place_of, plan_end, store_length}
 use Rattle.pst_make.specs.Made.{IsMade}
 use Rattle.pst_make.specs.Plan.{body_length, body_lengths, has_long_body}
 
@@ -18,7 +18,7 @@ long_is (block ∷ rest) = ap (λ b. nat_lt 8176 (body_length block) || b) (long
 pub short_is : (blocks : List BlockPlan) (lengths : List ℕ) → body_lengths blocks ≡ lengths → list_any (λ n. nat_lt 8176 n) lengths ≡ false → has_long_body blocks ≡ false
 short_is blocks lengths same none = long_is blocks ∙ ap (list_any (λ n. nat_lt 8176 n)) same ∙ none
 
-pub ends_at : (plan : Plan) (nodes : ℕ) (lengths : List ℕ) (end : ℕ) → length plan.nodes.items ≡ nodes → body_lengths plan.blocks.items ≡ lengths → layout_end nodes lengths ≡ end → end_of plan ≡ end
+pub ends_at : (plan : Plan) (nodes : ℕ) (lengths : List ℕ) (end : ℕ) → length plan.nodes.items ≡ nodes → body_lengths plan.blocks.items ≡ lengths → layout_end nodes lengths ≡ end → plan_end plan ≡ end
 ends_at plan nodes lengths end n l e = rw (n, l) e
 
 pub m0_end : layout_end 2 (44 ∷ 38 ∷ []) ≡ 19584
@@ -33,6 +33,6 @@ pub m2_end : layout_end 3 (44 ∷ 38 ∷ 100 ∷ []) ≡ 19712
 unfolding layout_end tree_pages branch_pages place_of
 m2_end = refl
 
-pub made_length : (plan : Plan) (end : ℕ) (r : Result (Vec ℕ) AllocError) → end_of plan ≡ end → store_length end ≡ 271360 → IfOk r (IsMade plan) → IfOk r (λ image. length image.items ≡ 271360)
+pub made_length : (plan : Plan) (end : ℕ) (r : Result (Vec ℕ) AllocError) → plan_end plan ≡ end → store_length end ≡ 271360 → IfOk r (IsMade plan) → IfOk r (λ image. length image.items ≡ 271360)
 made_length plan end (Ok image) is long made = made.length_is ∙ ap store_length is ∙ long
 made_length plan end (Err e) is long made = tt

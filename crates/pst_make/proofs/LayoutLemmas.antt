@@ -12,10 +12,10 @@ use Rattle.pst_make.specs.declared.plan.BlockPlan.{BlockPlan}
 use Rattle.pst_make.specs.Plan.{body_length, body_lengths}
 use Rattle.pst_make.specs.declared.plan.MakeFault.{MakeFault}
 use Rattle.pst_make.specs.declared.plan.MakeFault.TheVariants.{TooLarge, Body, Memory}
-use Rattle.pst_make.specs.Layout.{amap_place, region_of, free_from, place_of, after, after_pages, after_blocks, pages_for, pages_above, branch_pages, tree_pages, layout_end, IsPlaceFault, IsPageBelow, IsBlockBelow}
-use Rattle.pst_make.specs.Sealed.{block_size}
+use Rattle.pst_make.specs.Layout.{map_place, region_of, free_from, place_of, after, after_pages, after_blocks, pages_for, pages_above, branch_pages, tree_pages, layout_end, IsPlaceFault, IsPageBelow, IsBlockBelow}
+use Rattle.pst_make.specs.Sealed.{sealed_size}
 
-free_above : (j : ℕ) (b : Bool) → amap_place j + 512 ≤ amap_place j + cond b 1024 512
+free_above : (j : ℕ) (b : Bool) → map_place j + 512 ≤ map_place j + cond b 1024 512
 free_above j true = omega arith
 free_above j false = omega arith
 
@@ -28,9 +28,9 @@ unfolding place_of
 place_forward next size =
     let j = region_of next in
     let here : next ≤ max next (free_from j) = omega arith in
-    let below : next ≤ amap_place (j + 1) = omega arith in
+    let below : next ≤ map_place (j + 1) = omega arith in
     let free = free_above (j + 1) (eqb ((j + 1) % 8) 0) in
-    chosen (leb (max next (free_from j) + size) (amap_place (j + 1))) next (max next (free_from j)) (free_from (j + 1)) here (omega (arith, free, below))
+    chosen (leb (max next (free_from j) + size) (map_place (j + 1))) next (max next (free_from j)) (free_from (j + 1)) here (omega (arith, free, below))
 
 pub pages_forward : (next n : ℕ) → next ≤ after_pages next n
 pages_forward next zero = omega arith
@@ -39,8 +39,8 @@ pages_forward next (suc n) = let step = place_forward next 512 in let rest = pag
 pub blocks_forward : (next : ℕ) (lengths : List ℕ) → next ≤ after_blocks next lengths
 blocks_forward next [] = omega arith
 blocks_forward next (cb ∷ rest) =
-    let step = place_forward next (block_size cb) in
-    let all = blocks_forward (after next (block_size cb)) rest in
+    let step = place_forward next (sealed_size cb) in
+    let all = blocks_forward (after next (sealed_size cb)) rest in
     omega (arith, step, all)
 
 -- a fault of a part of the placing is one of all of it, where all of it ends no sooner
@@ -125,15 +125,15 @@ blocks_at blocks i block lt is =
     drop_more (body_lengths blocks) i cb long ∙ ap (λ (n : ℕ). n ∷ drop (i + 1) (body_lengths blocks)) here
 
 pub blocks_step : (blocks : List BlockPlan) (i : ℕ) (block : BlockPlan) (next behind total : ℕ) → i < length blocks → block ≡ get_or blocks i block
-    → after_blocks next (drop i (body_lengths blocks)) ≡ total → behind ≡ after next (block_size (body_length block)) → after_blocks behind (drop (i + 1) (body_lengths blocks)) ≡ total
+    → after_blocks next (drop i (body_lengths blocks)) ≡ total → behind ≡ after next (sealed_size (body_length block)) → after_blocks behind (drop (i + 1) (body_lengths blocks)) ≡ total
 blocks_step blocks i block next behind total lt at so_far is =
     rw is (sym (ap (after_blocks next) (blocks_at blocks i block lt at)) ∙ so_far)
 
 pub blocks_reach : (blocks : List BlockPlan) (i : ℕ) (block : BlockPlan) (next total : ℕ) → i < length blocks → block ≡ get_or blocks i block
-    → after_blocks next (drop i (body_lengths blocks)) ≡ total → after next (block_size (body_length block)) ≤ total
+    → after_blocks next (drop i (body_lengths blocks)) ≡ total → after next (sealed_size (body_length block)) ≤ total
 blocks_reach blocks i block next total lt at so_far =
-    let e : after_blocks (after next (block_size (body_length block))) (drop (i + 1) (body_lengths blocks)) ≡ total = sym (ap (after_blocks next) (blocks_at blocks i block lt at)) ∙ so_far in
-    let step = blocks_forward (after next (block_size (body_length block))) (drop (i + 1) (body_lengths blocks)) in
+    let e : after_blocks (after next (sealed_size (body_length block))) (drop (i + 1) (body_lengths blocks)) ≡ total = sym (ap (after_blocks next) (blocks_at blocks i block lt at)) ∙ so_far in
+    let step = blocks_forward (after next (sealed_size (body_length block))) (drop (i + 1) (body_lengths blocks)) in
     omega (arith, e, step)
 
 pub blocks_below : (placed : List PlacedBlock) (block : PlacedBlock) (next behind : ℕ) → All (IsBlockBelow next) placed → next ≤ behind → IsBlockBelow behind block → All (IsBlockBelow behind) (placed ++ block ∷ [])

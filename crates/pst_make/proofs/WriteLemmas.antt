@@ -5,7 +5,8 @@ use Rattle.byteorder.specs.Endian.{little_number, little_bytes}
 use Rattle.byteorder.specs.Numbers.{length-bytes_low_first, little_number-reads_back}
 use Rattle.pst_bytes.specs.Image.{num, bytes_at}
 use Rattle.pst_bytes.specs.declared.span.Span.{Span}
-use Rattle.pst_make.specs.Elsewhere.{written, AreApart, SameElsewhere, one_span}
+use Rattle.pst_bytes.specs.Span.{IsApartFrom}
+use Rattle.pst_make.specs.Elsewhere.{written, SameElsewhere, one_field}
 
 -- what stands from the place on
 from_place : (I : List ℕ) (at : ℕ) (bytes : List ℕ) → at ≤ length I → drop at (written I at bytes) ≡ bytes ++ drop (at + length bytes) I
@@ -53,12 +54,12 @@ behind I at bytes from inside apart =
     ∙ drop-drop (from - (at + k)) (at + k) I
     ∙ ap (λ n. drop n I) f
 
-bytes_written : (I : List ℕ) (at : ℕ) (bytes : List ℕ) (s : Span) → at + length bytes ≤ length I → AreApart s (record { at = at; len = length bytes }) → bytes_at (written I at bytes) s ≡ bytes_at I s
+bytes_written : (I : List ℕ) (at : ℕ) (bytes : List ℕ) (s : Span) → at + length bytes ≤ length I → IsApartFrom s (record { at = at; len = length bytes }) → bytes_at (written I at bytes) s ≡ bytes_at I s
 unfolding written
 bytes_written I at bytes s inside (inl h) = before I (bytes ++ drop (at + length bytes) I) at s.at s.len (omega arith) h
 bytes_written I at bytes s inside (inr h) = ap (take s.len) (behind I at bytes s.at (omega arith) h)
 
-pub elsewhere_written : (I J : List ℕ) (at n x : ℕ) → J ≡ written I at (little_bytes n x) → at + n ≤ length I → SameElsewhere I J (one_span at n)
+pub elsewhere_written : (I J : List ℕ) (at n x : ℕ) → J ≡ written I at (little_bytes n x) → at + n ≤ length I → SameElsewhere I J (one_field at n)
 elsewhere_written I J at n x same inside =
     let size : length (little_bytes n x) ≡ n = length-bytes_low_first 0 n x in
     record {

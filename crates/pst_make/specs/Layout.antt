@@ -7,13 +7,13 @@ use Rattle.pst_make.specs.declared.plan.MakeFault.{MakeFault}
 use Rattle.pst_make.specs.declared.plan.MakeFault.TheVariants.{TooLarge, Body, Memory}
 use Rattle.pst_make.specs.declared.plan.Plan.{Plan}
 use Rattle.pst_make.specs.Plan.{body_lengths}
-use Rattle.pst_make.specs.Sealed.{block_size}
+use Rattle.pst_make.specs.Sealed.{sealed_size}
 
 -- ---- regions ([MS-PST] 2.2.2.7.2)
 
 -- Allocation map j stands at the start of region j. A region has 253,952 bytes.
-abbrev pub amap_place : ℕ → ℕ
-amap_place j = 17408 + 253952 * j
+abbrev pub map_place : ℕ → ℕ
+map_place j = 17408 + 253952 * j
 
 -- the region of a place
 abbrev pub region_of : ℕ → ℕ
@@ -21,7 +21,7 @@ region_of at = (at - 17408) / 253952
 
 -- Behind the allocation map, and the page map that follows each eighth one from the first on, a region is free.
 abbrev pub free_from : ℕ → ℕ
-free_from j = amap_place j + (if nat_eq (j % 8) 0 then 1024 else 512)
+free_from j = map_place j + (if nat_eq (j % 8) 0 then 1024 else 512)
 
 -- where a store ends at the latest: behind 16 regions
 abbrev pub store_limit : ℕ
@@ -35,7 +35,7 @@ unfoldable pub place_of : ℕ → ℕ → ℕ
 place_of next size =
     let j = region_of next in
     let at = max next (free_from j) in
-    if nat_le (at + size) (amap_place (j + 1)) then at else free_from (j + 1)
+    if nat_le (at + size) (map_place (j + 1)) then at else free_from (j + 1)
 
 -- the cursor behind it
 abbrev pub after : ℕ → ℕ → ℕ
@@ -49,7 +49,7 @@ after_pages next (suc n) = after_pages (after next 512) n
 -- the cursor behind blocks with bodies of these lengths
 abbrev pub after_blocks : ℕ → List ℕ → ℕ
 after_blocks next [] = next
-after_blocks next (cb ∷ rest) = after_blocks (after next (block_size cb)) rest
+after_blocks next (cb ∷ rest) = after_blocks (after next (sealed_size cb)) rest
 
 -- ---- B-trees ([MS-PST] 2.2.2.7.7)
 
@@ -78,8 +78,8 @@ unfoldable pub layout_end : ℕ → List ℕ → ℕ
 layout_end nodes lengths =
     after_blocks (after_pages (after_pages 18432 (tree_pages 15 nodes)) (tree_pages 20 (length lengths))) lengths
 
-abbrev pub end_of : Plan → ℕ
-end_of plan = layout_end (length plan.nodes.items) (body_lengths plan.blocks.items)
+abbrev pub plan_end : Plan → ℕ
+plan_end plan = layout_end (length plan.nodes.items) (body_lengths plan.blocks.items)
 
 -- a store is whole regions, up to the one where the last structure ends
 abbrev pub store_length : ℕ → ℕ
@@ -92,7 +92,7 @@ abbrev pub IsPageBelow : ℕ → Bref → Type 0
 IsPageBelow end page = (17408 ≤ page.ib) × (page.ib + 512 ≤ end)
 
 abbrev pub IsBlockBelow : ℕ → PlacedBlock → Type 0
-IsBlockBelow end block = (17408 ≤ block.ib) × (length block.body.now ≤ 8176) × (block.ib + block_size (length block.body.now) ≤ end)
+IsBlockBelow end block = (17408 ≤ block.ib) × (length block.body.now ≤ 8176) × (block.ib + sealed_size (length block.body.now) ≤ end)
 
 -- Placing fails only where what is placed ends behind the limit, or where memory was refused.
 abbrev pub IsPlaceFault : ℕ → MakeFault → Type 0

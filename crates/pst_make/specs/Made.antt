@@ -4,7 +4,7 @@ use Rattle.std.specs.Global.{Vec}
 use Rattle.pst_make.specs.declared.plan.MakeFault.{MakeFault}
 use Rattle.pst_make.specs.declared.plan.MakeFault.TheVariants.{TooLarge, Body, Memory}
 use Rattle.pst_make.specs.declared.plan.Plan.{Plan}
-use Rattle.pst_make.specs.Layout.{end_of, store_limit, store_length}
+use Rattle.pst_make.specs.Layout.{plan_end, store_limit, store_length}
 use Rattle.pst_make.specs.Plan.{has_long_body}
 use Rattle.pst_make.specs.Sealed.{SealedHeader}
 
@@ -12,8 +12,8 @@ use Rattle.pst_make.specs.Sealed.{SealedHeader}
 -- as they take, and its header is sealed.
 pub record IsMade (plan : Plan) (image : Vec ℕ) : Type 0 where
   pub short : has_long_body plan.blocks.items ≡ false
-  pub fits : end_of plan ≤ store_limit
-  pub length_is : length image.items ≡ store_length (end_of plan)
+  pub fits : plan_end plan ≤ store_limit
+  pub length_is : length image.items ≡ store_length (plan_end plan)
   pub sealed : SealedHeader image.items
 
 -- None was made: a body is too long; or none is, and the pages and blocks end behind 16 regions; or memory was refused
@@ -21,5 +21,5 @@ pub record IsMade (plan : Plan) (image : Vec ℕ) : Type 0 where
 -- TooLarge.
 abbrev pub IsMakeFault : Plan → MakeFault → Type 0
 IsMakeFault plan Body = has_long_body plan.blocks.items ≡ true
-IsMakeFault plan TooLarge = (has_long_body plan.blocks.items ≡ false) × (store_limit < end_of plan)
+IsMakeFault plan TooLarge = (has_long_body plan.blocks.items ≡ false) × (store_limit < plan_end plan)
 IsMakeFault plan Memory = has_long_body plan.blocks.items ≡ false

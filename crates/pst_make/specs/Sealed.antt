@@ -4,7 +4,7 @@ use Rattle.std.specs.Int.{div_ceil}
 use Rattle.pst_bytes.specs.Image.{num, bytes_at}
 use Rattle.pst_bytes.specs.declared.span.Span.{Span}
 use Rattle.pst_crc.specs.Crc.{crc, signature_of}
-use Rattle.pst_make.specs.Elsewhere.{one_span}
+use Rattle.pst_make.specs.Elsewhere.{one_field}
 
 -- ---- the header ([MS-PST] 2.2.2.6)
 
@@ -32,17 +32,17 @@ pub record SealedPage (I : List ℕ) (at : ℕ) : Type 0 where
   pub check : num I (at + 500) 4 ≡ crc (bytes_at I (record { at = at; len = 496 }))
 
 abbrev pub page_checks : ℕ → List Span
-page_checks at = one_span (at + 498) 6
+page_checks at = one_field (at + 498) 6
 
 -- ---- a block ([MS-PST] 2.2.2.8.1)
 
 -- the body and a trailer of 16 bytes, rounded up to a multiple of 64
-abbrev pub block_size : ℕ → ℕ
-block_size cb = div_ceil (cb + 16) 64 * 64
+abbrev pub sealed_size : ℕ → ℕ
+sealed_size cb = div_ceil (cb + 16) 64 * 64
 
 -- the trailer stands in the last 16 bytes
 abbrev pub trailer_of : ℕ → ℕ → ℕ
-trailer_of at cb = at + (block_size cb - 16)
+trailer_of at cb = at + (sealed_size cb - 16)
 
 -- wSig stands at 2 of the trailer, for the bid at 8; dwCRC at 4 is the check value of the body.
 pub record SealedBlock (I : List ℕ) (at cb : ℕ) : Type 0 where
@@ -50,4 +50,4 @@ pub record SealedBlock (I : List ℕ) (at cb : ℕ) : Type 0 where
   pub check : num I (trailer_of at cb + 4) 4 ≡ crc (bytes_at I (record { at = at; len = cb }))
 
 abbrev pub block_checks : ℕ → ℕ → List Span
-block_checks at cb = one_span (trailer_of at cb + 2) 6
+block_checks at cb = one_field (trailer_of at cb + 2) 6

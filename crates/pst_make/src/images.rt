@@ -1,7 +1,7 @@
 //! The fixed images, as plans and as bytes.
 
 ghost use Rattle.std.specs.Prelude.{◌≡◌, ◌≤◌, ◌<◌, [], ◌∷◌, false, length, map, IfOk};
-ghost use Rattle.pst_make.specs.Layout.{end_of, store_limit};
+ghost use Rattle.pst_make.specs.Layout.{plan_end, store_limit};
 ghost use Rattle.pst_make.specs.Made.{IsMade};
 ghost use Rattle.pst_make.specs.Plan.{bids_of, bodies_of, first_bids, has_long_body};
 
@@ -50,8 +50,10 @@ const SUBFOLDER: NodePlan = NodePlan {
 // A plan of blocks with these bodies, whose identifiers are 4, 8 and on, and of these nodes.
 fn plan_of(alloc: Global, bodies: &[&[u8]], nodes: &[NodePlan]) -> Result<Plan, AllocError>
     requires { length bodies.now < 16 }
-    ensures bodies { IfOk result (λ plan. bodies_of plan.blocks.items ≡ map (λ body. body.now) bodies.now) }
-    ensures bids { IfOk result (λ plan. bids_of plan.blocks.items ≡ first_bids (length bodies.now)) }
+    ensures bodies { IfOk result (λ plan.
+        bodies_of plan.blocks.items ≡ map (λ body. body.now) bodies.now) }
+    ensures bids { IfOk result (λ plan.
+        bids_of plan.blocks.items ≡ first_bids (length bodies.now)) }
     ensures nodes { IfOk result (λ plan. plan.nodes.items ≡ nodes.now) }
 {
     let mut blocks = Vec::new(alloc);
@@ -77,9 +79,11 @@ pub fn m0_plan(alloc: Global) -> Result<Plan, AllocError>
 /// The plan of M1: M0 with a hierarchy table of the root folder, and the one folder that it names. The folder has the
 /// same block as the root folder.
 pub fn m1_plan(alloc: Global) -> Result<Plan, AllocError>
-    ensures bodies { IfOk result (λ plan. bodies_of plan.blocks.items ≡ STORE ∷ FOLDER ∷ TABLE ∷ []) }
+    ensures bodies { IfOk result (λ plan.
+        bodies_of plan.blocks.items ≡ STORE ∷ FOLDER ∷ TABLE ∷ []) }
     ensures bids { IfOk result (λ plan. bids_of plan.blocks.items ≡ 4 ∷ 8 ∷ 12 ∷ []) }
-    ensures nodes { IfOk result (λ plan. plan.nodes.items ≡ MESSAGE_STORE ∷ ROOT_FOLDER ∷ HIERARCHY ∷ SUBFOLDER ∷ []) }
+    ensures nodes { IfOk result (λ plan.
+        plan.nodes.items ≡ MESSAGE_STORE ∷ ROOT_FOLDER ∷ HIERARCHY ∷ SUBFOLDER ∷ []) }
 {
     plan_of(
         alloc,
@@ -90,9 +94,11 @@ pub fn m1_plan(alloc: Global) -> Result<Plan, AllocError>
 
 /// The plan of M2: M0 with a name map, and a named property in the root folder.
 pub fn m2_plan(alloc: Global) -> Result<Plan, AllocError>
-    ensures bodies { IfOk result (λ plan. bodies_of plan.blocks.items ≡ STORE ∷ NAMED_FOLDER ∷ NAMES ∷ []) }
+    ensures bodies { IfOk result (λ plan.
+        bodies_of plan.blocks.items ≡ STORE ∷ NAMED_FOLDER ∷ NAMES ∷ []) }
     ensures bids { IfOk result (λ plan. bids_of plan.blocks.items ≡ 4 ∷ 8 ∷ 12 ∷ []) }
-    ensures nodes { IfOk result (λ plan. plan.nodes.items ≡ MESSAGE_STORE ∷ NAME_MAP ∷ ROOT_FOLDER ∷ []) }
+    ensures nodes { IfOk result (λ plan.
+        plan.nodes.items ≡ MESSAGE_STORE ∷ NAME_MAP ∷ ROOT_FOLDER ∷ []) }
 {
     plan_of(
         alloc,
@@ -104,7 +110,7 @@ pub fn m2_plan(alloc: Global) -> Result<Plan, AllocError>
 // The image of a plan that is small enough.
 fn image_of(alloc: Global, plan: &Plan) -> Result<Vec<u8>, AllocError>
     requires short { has_long_body plan.now.blocks.items ≡ false }
-    requires fits { end_of plan.now ≤ store_limit }
+    requires fits { plan_end plan.now ≤ store_limit }
     ensures { IfOk result (IsMade plan.now) }
 {
     match build(alloc, plan) {

@@ -2,7 +2,7 @@
 
 ghost use Rattle.std.specs.Prelude.{◌≡◌, ◌+◌, ◌%◌, ◌≤◌, ◌<◌, length, nat_eq, IfOk, IfErr};
 ghost use Rattle.std.specs.List.{All};
-ghost use Rattle.pst_make.specs.Layout.{IsBlockBelow, IsPageBelow, IsPlaceFault, after, after_blocks, after_pages, amap_place, end_of, free_from, pages_above, pages_for, place_of, store_limit, tree_pages};
+ghost use Rattle.pst_make.specs.Layout.{IsBlockBelow, IsPageBelow, IsPlaceFault, after, after_blocks, after_pages, map_place, plan_end, free_from, pages_above, pages_for, place_of, store_limit, tree_pages};
 ghost use Rattle.pst_make.specs.Plan.{HasShortBody, body_lengths};
 
 use crate::plan::{BlockPlan, MakeFault, Plan};
@@ -42,7 +42,7 @@ pub(crate) struct PlacedBlock<'a> {
 /// The place of an allocation map, at the start of its region.
 pub(crate) fn amap_place(region: u64) -> u64
     requires { region ≤ 17 }
-    ensures { result ≡ amap_place region }
+    ensures { result ≡ map_place region }
 {
     FIRST_MAP + REGION * region
 }
@@ -71,7 +71,7 @@ fn place_of(next: u64, size: u64) -> u64
     requires size { size ≤ 8192 }
     ensures place { result ≡ place_of next size }
     ensures forward { next ≤ result }
-    ensures near { result ≤ amap_place 18 }
+    ensures near { result ≤ map_place 18 }
 {
     let region = (next - FIRST_MAP) / REGION;
     let at = next.max(free_from(region));
@@ -96,7 +96,8 @@ impl Cursor {
     // Takes the place of the next structure.
     fn place(&mut self, size: u64) -> Result<u64, MakeFault>
         requires { size ≤ 8192 }
-        ensures placed { IfOk result (λ at. (at ≡ place_of self.old.next size) × (self.new.next ≡ after self.old.next size)) }
+        ensures placed { IfOk result (λ at.
+            (at ≡ place_of self.old.next size) × (self.new.next ≡ after self.old.next size)) }
         ensures forward { IfOk result (λ at. self.old.next ≤ at) }
         ensures same { self.new.next_page ≡ self.old.next_page }
         ensures fault { IfErr result (IsPlaceFault (after self.old.next size)) }
@@ -111,7 +112,8 @@ impl Cursor {
 
     // Takes the place and the identifier of the next page.
     fn page(&mut self) -> Result<Bref, MakeFault>
-        ensures placed { IfOk result (λ page. (page.ib ≡ place_of self.old.next 512) × (self.new.next ≡ after self.old.next 512)) }
+        ensures placed { IfOk result (λ page.
+            (page.ib ≡ place_of self.old.next 512) × (self.new.next ≡ after self.old.next 512)) }
         ensures forward { IfOk result (λ page. self.old.next ≤ page.ib) }
         ensures fault { IfErr result (IsPlaceFault (after self.old.next 512)) }
     {
@@ -154,7 +156,8 @@ fn tree_pages(capacity: usize, n: usize) -> usize
 
 // Places so many pages.
 fn place_pages(alloc: Global, cursor: &mut Cursor, count: usize) -> Result<Vec<Bref>, MakeFault>
-    ensures placed { IfOk result (λ pages. (length pages.items ≡ count) × All (IsPageBelow cursor.new.next) pages.items) }
+    ensures placed { IfOk result (λ pages.
+        (length pages.items ≡ count) × All (IsPageBelow cursor.new.next) pages.items) }
     ensures next { IfOk result (λ _. cursor.new.next ≡ after_pages cursor.old.next count) }
     ensures fault { IfErr result (IsPlaceFault (after_pages cursor.old.next count)) }
 {
@@ -174,8 +177,10 @@ fn place_blocks<'a>(
 ) -> Result<Vec<PlacedBlock<'a>>, MakeFault>
     requires { All HasShortBody blocks.now }
     ensures placed { IfOk result (λ placed. All (IsBlockBelow cursor.new.next) placed.items) }
-    ensures next { IfOk result (λ _. cursor.new.next ≡ after_blocks cursor.old.next (body_lengths blocks.now)) }
-    ensures fault { IfErr result (IsPlaceFault (after_blocks cursor.old.next (body_lengths blocks.now))) }
+    ensures next { IfOk result (λ _.
+        cursor.new.next ≡ after_blocks cursor.old.next (body_lengths blocks.now)) }
+    ensures fault { IfErr result
+        (IsPlaceFault (after_blocks cursor.old.next (body_lengths blocks.now))) }
 {
     let mut placed = Vec::new(alloc);
     for block in blocks {
@@ -216,8 +221,8 @@ impl<'a> Layout<'a> {
     /// Places a plan: TooLarge where it does not end within 16 regions.
     pub fn of(alloc: Global, plan: &'a Plan) -> Result<Layout<'a>, MakeFault>
         requires { All HasShortBody plan.now.blocks.items }
-        ensures placed { IfOk result (λ layout. layout.end ≡ end_of plan.entry.now) }
-        ensures fault { IfErr result (IsPlaceFault (end_of plan.entry.now)) }
+        ensures placed { IfOk result (λ layout. layout.end ≡ plan_end plan.entry.now) }
+        ensures fault { IfErr result (IsPlaceFault (plan_end plan.entry.now)) }
     {
         let nodes = plan.nodes.as_slice();
         let blocks = plan.blocks.as_slice();

@@ -2,7 +2,7 @@
 
 ghost use Rattle.std.specs.Prelude.{◌≡◌, ◌+◌, ◌≤◌, length};
 ghost use Rattle.pst_bytes.specs.Image.{num};
-ghost use Rattle.pst_make.specs.Elsewhere.{SameElsewhere, one_span, written};
+ghost use Rattle.pst_make.specs.Elsewhere.{SameElsewhere, one_field, written};
 
 /// Writes bytes at a place, and nothing else.
 #[tactic(auto, unfolding(crate::specs::Elsewhere::written))]
@@ -18,7 +18,7 @@ pub(crate) fn put_bytes(image: &mut [u8], at: u64, bytes: &[u8])
 pub(crate) fn put16(image: &mut [u8], at: u64, number: u16)
     requires { at + 2 ≤ length image.old }
     ensures value { num image.new at 2 ≡ number }
-    ensures others { SameElsewhere image.old image.new (one_span at 2) }
+    ensures others { SameElsewhere image.old image.new (one_field at 2) }
 {
     put_bytes(image, at, &number.to_le_bytes());
 }
@@ -27,7 +27,7 @@ pub(crate) fn put16(image: &mut [u8], at: u64, number: u16)
 pub(crate) fn put32(image: &mut [u8], at: u64, number: u32)
     requires { at + 4 ≤ length image.old }
     ensures value { num image.new at 4 ≡ number }
-    ensures others { SameElsewhere image.old image.new (one_span at 4) }
+    ensures others { SameElsewhere image.old image.new (one_field at 4) }
 {
     put_bytes(image, at, &number.to_le_bytes());
 }
@@ -36,7 +36,7 @@ pub(crate) fn put32(image: &mut [u8], at: u64, number: u32)
 pub(crate) fn put64(image: &mut [u8], at: u64, number: u64)
     requires { at + 8 ≤ length image.old }
     ensures value { num image.new at 8 ≡ number }
-    ensures others { SameElsewhere image.old image.new (one_span at 8) }
+    ensures others { SameElsewhere image.old image.new (one_field at 8) }
 {
     put_bytes(image, at, &number.to_le_bytes());
 }

@@ -3,7 +3,7 @@
 ghost use Rattle.std.specs.Prelude.{◌≡◌, ◌+◌, ◌≤◌, length};
 ghost use Rattle.pst_bytes.specs.Image.{bytes_of};
 ghost use Rattle.pst_make.specs.Elsewhere.{SameElsewhere};
-ghost use Rattle.pst_make.specs.Sealed.{SealedHeader, SealedPage, SealedBlock, header_checks, page_checks, block_checks, block_size, is_map_type, page_signature};
+ghost use Rattle.pst_make.specs.Sealed.{SealedHeader, SealedPage, SealedBlock, header_checks, page_checks, block_checks, sealed_size, is_map_type, page_signature};
 
 use crate::number::{put16, put32};
 use pst_bytes::{Image, Span};
@@ -11,7 +11,7 @@ use pst_bytes::{Image, Span};
 /// How many bytes a block with a body of cb bytes takes: the body and a trailer of 16 bytes, rounded up to a
 /// multiple of 64 ([MS-PST] 2.2.2.8).
 pub(crate) fn block_size(cb: u16) -> u64
-    ensures { result ≡ block_size cb }
+    ensures { result ≡ sealed_size cb }
 {
     (u64::from(cb) + 16).div_ceil(64) * 64
 }
@@ -65,7 +65,7 @@ pub fn seal_page(image: &mut [u8], at: u64)
 /// Seals the block at a place with a body of cb bytes ([MS-PST] 2.2.2.8.1): wSig and dwCRC of its trailer are written,
 /// for the bid that stands there.
 pub fn seal_block(image: &mut [u8], at: u64, cb: u16)
-    requires { at + block_size cb ≤ length image.old }
+    requires { at + sealed_size cb ≤ length image.old }
     ensures sealed { SealedBlock image.new at cb }
     ensures others { SameElsewhere image.old image.new (block_checks at cb) }
 {

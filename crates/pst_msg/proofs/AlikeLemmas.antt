@@ -6,11 +6,11 @@ use Rattle.pst_block.specs.Block.{bid_key}
 use Rattle.pst_btree.specs.Entries.{first_with}
 use Rattle.pst_subnode.specs.declared.height.TheConstants.{LISTS}
 use Rattle.pst_subnode.specs.declared.sub.Sub.{Sub}
-use Rattle.pst_subnode.specs.List.{nid_of, subs_of}
+use Rattle.pst_subnode.specs.List.{sub_nid, subs_of}
 use Rattle.pst_subnode.specs.Tree.{sub_fault}
 use Rattle.pst_subnode.proofs.HeightLaws.{subs_same}
 use Rattle.pst_ndb.specs.Roots.{Roots, sub_roots, subnode_of}
-use Rattle.pst_value.specs.Alike.{Alike}
+use Rattle.pst_ndb.specs.Alike.{Alike}
 use Rattle.pst_pc.specs.Fault.{pc_fault}
 use Rattle.pst_pc.specs.Grammar.{IsPc}
 use Rattle.pst_pc.proofs.AlikeLaws.{alike_pc_law}
@@ -62,7 +62,7 @@ mapped_alike r s y (Some x) e = let same : sub_roots s x ≡ y = cc in (sub_root
 
 pub subnode_alike : (t : Table) (r s : Roots) (nid : ℕ) (y : Roots) → SameList r s → subnode_of t s nid ≡ Some y → AlikeSubnode t r nid y
 unfolding subnode_of
-subnode_alike t r s nid y e is = mapped_alike r s y (first_with nid_of nid (subs_of t r.bid_sub)) (rw (subs_same t r.bid_sub s.bid_sub e) is)
+subnode_alike t r s nid y e is = mapped_alike r s y (first_with sub_nid nid (subs_of t r.bid_sub)) (rw (subs_same t r.bid_sub s.bid_sub e) is)
 
 has_alike : (t : Table) (r s : Roots) (nid : ℕ) → SameList r s → HasSubnode t r nid → HasSubnode t s nid
 has_alike t r s nid e has = let found = subnode_alike t s r nid has.0 (sym e) has.1 in (found.0, found.1)

@@ -21,7 +21,7 @@ use Rattle.pst_msg.specs.declared.items.Items.{Items}
 use Rattle.pst_msg.specs.declared.items.Items.TheVariants.{Subfolders, Messages, Associated}
 use Rattle.pst_msg.specs.declared.nid.TheConstants.{STORE, ROOT, FOLDER, SEARCH_FOLDER, MESSAGE, ASSOCIATED}
 use Rattle.pst_msg.specs.Nid.{type_of, is_type, named}
-use Rattle.pst_msg.specs.Fault.{message_fault, item_fault, items_fault, table_fault, folder_fault, required_fault, node_fault, messaging_fault}
+use Rattle.pst_msg.specs.Fault.{message_fault, listed_item_fault, items_fault, table_fault, folder_fault, required_fault, typed_node_fault, messaging_fault}
 use Rattle.pst_msg.specs.Values.{may_list, listing_of}
 use Rattle.pst_tc.specs.Grammar.{IsTc}
 use Rattle.pst_msg.specs.Grammar.{Lists, IsFolder, HasProperties, Contents}
@@ -37,12 +37,12 @@ use Rattle.pst_msg.proofs.MessageLaws.{there_none, none_there, message_law}
 abbrev Named : List NodeEntry → Items → RowParts → Type 0
 Named nodes items x = ((n : Roots) × (node_in nodes x.id ≡ Some n)) × (may_list items x.id ≡ true)
 
-pub item_none : (nodes : List NodeEntry) (items : Items) (bid : ℕ) (x : RowParts) → Named nodes items x → item_fault nodes items bid x ≡ None
-unfolding item_fault
+pub item_none : (nodes : List NodeEntry) (items : Items) (bid : ℕ) (x : RowParts) → Named nodes items x → listed_item_fault nodes items bid x ≡ None
+unfolding listed_item_fault
 item_none nodes items bid x h = rw h.0.1 (holds_or_true (may_list items x.id) (named NodeKind x.at bid x.id) h.1)
 
-pub none_item : (nodes : List NodeEntry) (items : Items) (bid : ℕ) (x : RowParts) → item_fault nodes items bid x ≡ None → Named nodes items x
-unfolding item_fault
+pub none_item : (nodes : List NodeEntry) (items : Items) (bid : ℕ) (x : RowParts) → listed_item_fault nodes items bid x ≡ None → Named nodes items x
+unfolding listed_item_fault
 none_item nodes items bid x none = by_found (node_in nodes x.id) refl none
   where
     by_found : (o : Option Roots) → node_in nodes x.id ≡ o → there_or (named NodeMissing x.at bid x.id) (λ _. holds_or (may_list items x.id) (named NodeKind x.at bid x.id)) o ≡ None → Named nodes items x
@@ -57,14 +57,14 @@ ListsIn t nodes items table = IsTc t table × ((x : RowParts) → Contains (tc_r
 items_none : (t : Table) (nodes : List NodeEntry) (items : Items) (table : Roots) → ListsIn t nodes items table → items_fault t nodes items table ≡ None
 unfolding items_fault
 items_none t nodes items table h =
-    both_none (tc_fault t table) (first_of (item_fault nodes items table.bid_data) (tc_rows t table)) (tc_none t table h.0)
-    (of_none (item_fault nodes items table.bid_data) (tc_rows t table) (λ x w. item_none nodes items table.bid_data x (h.1 x w)))
+    both_none (tc_fault t table) (first_of (listed_item_fault nodes items table.bid_data) (tc_rows t table)) (tc_none t table h.0)
+    (of_none (listed_item_fault nodes items table.bid_data) (tc_rows t table) (λ x w. item_none nodes items table.bid_data x (h.1 x w)))
 
 none_items : (t : Table) (nodes : List NodeEntry) (items : Items) (table : Roots) → items_fault t nodes items table ≡ None → ListsIn t nodes items table
 unfolding items_fault
 none_items t nodes items table none =
-    let both = none_then (tc_fault t table) (first_of (item_fault nodes items table.bid_data) (tc_rows t table)) none in
-    (none_tc t table both.0, λ x w. none_item nodes items table.bid_data x (none_of (item_fault nodes items table.bid_data) (tc_rows t table) x both.1 w))
+    let both = none_then (tc_fault t table) (first_of (listed_item_fault nodes items table.bid_data) (tc_rows t table)) none in
+    (none_tc t table both.0, λ x w. none_item nodes items table.bid_data x (none_of (listed_item_fault nodes items table.bid_data) (tc_rows t table) x both.1 w))
 
 table_none : (t : Table) (nodes : List NodeEntry) (items : Items) (r : Roots) → Lists t nodes items r → table_fault t nodes items r.top ≡ None
 unfolding table_fault
@@ -97,23 +97,23 @@ none_folder t nodes r none =
 
 -- ---- a node, by its type
 
-pub node_is_folder : (t : Table) (nodes : List NodeEntry) (r : Roots) → type_of r.top ≡ FOLDER → node_fault t nodes r ≡ folder_fault t nodes r
-unfolding node_fault
+pub node_is_folder : (t : Table) (nodes : List NodeEntry) (r : Roots) → type_of r.top ≡ FOLDER → typed_node_fault t nodes r ≡ folder_fault t nodes r
+unfolding typed_node_fault
 node_is_folder t nodes r e = rw e refl
 
-pub node_is_search : (t : Table) (nodes : List NodeEntry) (r : Roots) → type_of r.top ≡ SEARCH_FOLDER → node_fault t nodes r ≡ pc_fault t r
-unfolding node_fault
+pub node_is_search : (t : Table) (nodes : List NodeEntry) (r : Roots) → type_of r.top ≡ SEARCH_FOLDER → typed_node_fault t nodes r ≡ pc_fault t r
+unfolding typed_node_fault
 node_is_search t nodes r e = rw e refl
 
-pub node_is_message : (t : Table) (nodes : List NodeEntry) (r : Roots) → type_of r.top ≡ MESSAGE → node_fault t nodes r ≡ message_fault t r
-unfolding node_fault
+pub node_is_message : (t : Table) (nodes : List NodeEntry) (r : Roots) → type_of r.top ≡ MESSAGE → typed_node_fault t nodes r ≡ message_fault t r
+unfolding typed_node_fault
 node_is_message t nodes r e = rw e refl
 
-pub node_is_associated : (t : Table) (nodes : List NodeEntry) (r : Roots) → type_of r.top ≡ ASSOCIATED → node_fault t nodes r ≡ message_fault t r
-unfolding node_fault
+pub node_is_associated : (t : Table) (nodes : List NodeEntry) (r : Roots) → type_of r.top ≡ ASSOCIATED → typed_node_fault t nodes r ≡ message_fault t r
+unfolding typed_node_fault
 node_is_associated t nodes r e = rw e refl
 
-none_node : (t : Table) (nodes : List NodeEntry) (r : Roots) → sub_fault t LISTS r.bid_sub ≡ None → node_fault t nodes r ≡ None → IsAsTyped t nodes r
+none_node : (t : Table) (nodes : List NodeEntry) (r : Roots) → sub_fault t LISTS r.bid_sub ≡ None → typed_node_fault t nodes r ≡ None → IsAsTyped t nodes r
 none_node t nodes r sound none = record {
   folder = λ e. none_folder t nodes r (sym (node_is_folder t nodes r e) ∙ none);
   search_folder = λ e. none_pc t r (sym (node_is_search t nodes r e) ∙ none);
@@ -121,8 +121,8 @@ none_node t nodes r sound none = record {
   associated = λ e. (message_law t r sound).1 (sym (node_is_associated t nodes r e) ∙ none);
 }
 
-node_none : (t : Table) (nodes : List NodeEntry) (r : Roots) → sub_fault t LISTS r.bid_sub ≡ None → IsAsTyped t nodes r → node_fault t nodes r ≡ None
-unfolding node_fault
+node_none : (t : Table) (nodes : List NodeEntry) (r : Roots) → sub_fault t LISTS r.bid_sub ≡ None → IsAsTyped t nodes r → typed_node_fault t nodes r ≡ None
+unfolding typed_node_fault
 node_none t nodes r sound facts = by_type (is_type FOLDER r.top) (is_type SEARCH_FOLDER r.top) (is_type MESSAGE r.top) (is_type ASSOCIATED r.top) refl refl refl refl
   where
     by_type : (a b c d : Bool) → is_type FOLDER r.top ≡ a → is_type SEARCH_FOLDER r.top ≡ b → is_type MESSAGE r.top ≡ c → is_type ASSOCIATED r.top ≡ d → (if a then folder_fault t nodes r else (if b then pc_fault t r else (if c || d then message_fault t r else None))) ≡ None
@@ -165,16 +165,16 @@ contents_none : (t : Table) (nodes : List NodeEntry) → nodes_fault t nodes ≡
 unfolding messaging_fault
 contents_none t nodes sound is =
     both_none (required_fault t nodes STORE) _ (required_none t nodes STORE is.store)
-    (both_none (required_fault t nodes ROOT) (first_of (node_fault t nodes) (all_roots nodes)) (required_none t nodes ROOT is.root)
-    (of_none (node_fault t nodes) (all_roots nodes)
+    (both_none (required_fault t nodes ROOT) (first_of (typed_node_fault t nodes) (all_roots nodes)) (required_none t nodes ROOT is.root)
+    (of_none (typed_node_fault t nodes) (all_roots nodes)
     (λ r w. node_none t nodes r (nodes_sound t nodes r sound w) (record { folder = is.folders r w; search_folder = is.searches r w; message = is.messages r w; associated = is.associated r w }))))
 
 pub none_contents : (t : Table) (nodes : List NodeEntry) → nodes_fault t nodes ≡ None → messaging_fault t nodes ≡ None → Contents t nodes
 unfolding messaging_fault
 none_contents t nodes sound none =
-    let p = none_then (required_fault t nodes STORE) (required_fault t nodes ROOT then first_of (node_fault t nodes) (all_roots nodes)) none in
-    let q = none_then (required_fault t nodes ROOT) (first_of (node_fault t nodes) (all_roots nodes)) p.1 in
-    let each : (r : Roots) → Contains (all_roots nodes) r → IsAsTyped t nodes r = λ r w. none_node t nodes r (nodes_sound t nodes r sound w) (none_of (node_fault t nodes) (all_roots nodes) r q.1 w) in record {
+    let p = none_then (required_fault t nodes STORE) (required_fault t nodes ROOT then first_of (typed_node_fault t nodes) (all_roots nodes)) none in
+    let q = none_then (required_fault t nodes ROOT) (first_of (typed_node_fault t nodes) (all_roots nodes)) p.1 in
+    let each : (r : Roots) → Contains (all_roots nodes) r → IsAsTyped t nodes r = λ r w. none_node t nodes r (nodes_sound t nodes r sound w) (none_of (typed_node_fault t nodes) (all_roots nodes) r q.1 w) in record {
       store = none_required t nodes STORE p.0;
       root = none_required t nodes ROOT q.0;
       folders = λ r w e. (each r w).folder e;

@@ -9,8 +9,9 @@ use Rattle.pst_msg.specs.declared.known.Known.{Known}
 use Rattle.pst_msg.specs.declared.role.Role.{Role}
 use Rattle.pst_msg.specs.Keys.{key, keys_in}
 use Rattle.pst_msg.specs.Roles.{role_number}
-use Rattle.pst_msg.specs.Counts.{Names, capped}
-use Rattle.pst_msg.specs.Growth.{Grows, IsCounted}
+use Rattle.pst_ndb.specs.Counts.{capped}
+use Rattle.pst_msg.specs.Counts.{Names}
+use Rattle.pst_msg.specs.Growth.{Grows, AreContextsCounted}
 use Rattle.pst_msg.proofs.KnownLemmas.{OneMore, Kept}
 
 -- ---- steps one after another
@@ -50,7 +51,7 @@ grows_of t H K a b of g = record {
 
 -- ---- one more
 
-pub context_grows : (t : Table) (role : Role) (r : Roots) (k : Known) (new : Keys) (count : ℕ) → OneMore k.contexts new (key (role_number role) r) → Kept k.contexts new → k.count ≤ count → ((start : ℕ) → IsCounted start k → count ≡ capped (start + length (keys_in new))) → Grows t (λ nodes. Names t nodes role r) k (record k { contexts = new; count = count })
+pub context_grows : (t : Table) (role : Role) (r : Roots) (k : Known) (new : Keys) (count : ℕ) → OneMore k.contexts new (key (role_number role) r) → Kept k.contexts new → k.count ≤ count → ((start : ℕ) → AreContextsCounted start k → count ≡ capped (start + length (keys_in new))) → Grows t (λ nodes. Names t nodes role r) k (record k { contexts = new; count = count })
 context_grows t role r k new count more kept risen counted = record {
   contexts = kept;
   messages = λ q h. h;

@@ -17,7 +17,7 @@ use Rattle.pst_msg.specs.declared.items.Items.TheVariants.{Subfolders, Messages,
 use Rattle.pst_msg.specs.declared.nid.TheConstants.{FOLDER, SEARCH_FOLDER, MESSAGE, ASSOCIATED}
 use Rattle.pst_msg.specs.Nid.{type_of, is_type}
 use Rattle.pst_msg.specs.Values.{is_folder, is_message, listing_of}
-use Rattle.pst_msg.specs.Fault.{message_fault, node_fault}
+use Rattle.pst_msg.specs.Fault.{message_fault, typed_node_fault}
 use Rattle.pst_msg.specs.Grammar.{IsFolder, Lists}
 use Rattle.pst_msg.proofs.ContentsLaws.{none_folder, node_is_folder, node_is_search, node_is_message, node_is_associated}
 
@@ -26,16 +26,16 @@ either true b e f g = f refl
 either false b e f g = g e
 
 -- a node of a message's type is a message
-pub of_message : (t : Table) (nodes : List NodeEntry) (r : Roots) → node_fault t nodes r ≡ None → is_message r.top ≡ true → message_fault t r ≡ None
+pub of_message : (t : Table) (nodes : List NodeEntry) (r : Roots) → typed_node_fault t nodes r ≡ None → is_message r.top ≡ true → message_fault t r ≡ None
 of_message t nodes r none is =
     either (is_type MESSAGE r.top) (is_type ASSOCIATED r.top) is
     (λ e. sym (node_is_message t nodes r (eqb-true (type_of r.top) MESSAGE e)) ∙ none)
     (λ e. sym (node_is_associated t nodes r (eqb-true (type_of r.top) ASSOCIATED e)) ∙ none)
 
-of_folder : (t : Table) (nodes : List NodeEntry) (r : Roots) → node_fault t nodes r ≡ None → is_type FOLDER r.top ≡ true → IsFolder t nodes r
+of_folder : (t : Table) (nodes : List NodeEntry) (r : Roots) → typed_node_fault t nodes r ≡ None → is_type FOLDER r.top ≡ true → IsFolder t nodes r
 of_folder t nodes r none is = none_folder t nodes r (sym (node_is_folder t nodes r (eqb-true (type_of r.top) FOLDER is)) ∙ none)
 
-pub folder_properties : (ndb : Ndb) (node : Node) → table_of_node node ≡ table_of_ndb ndb → is_folder (top_of node) ≡ true → node_fault (table_of_ndb ndb) (nodes_of ndb) (roots_of node) ≡ None → pc_fault (table_of_node node) (roots_of node) ≡ None
+pub folder_properties : (ndb : Ndb) (node : Node) → table_of_node node ≡ table_of_ndb ndb → is_folder (top_of node) ≡ true → typed_node_fault (table_of_ndb ndb) (nodes_of ndb) (roots_of node) ≡ None → pc_fault (table_of_node node) (roots_of node) ≡ None
 folder_properties ndb node same kind none =
     let t = table_of_ndb ndb in
     let r = roots_of node in
@@ -48,7 +48,7 @@ lists t nodes Subfolders r is = is.subfolders
 lists t nodes Messages r is = is.messages
 lists t nodes Associated r is = is.associated
 
-pub folder_tables : (ndb : Ndb) (node table : Node) (items : Items) → node_fault (table_of_ndb ndb) (nodes_of ndb) (roots_of node) ≡ None → is_type FOLDER (top_of node) ≡ true → Some (roots_of table) ≡ listing_of (nodes_of ndb) items (top_of node) → table_of_node table ≡ table_of_ndb ndb → tc_fault (table_of_node table) (roots_of table) ≡ None
+pub folder_tables : (ndb : Ndb) (node table : Node) (items : Items) → typed_node_fault (table_of_ndb ndb) (nodes_of ndb) (roots_of node) ≡ None → is_type FOLDER (top_of node) ≡ true → Some (roots_of table) ≡ listing_of (nodes_of ndb) items (top_of node) → table_of_node table ≡ table_of_ndb ndb → tc_fault (table_of_node table) (roots_of table) ≡ None
 folder_tables ndb node table items none kind is same =
     let t = table_of_ndb ndb in
     rw same (tc_none t (roots_of table) (lists t (nodes_of ndb) items (roots_of node) (of_folder t (nodes_of ndb) (roots_of node) none kind) (roots_of table) (sym is)).0)

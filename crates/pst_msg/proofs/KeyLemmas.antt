@@ -11,7 +11,7 @@ use Rattle.std.proofs.lemmas.Cmp.{tied_itself, nat_cmp_total}
 use Rattle.pst_block.specs.Block.{bid_key}
 use Rattle.pst_ndb.specs.Roots.{Roots}
 use Rattle.pst_msg.specs.declared.keys.Keys.{Keys}
-use Rattle.pst_value.specs.Alike.{Alike}
+use Rattle.pst_ndb.specs.Alike.{Alike}
 use Rattle.pst_msg.specs.Keys.{Key, key, list_key, pair_cmp, key_cmp, keys_in, holds, has}
 
 pub keys_exact : CmpEqualImpliesEq key_cmp

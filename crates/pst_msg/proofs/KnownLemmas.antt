@@ -14,7 +14,7 @@ use Rattle.pst_msg.specs.ListIndex.{IsIndexIn}
 use Rattle.pst_msg.specs.declared.nid.TheConstants.{ATTACHMENTS, RECIPIENTS}
 use Rattle.pst_msg.specs.declared.role.Role.{Role}
 use Rattle.pst_msg.specs.declared.role.Role.TheVariants.{Properties, Listed, Recipients, Attachments}
-use Rattle.pst_value.specs.Alike.{Alike}
+use Rattle.pst_ndb.specs.Alike.{Alike}
 use Rattle.pst_msg.specs.Keys.{Key, key, list_key, holds, has}
 use Rattle.pst_msg.specs.Roles.{role_number, role_fault}
 use Rattle.pst_msg.specs.Fault.{held_fault, below_message, message_at, attachment_at, message_fault, attachment_fault}

@@ -1,5 +1,5 @@
 -- A message says the same under each number of lists that may nest, as long as its subnodes have no fault there.
-use Rattle.std.proofs.Common.{◌≡◌, ℕ, zero, suc, List, [], ◌∷◌, Option, Some, None, refl, sym, ap, ◌∙◌}
+use Rattle.std.proofs.Common.{◌≡◌, ℕ, zero, suc, Option, Some, None, refl, sym, ap, ◌∙◌}
 use Rattle.pst_fault.specs.declared.fault.Fault.{Fault}
 use Rattle.pst_fault.specs.declared.kind.Kind.TheVariants.{NodeMissing, NodeKind}
 use Rattle.pst_fault.specs.First.{◌then◌, holds_or}
@@ -8,13 +8,14 @@ use Rattle.pst_subnode.specs.Tree.{sub_fault}
 use Rattle.pst_msg.specs.declared.object.Object.{Object}
 use Rattle.pst_tc.specs.Values.{RowParts, tc_rows}
 use Rattle.pst_ndb.specs.Roots.{Roots, subnode_of}
-use Rattle.pst_fault.specs.Each.{first_of, if_there, there_or}
+use Rattle.pst_fault.specs.Each.{if_there, there_or}
+use Rattle.pst_fault.proofs.EachLemmas.{first_of_same}
 use Rattle.pst_pc.specs.Fault.{pc_fault}
 use Rattle.pst_tc.specs.Fault.{tc_fault}
 use Rattle.pst_msg.specs.Values.{embedded_of}
 use Rattle.pst_msg.specs.declared.nid.TheConstants.{ATTACHMENT, ATTACHMENTS, RECIPIENTS}
 use Rattle.pst_msg.specs.Nid.{is_type, named}
-use Rattle.pst_msg.specs.Fault.{row_fault, attachments_fault, held_fault, message_part, embedded_fault, attachment_part, message_at, attachment_at, below_message, below_attachment, nothing_below}
+use Rattle.pst_msg.specs.Fault.{attachment_row_fault, attachments_fault, held_fault, message_part, embedded_fault, attachment_part, message_at, attachment_at, below_message, below_attachment, nothing_below}
 use Rattle.pst_msg.specs.Laws.{LimitLaw}
 use Rattle.pst_msg.proofs.SubnodeLemmas.{no_subnode, subnode_suc}
 use Rattle.pst_msg.proofs.MessageLemmas.{message_is, attachment_is}
@@ -23,13 +24,8 @@ use Rattle.pst_msg.proofs.MessageLemmas.{message_is, attachment_is}
 abbrev pub AgreeBelow : Table → Roots → (Roots → Option Fault) → (Roots → Option Fault) → Type 0
 AgreeBelow t r below other = (nid : ℕ) (s : Roots) → subnode_of t r nid ≡ Some s → below s ≡ other s
 
-pub first_of_same : {X : Type 0} (part other : X → Option Fault) (xs : List X) → ((x : X) → part x ≡ other x) → first_of part xs ≡ first_of other xs
-unfolding first_of
-first_of_same part other [] h = refl
-first_of_same part other (x ∷ rest) h = rw (h x, first_of_same part other rest h) refl
-
-row_same : (t : Table) (below other : Roots → Option Fault) (r : Roots) (bid : ℕ) (x : RowParts) → AgreeBelow t r below other → row_fault t below r bid x ≡ row_fault t other r bid x
-unfolding row_fault
+row_same : (t : Table) (below other : Roots → Option Fault) (r : Roots) (bid : ℕ) (x : RowParts) → AgreeBelow t r below other → attachment_row_fault t below r bid x ≡ attachment_row_fault t other r bid x
+unfolding attachment_row_fault
 row_same t below other r bid x h = by_found (subnode_of t r x.id) refl
   where
     by_found : (o : Option Roots) → subnode_of t r x.id ≡ o →
@@ -41,7 +37,7 @@ row_same t below other r bid x h = by_found (subnode_of t r x.id) refl
 attachments_same : (t : Table) (below other : Roots → Option Fault) (r : Roots) (table : Roots) → AgreeBelow t r below other → attachments_fault t below r table ≡ attachments_fault t other r table
 unfolding attachments_fault
 attachments_same t below other r table h =
-    ap (λ f. tc_fault t table then f) (first_of_same (row_fault t below r table.bid_data) (row_fault t other r table.bid_data) (tc_rows t table) (λ x. row_same t below other r table.bid_data x h))
+    ap (λ f. tc_fault t table then f) (first_of_same (attachment_row_fault t below r table.bid_data) (attachment_row_fault t other r table.bid_data) (λ x. row_same t below other r table.bid_data x h) (tc_rows t table))
 
 if_there_same : {X : Type 0} (part other : X → Option Fault) (o : Option X) → ((x : X) → part x ≡ other x) → if_there part o ≡ if_there other o
 if_there_same part other None h = refl

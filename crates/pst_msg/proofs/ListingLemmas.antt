@@ -5,14 +5,14 @@ use Rattle.pst_fault.proofs.EachLemmas.{of_none, none_of}
 use Rattle.pst_page.specs.declared.entry.NodeEntry.{NodeEntry}
 use Rattle.pst_block.specs.Table.{Table}
 use Rattle.pst_ndb.specs.Roots.{Roots}
-use Rattle.pst_value.specs.Alike.{Alike}
+use Rattle.pst_ndb.specs.Alike.{Alike}
 use Rattle.pst_tc.specs.Values.{tc_rows}
 use Rattle.pst_msg.specs.declared.items.Items.{Items}
 use Rattle.pst_msg.specs.declared.items.Items.TheVariants.{Subfolders}
 use Rattle.pst_msg.specs.declared.keys.Keys.{Keys}
 use Rattle.pst_msg.specs.declared.role.Role.{Role}
 use Rattle.pst_msg.specs.declared.role.Role.TheVariants.{Properties, Listed, Recipients, Attachments}
-use Rattle.pst_msg.specs.Fault.{item_fault}
+use Rattle.pst_msg.specs.Fault.{listed_item_fault}
 use Rattle.pst_msg.specs.Keys.{Key, key, holds}
 use Rattle.pst_msg.specs.Known.{ListingsAreTrue}
 use Rattle.pst_msg.specs.Roles.{role_number}
@@ -22,11 +22,11 @@ use Rattle.pst_msg.proofs.KeyLemmas.{alike_of_key}
 use Rattle.pst_msg.proofs.KnownLemmas.{OneMore, same_role}
 
 -- the rows of tables that are alike name nodes that belong there together
-listing_alike : (t : Table) (nodes : List NodeEntry) (items : Items) (r s : Roots) → Alike r s → first_of (item_fault nodes items r.bid_data) (tc_rows t r) ≡ None → first_of (item_fault nodes items s.bid_data) (tc_rows t s) ≡ None
+listing_alike : (t : Table) (nodes : List NodeEntry) (items : Items) (r s : Roots) → Alike r s → first_of (listed_item_fault nodes items r.bid_data) (tc_rows t r) ≡ None → first_of (listed_item_fault nodes items s.bid_data) (tc_rows t s) ≡ None
 listing_alike t nodes items r s e none =
-    of_none (item_fault nodes items s.bid_data) (tc_rows t s)
+    of_none (listed_item_fault nodes items s.bid_data) (tc_rows t s)
     (λ x w. item_none nodes items s.bid_data x (none_item nodes items r.bid_data x
-    (none_of (item_fault nodes items r.bid_data) (tc_rows t r) x none (rw (rows_alike t r s e) w))))
+    (none_of (listed_item_fault nodes items r.bid_data) (tc_rows t r) x none (rw (rows_alike t r s e) w))))
 
 items_in : Role → Items
 items_in Properties = Subfolders
@@ -43,7 +43,7 @@ none_listed t nodes keys none items s is = absurd (no_both _ (none (key (role_nu
     no_both false e f = cc
 
 -- one more is remembered
-pub listing_remembered : (t : Table) (nodes : List NodeEntry) (items : Items) (r : Roots) (old new : Keys) → ListingsAreTrue t nodes old → first_of (item_fault nodes items r.bid_data) (tc_rows t r) ≡ None → OneMore old new (key (role_number (Listed items)) r) → ListingsAreTrue t nodes new
+pub listing_remembered : (t : Table) (nodes : List NodeEntry) (items : Items) (r : Roots) (old new : Keys) → ListingsAreTrue t nodes old → first_of (listed_item_fault nodes items r.bid_data) (tc_rows t r) ≡ None → OneMore old new (key (role_number (Listed items)) r) → ListingsAreTrue t nodes new
 unfolding items_in
 listing_remembered t nodes items r old new are none more other s in_new = elim (more (key (role_number (Listed other)) s) in_new) [
   | inl was ↦ are other s was
@@ -54,11 +54,11 @@ listing_remembered t nodes items r old new are none more other s in_new = elim (
 ]
 
 -- a table that is remembered has rows without fault
-pub listed : (t u : Table) (nodes : List NodeEntry) (items : Items) (r : Roots) (keys : Keys) (q : Key) → u ≡ t → ListingsAreTrue t nodes keys → q ≡ key (role_number (Listed items)) r → holds keys q ≡ true → first_of (item_fault nodes items r.bid_data) (tc_rows u r) ≡ None
+pub listed : (t u : Table) (nodes : List NodeEntry) (items : Items) (r : Roots) (keys : Keys) (q : Key) → u ≡ t → ListingsAreTrue t nodes keys → q ≡ key (role_number (Listed items)) r → holds keys q ≡ true → first_of (listed_item_fault nodes items r.bid_data) (tc_rows u r) ≡ None
 listed t u nodes items r keys q same are named there = rw same (are items r (rw (← named) there))
 
 -- a table whose rows have no fault is remembered
-pub one_listed : (t u : Table) (nodes : List NodeEntry) (items : Items) (r v : Roots) (bid : ℕ) (old new : Keys) (q : Key) → u ≡ t → v ≡ r → bid ≡ r.bid_data → ListingsAreTrue t nodes old → first_of (item_fault nodes items bid) (tc_rows u v) ≡ None → q ≡ key (role_number (Listed items)) r → OneMore old new q → ListingsAreTrue t nodes new
+pub one_listed : (t u : Table) (nodes : List NodeEntry) (items : Items) (r v : Roots) (bid : ℕ) (old new : Keys) (q : Key) → u ≡ t → v ≡ r → bid ≡ r.bid_data → ListingsAreTrue t nodes old → first_of (listed_item_fault nodes items bid) (tc_rows u v) ≡ None → q ≡ key (role_number (Listed items)) r → OneMore old new q → ListingsAreTrue t nodes new
 one_listed t u nodes items r v bid old new q same is bids are none named more =
-    let rows : first_of (item_fault nodes items r.bid_data) (tc_rows t r) ≡ None = rw (bids, is, same) at none in
+    let rows : first_of (listed_item_fault nodes items r.bid_data) (tc_rows t r) ≡ None = rw (bids, is, same) at none in
     listing_remembered t nodes items r old new are rows (rw (← named) more)

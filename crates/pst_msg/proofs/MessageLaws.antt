@@ -19,7 +19,7 @@ use Rattle.pst_tc.specs.Fault.{tc_fault}
 use Rattle.pst_msg.specs.Values.{embedded_of}
 use Rattle.pst_msg.specs.declared.nid.TheConstants.{ATTACHMENT, ATTACHMENTS, RECIPIENTS}
 use Rattle.pst_msg.specs.Nid.{type_of, is_type, named}
-use Rattle.pst_msg.specs.Fault.{row_fault, attachments_fault, held_fault, message_part, embedded_fault, attachment_part, message_at, attachment_at, nothing_below, below_message}
+use Rattle.pst_msg.specs.Fault.{attachment_row_fault, attachments_fault, held_fault, message_part, embedded_fault, attachment_part, message_at, attachment_at, nothing_below, below_message}
 use Rattle.pst_pc.specs.Grammar.{IsPc}
 use Rattle.pst_tc.specs.Grammar.{IsTc}
 use Rattle.pst_msg.specs.Grammar.{IsAttachmentRow, HasSubnode, MayHaveTable, IsMessage, message, IsAttachment, attachment}
@@ -42,8 +42,8 @@ none_there part (Some y) x h e = let same : y ≡ x = cc in rw (← same) h
 
 -- ---- a row of an attachment table
 
-pub row_none : (t : Table) (below : Roots → Option Fault) (r : Roots) (bid : ℕ) (x : RowParts) → HasSubnode t r x.id → type_of x.id ≡ ATTACHMENT → ((s : Roots) → subnode_of t r x.id ≡ Some s → below s ≡ None) → row_fault t below r bid x ≡ None
-unfolding row_fault
+pub row_none : (t : Table) (below : Roots → Option Fault) (r : Roots) (bid : ℕ) (x : RowParts) → HasSubnode t r x.id → type_of x.id ≡ ATTACHMENT → ((s : Roots) → subnode_of t r x.id ≡ Some s → below s ≡ None) → attachment_row_fault t below r bid x ≡ None
+unfolding attachment_row_fault
 row_none t below r bid x found kind each = rw found.1 (both_none (holds_or (is_type ATTACHMENT x.id) (named NodeKind x.at bid x.id)) (below found.0) (holds_or_true _ _ (eq-eqb (type_of x.id) ATTACHMENT kind)) (each found.0 found.1))
 
 pub record RowFacts (t : Table) (below : Roots → Option Fault) (r : Roots) (x : RowParts) : Type 0 where
@@ -51,8 +51,8 @@ pub record RowFacts (t : Table) (below : Roots → Option Fault) (r : Roots) (x 
   pub kind : type_of x.id ≡ ATTACHMENT
   pub each : (s : Roots) → subnode_of t r x.id ≡ Some s → below s ≡ None
 
-pub none_row : (t : Table) (below : Roots → Option Fault) (r : Roots) (bid : ℕ) (x : RowParts) → row_fault t below r bid x ≡ None → RowFacts t below r x
-unfolding row_fault
+pub none_row : (t : Table) (below : Roots → Option Fault) (r : Roots) (bid : ℕ) (x : RowParts) → attachment_row_fault t below r bid x ≡ None → RowFacts t below r x
+unfolding attachment_row_fault
 none_row t below r bid x none = by_found (subnode_of t r x.id) refl none
   where
     by_found : (o : Option Roots) → subnode_of t r x.id ≡ o → there_or (named NodeMissing x.at bid x.id) (λ s. holds_or (is_type ATTACHMENT x.id) (named NodeKind x.at bid x.id) then below s) o ≡ None → RowFacts t below r x
@@ -80,8 +80,8 @@ pub record MessageFacts (t : Table) (Each : Roots → Type 0) (r : Roots) : Type
 table_none : (t : Table) (below : Roots → Option Fault) (r table : Roots) → subnode_of t r ATTACHMENTS ≡ Some table → HeldFacts t (λ s. below s ≡ None) r → attachments_fault t below r table ≡ None
 unfolding attachments_fault
 table_none t below r table e facts =
-    both_none (tc_fault t table) (first_of (row_fault t below r table.bid_data) (tc_rows t table)) (tc_none t table (facts.attachments table e))
-    (of_none (row_fault t below r table.bid_data) (tc_rows t table)
+    both_none (tc_fault t table) (first_of (attachment_row_fault t below r table.bid_data) (tc_rows t table)) (tc_none t table (facts.attachments table e))
+    (of_none (attachment_row_fault t below r table.bid_data) (tc_rows t table)
     (λ x w. let row : IsAttachmentRow t r x = (table, e, w) in let names = facts.names x row in row_none t below r table.bid_data x names.0 names.1 (λ s is. facts.each x s row is)))
 
 pub held_none : (t : Table) (below : Roots → Option Fault) (r : Roots) → HeldFacts t (λ s. below s ≡ None) r → held_fault t below r ≡ None
@@ -97,8 +97,8 @@ message_part_none t below r facts = both_none (pc_fault t r) (held_fault t below
 none_table : (t : Table) (below : Roots → Option Fault) (r table : Roots) → attachments_fault t below r table ≡ None → IsTc t table × ((x : RowParts) → Contains (tc_rows t table) x → RowFacts t below r x)
 unfolding attachments_fault
 none_table t below r table h =
-    let both = none_then (tc_fault t table) (first_of (row_fault t below r table.bid_data) (tc_rows t table)) h in
-    (none_tc t table both.0, λ x w. none_row t below r table.bid_data x (none_of (row_fault t below r table.bid_data) (tc_rows t table) x both.1 w))
+    let both = none_then (tc_fault t table) (first_of (attachment_row_fault t below r table.bid_data) (tc_rows t table)) h in
+    (none_tc t table both.0, λ x w. none_row t below r table.bid_data x (none_of (attachment_row_fault t below r table.bid_data) (tc_rows t table) x both.1 w))
 
 pub none_held : (t : Table) (below : Roots → Option Fault) (r : Roots) → held_fault t below r ≡ None → HeldFacts t (λ s. below s ≡ None) r
 unfolding held_fault

@@ -7,7 +7,7 @@ use Rattle.pst_ndb.specs.Roots.{Roots, subnode_of}
 use Rattle.pst_tc.specs.Values.{RowParts}
 use Rattle.pst_msg.specs.declared.nid.TheConstants.{ATTACHMENT}
 use Rattle.pst_msg.specs.Nid.{is_type}
-use Rattle.pst_msg.specs.Fault.{row_fault, message_part, attachment_part, message_at, attachment_at, below_message, below_attachment}
+use Rattle.pst_msg.specs.Fault.{attachment_row_fault, message_part, attachment_part, message_at, attachment_at, below_message, below_attachment}
 
 pub message_is : (t : Table) (limit : ℕ) (r : Roots) → message_at t limit r ≡ message_part t (below_message t limit) r
 unfolding message_at
@@ -29,6 +29,6 @@ below_attachment_is t (suc n) s h = let less : suc n - 1 ≡ n = omega arith in 
 
 -- ---- a row, whose subnode is of the type of attachments: what is told of that
 
-pub row_found : (t u : Table) (limit bid : ℕ) (r : Roots) (x : RowParts) (s : Roots) (result : Result (Unit {0}) Fault) → u ≡ t → 0 < limit → Some s ≡ subnode_of t r x.id → is_type ATTACHMENT x.id ≡ true → Tells result (attachment_at u (limit - 1) s) tt → Tells result (row_fault t (below_message t limit) r bid x) tt
-unfolding row_fault
+pub row_found : (t u : Table) (limit bid : ℕ) (r : Roots) (x : RowParts) (s : Roots) (result : Result (Unit {0}) Fault) → u ≡ t → 0 < limit → Some s ≡ subnode_of t r x.id → is_type ATTACHMENT x.id ≡ true → Tells result (attachment_at u (limit - 1) s) tt → Tells result (attachment_row_fault t (below_message t limit) r bid x) tt
+unfolding attachment_row_fault
 row_found t u limit bid r x s result same some found kind told = rw (← found, kind, below_message_is t limit s some, ← same) told

@@ -14,7 +14,7 @@ use Rattle.pst_msg.specs.Nid.{type_of, is_type}
 use Rattle.pst_msg.specs.Keys.{Key, key_cmp, keys_in, holds}
 use Rattle.pst_msg.specs.Known.{ContextIn, WholeIn, IsTrueOf}
 use Rattle.pst_msg.specs.Counts.{HasMessage, node, embedded, HasAttachment, attached, Names, of_store, of_root, of_folder, of_search, of_message, of_attachment, listed, recipients, attachments, IsNamed, IsRaised}
-use Rattle.pst_msg.specs.Growth.{AreNamed, IsCounted, Grows, AllIn}
+use Rattle.pst_msg.specs.Growth.{AreNamed, AreContextsCounted, Grows, AllIn}
 use Rattle.pst_msg.proofs.KeyLemmas.{holds_listed, listed_holds}
 
 mutual
@@ -41,11 +41,11 @@ contexts_in t N k is all _ r (recipients parent _ held e) = (is.messages_in pare
 contexts_in t N k is all _ r (attachments parent _ held e) = (is.messages_in parent (message_in t N k is all parent held)).held.tables r e
 
 -- the keys are those of the contexts that are named
-pub raised : (t : Table) (N : List NodeEntry) (old k : Known) (start : ℕ) → AreNamed t N old.contexts → IsCounted start old → IsTrueOf t k → Grows t (λ nodes. nodes ≡ N) old k → AllIn N k → IsStrictlySortedBy key_cmp (keys_in k.contexts) → IsRaised t N start k.count
+pub raised : (t : Table) (N : List NodeEntry) (old k : Known) (start : ℕ) → AreNamed t N old.contexts → AreContextsCounted start old → IsTrueOf t k → Grows t (λ nodes. nodes ≡ N) old k → AllIn N k → IsStrictlySortedBy key_cmp (keys_in k.contexts) → IsRaised t N start k.count
 raised t N old k start named counted is g all sorted =
     let here : (q : Key) → IsNamed t N q → holds k.contexts q ≡ true = λ q n. rw (← n.3) (contexts_in t N k is all n.0 n.1 n.2) in
     (keys_in k.contexts, sorted, λ q. (λ w. g.named N refl named q (holds_listed k.contexts q w), λ n. listed_holds k.contexts q (here q n)), g.counted start counted)
 
-pub raised_ok : (t : Table) (N : List NodeEntry) (old k : Known) (start : ℕ) (result : Result (Unit {0}) Fault) → AreNamed t N old.contexts → IsCounted start old → IsTrueOf t k → Grows t (λ nodes. nodes ≡ N) old k → OnOk result (AllIn N k) → IsStrictlySortedBy key_cmp (keys_in k.contexts) → OnOk result (IsRaised t N start k.count)
+pub raised_ok : (t : Table) (N : List NodeEntry) (old k : Known) (start : ℕ) (result : Result (Unit {0}) Fault) → AreNamed t N old.contexts → AreContextsCounted start old → IsTrueOf t k → Grows t (λ nodes. nodes ≡ N) old k → OnOk result (AllIn N k) → IsStrictlySortedBy key_cmp (keys_in k.contexts) → OnOk result (IsRaised t N start k.count)
 raised_ok t N old k start (Ok x) named counted is g all sorted = raised t N old k start named counted is g all sorted
 raised_ok t N old k start (Err f) named counted is g all sorted = tt

@@ -8,7 +8,7 @@ use Rattle.std.specs.BTreeSet.{contains}
 use Rattle.std.proofs.lemmas.Map.Lookups.{btree_set_from_contains}
 use Rattle.std.proofs.lemmas.Map.Views.{btree_set_contains_iff}
 use Rattle.pst_msg.specs.Keys.{Key, pair_cmp, key_cmp}
-use Rattle.pst_msg.specs.Counts.{capped}
+use Rattle.pst_ndb.specs.Counts.{capped}
 use Rattle.pst_msg.specs.Laws.{CountLaw}
 use Rattle.pst_msg.proofs.KeyLemmas.{keys_exact}
 

@@ -4,7 +4,7 @@ use Rattle.std.specs.Prelude.{option_map}
 use Rattle.pst_block.specs.Table.{Table}
 use Rattle.pst_btree.specs.Entries.{first_with}
 use Rattle.pst_subnode.specs.declared.sub.Sub.{Sub}
-use Rattle.pst_subnode.specs.List.{nid_of, subs_of}
+use Rattle.pst_subnode.specs.List.{sub_nid, subs_of}
 use Rattle.pst_subnode.specs.Tree.{sub_fault}
 use Rattle.pst_subnode.proofs.HeightLaws.{below_law}
 use Rattle.pst_ndb.specs.declared.node.Node.{Node}
@@ -16,7 +16,7 @@ pub record Below (t : Table) (limit : ℕ) (s : Roots) : Type 0 where
   pub some : 0 < limit
   pub sound : sub_fault t (limit - 1) s.bid_sub ≡ None
 
-mapped_below : (t : Table) (limit nid : ℕ) (r s : Roots) (found : Option Sub) → sub_fault t limit r.bid_sub ≡ None → first_with nid_of nid (subs_of t r.bid_sub) ≡ found → option_map (sub_roots r) found ≡ Some s → Below t limit s
+mapped_below : (t : Table) (limit nid : ℕ) (r s : Roots) (found : Option Sub) → sub_fault t limit r.bid_sub ≡ None → first_with sub_nid nid (subs_of t r.bid_sub) ≡ found → option_map (sub_roots r) found ≡ Some s → Below t limit s
 mapped_below t limit nid r s None h is e = cc
 mapped_below t limit nid r s (Some x) h is e =
     let same : sub_roots r x ≡ s = cc in
@@ -25,7 +25,7 @@ mapped_below t limit nid r s (Some x) h is e =
 
 pub subnode_below : (t : Table) (limit nid : ℕ) (r s : Roots) → sub_fault t limit r.bid_sub ≡ None → subnode_of t r nid ≡ Some s → Below t limit s
 unfolding subnode_of
-subnode_below t limit nid r s h e = mapped_below t limit nid r s (first_with nid_of nid (subs_of t r.bid_sub)) h refl e
+subnode_below t limit nid r s h e = mapped_below t limit nid r s (first_with sub_nid nid (subs_of t r.bid_sub)) h refl e
 
 -- there is no subnode where no list may nest
 pub no_subnode : {P : Type 0} (t : Table) (nid : ℕ) (r s : Roots) → sub_fault t 0 r.bid_sub ≡ None → subnode_of t r nid ≡ Some s → P

@@ -9,7 +9,7 @@ use Rattle.pst_block.specs.Table.{Table}
 use Rattle.pst_btree.specs.Entries.{first_with}
 use Rattle.pst_subnode.specs.declared.height.TheConstants.{LISTS}
 use Rattle.pst_subnode.specs.declared.sub.Sub.{Sub}
-use Rattle.pst_subnode.specs.List.{nid_of, subs_of}
+use Rattle.pst_subnode.specs.List.{sub_nid, subs_of}
 use Rattle.pst_subnode.specs.Tree.{sub_fault}
 use Rattle.pst_subnode.proofs.MapLaws.{found_subs}
 use Rattle.pst_ndb.specs.declared.node.Node.{Node}
@@ -27,7 +27,7 @@ use Rattle.pst_tc.proofs.TcLaws.{tc_none}
 use Rattle.pst_msg.specs.declared.nid.TheConstants.{ATTACHMENTS, RECIPIENTS}
 use Rattle.pst_msg.specs.declared.object.Object.{Object}
 use Rattle.pst_msg.specs.Values.{embedded_of}
-use Rattle.pst_msg.specs.Fault.{row_fault, message_fault, attachment_fault}
+use Rattle.pst_msg.specs.Fault.{attachment_row_fault, message_fault, attachment_fault}
 use Rattle.pst_msg.specs.Grammar.{IsAttachmentRow, IsAttachment, IsMessage}
 use Rattle.pst_msg.specs.Left.{rows_of_rest, NameAttachments}
 use Rattle.pst_msg.specs.Shown.{attachment_rows, rows_there}
@@ -35,13 +35,13 @@ use Rattle.pst_msg.proofs.MessageLaws.{MessageFacts, message_facts, AttachmentFa
 
 -- ---- subnodes keep their limit
 
-mapped_sound : (t : Table) (limit nid : ℕ) (r s : Roots) (found : Option Sub) → sub_fault t limit r.bid_sub ≡ None → first_with nid_of nid (subs_of t r.bid_sub) ≡ found → option_map (sub_roots r) found ≡ Some s → sub_fault t limit s.bid_sub ≡ None
+mapped_sound : (t : Table) (limit nid : ℕ) (r s : Roots) (found : Option Sub) → sub_fault t limit r.bid_sub ≡ None → first_with sub_nid nid (subs_of t r.bid_sub) ≡ found → option_map (sub_roots r) found ≡ Some s → sub_fault t limit s.bid_sub ≡ None
 mapped_sound t limit nid r s None h is e = cc
 mapped_sound t limit nid r s (Some x) h is e = let same : sub_roots r x ≡ s = cc in rw (← same) (found_subs t limit r.bid_sub nid x h is)
 
 subnode_sound : (t : Table) (limit nid : ℕ) (r s : Roots) → sub_fault t limit r.bid_sub ≡ None → subnode_of t r nid ≡ Some s → sub_fault t limit s.bid_sub ≡ None
 unfolding subnode_of
-subnode_sound t limit nid r s h e = mapped_sound t limit nid r s (first_with nid_of nid (subs_of t r.bid_sub)) h refl e
+subnode_sound t limit nid r s h e = mapped_sound t limit nid r s (first_with sub_nid nid (subs_of t r.bid_sub)) h refl e
 
 -- ---- what a message and an attachment without fault have
 
@@ -81,7 +81,7 @@ each_row : (t : Table) (r : Roots) (o : Option Roots) → subnode_of t r ATTACHM
 unfolding first_of
 each_row t r None e sound facts = refl
 each_row t r (Some table) e sound facts =
-    of_none (row_fault t (attachment_fault t) r 0) (tc_rows t table)
+    of_none (attachment_row_fault t (attachment_fault t) r 0) (tc_rows t table)
     (λ x w. let row : IsAttachmentRow t r x = (table, e, w) in let names = facts.held.names x row in row_has_none t (attachment_fault t) r 0 x names.0 names.1 (λ s is. (attachment_law t s (subnode_sound t LISTS x.id r s sound is)).0 (facts.held.each x s row is)))
 
 pub rows_sound : (node : Node) → message_fault (table_of_node node) (roots_of node) ≡ None → NameAttachments (table_of_node node) (roots_of node) (attachment_rows (table_of_node node) (roots_of node))
@@ -102,17 +102,17 @@ found_row part key_in key (y ∷ rest) x none found = let both = none_then (part
     by_test false this later h = later h
 
 -- a row without fault names a subnode
-pub row_there : (t : Table) (below : Roots → Option Fault) (r : Roots) (bid : ℕ) (x : RowParts) → row_fault t below r bid x ≡ None → None ≡ subnode_of t r x.id → ⊥
+pub row_there : (t : Table) (below : Roots → Option Fault) (r : Roots) (bid : ℕ) (x : RowParts) → attachment_row_fault t below r bid x ≡ None → None ≡ subnode_of t r x.id → ⊥
 row_there t below r bid x none is = let found = (none_row t below r bid x none).found in let bad : None ≡ Some found.0 = is ∙ found.1 in cc
 
 -- and that has none
-pub row_sound : (t u : Table) (r : Roots) (bid : ℕ) (x : RowParts) (s : Node) → row_fault t (attachment_fault t) r bid x ≡ None → Some (roots_of s) ≡ subnode_of t r x.id → u ≡ t → attachment_fault u (roots_of s) ≡ None
+pub row_sound : (t u : Table) (r : Roots) (bid : ℕ) (x : RowParts) (s : Node) → attachment_row_fault t (attachment_fault t) r bid x ≡ None → Some (roots_of s) ≡ subnode_of t r x.id → u ≡ t → attachment_fault u (roots_of s) ≡ None
 row_sound t u r bid x s none is same = rw same ((none_row t (attachment_fault t) r bid x none).each (roots_of s) (sym is))
 
 -- ---- a row of a message that is found
 
-row_of_message : (node : Node) (nid : ℕ) (x : RowParts) → message_fault (table_of_node node) (roots_of node) ≡ None → Some x ≡ first_with row_id_of nid (attachment_rows (table_of_node node) (roots_of node)) → row_fault (table_of_node node) (attachment_fault (table_of_node node)) (roots_of node) 0 x ≡ None
-row_of_message node nid x none is = found_row (row_fault (table_of_node node) (attachment_fault (table_of_node node)) (roots_of node) 0) row_id_of nid (attachment_rows (table_of_node node) (roots_of node)) x (rows_sound node none) (sym is)
+row_of_message : (node : Node) (nid : ℕ) (x : RowParts) → message_fault (table_of_node node) (roots_of node) ≡ None → Some x ≡ first_with row_id_of nid (attachment_rows (table_of_node node) (roots_of node)) → attachment_row_fault (table_of_node node) (attachment_fault (table_of_node node)) (roots_of node) 0 x ≡ None
+row_of_message node nid x none is = found_row (attachment_row_fault (table_of_node node) (attachment_fault (table_of_node node)) (roots_of node) 0) row_id_of nid (attachment_rows (table_of_node node) (roots_of node)) x (rows_sound node none) (sym is)
 
 pub found_there : (node : Node) (nid own : ℕ) (x : RowParts) → message_fault (table_of_node node) (roots_of node) ≡ None → Some x ≡ first_with row_id_of nid (attachment_rows (table_of_node node) (roots_of node)) → own ≡ x.id → None ≡ subnode_of (table_of_node node) (roots_of node) own → ⊥
 found_there node nid own x none is same missing = row_there (table_of_node node) (attachment_fault (table_of_node node)) (roots_of node) 0 x (row_of_message node nid x none is) (rw same at missing)
@@ -135,8 +135,8 @@ object_sound node s o none embeds is same =
 
 -- ---- a row of those that are left
 
-next_row : (node : Node) (old : Option Rows) (rows new : Rows) (row : Row) → NameAttachments (table_of_node node) (roots_of node) (rows_of_rest old) → old ≡ Some rows → tc_rows_left rows ≡ row_parts row ∷ tc_rows_left new → row_fault (table_of_node node) (attachment_fault (table_of_node node)) (roots_of node) 0 (row_parts row) ≡ None
-next_row node old rows new row sound is step = each_first (row_fault (table_of_node node) (attachment_fault (table_of_node node)) (roots_of node) 0) (tc_rows_left rows) (tc_rows_left new) (row_parts row) (rw is at sound) step
+next_row : (node : Node) (old : Option Rows) (rows new : Rows) (row : Row) → NameAttachments (table_of_node node) (roots_of node) (rows_of_rest old) → old ≡ Some rows → tc_rows_left rows ≡ row_parts row ∷ tc_rows_left new → attachment_row_fault (table_of_node node) (attachment_fault (table_of_node node)) (roots_of node) 0 (row_parts row) ≡ None
+next_row node old rows new row sound is step = each_first (attachment_row_fault (table_of_node node) (attachment_fault (table_of_node node)) (roots_of node) 0) (tc_rows_left rows) (tc_rows_left new) (row_parts row) (rw is at sound) step
 
 pub next_there : (node : Node) (old : Option Rows) (rows new : Rows) (row : Row) (nid : ℕ) → NameAttachments (table_of_node node) (roots_of node) (rows_of_rest old) → old ≡ Some rows → tc_rows_left rows ≡ row_parts row ∷ tc_rows_left new → nid ≡ (row_parts row).id → None ≡ subnode_of (table_of_node node) (roots_of node) nid → ⊥
 next_there node old rows new row nid sound is step own missing = row_there (table_of_node node) (attachment_fault (table_of_node node)) (roots_of node) 0 (row_parts row) (next_row node old rows new row sound is step) (rw own at missing)

@@ -1,9 +1,10 @@
 -- Which contexts a store names, each in its role, and how many they are.
-use Rattle.std.specs.Prelude.{◌≡◌, ℕ, ◌+◌, ◌-◌, ◌^◌, ◌↔◌, min, true, Some, List, length}
+use Rattle.std.specs.Prelude.{◌≡◌, ℕ, ◌+◌, ◌↔◌, true, Some, List, length}
 use Rattle.std.specs.List.{Contains}
 use Rattle.std.specs.List.Sorted.{IsStrictlySortedBy}
 use Rattle.pst_page.specs.declared.entry.NodeEntry.{NodeEntry}
 use Rattle.pst_block.specs.Table.{Table}
+use Rattle.pst_ndb.specs.Counts.{capped}
 use Rattle.pst_ndb.specs.Roots.{Roots, subnode_of, node_in, all_roots}
 use Rattle.pst_tc.specs.Values.{RowParts}
 use Rattle.pst_msg.specs.declared.items.Items.{Items}
@@ -50,10 +51,6 @@ abbrev pub IsNamed : Table → List NodeEntry → Key → Type 0
 IsNamed t nodes q = (role : Role) × (r : Roots) × Names t nodes role r × (key (role_number role) r ≡ q)
 
 -- ---- how many
-
--- a count stays at its greatest value
-abbrev pub capped : ℕ → ℕ
-capped n = min n (2 ^ 64 - 1)
 
 -- A count that was `start` is raised by the number of distinct contexts that are named: by their data, their subnodes and their
 -- role, bit 0 of block identifiers cleared.

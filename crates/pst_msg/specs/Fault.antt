@@ -26,14 +26,14 @@ use Rattle.pst_msg.specs.Values.{is_message, may_list, listing_of, embedded_of}
 
 -- A row of the attachment table, whose data has this block identifier: it names a subnode of the message, of the type of
 -- attachments, and that has no fault.
-unfoldable pub row_fault : Table → (Roots → Option Fault) → Roots → ℕ → RowParts → Option Fault
-row_fault t below r bid x =
+unfoldable pub attachment_row_fault : Table → (Roots → Option Fault) → Roots → ℕ → RowParts → Option Fault
+attachment_row_fault t below r bid x =
     there_or (named NodeMissing x.at bid x.id) (λ s. holds_or (is_type ATTACHMENT x.id) (named NodeKind x.at bid x.id) then below s)
     (subnode_of t r x.id)
 
 -- the attachment table: its context, then row by row
 unfoldable pub attachments_fault : Table → (Roots → Option Fault) → Roots → Roots → Option Fault
-attachments_fault t below r table = tc_fault t table then first_of (row_fault t below r table.bid_data) (tc_rows t table)
+attachments_fault t below r table = tc_fault t table then first_of (attachment_row_fault t below r table.bid_data) (tc_rows t table)
 
 -- what a message holds in its list of subnodes: its recipient table, then its attachment table, where they are there
 unfoldable pub held_fault : Table → (Roots → Option Fault) → Roots → Option Fault
@@ -88,13 +88,13 @@ attachment_fault t r = attachment_at t LISTS r
 -- ---- folders ([MS-PST] 2.4.4), which are nodes of the node B-tree
 
 -- a row of a table, whose data has this block identifier: it names a node, of a type that belongs there
-unfoldable pub item_fault : List NodeEntry → Items → ℕ → RowParts → Option Fault
-item_fault nodes items bid x =
+unfoldable pub listed_item_fault : List NodeEntry → Items → ℕ → RowParts → Option Fault
+listed_item_fault nodes items bid x =
     there_or (named NodeMissing x.at bid x.id) (λ _. holds_or (may_list items x.id) (named NodeKind x.at bid x.id)) (node_in nodes x.id)
 
 -- a table: its context, then row by row
 unfoldable pub items_fault : Table → List NodeEntry → Items → Roots → Option Fault
-items_fault t nodes items table = tc_fault t table then first_of (item_fault nodes items table.bid_data) (tc_rows t table)
+items_fault t nodes items table = tc_fault t table then first_of (listed_item_fault nodes items table.bid_data) (tc_rows t table)
 
 -- a table of a folder, where it is there
 unfoldable pub table_fault : Table → List NodeEntry → Items → ℕ → Option Fault
@@ -113,8 +113,8 @@ unfoldable pub required_fault : Table → List NodeEntry → ℕ → Option Faul
 required_fault t nodes nid = there_or (named NodeMissing 0 0 nid) (pc_fault t) (node_in nodes nid)
 
 -- a node, by its type: a folder, a search folder, a message; of another type there is none
-unfoldable pub node_fault : Table → List NodeEntry → Roots → Option Fault
-node_fault t nodes r =
+unfoldable pub typed_node_fault : Table → List NodeEntry → Roots → Option Fault
+typed_node_fault t nodes r =
     if is_type FOLDER r.top then folder_fault t nodes r
     else (if is_type SEARCH_FOLDER r.top then pc_fault t r
     else (if is_message r.top then message_fault t r
@@ -123,4 +123,4 @@ node_fault t nodes r =
 -- all: the store's node and the root folder's, then the nodes in order of their identifiers
 unfoldable pub messaging_fault : Table → List NodeEntry → Option Fault
 messaging_fault t nodes =
-    required_fault t nodes STORE then required_fault t nodes ROOT then first_of (node_fault t nodes) (all_roots nodes)
+    required_fault t nodes STORE then required_fault t nodes ROOT then first_of (typed_node_fault t nodes) (all_roots nodes)

@@ -13,14 +13,15 @@ use Rattle.pst_msg.specs.Nid.{is_type}
 use Rattle.pst_msg.specs.Values.{is_message, listing_of}
 use Rattle.pst_msg.specs.Keys.{Key, keys_in, holds}
 use Rattle.pst_msg.specs.Known.{ContextIn, WholeIn}
-use Rattle.pst_msg.specs.Counts.{IsNamed, capped}
+use Rattle.pst_ndb.specs.Counts.{capped}
+use Rattle.pst_msg.specs.Counts.{IsNamed}
 
 abbrev pub AreNamed : Table → List NodeEntry → Keys → Type 0
 AreNamed t nodes keys = (q : Key) → holds keys q ≡ true → IsNamed t nodes q
 
 -- so many were counted before, and each context that is known since
-abbrev pub IsCounted : ℕ → Known → Type 0
-IsCounted start k = k.count ≡ capped (start + length (keys_in k.contexts))
+abbrev pub AreContextsCounted : ℕ → Known → Type 0
+AreContextsCounted start k = k.count ≡ capped (start + length (keys_in k.contexts))
 
 -- Nothing is forgotten, the count is right if it was, and only what is named is added, where this holds of the nodes.
 pub record Grows (t : Table) (Held : List NodeEntry → Type 0) (old new : Known) : Type 0 where
@@ -29,7 +30,7 @@ pub record Grows (t : Table) (Held : List NodeEntry → Type 0) (old new : Known
   pub attachments : (q : Key) → holds old.attachments q ≡ true → holds new.attachments q ≡ true
   pub lists : (q : Key) → holds old.lists q ≡ true → holds new.lists q ≡ true
   pub risen : old.count ≤ new.count
-  pub counted : (start : ℕ) → IsCounted start old → IsCounted start new
+  pub counted : (start : ℕ) → AreContextsCounted start old → AreContextsCounted start new
   pub named : (nodes : List NodeEntry) → Held nodes → AreNamed t nodes old.contexts → AreNamed t nodes new.contexts
 
 -- ---- all that a node names is known

@@ -20,7 +20,7 @@ use Rattle.pst_msg.specs.Keys.{holds, has, list_key}
 use Rattle.pst_msg.specs.ListIndex.{IsIndexIn}
 use Rattle.pst_msg.specs.Roles.{role_number, role_fault}
 use Rattle.pst_msg.specs.Values.{embedded_of}
-use Rattle.pst_msg.specs.Fault.{held_fault, below_message, message_fault, attachment_fault, item_fault}
+use Rattle.pst_msg.specs.Fault.{held_fault, below_message, message_fault, attachment_fault, listed_item_fault}
 use Rattle.pst_msg.specs.Grammar.{IsAttachmentRow}
 
 -- a context is remembered in a role; a message, an attachment is remembered, whole; what a message holds is, by its list alone
@@ -51,7 +51,7 @@ ListsAreTrue t keys =
 abbrev pub ListingsAreTrue : Table → List NodeEntry → Keys → Type 0
 ListingsAreTrue t nodes keys =
     (items : Items) (s : Roots) → has keys (role_number (Listed items)) s ≡ true →
-    first_of (item_fault nodes items s.bid_data) (tc_rows t s) ≡ None
+    first_of (listed_item_fault nodes items s.bid_data) (tc_rows t s) ≡ None
 
 -- ---- all that lies one step below a message, and below an attachment
 

@@ -6,7 +6,7 @@ use Rattle.pst_subnode.specs.declared.height.TheConstants.{LISTS}
 use Rattle.pst_subnode.specs.Tree.{sub_fault}
 use Rattle.pst_ndb.specs.Fault.{nodes_fault}
 use Rattle.pst_ndb.specs.Roots.{Roots}
-use Rattle.pst_value.specs.Alike.{Alike}
+use Rattle.pst_ndb.specs.Alike.{Alike}
 use Rattle.pst_msg.specs.declared.role.Role.{Role}
 use Rattle.pst_msg.specs.Counts.{Names, IsRaised}
 use Rattle.pst_msg.specs.Fault.{message_at, attachment_at, message_fault, attachment_fault, messaging_fault}

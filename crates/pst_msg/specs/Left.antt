@@ -6,7 +6,7 @@ use Rattle.pst_ndb.specs.Roots.{Roots}
 use Rattle.pst_tc.specs.declared.rows.Rows.{Rows}
 use Rattle.pst_tc.specs.Left.{tc_rows_left}
 use Rattle.pst_tc.specs.Values.{RowParts}
-use Rattle.pst_msg.specs.Fault.{row_fault, attachment_fault}
+use Rattle.pst_msg.specs.Fault.{attachment_row_fault, attachment_fault}
 
 -- those of an iterator, where there is a table
 abbrev pub rows_of_rest : Option Rows → List RowParts
@@ -15,4 +15,4 @@ rows_of_rest (Some rest) = tc_rows_left rest
 
 -- each of them names an attachment
 abbrev pub NameAttachments : Table → Roots → List RowParts → Type 0
-NameAttachments t r rows = first_of (row_fault t (attachment_fault t) r 0) rows ≡ None
+NameAttachments t r rows = first_of (attachment_row_fault t (attachment_fault t) r 0) rows ≡ None

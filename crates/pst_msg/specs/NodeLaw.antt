@@ -8,7 +8,7 @@ use Rattle.pst_ndb.specs.Roots.{Roots}
 use Rattle.pst_pc.specs.Grammar.{IsPc}
 use Rattle.pst_msg.specs.declared.nid.TheConstants.{FOLDER, SEARCH_FOLDER, MESSAGE, ASSOCIATED}
 use Rattle.pst_msg.specs.Nid.{type_of}
-use Rattle.pst_msg.specs.Fault.{node_fault}
+use Rattle.pst_msg.specs.Fault.{typed_node_fault}
 use Rattle.pst_msg.specs.Grammar.{IsFolder, IsMessage}
 
 -- a node is what its type says: a folder, a search folder, or a message; of another type nothing is said
@@ -21,4 +21,4 @@ pub record IsAsTyped (t : Table) (nodes : List NodeEntry) (r : Roots) : Type 0 w
 -- A node whose subnodes have no fault is so exactly where it has no first fault.
 abbrev pub NodeLaw : Type 0
 NodeLaw =
-    (t : Table) (nodes : List NodeEntry) (r : Roots) → sub_fault t LISTS r.bid_sub ≡ None → IsAsTyped t nodes r ↔ (node_fault t nodes r ≡ None)
+    (t : Table) (nodes : List NodeEntry) (r : Roots) → sub_fault t LISTS r.bid_sub ≡ None → IsAsTyped t nodes r ↔ (typed_node_fault t nodes r ≡ None)

@@ -9,7 +9,7 @@ ghost use Rattle.pst_ndb.specs.Roots.{Roots, node_in, all_roots};
 ghost use Rattle.pst_ndb.specs.Views.{table_of_node, table_of_ndb, nodes_of, roots_of};
 ghost use Rattle.pst_msg.specs.declared.role.Role.TheVariants.{Properties};
 ghost use Rattle.pst_msg.specs.Counts.{Names, IsRaised};
-ghost use Rattle.pst_msg.specs.Fault.{required_fault, node_fault, messaging_fault};
+ghost use Rattle.pst_msg.specs.Fault.{required_fault, typed_node_fault, messaging_fault};
 ghost use Rattle.pst_msg.specs.Grammar.{Contents};
 ghost use Rattle.pst_msg.specs.Growth.{Grows, PropertiesIn, NodeIn, AllIn};
 ghost use Rattle.pst_msg.specs.Known.{ListingsAreTrue, IsTrueOf};
@@ -48,7 +48,7 @@ fn check_required(ndb: &Ndb, nid: u32, known: &mut Known) -> Result<(), Fault>
 }
 
 // A node, by its type.
-#[tactic(auto, unfolding(crate::specs::Fault::node_fault))]
+#[tactic(auto, unfolding(crate::specs::Fault::typed_node_fault))]
 fn check_node(ndb: &Ndb, node: Node, known: &mut Known, listings: &mut Keys) -> Result<(), Fault>
     requires table { table_of_node node ≡ table_of_ndb ndb.now }
     requires known { IsTrueOf (table_of_ndb ndb.now) known.old }
@@ -60,7 +60,7 @@ fn check_node(ndb: &Ndb, node: Node, known: &mut Known, listings: &mut Keys) -> 
         known.old known.new }
     ensures there { OnOk result (NodeIn (nodes_of ndb.now) known.new (roots_of node.entry)) }
     ensures exact { let t = table_of_ndb ndb.now in
-        Tells result (node_fault t (nodes_of ndb.now) (roots_of node.entry)) tt }
+        Tells result (typed_node_fault t (nodes_of ndb.now) (roots_of node.entry)) tt }
 {
     let nid = node.top();
     if is_type(FOLDER, nid) {
@@ -87,7 +87,7 @@ fn check_nodes(ndb: &Ndb, known: &mut Known, listings: &mut Keys) -> Result<(), 
     ensures there { let N = nodes_of ndb.now in
         OnOk result ((r : Roots) → Contains (all_roots N) r → NodeIn N known.new r) }
     ensures exact { let t = table_of_ndb ndb.now in let N = nodes_of ndb.now in
-        Tells result (first_of (node_fault t N) (all_roots N)) tt }
+        Tells result (first_of (typed_node_fault t N) (all_roots N)) tt }
 {
     for node in ndb.nodes() {
         check_node(ndb, node, known, listings)?;

@@ -12,7 +12,7 @@ ghost use Rattle.pst_tc.specs.View.{row_parts};
 ghost use Rattle.pst_msg.specs.declared.nid.TheConstants.{FOLDER};
 ghost use Rattle.pst_msg.specs.declared.role.Role.TheVariants.{Listed};
 ghost use Rattle.pst_msg.specs.Counts.{IsNode};
-ghost use Rattle.pst_msg.specs.Fault.{item_fault, items_fault, table_fault, folder_fault};
+ghost use Rattle.pst_msg.specs.Fault.{listed_item_fault, items_fault, table_fault, folder_fault};
 ghost use Rattle.pst_msg.specs.Growth.{FolderIn, Grows};
 ghost use Rattle.pst_msg.specs.Known.{ContextIn, ListingsAreTrue, IsTrueOf};
 ghost use Rattle.pst_msg.specs.Values.{listing_of};
@@ -28,10 +28,10 @@ use pst_ndb::{Ndb, Node};
 use pst_tc::{Row, Tc, known_tc};
 
 // A row of a folder's table.
-#[tactic(auto, unfolding(crate::specs::Fault::item_fault))]
+#[tactic(auto, unfolding(crate::specs::Fault::listed_item_fault))]
 fn check_item(ndb: &Ndb, items: Items, bid: u64, row: Row) -> Result<(), Fault>
     ensures exact { let x = row_parts row.entry in
-        Tells result (item_fault (nodes_of ndb.now) items bid x) tt }
+        Tells result (listed_item_fault (nodes_of ndb.now) items bid x) tt }
 {
     let id = row.id();
     match ndb.node(id) {
@@ -50,7 +50,7 @@ fn check_item(ndb: &Ndb, items: Items, bid: u64, row: Row) -> Result<(), Fault>
 fn check_items(ndb: &Ndb, items: Items, bid: u64, table: Tc) -> Result<(), Fault>
     ensures exact { let node = node_of_tc table.entry in
         let rows = tc_rows (table_of_node node) (roots_of node) in
-        Tells result (first_of (item_fault (nodes_of ndb.now) items bid) rows) tt }
+        Tells result (first_of (listed_item_fault (nodes_of ndb.now) items bid) rows) tt }
 {
     for row in table.rows() {
         check_item(ndb, items, bid, row)?;
@@ -66,7 +66,7 @@ fn check_rows(ndb: &Ndb, items: Items, table: Node, listings: &mut Keys) -> Resu
     ensures listings { ListingsAreTrue (table_of_ndb ndb.now) (nodes_of ndb.now) listings.new }
     ensures exact { let r = roots_of table.entry in
         let rows = tc_rows (table_of_node table.entry) r in
-        Tells result (first_of (item_fault (nodes_of ndb.now) items r.bid_data) rows) tt }
+        Tells result (first_of (listed_item_fault (nodes_of ndb.now) items r.bid_data) rows) tt }
 {
     let taken = key_of(role_number(Role::Listed(items)), table);
     if listings.has(taken) {

@@ -2,7 +2,7 @@
 
 ghost use Rattle.std.specs.Prelude.{◌≡◌, true, None};
 ghost use Rattle.pst_ndb.specs.Views.{image_of_node, image_of_ndb, table_of_node, table_of_ndb, nodes_of, top_of, nid_of, roots_of};
-ghost use Rattle.pst_msg.specs.Fault.{node_fault};
+ghost use Rattle.pst_msg.specs.Fault.{typed_node_fault};
 ghost use Rattle.pst_msg.specs.Values.{is_folder};
 
 use crate::items::{Items, type_of_items};
@@ -20,7 +20,7 @@ pub struct Folder<'a> {
     ghost image: { image_of_node node ≡ image_of_ndb ndb },
     ghost own: { nid_of node ≡ top_of node },
     ghost kind: { is_folder (top_of node) ≡ true },
-    ghost sound: { node_fault (table_of_ndb ndb) (nodes_of ndb) (roots_of node) ≡ None },
+    ghost sound: { typed_node_fault (table_of_ndb ndb) (nodes_of ndb) (roots_of node) ≡ None },
 }
 
 impl<'a> Folder<'a> {
@@ -29,7 +29,7 @@ impl<'a> Folder<'a> {
     ghost use Rattle.pst_pc.specs.View.{node_of_pc};
     ghost use Rattle.pst_tc.specs.Tc.{node_of_tc};
     ghost use Rattle.pst_msg.specs.declared.items.Items.TheVariants.{Subfolders, Messages, Associated};
-    ghost use Rattle.pst_msg.specs.Fault.{node_fault};
+    ghost use Rattle.pst_msg.specs.Fault.{typed_node_fault};
     ghost use Rattle.pst_msg.specs.Shown.{folder_table};
     ghost use Rattle.pst_msg.specs.Values.{is_folder};
     ghost use Rattle.pst_msg.specs.View.{tc_roots, ndb_of_folder, node_of_folder};
@@ -40,7 +40,7 @@ impl<'a> Folder<'a> {
         requires image { image_of_node node ≡ image_of_ndb ndb }
         requires own { nid_of node ≡ top_of node }
         requires kind { is_folder (top_of node) ≡ true }
-        requires sound { node_fault (table_of_ndb ndb) (nodes_of ndb) (roots_of node) ≡ None }
+        requires sound { typed_node_fault (table_of_ndb ndb) (nodes_of ndb) (roots_of node) ≡ None }
         ensures ndb { ndb_of_folder result ≡ ndb.entry }
         ensures node { node_of_folder result ≡ node.entry }
     {
@@ -55,7 +55,7 @@ impl<'a> Folder<'a> {
             image_of_node (node_of_folder self.now) ≡ image_of_ndb ndb }
         ensures kind { is_folder (top_of (node_of_folder self.now)) ≡ true }
         ensures sound { let ndb = ndb_of_folder self.now in
-            node_fault (table_of_ndb ndb) (nodes_of ndb) (roots_of (node_of_folder self.now)) ≡ None }
+            typed_node_fault (table_of_ndb ndb) (nodes_of ndb) (roots_of (node_of_folder self.now)) ≡ None }
     {}
 
     /// Its node.

@@ -25,14 +25,14 @@ impl Known {
     ghost use Rattle.std.specs.Prelude.{◌≡◌, List};
     ghost use Rattle.pst_page.specs.declared.entry.NodeEntry.{NodeEntry};
     ghost use Rattle.pst_block.specs.Table.{Table};
-    ghost use Rattle.pst_msg.specs.Growth.{AreNamed, IsCounted};
+    ghost use Rattle.pst_msg.specs.Growth.{AreNamed, AreContextsCounted};
     ghost use Rattle.pst_msg.specs.Known.{IsTrueOf};
 
     /// Nothing yet, where so many contexts were checked before.
     pub(crate) fn new(alloc: Global, count: u64) -> Known
         ensures known { (t : Table) → IsTrueOf t result }
         ensures named { (t : Table) (nodes : List NodeEntry) → AreNamed t nodes result.contexts }
-        ensures counted { IsCounted count result }
+        ensures counted { AreContextsCounted count result }
         ensures count { result.count ≡ count }
     {
         Known {

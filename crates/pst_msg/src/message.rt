@@ -13,7 +13,7 @@ ghost use Rattle.pst_tc.specs.View.{row_parts};
 ghost use Rattle.pst_msg.specs.declared.nid.TheConstants.{ATTACHMENTS};
 ghost use Rattle.pst_msg.specs.declared.role.Role.TheVariants.{Attachments};
 ghost use Rattle.pst_msg.specs.Counts.{HasMessage, HasAttachment};
-ghost use Rattle.pst_msg.specs.Fault.{row_fault, attachments_fault, held_fault, message_at, embedded_fault, attachment_at, message_fault, below_message, below_attachment};
+ghost use Rattle.pst_msg.specs.Fault.{attachment_row_fault, attachments_fault, held_fault, message_at, embedded_fault, attachment_at, message_fault, below_message, below_attachment};
 ghost use Rattle.pst_msg.specs.Grammar.{IsAttachmentRow};
 ghost use Rattle.pst_msg.specs.Growth.{Grows};
 ghost use Rattle.pst_msg.specs.Known.{ContextIn, WholeIn, NamedIn, ObjectIn, HeldIn, MessageIn, AttachmentIn, IsTrueOf};
@@ -34,7 +34,7 @@ use pst_tc::{Row, Tc, known_tc};
 
 // A row of the attachment table of a message: the attachment that it names.
 #[cycle(message)]
-#[tactic(auto, unfolding(crate::specs::Fault::row_fault), using(crate::proofs::SubnodeLemmas::found_limit, crate::proofs::SubnodeLemmas::found_sound, crate::proofs::MessageLemmas::below_message_is))]
+#[tactic(auto, unfolding(crate::specs::Fault::attachment_row_fault), using(crate::proofs::SubnodeLemmas::found_limit, crate::proofs::SubnodeLemmas::found_sound, crate::proofs::MessageLemmas::below_message_is))]
 fn check_row(
     node: Node,
     index: &SubIndex,
@@ -53,7 +53,7 @@ fn check_row(
     ensures there { let t = table_of_node node.entry in
         OnOk result (NamedIn t known.new.attachments (roots_of node.entry) (row_parts row.entry)) }
     ensures exact { let t = table_of_node node.entry in let r = roots_of node.entry in
-        Tells result (row_fault t (below_message t limit) r bid (row_parts row.entry)) tt }
+        Tells result (attachment_row_fault t (below_message t limit) r bid (row_parts row.entry)) tt }
 {
     let id = row.id();
     match node.sub_by(index, id) {
@@ -91,7 +91,7 @@ fn check_rows(
         OnOk result ((x : RowParts) → Contains rows x → NamedIn t known.new.attachments r x) }
     ensures exact { let t = table_of_node node.entry in let r = roots_of node.entry in
         let n = node_of_tc table.entry in let rows = tc_rows (table_of_node n) (roots_of n) in
-        Tells result (first_of (row_fault t (below_message t limit) r bid) rows) tt }
+        Tells result (first_of (attachment_row_fault t (below_message t limit) r bid) rows) tt }
 {
     let mut rest = table.rows();
     while let Some(row) = rest.next() {

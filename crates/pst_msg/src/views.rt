@@ -2,7 +2,7 @@
 
 ghost use Rattle.std.specs.Prelude.{◌≡◌, true, None};
 ghost use Rattle.pst_ndb.specs.Views.{image_of_node, image_of_ndb, table_of_node, table_of_ndb, nodes_of, top_of, nid_of, roots_of};
-ghost use Rattle.pst_msg.specs.Fault.{message_fault, node_fault};
+ghost use Rattle.pst_msg.specs.Fault.{message_fault, typed_node_fault};
 ghost use Rattle.pst_msg.specs.NodeLaw.{NodeLaw};
 ghost use Rattle.pst_msg.specs.Values.{is_folder};
 ghost use Rattle.pst_msg.specs.View.{node_of_message, ndb_of_folder, node_of_folder};
@@ -25,7 +25,7 @@ pub fn known_folder<'a>(ndb: Ndb<'a>, node: Node<'a>) -> Folder<'a>
     requires image { image_of_node node ≡ image_of_ndb ndb }
     requires own { nid_of node ≡ top_of node }
     requires kind { is_folder (top_of node) ≡ true }
-    requires sound { node_fault (table_of_ndb ndb) (nodes_of ndb) (roots_of node) ≡ None }
+    requires sound { typed_node_fault (table_of_ndb ndb) (nodes_of ndb) (roots_of node) ≡ None }
     ensures ndb { ndb_of_folder result ≡ ndb.entry }
     ensures node { node_of_folder result ≡ node.entry }
 {

@@ -17,22 +17,22 @@ use Rattle.pst_page.specs.declared.entry.NodeEntry.{NodeEntry}
 use Rattle.pst_block.specs.Block.{bid_key}
 use Rattle.pst_block.specs.Table.{Table, body_of}
 use Rattle.pst_datatree.specs.declared.seen.Seen.{Seen}
+use Rattle.pst_datatree.specs.List.{btype_in}
 use Rattle.pst_datatree.specs.Names.{IsInternal}
 use Rattle.pst_datatree.specs.Seen as seen
 use Rattle.pst_datatree.proofs.SeenLemmas.{held_key, key_held, has_held}
 use Rattle.pst_datatree.proofs.AddLemmas.{tree_type}
 use Rattle.pst_subnode.specs.declared.sub.Sub.{Sub}
 use Rattle.pst_subnode.specs.declared.heights.Heights.{Heights}
-use Rattle.pst_subnode.specs.Body as list
 use Rattle.pst_subnode.specs.Heights as heights
-use Rattle.pst_subnode.specs.Reach.{Names, of_tree, of_siblock, of_slblock, Leads, begins, goes_on, IsReached}
+use Rattle.pst_subnode.specs.Reach.{NamesNext, of_tree, of_siblock, of_slblock, Leads, begins, goes_on, IsReached}
 use Rattle.pst_subnode.specs.Known as both
 use Rattle.pst_subnode.proofs.MarkLemmas.{state_key, key_state}
 use Rattle.pst_subnode.proofs.AddLemmas.{contains_cases}
 use Rattle.pst_subnode.proofs.ReachLemmas.{slblock_type, siblock_type, list_type}
 use Rattle.pst_ndb.specs.declared.nodes.Known.{Known}
-use Rattle.pst_ndb.specs.Counts.{roots_of, capped, AreExpanded, CountLaw}
-use Rattle.pst_ndb.specs.Known.{IsTrueOf, IsNew, IsCounted, Adds, entry_of_node}
+use Rattle.pst_ndb.specs.Counts.{roots_of, capped, AreExpanded, ExpansionLaw}
+use Rattle.pst_ndb.specs.Known.{IsKnownTrue, IsNew, IsCounted, AddsKnown, entry_of_node}
 
 -- ---- lists in which no number stands twice
 
@@ -79,7 +79,7 @@ bool_same false false f g = refl
 member_goes : (xs ys : List ℕ) (q : ℕ) → (Contains xs q → Contains ys q) → list_any (nat_eq q) xs ≡ true → list_any (nat_eq q) ys ≡ true
 member_goes xs ys q goes is = list_any-from_Contains nat_eq_equiv q ys (goes (Contains-from_any (λ x y h. eqb-true x y h) q xs is))
 
-pub count_law : CountLaw
+pub count_law : ExpansionLaw
 count_law t nodes a b this other =
     let one = length-from_same_keys nat_eq_equiv this.0 other.0 this.1 other.1 (λ q. bool_same _ _ (member_goes this.0 other.0 q (λ w. (other.2 q).1 ((this.2 q).0 w))) (member_goes other.0 this.0 q (λ w. (this.2 q).1 ((other.2 q).0 w)))) in
     this.3 ∙ ap capped one ∙ sym other.3
@@ -106,59 +106,59 @@ led_each t nodes sub w = let in_roots = roots_in nodes sub w in (begins sub.bid_
 
 -- ---- what is known has all to which chains lead
 
-from_roots : (t : Table) (nodes : List NodeEntry) (s : Seen) (h : Heights) (bid : ℕ) (e : BlockEntry) → both.AreKnownEach t s h (map entry_of_node nodes) → Contains (roots_of nodes) bid → IsInternal t bid e → both.IsKnown s h bid
+from_roots : (t : Table) (nodes : List NodeEntry) (s : Seen) (h : Heights) (bid : ℕ) (e : BlockEntry) → both.AreKnownEach t s h (map entry_of_node nodes) → Contains (roots_of nodes) bid → IsInternal t bid e → both.IsKnownBlock s h bid
 from_roots t [] s h bid e known w is = absurd (omega (arith, w.1))
 from_roots t (n ∷ rest) s h bid e known w is = by_first (contains_cases n.bid_data (n.bid_sub ∷ roots_of rest) bid w) (from_roots t rest s h bid e (λ sub v. known sub (contains_later (entry_of_node n) sub (map entry_of_node rest) v)))
   where
     own : both.IsKnownEntry t s h (entry_of_node n)
     own = known (entry_of_node n) (contains_here (entry_of_node n) (map entry_of_node rest))
 
-    by_second : (n.bid_sub ≡ bid) ⊎ Contains (roots_of rest) bid → (Contains (roots_of rest) bid → IsInternal t bid e → both.IsKnown s h bid) → both.IsKnown s h bid
+    by_second : (n.bid_sub ≡ bid) ⊎ Contains (roots_of rest) bid → (Contains (roots_of rest) bid → IsInternal t bid e → both.IsKnownBlock s h bid) → both.IsKnownBlock s h bid
     by_second (inl here) later = inr (rw (← here) (own.1 e (rw here is)))
     by_second (inr v) later = later v is
 
-    by_first : (n.bid_data ≡ bid) ⊎ Contains (n.bid_sub ∷ roots_of rest) bid → (Contains (roots_of rest) bid → IsInternal t bid e → both.IsKnown s h bid) → both.IsKnown s h bid
+    by_first : (n.bid_data ≡ bid) ⊎ Contains (n.bid_sub ∷ roots_of rest) bid → (Contains (roots_of rest) bid → IsInternal t bid e → both.IsKnownBlock s h bid) → both.IsKnownBlock s h bid
     by_first (inl here) later = inl (rw (← here) (own.0 e (rw here is)))
     by_first (inr v) later = by_second (contains_cases n.bid_sub (roots_of rest) bid v) later
 
 -- a known block of a data tree is no list's
-no_list : (t : Table) (s : Seen) (bid : ℕ) (e : BlockEntry) → seen.IsTrueOf t s → IsInternal t bid e → seen.has s bid ≡ true → list.btype_in (body_of t e) ≡ 2 → ⊥
+no_list : (t : Table) (s : Seen) (bid : ℕ) (e : BlockEntry) → seen.IsSeenTrue t s → IsInternal t bid e → seen.has_tree s bid ≡ true → btype_in (body_of t e) ≡ 2 → ⊥
 no_list t s bid e true_of is known type = let one = tree_type t e (true_of.holds bid e is.0 known) in absurd (omega (arith, one, type))
 
-along : (t : Table) (s : Seen) (h : Heights) (a b : ℕ) (e : BlockEntry) → seen.IsTrueOf t s → both.AreClosed t s h → Names t a b → ((y : BlockEntry) → IsInternal t a y → both.IsKnown s h a) → IsInternal t b e → both.IsKnown s h b
+along : (t : Table) (s : Seen) (h : Heights) (a b : ℕ) (e : BlockEntry) → seen.IsSeenTrue t s → both.AreClosed t s h → NamesNext t a b → ((y : BlockEntry) → IsInternal t a y → both.IsKnownBlock s h a) → IsInternal t b e → both.IsKnownBlock s h b
 along t s h a b e true_of closed names known is = by_known (known (block_named names).0 (block_named names).1)
   where
-    block_named : Names t a b → (y : BlockEntry) × IsInternal t a y
+    block_named : NamesNext t a b → (y : BlockEntry) × IsInternal t a y
     block_named (of_tree _ _ y internal w) = (y, internal)
     block_named (of_siblock _ _ y internal w) = (y, internal)
     block_named (of_slblock _ _ y internal w) = (y, internal)
 
-    by_tree : seen.has s a ≡ true → Names t a b → both.IsKnown s h b
+    by_tree : seen.has_tree s a ≡ true → NamesNext t a b → both.IsKnownBlock s h b
     by_tree tree (of_tree _ _ y internal w) = inl (closed.trees a y tree internal b e w is)
     by_tree tree (of_siblock _ _ y internal w) = absurd (no_list t s a y true_of internal tree (siblock_type (body_of t y) w.0))
     by_tree tree (of_slblock _ _ y internal w) = absurd (no_list t s a y true_of internal tree (slblock_type (body_of t y) w.0))
 
-    by_known : both.IsKnown s h a → both.IsKnown s h b
+    by_known : both.IsKnownBlock s h a → both.IsKnownBlock s h b
     by_known (inl tree) = by_tree tree names
     by_known (inr high) = closed.lists a b e high names is
 
-reached_known : (t : Table) (nodes : List NodeEntry) (s : Seen) (h : Heights) (bid : ℕ) (e : BlockEntry) → seen.IsTrueOf t s → both.AreClosed t s h → both.AreKnownEach t s h (map entry_of_node nodes) → Leads t (roots_of nodes) bid → IsInternal t bid e → both.IsKnown s h bid
+reached_known : (t : Table) (nodes : List NodeEntry) (s : Seen) (h : Heights) (bid : ℕ) (e : BlockEntry) → seen.IsSeenTrue t s → both.AreClosed t s h → both.AreKnownEach t s h (map entry_of_node nodes) → Leads t (roots_of nodes) bid → IsInternal t bid e → both.IsKnownBlock s h bid
 reached_known t nodes s h bid e true_of closed known (begins _ w) is = from_roots t nodes s h bid e known w is
 reached_known t nodes s h bid e true_of closed known (goes_on before _ lead names) is =
     along t s h before bid e true_of closed names (λ y internal. reached_known t nodes s h before y true_of closed known lead internal) is
 
 -- ---- no block is known twice
 
-keys_apart : (t : Table) (from : List ℕ) (k : Known) → IsTrueOf t k → both.AreReached t from k.seen k.heights → (key : ℕ) → Contains (seen.keys_of k.seen) key → Contains (heights.keys_of k.heights) key → ⊥
+keys_apart : (t : Table) (from : List ℕ) (k : Known) → IsKnownTrue t k → both.AreReached t from k.seen k.heights → (key : ℕ) → Contains (seen.tree_keys k.seen) key → Contains (heights.list_keys k.heights) key → ⊥
 keys_apart t from k true_of reached key in_trees in_lists =
     let held = key_held k.seen key in_trees in
     let state = key_state k.heights key in_lists in
     let w = reached.trees key held in
-    let tree : seen.has k.seen w.0 ≡ true = has_held k.seen w.0 ∙ (ap (seen.holds k.seen) (sym w.4) ∙ held) in
+    let tree : seen.has_tree k.seen w.0 ≡ true = has_held k.seen w.0 ∙ (ap (seen.holds_tree k.seen) (sym w.4) ∙ held) in
     let at : heights.state_of k.heights w.0 ≡ Some state.0 = ap (heights.state_at k.heights) (sym w.4) ∙ state.1 in
     by_state w.0 w.1 state.0 w.3 tree at
   where
-    by_state : (bid : ℕ) (e : BlockEntry) (n : ℕ) → IsInternal t bid e → seen.has k.seen bid ≡ true → heights.state_of k.heights bid ≡ Some n → ⊥
+    by_state : (bid : ℕ) (e : BlockEntry) (n : ℕ) → IsInternal t bid e → seen.has_tree k.seen bid ≡ true → heights.state_of k.heights bid ≡ Some n → ⊥
     by_state bid e zero is tree at = true_of.lists.unmarked bid at
     by_state bid e (suc n) is tree at = no_list t k.seen bid e true_of.trees is tree (list_type t bid (suc n) e is (omega arith) (true_of.lists.heights.holds bid (suc n) (omega arith) at))
 
@@ -168,28 +168,28 @@ length_keys : {K X : Type 0} (es : List (K × X)) → length (keys_of es) ≡ le
 length_keys [] = refl
 length_keys (e ∷ rest) = ap suc (length_keys rest)
 
-pub expanded : (t : Table) (nodes : List NodeEntry) (k : Known) (count : ℕ) → IsTrueOf t k → both.AreClosed t k.seen k.heights → both.AreReached t (roots_of nodes) k.seen k.heights → both.AreKnownEach t k.seen k.heights (map entry_of_node nodes) → IsCounted k → IsStrictlySortedBy nat_cmp (seen.keys_of k.seen) → IsStrictlySortedBy nat_cmp (heights.keys_of k.heights) → count ≡ capped (seen.expansions_of k.seen + heights.expansions_of k.heights) → AreExpanded t nodes count
+pub expanded : (t : Table) (nodes : List NodeEntry) (k : Known) (count : ℕ) → IsKnownTrue t k → both.AreClosed t k.seen k.heights → both.AreReached t (roots_of nodes) k.seen k.heights → both.AreKnownEach t k.seen k.heights (map entry_of_node nodes) → IsCounted k → IsStrictlySortedBy nat_cmp (seen.tree_keys k.seen) → IsStrictlySortedBy nat_cmp (heights.list_keys k.heights) → count ≡ capped (seen.tree_expansions k.seen + heights.list_expansions k.heights) → AreExpanded t nodes count
 expanded t nodes k count true_of closed reached known counted trees lists is =
-    let xs = seen.keys_of k.seen in
-    let ys = heights.keys_of k.heights in (
+    let xs = seen.tree_keys k.seen in
+    let ys = heights.list_keys k.heights in (
       xs ++ ys,
       distinct_append xs ys (rising_distinct xs trees) (rising_distinct ys lists) (keys_apart t (roots_of nodes) k true_of reached),
       (λ key. (there key, back key)),
       omega (arith, is, counted.trees, counted.lists, length-append xs ys, length_keys k.heights.states.entries),
     )
   where
-    there : (key : ℕ) → Contains (seen.keys_of k.seen ++ heights.keys_of k.heights) key → IsReached t (roots_of nodes) key
+    there : (key : ℕ) → Contains (seen.tree_keys k.seen ++ heights.list_keys k.heights) key → IsReached t (roots_of nodes) key
     there key w =
-        elim (Contains-append_cases (seen.keys_of k.seen) (heights.keys_of k.heights) key w) [
+        elim (Contains-append_cases (seen.tree_keys k.seen) (heights.list_keys k.heights) key w) [
           | inl tree ↦ reached.trees key (key_held k.seen key tree)
           | inr listed ↦ let state = key_state k.heights key listed in reached.lists key state.0 state.1
         ]
 
-    back : (key : ℕ) → IsReached t (roots_of nodes) key → Contains (seen.keys_of k.seen ++ heights.keys_of k.heights) key
+    back : (key : ℕ) → IsReached t (roots_of nodes) key → Contains (seen.tree_keys k.seen ++ heights.list_keys k.heights) key
     back key w =
         elim (reached_known t nodes k.seen k.heights w.0 w.1 true_of.trees closed known w.2 w.3) [
-          | inl tree ↦ Contains-append_left (seen.keys_of k.seen) (heights.keys_of k.heights) key (held_key k.seen key (ap (seen.holds k.seen) w.4 ∙ (sym (has_held k.seen w.0) ∙ tree)))
-          | inr high ↦ Contains-append_right (seen.keys_of k.seen) (heights.keys_of k.heights) key (state_key k.heights key high.0 (ap (heights.state_at k.heights) w.4 ∙ high.2))
+          | inl tree ↦ Contains-append_left (seen.tree_keys k.seen) (heights.list_keys k.heights) key (held_key k.seen key (ap (seen.holds_tree k.seen) w.4 ∙ (sym (has_held k.seen w.0) ∙ tree)))
+          | inr high ↦ Contains-append_right (seen.tree_keys k.seen) (heights.list_keys k.heights) key (state_key k.heights key high.0 (ap (heights.state_at k.heights) w.4 ∙ high.2))
         ]
 
 -- ---- nothing is known yet
@@ -207,7 +207,7 @@ reached_new t from k new = record {
 }
 
 -- all nodes were gone through
-pub all_expanded : (t : Table) (nodes : List NodeEntry) (old k : Known) (count : ℕ) → IsNew old → IsTrueOf t k → Adds t (both.AreLedEach t (map entry_of_node nodes)) old k → both.AreKnownEach t k.seen k.heights (map entry_of_node nodes) → IsCounted k → IsStrictlySortedBy nat_cmp (seen.keys_of k.seen) → IsStrictlySortedBy nat_cmp (heights.keys_of k.heights) → count ≡ capped (seen.expansions_of k.seen + heights.expansions_of k.heights) → AreExpanded t nodes count
+pub all_expanded : (t : Table) (nodes : List NodeEntry) (old k : Known) (count : ℕ) → IsNew old → IsKnownTrue t k → AddsKnown t (both.AreLedEach t (map entry_of_node nodes)) old k → both.AreKnownEach t k.seen k.heights (map entry_of_node nodes) → IsCounted k → IsStrictlySortedBy nat_cmp (seen.tree_keys k.seen) → IsStrictlySortedBy nat_cmp (heights.list_keys k.heights) → count ≡ capped (seen.tree_expansions k.seen + heights.list_expansions k.heights) → AreExpanded t nodes count
 all_expanded t nodes old k count new true_of adds known counted trees lists is =
     expanded t nodes k count true_of (adds.closed (closed_new t old new)) (adds.reached (roots_of nodes) (led_each t nodes) (reached_new t (roots_of nodes) old new)) known counted trees lists is
 

@@ -14,11 +14,11 @@ use Rattle.pst_page.specs.declared.entry.NodeEntry.{NodeEntry}
 use Rattle.pst_space.specs.Claimed.{Claimed, map_pages, nothing_claimed, maps_claimed}
 use Rattle.pst_space.specs.Step.{Step}
 use Rattle.pst_space.proofs.MapLemmas.{with_spans-append}
-use Rattle.pst_btree.specs.Tree.{Tree, tree_spans}
+use Rattle.pst_btree.specs.Tree.{Tree, page_spans}
 use Rattle.pst_block.specs.Table.{Table, table_with}
 use Rattle.pst_block.specs.Walk.{block_spans}
 use Rattle.pst_amap.specs.declared.report.BitOrder.{BitOrder}
-use Rattle.pst_amap.specs.Marks.{order_of}
+use Rattle.pst_amap.specs.Marks.{bit_order_of}
 use Rattle.pst_amap.specs.Report.{maps_fault, Maps}
 use Rattle.pst_amap.proofs.MapsLaws.{maps_law}
 use Rattle.pst_datatree.specs.Data.{data_spans}
@@ -26,7 +26,7 @@ use Rattle.pst_datatree.proofs.RelationLemmas.{data_law}
 use Rattle.pst_ndb.specs.Entries.{tree_under, block_list, node_list}
 use Rattle.pst_ndb.specs.Space.{space_walk, space_spans, space_claimed, space_fault, fault_after}
 use Rattle.pst_ndb.specs.Fault.{node_fault, nodes_fault, file_fault, ndb_fault}
-use Rattle.pst_ndb.specs.Database.{Database, DatabaseLaw, HasTrees, AllHaveTrees, blocks_in, nodes_in, used_spans, units_of}
+use Rattle.pst_ndb.specs.Database.{Database, DatabaseLaw, HasTrees, AllHaveTrees, blocks_in, nodes_in, used_spans, claimed_units}
 use Rattle.pst_amap.specs.Report.{IsReport}
 use Rattle.pst_ndb.specs.declared.check.Checked.{Checked}
 use Rattle.pst_ndb.specs.Views.{header_of}
@@ -76,22 +76,22 @@ after_none rest (Ok claimed) e = (claimed, refl, e)
 after_none rest (Err stop) e = absurd cc
 
 -- what is claimed is the units of the spans in use
-pub units_are : (I : List ℕ) (h : Header) → units_of h (used_spans I h (tree_under Bbt I h.bbt) (tree_under Nbt I h.nbt)) ≡ space_claimed I h
+pub units_are : (I : List ℕ) (h : Header) → claimed_units h (used_spans I h (tree_under Bbt I h.bbt) (tree_under Nbt I h.nbt)) ≡ space_claimed I h
 unfolding space_spans maps_claimed block_list
-units_are I h = with_spans-append (nothing_claimed h) (map_pages h) (tree_spans (tree_under Bbt I h.bbt) ++ tree_spans (tree_under Nbt I h.nbt) ++ block_spans (block_list I h))
+units_are I h = with_spans-append (nothing_claimed h) (map_pages h) (page_spans (tree_under Bbt I h.bbt) ++ page_spans (tree_under Nbt I h.nbt) ++ block_spans (block_list I h))
 
 -- ---- a whole file
 
-file_has : (I : List ℕ) (h : Header) (blocks nodes : Tree) (order : BitOrder) → Database I h blocks nodes order → blocks ≡ tree_under Bbt I h.bbt → nodes ≡ tree_under Nbt I h.nbt → (file_fault I h ≡ None) × (order ≡ order_of I (space_claimed I h))
+file_has : (I : List ℕ) (h : Header) (blocks nodes : Tree) (order : BitOrder) → Database I h blocks nodes order → blocks ≡ tree_under Bbt I h.bbt → nodes ≡ tree_under Nbt I h.nbt → (file_fault I h ≡ None) × (order ≡ bit_order_of I (space_claimed I h))
 unfolding file_fault space_fault block_list node_list
 file_has I h blocks nodes order d b n =
     let space = space_walked I h blocks nodes d.head (record { block_tree = d.block_tree; node_tree = d.node_tree; good = d.good; apart = d.apart }) in
-    let P : Tree → Tree → Type 0 = λ b n. Maps I h (units_of h (used_spans I h b n)) order × AllHaveTrees (table_with I (blocks_in I b)) (nodes_in I n) in
+    let P : Tree → Tree → Type 0 = λ b n. Maps I h (claimed_units h (used_spans I h b n)) order × AllHaveTrees (table_with I (blocks_in I b)) (nodes_in I n) in
     let at : P (tree_under Bbt I h.bbt) (tree_under Nbt I h.nbt) = subst (λ (u : Tree). P (tree_under Bbt I h.bbt) u) n (subst (λ (u : Tree). P u nodes) b (d.maps, d.trees)) in
     let maps = (maps_law I h (space_claimed I h) order).0 (subst (λ (m : Claimed). Maps I h m order) (units_are I h) at.0) in
     (both_none _ _ (after_ok (maps_fault I h) (space_walk I h (maps_claimed h)) (space_claimed I h) space ∙ maps.0) (have_trees _ _ at.1), maps.1)
 
-pub has_file : (I : List ℕ) (h : Header) → Head I h → file_fault I h ≡ None → Database I h (tree_under Bbt I h.bbt) (tree_under Nbt I h.nbt) (order_of I (space_claimed I h))
+pub has_file : (I : List ℕ) (h : Header) → Head I h → file_fault I h ≡ None → Database I h (tree_under Bbt I h.bbt) (tree_under Nbt I h.nbt) (bit_order_of I (space_claimed I h))
 unfolding file_fault space_fault block_list node_list
 has_file I h head none =
     let both = none_then _ _ none in
@@ -104,7 +104,7 @@ has_file I h head none =
       node_tree = space.0.node_tree;
       good = space.0.good;
       apart = space.0.apart;
-      maps = subst (λ (m : Claimed). Maps I h m (order_of I (space_claimed I h))) (sym (units_are I h)) ((maps_law I h (space_claimed I h) (order_of I (space_claimed I h))).1 (maps, refl));
+      maps = subst (λ (m : Claimed). Maps I h m (bit_order_of I (space_claimed I h))) (sym (units_are I h)) ((maps_law I h (space_claimed I h) (bit_order_of I (space_claimed I h))).1 (maps, refl));
       trees = trees_there _ _ both.1;
     }
 
@@ -127,7 +127,7 @@ database_law I h blocks nodes order = (
 -- ---- what a check answers
 
 -- what has no fault is a database
-pub is_database : (I : List ℕ) (order : BitOrder) → ndb_fault I ≡ None → order ≡ order_of I (space_claimed I (fields I)) → Database I (fields I) (tree_under Bbt I (fields I).bbt) (tree_under Nbt I (fields I).nbt) order
+pub is_database : (I : List ℕ) (order : BitOrder) → ndb_fault I ≡ None → order ≡ bit_order_of I (space_claimed I (fields I)) → Database I (fields I) (tree_under Bbt I (fields I).bbt) (tree_under Nbt I (fields I).nbt) order
 is_database I order none o = (database_law I (fields I) _ _ order).1 (none, refl, refl, refl, o)
 
 -- a database is refused for want of memory alone

@@ -12,7 +12,7 @@ use Rattle.pst_bytes.specs.declared.span.Span.{Span}
 use Rattle.pst_btree.specs.declared.block_tree.BlockTree.{BlockTree}
 use Rattle.pst_btree.specs.declared.node_tree.NodeTree.{NodeTree}
 use Rattle.pst_btree.specs.Trees.{block_view, node_view, block_entries, node_entries}
-use Rattle.pst_btree.specs.Tree.{Tree, tree_at, entries_of, pages_of, tree_spans}
+use Rattle.pst_btree.specs.Tree.{Tree, tree_at, entries_of, pages_of, page_spans}
 use Rattle.pst_btree.specs.View.{tree_of}
 use Rattle.pst_btree.specs.Walk.{Found, tree_walk}
 use Rattle.pst_block.specs.Walk.{blocks_walk, block_spans}
@@ -60,11 +60,11 @@ three_claims claimed one two new xs ys zs a b c =
     ∙ sym (with_spans-append claimed (xs ++ ys) zs)
 
 -- what is claimed by the end
-pub space_is : (I : List ℕ) (h : Header) (claimed one two new : Claimed) (blocks nodes : Tree) (entries : List BlockEntry) → claim_all claimed (tree_spans blocks) ≡ Some one → claim_all one (tree_spans nodes) ≡ Some two
+pub space_is : (I : List ℕ) (h : Header) (claimed one two new : Claimed) (blocks nodes : Tree) (entries : List BlockEntry) → claim_all claimed (page_spans blocks) ≡ Some one → claim_all one (page_spans nodes) ≡ Some two
     → claim_all two (block_spans entries) ≡ Some new → blocks ≡ tree_under Bbt I h.bbt → nodes ≡ tree_under Nbt I h.nbt → entries ≡ block_list I h → new ≡ with_spans claimed (space_spans I h)
 unfolding space_spans
 space_is I h claimed one two new blocks nodes entries a b c e f g =
-    rw (← e, ← f, ← g) (three_claims claimed one two new (tree_spans blocks) (tree_spans nodes) (block_spans entries) a b c)
+    rw (← e, ← f, ← g) (three_claims claimed one two new (page_spans blocks) (page_spans nodes) (block_spans entries) a b c)
 
 -- how many pages there are
 pub pages_are : (I : List ℕ) (h : Header) (total : ℕ) (blocks nodes : Tree) → total ≡ length (pages_of blocks) + length (pages_of nodes) → blocks ≡ tree_under Bbt I h.bbt → nodes ≡ tree_under Nbt I h.nbt → total ≡ page_total I h

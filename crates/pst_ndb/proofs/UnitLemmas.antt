@@ -3,6 +3,7 @@ use Rattle.std.proofs.Common.{◌≡◌, ℕ, suc, zero, ◌+◌, ◌*◌, ◌%�
 use Rattle.std.specs.Prelude.{option_and_then}
 use Rattle.std.proofs.Math.Nat.{min-le_left}
 use Rattle.std.proofs.lemmas.Bool.{eqb-true}
+use Rattle.std.proofs.lemmas.Option.{cond_some}
 use Rattle.pst_bytes.specs.declared.span.Span.{Span}
 use Rattle.pst_header.specs.declared.header.Header.{Header}
 use Rattle.pst_header.specs.declared.header.Bref.{Bref}
@@ -13,7 +14,7 @@ use Rattle.pst_space.specs.Claimed.{Claimed, IsUnits, unit_total, page_at, map_p
 use Rattle.pst_space.specs.Apart.{AreUnits}
 use Rattle.pst_space.proofs.ApartLemmas.{units_append}
 use Rattle.pst_space.proofs.MapLemmas.{maps_fit, length_with_span}
-use Rattle.pst_btree.specs.Tree.{Tree, pages_of, span_of, tree_spans, IsTree}
+use Rattle.pst_btree.specs.Tree.{Tree, pages_of, span_of, page_spans, IsTree}
 use Rattle.pst_btree.specs.Marked.{marked}
 use Rattle.pst_btree.proofs.MarkedLemmas.{marked_most, marked_page}
 use Rattle.pst_btree.proofs.UnitLemmas.{tree_units}
@@ -47,17 +48,13 @@ units_same m n [] same u = tt
 units_same m n (s ∷ spans) same u =
     (record { mapped = u.0.mapped; whole = u.0.whole; whole_len = u.0.whole_len; some = u.0.some; inside = omega (arith, same, u.0.inside) }, units_same m n spans same u.1)
 
-claim_made : (b : Bool) (x y : Claimed) → cond b (Some x) None ≡ Some y → x ≡ y
-claim_made true x y e = cc
-claim_made false x y e = absurd cc
-
 length_claimed : (old new : Claimed) (span : Span) → claim_of old span ≡ Some new → length new ≡ length old
 unfolding claim_of
-length_claimed old new span e = ap length (sym (claim_made _ _ _ e)) ∙ length_with_span old span
+length_claimed old new span e = ap length (sym (cond_some _ _ _ e).1) ∙ length_with_span old span
 
 -- each page that is claimed claims 8 units
 pages_marked : (old new : Claimed) (pages : List Bref) → AreUnits old (map span_of pages) → claim_all old (map span_of pages) ≡ Some new → (marked new ≡ marked old + 8 * length pages) × (length new ≡ length old)
-pages_marked old new [] u e = let same = claim_made true old new e in (omega (arith, ap marked same), ap length (sym same))
+pages_marked old new [] u e = let same = (cond_some true old new e).1 in (omega (arith, ap marked same), ap length (sym same))
 pages_marked old new (p ∷ pages) u e = by_claim (claim_of old (span_of p)) refl (λ c v h. pages_marked c new pages v h) e
   where
     by_claim : (o : Option Claimed) → claim_of old (span_of p) ≡ o → ((c : Claimed) → AreUnits c (map span_of pages) → claim_all c (map span_of pages) ≡ Some new → (marked new ≡ marked c + 8 * length pages) × (length new ≡ length c))
@@ -71,7 +68,7 @@ pages_marked old new (p ∷ pages) u e = by_claim (claim_of old (span_of p)) ref
 
 -- two trees that are claimed one after the other have no more pages than the file has bytes
 pub pages_few : (I : List ℕ) (h : Header) (old one two : Claimed) (level other : ℕ) (blocks nodes : Tree) → length old ≡ unit_total h → IsTree Bbt I (end_of h) h.bbt level blocks → IsTree Nbt I (end_of h) h.nbt other nodes
-    → claim_all old (tree_spans blocks) ≡ Some one → claim_all one (tree_spans nodes) ≡ Some two → length (pages_of blocks) + length (pages_of nodes) ≤ h.eof
+    → claim_all old (page_spans blocks) ≡ Some one → claim_all one (page_spans nodes) ≡ Some two → length (pages_of blocks) + length (pages_of nodes) ≤ h.eof
 pages_few I h old one two level other blocks nodes long b n eb en =
     let first = pages_marked old one (pages_of blocks) (tree_units Bbt I (end_of h) level old blocks long b.spells) eb in
     let second = pages_marked one two (pages_of nodes) (tree_units Nbt I (end_of h) other one nodes (first.1 ∙ long) n.spells) en in

@@ -20,5 +20,5 @@ AreExpanded t nodes count =
     (keys : List ℕ) × IsDistinct nat_eq keys × ((key : ℕ) → Contains keys key ↔ IsReached t (roots_of nodes) key) × (count ≡ capped (length keys))
 
 -- There is one such count.
-abbrev pub CountLaw : Type 0
-CountLaw = (t : Table) (nodes : List NodeEntry) (a b : ℕ) → AreExpanded t nodes a → AreExpanded t nodes b → a ≡ b
+abbrev pub ExpansionLaw : Type 0
+ExpansionLaw = (t : Table) (nodes : List NodeEntry) (a b : ℕ) → AreExpanded t nodes a → AreExpanded t nodes b → a ≡ b

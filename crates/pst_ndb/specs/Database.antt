@@ -12,11 +12,11 @@ use Rattle.pst_page.specs.declared.entry.NodeEntry.{NodeEntry}
 use Rattle.pst_page.specs.Entry.{block_entry_at, node_entry_at}
 use Rattle.pst_space.specs.Claimed.{Claimed, map_pages, nothing_claimed, with_spans}
 use Rattle.pst_space.specs.Apart.{AreApart}
-use Rattle.pst_btree.specs.Tree.{Tree, IsTree, entries_of, tree_spans}
+use Rattle.pst_btree.specs.Tree.{Tree, IsTree, entries_of, page_spans}
 use Rattle.pst_block.specs.Table.{Table, table_with}
 use Rattle.pst_block.specs.Walk.{AreGood, block_spans}
 use Rattle.pst_amap.specs.declared.report.BitOrder.{BitOrder}
-use Rattle.pst_amap.specs.Marks.{order_of}
+use Rattle.pst_amap.specs.Marks.{bit_order_of}
 use Rattle.pst_amap.specs.Report.{Maps}
 use Rattle.pst_datatree.specs.Relation.{HasData}
 use Rattle.pst_subnode.specs.declared.sub.Sub.{Sub}
@@ -39,11 +39,11 @@ nodes_in I tree = map (node_entry_at I) (entries_of tree)
 
 -- the spans of all pages and blocks in use: the map pages, the pages of both trees, the blocks
 abbrev pub used_spans : List ℕ → Header → Tree → Tree → List Span
-used_spans I h blocks nodes = map_pages h ++ (tree_spans blocks ++ tree_spans nodes ++ block_spans (blocks_in I blocks))
+used_spans I h blocks nodes = map_pages h ++ (page_spans blocks ++ page_spans nodes ++ block_spans (blocks_in I blocks))
 
 -- a flag for each unit of the mapped part: whether one of these spans lies there
-abbrev pub units_of : Header → List Span → Claimed
-units_of h spans = with_spans (nothing_claimed h) spans
+abbrev pub claimed_units : Header → List Span → Claimed
+claimed_units h spans = with_spans (nothing_claimed h) spans
 
 -- a node's data has a tree, and its subnodes have a list, of a height within the limit
 pub record HasTrees (t : Table) (e : NodeEntry) : Type 0 where
@@ -70,7 +70,7 @@ pub record Database (I : List ℕ) (h : Header) (blocks nodes : Tree) (order : B
   -- no two pages or blocks have a byte in common
   pub apart : AreApart (used_spans I h blocks nodes)
   -- the allocation maps are good, and mark each page and block
-  pub maps : Maps I h (units_of h (used_spans I h blocks nodes)) order
+  pub maps : Maps I h (claimed_units h (used_spans I h blocks nodes)) order
   -- each node's data has a tree, and its subnodes a list
   pub trees : AllHaveTrees (table_with I (blocks_in I blocks)) (nodes_in I nodes)
 
@@ -79,4 +79,4 @@ abbrev pub DatabaseLaw : Type 0
 DatabaseLaw =
     (I : List ℕ) (h : Header) (blocks nodes : Tree) (order : BitOrder) →
     Database I h blocks nodes order
-    ↔ ((ndb_fault I ≡ None) × (h ≡ fields I) × (blocks ≡ tree_under Bbt I h.bbt) × (nodes ≡ tree_under Nbt I h.nbt) × (order ≡ order_of I (space_claimed I h)))
+    ↔ ((ndb_fault I ≡ None) × (h ≡ fields I) × (blocks ≡ tree_under Bbt I h.bbt) × (nodes ≡ tree_under Nbt I h.nbt) × (order ≡ bit_order_of I (space_claimed I h)))

@@ -9,13 +9,13 @@ use Rattle.pst_subnode.specs.Known as both
 use Rattle.pst_ndb.specs.declared.nodes.Known.{Known}
 
 -- What is known is true.
-pub record IsTrueOf (t : Table) (k : Known) : Type 0 where
-  pub trees : seen.IsTrueOf t k.seen
-  pub lists : heights.IsTrueOf t k.heights
+pub record IsKnownTrue (t : Table) (k : Known) : Type 0 where
+  pub trees : seen.IsSeenTrue t k.seen
+  pub lists : heights.AreHeightsTrue t k.heights
 
 -- Nothing is known yet.
 pub record IsNew (k : Known) : Type 0 where
-  pub trees : (key : ℕ) → seen.holds k.seen key ≡ false
+  pub trees : (key : ℕ) → seen.holds_tree k.seen key ≡ false
   pub lists : (key : ℕ) → heights.state_at k.heights key ≡ None
 
 -- a node seen as an entry, of its data and its subnodes
@@ -23,13 +23,13 @@ abbrev pub entry_of_node : NodeEntry → Sub
 entry_of_node e = record { nid = e.nid; bid_data = e.bid_data; bid_sub = e.bid_sub }
 
 -- what was added to what is known, where chains lead to what an entry or each of some entries names
-abbrev pub Adds : Table → (List ℕ → Type 0) → Known → Known → Type 0
-Adds t AreLed old new = both.Adds t AreLed old.seen old.heights new.seen new.heights
+abbrev pub AddsKnown : Table → (List ℕ → Type 0) → Known → Known → Type 0
+AddsKnown t AreLed old new = both.Adds t AreLed old.seen old.heights new.seen new.heights
 
-abbrev pub IsKnownEntry : Table → Known → Sub → Type 0
-IsKnownEntry t k sub = both.IsKnownEntry t k.seen k.heights sub
+abbrev pub KnowsEntry : Table → Known → Sub → Type 0
+KnowsEntry t k sub = both.IsKnownEntry t k.seen k.heights sub
 
 -- each block that was expanded is known, and counted once
 pub record IsCounted (k : Known) : Type 0 where
   pub trees : seen.IsAhead 0 k.seen
-  pub lists : heights.IsCounted k.heights
+  pub lists : heights.AreHeightsCounted k.heights

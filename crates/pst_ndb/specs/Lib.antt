@@ -1,3 +1,4 @@
+pub mod Alike
 pub mod Database
 pub mod Entries
 pub mod Fault

@@ -4,7 +4,7 @@ use Rattle.pst_page.specs.declared.entry.NodeEntry.{NodeEntry}
 use Rattle.pst_block.specs.Table.{Table}
 use Rattle.pst_btree.specs.Entries.{first_with, node_with}
 use Rattle.pst_subnode.specs.declared.sub.Sub.{Sub}
-use Rattle.pst_subnode.specs.List.{nid_of, subs_of}
+use Rattle.pst_subnode.specs.List.{sub_nid, subs_of}
 use Rattle.pst_ndb.specs.Node.{NodeParts}
 
 pub record Roots : Type 0 where
@@ -27,7 +27,7 @@ parts_roots p = record { top = p.top; bid_data = p.bid_data; bid_sub = p.bid_sub
 
 -- the subnode with an identifier
 unfoldable pub subnode_of : Table → Roots → ℕ → Option Roots
-subnode_of t r nid = option_map (sub_roots r) (first_with nid_of nid (subs_of t r.bid_sub))
+subnode_of t r nid = option_map (sub_roots r) (first_with sub_nid nid (subs_of t r.bid_sub))
 
 -- the node with an identifier
 unfoldable pub node_in : List NodeEntry → ℕ → Option Roots

@@ -7,7 +7,7 @@ use Rattle.pst_header.specs.Header.{end_of}
 use Rattle.pst_page.specs.declared.kind.PageKind.TheVariants.{Bbt, Nbt}
 use Rattle.pst_space.specs.Claimed.{Claimed, maps_claimed, with_spans}
 use Rattle.pst_space.specs.Step.{Step, ◌>>=◌}
-use Rattle.pst_btree.specs.Tree.{tree_spans}
+use Rattle.pst_btree.specs.Tree.{page_spans}
 use Rattle.pst_btree.specs.Walk.{tree_walk}
 use Rattle.pst_block.specs.Walk.{blocks_walk, block_spans}
 use Rattle.pst_amap.specs.Report.{maps_fault}
@@ -23,7 +23,7 @@ space_walk I h claimed = do
 
 -- the spans of all pages and blocks, in that order
 unfoldable pub space_spans : List ℕ → Header → List Span
-space_spans I h = tree_spans (tree_under Bbt I h.bbt) ++ tree_spans (tree_under Nbt I h.nbt) ++ block_spans (block_list I h)
+space_spans I h = page_spans (tree_under Bbt I h.bbt) ++ page_spans (tree_under Nbt I h.nbt) ++ block_spans (block_list I h)
 
 -- what is claimed in the end, the map pages too
 abbrev pub space_claimed : List ℕ → Header → Claimed

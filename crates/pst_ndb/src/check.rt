@@ -60,12 +60,16 @@ fn check_file<'a>(alloc: Global, image: Image<'a>, header: &Header) -> Result<Ch
     ensures none { OnOk result (file_fault (bytes_of image.entry) header.now ≡ None) }
     ensures image { IfOk result (λ c. image_of_ndb c.ndb ≡ image.entry) }
     ensures header { IfOk result (λ c. header_of c.ndb ≡ header.now) }
-    ensures table { IfOk result (λ c. table_of_ndb c.ndb ≡ block_table (bytes_of image.entry) header.now) }
-    ensures nodes { IfOk result (λ c. nodes_of c.ndb ≡ node_list (bytes_of image.entry) header.now) }
-    ensures report { IfOk result (λ c. IsReport (bytes_of image.entry) header.now (space_claimed (bytes_of image.entry) header.now) c.map) }
+    ensures table { IfOk result (λ c.
+        table_of_ndb c.ndb ≡ block_table (bytes_of image.entry) header.now) }
+    ensures nodes { IfOk result (λ c.
+        nodes_of c.ndb ≡ node_list (bytes_of image.entry) header.now) }
+    ensures report { IfOk result (λ c. IsReport (bytes_of image.entry) header.now
+        (space_claimed (bytes_of image.entry) header.now) c.map) }
     ensures marks { IfOk result (λ c. MapsMark (bytes_of image.entry) header.now c.map) }
     ensures pages { IfOk result (λ c. c.work.pages ≡ page_total (bytes_of image.entry) header.now) }
-    ensures sums { IfOk result (λ c. c.work.sums ≡ length (block_list (bytes_of image.entry) header.now)) }
+    ensures sums { IfOk result (λ c.
+        c.work.sums ≡ length (block_list (bytes_of image.entry) header.now)) }
     ensures expansions { IfOk result (λ c.
         AreExpanded (table_of_ndb c.ndb) (nodes_of c.ndb) c.work.expansions) }
     ensures contexts { IfOk result (λ c. c.work.contexts ≡ 0) }
@@ -89,12 +93,19 @@ fn check_exactly<'a>(alloc: Global, image: Image<'a>) -> Result<Checked<'a>, Fau
     ensures none { OnOk result (ndb_fault (bytes_of image.entry) ≡ None) }
     ensures image { IfOk result (λ c. image_of_ndb c.ndb ≡ image.entry) }
     ensures header { IfOk result (λ c. header_of c.ndb ≡ fields (bytes_of image.entry)) }
-    ensures table { IfOk result (λ c. table_of_ndb c.ndb ≡ block_table (bytes_of image.entry) (fields (bytes_of image.entry))) }
-    ensures nodes { IfOk result (λ c. nodes_of c.ndb ≡ node_list (bytes_of image.entry) (fields (bytes_of image.entry))) }
-    ensures report { IfOk result (λ c. IsReport (bytes_of image.entry) (fields (bytes_of image.entry)) (space_claimed (bytes_of image.entry) (fields (bytes_of image.entry))) c.map) }
-    ensures marks { IfOk result (λ c. MapsMark (bytes_of image.entry) (fields (bytes_of image.entry)) c.map) }
-    ensures pages { IfOk result (λ c. c.work.pages ≡ page_total (bytes_of image.entry) (fields (bytes_of image.entry))) }
-    ensures sums { IfOk result (λ c. c.work.sums ≡ length (block_list (bytes_of image.entry) (fields (bytes_of image.entry)))) }
+    ensures table { IfOk result (λ c.
+        table_of_ndb c.ndb ≡ block_table (bytes_of image.entry) (fields (bytes_of image.entry))) }
+    ensures nodes { IfOk result (λ c.
+        nodes_of c.ndb ≡ node_list (bytes_of image.entry) (fields (bytes_of image.entry))) }
+    ensures report { IfOk result (λ c.
+        IsReport (bytes_of image.entry) (fields (bytes_of image.entry))
+        (space_claimed (bytes_of image.entry) (fields (bytes_of image.entry))) c.map) }
+    ensures marks { IfOk result (λ c.
+        MapsMark (bytes_of image.entry) (fields (bytes_of image.entry)) c.map) }
+    ensures pages { IfOk result (λ c.
+        c.work.pages ≡ page_total (bytes_of image.entry) (fields (bytes_of image.entry))) }
+    ensures sums { IfOk result (λ c.
+        c.work.sums ≡ length (block_list (bytes_of image.entry) (fields (bytes_of image.entry)))) }
     ensures expansions { IfOk result (λ c.
         AreExpanded (table_of_ndb c.ndb) (nodes_of c.ndb) c.work.expansions) }
     ensures contexts { IfOk result (λ c. c.work.contexts ≡ 0) }
@@ -120,24 +131,34 @@ pub fn check_ndb<'a>(alloc: Global, image: Image<'a>) -> Result<Checked<'a>, Fau
     ensures none { OnOk result (ndb_fault (bytes_of image.entry) ≡ None) }
 
     // What is given is what the bytes spell; and what they spell is given, unless memory ran out.
-    ensures found { IfOk result (λ c. Database (bytes_of image.entry) (header_of c.ndb) (tree_under Bbt (bytes_of image.entry) (header_of c.ndb).bbt) (tree_under Nbt (bytes_of image.entry) (header_of c.ndb).nbt) c.map.order) }
-    ensures only { (h : Header) (blocks nodes : Tree) (order : BitOrder) → Database (bytes_of image.entry) h blocks nodes order → IfErr result (λ f. f ≡ no_memory) }
+    ensures found { IfOk result (λ c. Database (bytes_of image.entry)
+        (header_of c.ndb) (tree_under Bbt (bytes_of image.entry) (header_of c.ndb).bbt)
+        (tree_under Nbt (bytes_of image.entry) (header_of c.ndb).nbt) c.map.order) }
+    ensures only { (h : Header) (blocks nodes : Tree) (order : BitOrder) →
+        Database (bytes_of image.entry) h blocks nodes order → IfErr result (λ f. f ≡ no_memory) }
 
     // Its file, header, blocks and nodes.
     ensures image { IfOk result (λ c. image_of_ndb c.ndb ≡ image.entry) }
     ensures header { IfOk result (λ c. header_of c.ndb ≡ fields (bytes_of image.entry)) }
-    ensures table { IfOk result (λ c. table_of_ndb c.ndb ≡ block_table (bytes_of image.entry) (fields (bytes_of image.entry))) }
-    ensures nodes { IfOk result (λ c. nodes_of c.ndb ≡ node_list (bytes_of image.entry) (fields (bytes_of image.entry))) }
+    ensures table { IfOk result (λ c.
+        table_of_ndb c.ndb ≡ block_table (bytes_of image.entry) (fields (bytes_of image.entry))) }
+    ensures nodes { IfOk result (λ c.
+        nodes_of c.ndb ≡ node_list (bytes_of image.entry) (fields (bytes_of image.entry))) }
 
     // What is reported of the maps: the order of bits, the lost runs and the old map pages; the maps mark these and the
     // space in use, and nothing else.
-    ensures report { IfOk result (λ c. IsReport (bytes_of image.entry) (fields (bytes_of image.entry)) (space_claimed (bytes_of image.entry) (fields (bytes_of image.entry))) c.map) }
-    ensures marks { IfOk result (λ c. MapsMark (bytes_of image.entry) (fields (bytes_of image.entry)) c.map) }
+    ensures report { IfOk result (λ c.
+        IsReport (bytes_of image.entry) (fields (bytes_of image.entry))
+        (space_claimed (bytes_of image.entry) (fields (bytes_of image.entry))) c.map) }
+    ensures marks { IfOk result (λ c.
+        MapsMark (bytes_of image.entry) (fields (bytes_of image.entry)) c.map) }
 
     // The work: each page of the trees and each block once, and each internal block once to which chains of identifiers lead
     // from the nodes.
-    ensures pages { IfOk result (λ c. c.work.pages ≡ page_total (bytes_of image.entry) (fields (bytes_of image.entry))) }
-    ensures sums { IfOk result (λ c. c.work.sums ≡ length (block_list (bytes_of image.entry) (fields (bytes_of image.entry)))) }
+    ensures pages { IfOk result (λ c.
+        c.work.pages ≡ page_total (bytes_of image.entry) (fields (bytes_of image.entry))) }
+    ensures sums { IfOk result (λ c.
+        c.work.sums ≡ length (block_list (bytes_of image.entry) (fields (bytes_of image.entry)))) }
     ensures expansions { IfOk result (λ c.
         AreExpanded (table_of_ndb c.ndb) (nodes_of c.ndb) c.work.expansions) }
     ensures contexts { IfOk result (λ c. c.work.contexts ≡ 0) }

@@ -49,7 +49,8 @@ impl<'a> Nodes<'a> {
     // All nodes of a tree.
     pub(crate) fn all(blocks: Blocks<'a>, tree: NodeTree<'a>) -> Nodes<'a>
         requires { nodes_fault (table_of blocks) (node_entries tree) ≡ None }
-        ensures parts { parts_left result ≡ map (entry_parts (image_of blocks.entry) (table_of blocks.entry)) (node_entries tree.entry) }
+        ensures parts { parts_left result ≡ map (entry_parts (image_of blocks.entry)
+            (table_of blocks.entry)) (node_entries tree.entry) }
         ensures roots { roots_left result ≡ all_roots (node_entries tree.entry) }
         ensures table { table_left result ≡ table_of blocks.entry }
         ensures image { image_left result ≡ image_of blocks.entry }

@@ -70,8 +70,10 @@ impl<'a> Ndb<'a> {
     pub fn is_sound(&self)
         ensures sound { ndb_fault (bytes_of (image_of_ndb self.now)) ≡ None }
         ensures header { header_of self.now ≡ fields (bytes_of (image_of_ndb self.now)) }
-        ensures table { table_of_ndb self.now ≡ block_table (bytes_of (image_of_ndb self.now)) (header_of self.now) }
-        ensures nodes { nodes_of self.now ≡ node_list (bytes_of (image_of_ndb self.now)) (header_of self.now) }
+        ensures table { table_of_ndb self.now ≡
+            block_table (bytes_of (image_of_ndb self.now)) (header_of self.now) }
+        ensures nodes { nodes_of self.now ≡
+            node_list (bytes_of (image_of_ndb self.now)) (header_of self.now) }
         ensures head { Head (bytes_of (image_of_ndb self.now)) (header_of self.now) }
         ensures image { (table_of_ndb self.now).image ≡ bytes_of (image_of_ndb self.now) }
         ensures trees { nodes_fault (table_of_ndb self.now) (nodes_of self.now) ≡ None }
@@ -80,7 +82,8 @@ impl<'a> Ndb<'a> {
     /// What is known of every node database: a node is found under an identifier exactly where it is there and has that
     /// identifier.
     pub fn nodes_are_found(&self)
-        ensures { (nid : ℕ) (e : NodeEntry) → (node_with nid (nodes_of self.now) ≡ Some e) ↔ (Contains (nodes_of self.now) e × (e.nid ≡ nid)) }
+        ensures { (nid : ℕ) (e : NodeEntry) → (node_with nid (nodes_of self.now) ≡ Some e) ↔
+            (Contains (nodes_of self.now) e × (e.nid ≡ nid)) }
     {
         self.nodes_rise();
     }
@@ -109,7 +112,8 @@ impl<'a> Ndb<'a> {
     /// The node with an identifier; None exactly where the node B-tree has none.
     #[tactic(auto, using(crate::proofs::NodeLemmas::found_sound, crate::proofs::NodeLemmas::first_keyed), unfolding(crate::specs::Roots::node_in))]
     pub fn node(&self, nid: u32) -> Option<Node<'a>>
-        ensures value { option_map parts_of result ≡ option_map (entry_parts (image_of_ndb self.now) (table_of_ndb self.now)) (node_with nid (nodes_of self.now)) }
+        ensures value { option_map parts_of result ≡ option_map (entry_parts
+            (image_of_ndb self.now) (table_of_ndb self.now)) (node_with nid (nodes_of self.now)) }
         ensures roots { option_map roots_of result ≡ node_in (nodes_of self.now) nid }
         ensures image { IfSome result (λ n. image_of_node n ≡ image_of_ndb self.now) }
         ensures table { IfSome result (λ n. table_of_node n ≡ table_of_ndb self.now) }
@@ -122,7 +126,8 @@ impl<'a> Ndb<'a> {
 
     /// All nodes, their identifiers rising.
     pub fn nodes(&self) -> Nodes<'a>
-        ensures parts { parts_left result ≡ map (entry_parts (image_of_ndb self.now) (table_of_ndb self.now)) (nodes_of self.now) }
+        ensures parts { parts_left result ≡
+            map (entry_parts (image_of_ndb self.now) (table_of_ndb self.now)) (nodes_of self.now) }
         ensures roots { roots_left result ≡ all_roots (nodes_of self.now) }
         ensures table { table_left result ≡ table_of_ndb self.now }
         ensures image { image_left result ≡ image_of_ndb self.now }

@@ -35,11 +35,11 @@ impl<'a> Node<'a> {
     ghost use Rattle.pst_datatree.specs.Data.{data_spans, data_fault, size_of};
     ghost use Rattle.pst_datatree.specs.Spans.{nonempty, first_span, joined_bytes, AreInside};
     ghost use Rattle.pst_datatree.specs.Left.{spans_left, file_of};
-    ghost use Rattle.pst_datatree.specs.Shown.{Shows, bytes_in, size_in, place_in};
+    ghost use Rattle.pst_datatree.specs.Shown.{ShowsSpans, bytes_in, size_in, place_in};
     ghost use Rattle.pst_btree.specs.Entries.{first_with};
     ghost use Rattle.pst_subnode.specs.declared.height.TheConstants.{LISTS};
     ghost use Rattle.pst_subnode.specs.Index.{is_held, is_long};
-    ghost use Rattle.pst_subnode.specs.List.{nid_of as sub_nid, subs_of};
+    ghost use Rattle.pst_subnode.specs.List.{sub_nid, subs_of};
     ghost use Rattle.pst_subnode.specs.Left.{subs_left};
     ghost use Rattle.pst_subnode.specs.Tree.{sub_fault};
     ghost use Rattle.pst_ndb.specs.Fault.{node_fault};
@@ -51,7 +51,8 @@ impl<'a> Node<'a> {
     #[tactic(auto, using(crate::proofs::NodeLemmas::none_data, crate::proofs::NodeLemmas::none_subs))]
     pub(crate) fn of_entry(blocks: Blocks<'a>, entry: NodeEntry) -> Node<'a>
         requires { node_fault (table_of blocks) entry ≡ None }
-        ensures { parts_of result ≡ entry_parts (image_of blocks.entry) (table_of blocks.entry) entry }
+        ensures { parts_of result ≡
+            entry_parts (image_of blocks.entry) (table_of blocks.entry) entry }
     {
         Node {
             blocks,
@@ -69,7 +70,8 @@ impl<'a> Node<'a> {
         ensures content { data_fault (table_of_node self.now) (data_bid_of self.now) ≡ None }
         ensures subs { sub_fault (table_of_node self.now) LISTS (sub_bid_of self.now) ≡ None }
         ensures image { (table_of_node self.now).image ≡ bytes_of (image_of_node self.now) }
-        ensures inside { AreInside (table_of_node self.now).image (data_spans (table_of_node self.now) (data_bid_of self.now)) }
+        ensures inside { AreInside (table_of_node self.now).image
+            (data_spans (table_of_node self.now) (data_bid_of self.now)) }
         ensures low { height_of self.now ≤ LISTS }
     {
         data_lies_inside(&self.blocks, self.bid_data);
@@ -113,17 +115,22 @@ impl<'a> Node<'a> {
 
     /// The bytes of its data.
     pub fn bytes(&self) -> Value<'a>
-        ensures shows { Shows (image_of_node self.now) (data_spans (table_of_node self.now) (data_bid_of self.now)) result }
-        ensures bytes { bytes_in result ≡ joined_bytes (table_of_node self.now).image (data_spans (table_of_node self.now) (data_bid_of self.now)) }
-        ensures size { size_in result ≡ size_of (data_spans (table_of_node self.now) (data_bid_of self.now)) }
-        ensures place { place_in result ≡ (first_span (nonempty (data_spans (table_of_node self.now) (data_bid_of self.now)))).at }
+        ensures shows { ShowsSpans (image_of_node self.now)
+            (data_spans (table_of_node self.now) (data_bid_of self.now)) result }
+        ensures bytes { bytes_in result ≡ joined_bytes (table_of_node self.now).image
+            (data_spans (table_of_node self.now) (data_bid_of self.now)) }
+        ensures size { size_in result ≡
+            size_of (data_spans (table_of_node self.now) (data_bid_of self.now)) }
+        ensures place { place_in result ≡ (first_span
+            (nonempty (data_spans (table_of_node self.now) (data_bid_of self.now)))).at }
     {
         value(&self.blocks, self.bid_data)
     }
 
     /// The slices of its data, one for each span, in order; and with `next_span` the spans.
     pub fn spans(&self) -> Pieces<'a>
-        ensures spans { spans_left result ≡ data_spans (table_of_node self.now) (data_bid_of self.now) }
+        ensures spans { spans_left result ≡
+            data_spans (table_of_node self.now) (data_bid_of self.now) }
         ensures file { file_of result ≡ image_of_node self.now }
     {
         spans(&self.blocks, self.bid_data)
@@ -131,7 +138,8 @@ impl<'a> Node<'a> {
 
     /// The span with a number of its data, from 0 on; None exactly from `leaf_count` on.
     pub fn leaf(&self, n: u64) -> Option<Span>
-        ensures value { result ≡ slice_get (data_spans (table_of_node self.now) (data_bid_of self.now)) n }
+        ensures value { result ≡
+            slice_get (data_spans (table_of_node self.now) (data_bid_of self.now)) n }
         ensures inside { IfSome result (IsInside (table_of_node self.now).image) }
     {
         leaf(&self.blocks, self.bid_data, n)
@@ -167,15 +175,18 @@ impl<'a> Node<'a> {
     #[tactic(auto, using(pst_subnode::proofs::HeightLaws::found_entry, crate::proofs::NodeLemmas::first_keyed), unfolding(crate::specs::Roots::subnode_of))]
     pub fn sub_by(&self, index: &SubIndex, nid: u32) -> Option<Node<'a>>
         requires { IsIndexedBy self.now index.now }
-        ensures value { option_map parts_of result ≡ option_map (sub_parts (parts_of self.now)) (first_with sub_nid nid (subs_of (table_of_node self.now) (sub_bid_of self.now))) }
-        ensures roots { option_map roots_of result ≡ subnode_of (table_of_node self.now) (roots_of self.now) nid }
+        ensures value { option_map parts_of result ≡ option_map (sub_parts (parts_of self.now))
+            (first_with sub_nid nid (subs_of (table_of_node self.now) (sub_bid_of self.now))) }
+        ensures roots { option_map roots_of result ≡
+            subnode_of (table_of_node self.now) (roots_of self.now) nid }
         ensures image { IfSome result (λ n. image_of_node n ≡ image_of_node self.now) }
         ensures table { IfSome result (λ n. table_of_node n ≡ table_of_node self.now) }
         ensures top { IfSome result (λ n. top_of n ≡ top_of self.now) }
         ensures nid { IfSome result (λ n. nid_of n ≡ nid) }
         // Its own subnodes nest one list fewer at least.
         ensures lower { IfSome result (λ n. height_of n < height_of self.now) }
-        ensures below { IfSome result (λ n. sub_fault (table_of_node n) (LISTS - 1) (sub_bid_of n) ≡ None) }
+        ensures below { IfSome result (λ n.
+            sub_fault (table_of_node n) (LISTS - 1) (sub_bid_of n) ≡ None) }
     {
         let found = find_sub_by(&self.blocks, self.bid_sub, index, nid)?;
         Some(self.child(found))
@@ -183,15 +194,18 @@ impl<'a> Node<'a> {
 
     /// The subnode with an identifier; None exactly where the list has none. It is reached from where this node was.
     pub fn sub(&self, nid: u32) -> Option<Node<'a>>
-        ensures value { option_map parts_of result ≡ option_map (sub_parts (parts_of self.now)) (first_with sub_nid nid (subs_of (table_of_node self.now) (sub_bid_of self.now))) }
-        ensures roots { option_map roots_of result ≡ subnode_of (table_of_node self.now) (roots_of self.now) nid }
+        ensures value { option_map parts_of result ≡ option_map (sub_parts (parts_of self.now))
+            (first_with sub_nid nid (subs_of (table_of_node self.now) (sub_bid_of self.now))) }
+        ensures roots { option_map roots_of result ≡
+            subnode_of (table_of_node self.now) (roots_of self.now) nid }
         ensures image { IfSome result (λ n. image_of_node n ≡ image_of_node self.now) }
         ensures table { IfSome result (λ n. table_of_node n ≡ table_of_node self.now) }
         ensures top { IfSome result (λ n. top_of n ≡ top_of self.now) }
         ensures nid { IfSome result (λ n. nid_of n ≡ nid) }
         // Its own subnodes nest one list fewer at least.
         ensures lower { IfSome result (λ n. height_of n < height_of self.now) }
-        ensures below { IfSome result (λ n. sub_fault (table_of_node n) (LISTS - 1) (sub_bid_of n) ≡ None) }
+        ensures below { IfSome result (λ n.
+            sub_fault (table_of_node n) (LISTS - 1) (sub_bid_of n) ≡ None) }
     {
         self.sub_by(&SubIndex::none(), nid)
     }

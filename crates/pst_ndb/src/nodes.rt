@@ -10,7 +10,7 @@ ghost use Rattle.pst_ndb.specs.Fault.{node_fault, nodes_fault};
 ghost use Rattle.pst_subnode.specs.Reach.{Leads};
 ghost use Rattle.pst_subnode.specs.Known.{IsKnownList, AreLedTo, AreLedEach, AreKnownEach};
 ghost use Rattle.pst_ndb.specs.Counts.{AreExpanded};
-ghost use Rattle.pst_ndb.specs.Known.{IsTrueOf, IsCounted, Adds, IsKnownEntry, entry_of_node};
+ghost use Rattle.pst_ndb.specs.Known.{IsKnownTrue, IsCounted, AddsKnown, KnowsEntry, entry_of_node};
 
 use pst_block::Blocks;
 use pst_btree::{NodeEntry, NodeTree};
@@ -31,14 +31,14 @@ impl Known {
     ghost use Rattle.std.specs.List.Sorted.{IsStrictlySortedBy};
     ghost use Rattle.std.specs.Ordering.{nat_cmp};
     ghost use Rattle.pst_block.specs.Table.{Table};
-    ghost use Rattle.pst_datatree.specs.Seen.{expansions_of as tree_expansions, keys_of as tree_keys};
-    ghost use Rattle.pst_subnode.specs.Heights.{expansions_of as list_expansions, keys_of as list_keys};
+    ghost use Rattle.pst_datatree.specs.Seen.{tree_expansions, tree_keys};
+    ghost use Rattle.pst_subnode.specs.Heights.{list_expansions, list_keys};
     ghost use Rattle.pst_ndb.specs.Counts.{capped};
-    ghost use Rattle.pst_ndb.specs.Known.{IsTrueOf, IsNew, IsCounted};
+    ghost use Rattle.pst_ndb.specs.Known.{IsKnownTrue, IsNew, IsCounted};
 
     // Nothing yet.
     fn new(alloc: Global) -> Known
-        ensures known { (t : Table) → IsTrueOf t result }
+        ensures known { (t : Table) → IsKnownTrue t result }
         ensures empty { IsNew result }
         ensures counts { IsCounted result }
     {
@@ -50,7 +50,8 @@ impl Known {
 
     // How many internal blocks have been expanded; and that none is known twice.
     fn expansions(&self) -> u64
-        ensures value { result ≡ capped (tree_expansions self.now.seen + list_expansions self.now.heights) }
+        ensures value { result ≡
+            capped (tree_expansions self.now.seen + list_expansions self.now.heights) }
         ensures trees { IsStrictlySortedBy nat_cmp (tree_keys self.now.seen) }
         ensures lists { IsStrictlySortedBy nat_cmp (list_keys self.now.heights) }
     {
@@ -69,11 +70,12 @@ fn check_subs(
     entry: NodeEntry,
     known: &mut Known,
 ) -> Result<(), Fault>
-    requires { IsTrueOf (table_of blocks.now) known.old }
-    ensures known { IsTrueOf (table_of blocks.now) known.new }
-    ensures first { Tells result (option_map (at_top entry.bid_sub entry.nid) (sub_fault (table_of blocks.now) LISTS entry.bid_sub)) tt }
+    requires { IsKnownTrue (table_of blocks.now) known.old }
+    ensures known { IsKnownTrue (table_of blocks.now) known.new }
+    ensures first { Tells result (option_map (at_top entry.bid_sub entry.nid)
+        (sub_fault (table_of blocks.now) LISTS entry.bid_sub)) tt }
     ensures adds { let t = table_of blocks.now in
-        Adds t (λ from. Leads t from entry.bid_sub) known.old known.new }
+        AddsKnown t (λ from. Leads t from entry.bid_sub) known.old known.new }
     ensures there { let t = table_of blocks.now in
         OnOk result (IsKnownList t known.new.heights entry.bid_sub) }
     ensures counts { OnOk result (IsCounted known.old → IsCounted known.new) }
@@ -97,13 +99,13 @@ fn check_node(
     entry: NodeEntry,
     known: &mut Known,
 ) -> Result<(), Fault>
-    requires { IsTrueOf (table_of blocks.now) known.old }
-    ensures known { IsTrueOf (table_of blocks.now) known.new }
+    requires { IsKnownTrue (table_of blocks.now) known.old }
+    ensures known { IsKnownTrue (table_of blocks.now) known.new }
     ensures first { Tells result (node_fault (table_of blocks.now) entry) tt }
     ensures adds { let t = table_of blocks.now in
-        Adds t (λ from. AreLedTo t from (entry_of_node entry)) known.old known.new }
+        AddsKnown t (λ from. AreLedTo t from (entry_of_node entry)) known.old known.new }
     ensures there { let t = table_of blocks.now in
-        OnOk result (IsKnownEntry t known.new (entry_of_node entry)) }
+        OnOk result (KnowsEntry t known.new (entry_of_node entry)) }
     ensures counts { OnOk result (IsCounted known.old → IsCounted known.new) }
 {
     check_data(alloc, blocks, entry.bid_data, entry.nid, &mut known.seen)?;
@@ -118,11 +120,11 @@ fn check_each(
     tree: &NodeTree,
     known: &mut Known,
 ) -> Result<(), Fault>
-    requires { IsTrueOf (table_of blocks.now) known.old }
-    ensures known { IsTrueOf (table_of blocks.now) known.new }
+    requires { IsKnownTrue (table_of blocks.now) known.old }
+    ensures known { IsKnownTrue (table_of blocks.now) known.new }
     ensures first { Tells result (nodes_fault (table_of blocks.now) (node_entries tree.now)) tt }
     ensures adds { let t = table_of blocks.now in
-        Adds t (AreLedEach t (map entry_of_node (node_entries tree.now))) known.old known.new }
+        AddsKnown t (AreLedEach t (map entry_of_node (node_entries tree.now))) known.old known.new }
     ensures there { let t = table_of blocks.now in
         OnOk result (AreKnownEach t known.new.seen known.new.heights (map entry_of_node (node_entries tree.now))) }
     ensures counts { OnOk result (IsCounted known.old → IsCounted known.new) }
@@ -136,7 +138,8 @@ fn check_each(
 /// Checks the trees of each node's blocks, in order of the nodes' identifiers, and answers how many internal blocks were
 /// expanded for that, each once; or the first fault.
 pub(crate) fn check_nodes(alloc: Global, blocks: &Blocks, tree: &NodeTree) -> Result<u64, Fault>
-    ensures first { IfErr result (IsFirst (nodes_fault (table_of blocks.now) (node_entries tree.now))) }
+    ensures first { IfErr result
+        (IsFirst (nodes_fault (table_of blocks.now) (node_entries tree.now))) }
     ensures none { OnOk result (nodes_fault (table_of blocks.now) (node_entries tree.now) ≡ None) }
     ensures expansions { IfOk result (AreExpanded (table_of blocks.now) (node_entries tree.now)) }
 {

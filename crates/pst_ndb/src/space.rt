@@ -6,7 +6,7 @@ ghost use Rattle.pst_fault.specs.First.{IsFirst};
 ghost use Rattle.pst_header.specs.Head.{Head};
 ghost use Rattle.pst_header.specs.Header.{end_of};
 ghost use Rattle.pst_space.specs.Claimed.{unit_total, with_spans};
-ghost use Rattle.pst_space.specs.Step.{Gives};
+ghost use Rattle.pst_space.specs.Step.{GivesStep};
 ghost use Rattle.pst_btree.specs.Trees.{block_view, node_view, node_entries};
 ghost use Rattle.pst_btree.specs.View.{tree_of};
 ghost use Rattle.pst_btree.specs.Tree.{pages_of};
@@ -40,8 +40,10 @@ pub(crate) struct Space<'a> {
 
 // How many pages both trees have; they are no more than the file has bytes.
 fn page_total(tree: &BlockTree, nodes: &NodeTree, eof: u64) -> u64
-    requires { length (pages_of (tree_of (block_view tree.now))) + length (pages_of (tree_of (node_view nodes.now))) ≤ eof }
-    ensures { result ≡ length (pages_of (tree_of (block_view tree.now))) + length (pages_of (tree_of (node_view nodes.now))) }
+    requires { length (pages_of (tree_of (block_view tree.now))) + length
+        (pages_of (tree_of (node_view nodes.now))) ≤ eof }
+    ensures { result ≡ length (pages_of (tree_of (block_view tree.now))) + length
+        (pages_of (tree_of (node_view nodes.now))) }
 {
     tree.pages() + nodes.pages()
 }
@@ -57,13 +59,18 @@ pub(crate) fn check_space<'a>(
     requires head { Head (bytes_of image) header.now }
     requires units { length claims.old ≡ unit_total header.now }
     ensures same_units { length claims.new ≡ length claims.old }
-    ensures exact { Gives result claims.new claims.new (space_walk (bytes_of image.entry) header.now claims.old) }
+    ensures exact { GivesStep result claims.new claims.new
+        (space_walk (bytes_of image.entry) header.now claims.old) }
     ensures image { IfOk result (λ s. image_of s.blocks ≡ image.entry) }
-    ensures table { IfOk result (λ s. table_of s.blocks ≡ block_table (bytes_of image.entry) header.now) }
-    ensures nodes { IfOk result (λ s. node_entries s.nodes ≡ node_list (bytes_of image.entry) header.now) }
-    ensures claims { OnOk result (claims.new ≡ with_spans claims.old (space_spans (bytes_of image.entry) header.now)) }
+    ensures table { IfOk result (λ s.
+        table_of s.blocks ≡ block_table (bytes_of image.entry) header.now) }
+    ensures nodes { IfOk result (λ s.
+        node_entries s.nodes ≡ node_list (bytes_of image.entry) header.now) }
+    ensures claims { OnOk result (claims.new ≡
+        with_spans claims.old (space_spans (bytes_of image.entry) header.now)) }
     ensures pages { IfOk result (λ s. s.pages ≡ page_total (bytes_of image.entry) header.now) }
-    ensures sums { IfOk result (λ s. s.sums ≡ length (block_list (bytes_of image.entry) header.now)) }
+    ensures sums { IfOk result (λ s.
+        s.sums ≡ length (block_list (bytes_of image.entry) header.now)) }
 {
     let (tree, entries) = walk_blocks(alloc, image, header, claims)?;
     let (nodes, _) = walk_nodes(alloc, image, header, claims)?;
@@ -86,13 +93,17 @@ pub(crate) fn check_maps<'a>(
     requires { Head (bytes_of image) header.now }
     ensures first { IfErr result (IsFirst (space_fault (bytes_of image.entry) header.now)) }
     ensures none { OnOk result (space_fault (bytes_of image.entry) header.now ≡ None) }
-    ensures report { IfOk result (λ x. IsReport (bytes_of image.entry) header.now (space_claimed (bytes_of image.entry) header.now) x.1) }
+    ensures report { IfOk result (λ x. IsReport (bytes_of image.entry) header.now
+        (space_claimed (bytes_of image.entry) header.now) x.1) }
     ensures marks { IfOk result (λ x. MapsMark (bytes_of image.entry) header.now x.1) }
     ensures image { IfOk result (λ x. image_of x.0.blocks ≡ image.entry) }
-    ensures table { IfOk result (λ x. table_of x.0.blocks ≡ block_table (bytes_of image.entry) header.now) }
-    ensures nodes { IfOk result (λ x. node_entries x.0.nodes ≡ node_list (bytes_of image.entry) header.now) }
+    ensures table { IfOk result (λ x.
+        table_of x.0.blocks ≡ block_table (bytes_of image.entry) header.now) }
+    ensures nodes { IfOk result (λ x.
+        node_entries x.0.nodes ≡ node_list (bytes_of image.entry) header.now) }
     ensures pages { IfOk result (λ x. x.0.pages ≡ page_total (bytes_of image.entry) header.now) }
-    ensures sums { IfOk result (λ x. x.0.sums ≡ length (block_list (bytes_of image.entry) header.now)) }
+    ensures sums { IfOk result (λ x.
+        x.0.sums ≡ length (block_list (bytes_of image.entry) header.now)) }
 {
     let mut claims = Claims::new(alloc, header)?;
     let space = check_space(alloc, image, header, &mut claims)?;

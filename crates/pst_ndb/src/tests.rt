@@ -1,5 +1,7 @@
 //! Whole files: small stores with bytes changed, and what their check answers.
 
+mod fronts;
+mod maps;
 mod order;
 mod rows;
 mod sharing;

@@ -7,26 +7,26 @@ use Rattle.pst_header.specs.declared.header.Bref.{Bref}
 use Rattle.pst_page.specs.declared.kind.PageKind.{PageKind}
 use Rattle.pst_fault.specs.First.{Checks}
 use Rattle.pst_page.specs.Page.{level_at}
-use Rattle.pst_page.specs.Fault.{place_fault, trailer_fault, shape_fault, open_fault, page_fault, level_fault}
-use Rattle.pst_page.specs.Good.{IsPlace, HasTrailer, GoodPage, HasShape, PageLaw}
+use Rattle.pst_page.specs.Fault.{page_place_fault, page_trailer_fault, page_shape_fault, open_fault, page_fault, level_fault}
+use Rattle.pst_page.specs.Good.{IsPagePlace, HasPageTrailer, GoodPage, HasShape, PageLaw}
 use Rattle.pst_page.proofs.PageLemmas.{is_place_good, good_is_place, has_trailer_good, good_has_trailer, has_shape_good, good_has_shape}
 use Rattle.std.proofs.lemmas.Bool.{eqb-true, eq-eqb}
 
 -- ---- the parts
 
-pub place_law : (end : ℕ) (bref : Bref) → IsPlace end bref.ib ↔ (place_fault end bref ≡ None)
-unfolding place_fault
+pub place_law : (end : ℕ) (bref : Bref) → IsPagePlace end bref.ib ↔ (page_place_fault end bref ≡ None)
+unfolding page_place_fault
 place_law end bref = (
   λ p. holds_or_true _ _ (good_is_place end bref.ib p),
   λ e. is_place_good end bref.ib (holds_or_none _ _ e),
 )
 
-pub open_law : (kind : PageKind) (I : List ℕ) (bref : Bref) → (HasTrailer I kind bref × HasShape I kind bref.ib) ↔ (open_fault kind I bref ≡ None)
+pub open_law : (kind : PageKind) (I : List ℕ) (bref : Bref) → (HasPageTrailer I kind bref × HasShape I kind bref.ib) ↔ (open_fault kind I bref ≡ None)
 unfolding open_fault
 open_law kind I bref = (
-  λ (t, s). both_none (trailer_fault kind I bref) (shape_fault kind I bref) (holds_or_true _ _ (good_has_trailer kind I bref t)) (holds_or_true _ _ (good_has_shape kind I bref.ib s)),
+  λ (t, s). both_none (page_trailer_fault kind I bref) (page_shape_fault kind I bref) (holds_or_true _ _ (good_has_trailer kind I bref t)) (holds_or_true _ _ (good_has_shape kind I bref.ib s)),
   λ e.
-      let both = none_then (trailer_fault kind I bref) (shape_fault kind I bref) e in
+      let both = none_then (page_trailer_fault kind I bref) (page_shape_fault kind I bref) e in
       (has_trailer_good kind I bref (holds_or_none _ _ both.0), has_shape_good kind I bref.ib (holds_or_none _ _ both.1)),
 )
 
@@ -42,9 +42,9 @@ level_law I level bref = (
 pub page_law : PageLaw
 unfolding page_fault
 page_law I end kind bref = (
-  λ (g, s). both_none (place_fault end bref) (open_fault kind I bref) ((place_law end bref).0 g.place) ((open_law kind I bref).0 (g.trailer, s)),
+  λ (g, s). both_none (page_place_fault end bref) (open_fault kind I bref) ((place_law end bref).0 g.place) ((open_law kind I bref).0 (g.trailer, s)),
   λ e.
-      let both = none_then (place_fault end bref) (open_fault kind I bref) e in
+      let both = none_then (page_place_fault end bref) (open_fault kind I bref) e in
       let body = (open_law kind I bref).1 both.1 in
       (record { place = (place_law end bref).1 both.0; trailer = body.0 }, body.1),
 )

@@ -5,13 +5,13 @@ use Rattle.pst_header.specs.declared.header.Bref.{Bref}
 use Rattle.pst_page.specs.declared.kind.PageKind.{PageKind}
 use Rattle.pst_page.specs.Entry.{entry_size}
 use Rattle.pst_page.specs.Page.{count_at, width_at, level_at}
-use Rattle.pst_page.specs.Fault.{is_place, has_trailer, has_shape}
-use Rattle.pst_page.specs.Good.{IsPlace, HasTrailer, HasShape}
+use Rattle.pst_page.specs.Fault.{is_page_place, has_page_trailer, has_shape}
+use Rattle.pst_page.specs.Good.{IsPagePlace, HasPageTrailer, HasShape}
 
 -- ---- the place
 
-pub is_place_good : (end ib : ℕ) → is_place end ib ≡ true → IsPlace end ib
-unfolding is_place
+pub is_place_good : (end ib : ℕ) → is_page_place end ib ≡ true → IsPagePlace end ib
+unfolding is_page_place
 is_place_good end ib e =
     let p = and_parts _ _ e in
     let q = and_parts _ _ p.0 in
@@ -21,18 +21,18 @@ is_place_good end ib e =
       inside = leb-true _ _ p.1;
     }
 
-pub good_is_place : (end ib : ℕ) → IsPlace end ib → is_place end ib ≡ true
-unfolding is_place
+pub good_is_place : (end ib : ℕ) → IsPagePlace end ib → is_page_place end ib ≡ true
+unfolding is_page_place
 good_is_place end ib p = and_from _ _ (and_from _ _ (eq-eqb _ _ p.whole_units) (le-leb _ _ p.mapped)) (le-leb _ _ p.inside)
 
 -- a page in its place lies inside the mapped part
-pub place_inside : (end ib : ℕ) → is_place end ib ≡ true → ib + 512 ≤ end
+pub place_inside : (end ib : ℕ) → is_page_place end ib ≡ true → ib + 512 ≤ end
 place_inside end ib e = (is_place_good end ib e).inside
 
 -- ---- the trailer
 
-pub has_trailer_good : (kind : PageKind) (I : List ℕ) (bref : Bref) → has_trailer kind I bref ≡ true → HasTrailer I kind bref
-unfolding has_trailer
+pub has_trailer_good : (kind : PageKind) (I : List ℕ) (bref : Bref) → has_page_trailer kind I bref ≡ true → HasPageTrailer I kind bref
+unfolding has_page_trailer
 has_trailer_good kind I bref e =
     let a = and_parts _ _ e in
     let b = and_parts _ _ a.0 in
@@ -46,8 +46,8 @@ has_trailer_good kind I bref e =
       bid = eqb-true _ _ c.1;
     }
 
-pub good_has_trailer : (kind : PageKind) (I : List ℕ) (bref : Bref) → HasTrailer I kind bref → has_trailer kind I bref ≡ true
-unfolding has_trailer
+pub good_has_trailer : (kind : PageKind) (I : List ℕ) (bref : Bref) → HasPageTrailer I kind bref → has_page_trailer kind I bref ≡ true
+unfolding has_page_trailer
 good_has_trailer kind I bref t =
     let types = and_from _ _ (eq-eqb _ _ t.ptype) (eq-eqb _ _ t.ptype_repeat) in
     let name = and_from _ _ types (eq-eqb _ _ t.bid) in

@@ -12,12 +12,12 @@ use Rattle.pst_page.specs.Entry.{entry_size}
 use Rattle.pst_page.specs.Page.{page_type, checked_span, count_at, width_at, level_at}
 
 -- A page lies in the mapped part, which begins at 0x4400 and ends at `end`, on a multiple of 64.
-unfoldable pub is_place : ℕ → ℕ → Bool
-is_place end ib = nat_eq (ib % 64) 0 && nat_le 17408 ib && nat_le (ib + 512) end
+unfoldable pub is_page_place : ℕ → ℕ → Bool
+is_page_place end ib = nat_eq (ib % 64) 0 && nat_le 17408 ib && nat_le (ib + 512) end
 
 -- The trailer (2.2.2.7.1): the type twice, the identifier, the signature and the check value.
-unfoldable pub has_trailer : PageKind → List ℕ → Bref → Bool
-has_trailer kind I bref =
+unfoldable pub has_page_trailer : PageKind → List ℕ → Bref → Bool
+has_page_trailer kind I bref =
     nat_eq (num I (bref.ib + 496) 1) (page_type kind) && nat_eq (num I (bref.ib + 497) 1) (page_type kind)
     && nat_eq (num I (bref.ib + 504) 8) bref.bid
     && nat_eq (num I (bref.ib + 498) 2) (signature_of bref.ib bref.bid)
@@ -31,22 +31,22 @@ has_shape kind I ib =
     && nat_le (level_at I ib) 15
     && (nat_eq (level_at I ib) 0 || nat_lt 0 (count_at I ib))
 
-unfoldable pub place_fault : ℕ → Bref → Option Fault
-place_fault end bref = holds_or (is_place end bref.ib) (fault_in PagePlace bref.ib bref.bid)
+unfoldable pub page_place_fault : ℕ → Bref → Option Fault
+page_place_fault end bref = holds_or (is_page_place end bref.ib) (fault_in PagePlace bref.ib bref.bid)
 
-abbrev pub trailer_fault : PageKind → List ℕ → Bref → Option Fault
-trailer_fault kind I bref = holds_or (has_trailer kind I bref) (fault_in PageTrailer bref.ib bref.bid)
+abbrev pub page_trailer_fault : PageKind → List ℕ → Bref → Option Fault
+page_trailer_fault kind I bref = holds_or (has_page_trailer kind I bref) (fault_in PageTrailer bref.ib bref.bid)
 
-abbrev pub shape_fault : PageKind → List ℕ → Bref → Option Fault
-shape_fault kind I bref = holds_or (has_shape kind I bref.ib) (fault_in PageShape bref.ib bref.bid)
+abbrev pub page_shape_fault : PageKind → List ℕ → Bref → Option Fault
+page_shape_fault kind I bref = holds_or (has_shape kind I bref.ib) (fault_in PageShape bref.ib bref.bid)
 
 -- of a page that is in its place
 unfoldable pub open_fault : PageKind → List ℕ → Bref → Option Fault
-open_fault kind I bref = trailer_fault kind I bref then shape_fault kind I bref
+open_fault kind I bref = page_trailer_fault kind I bref then page_shape_fault kind I bref
 
 -- of a page, whatever its reference says
 unfoldable pub page_fault : ℕ → PageKind → List ℕ → Bref → Option Fault
-page_fault end kind I bref = place_fault end bref then open_fault kind I bref
+page_fault end kind I bref = page_place_fault end bref then open_fault kind I bref
 
 -- A child is one level below its parent: its page has the level that is wanted there.
 unfoldable pub level_fault : List ℕ → ℕ → Bref → Option Fault

@@ -9,13 +9,13 @@ use Rattle.pst_page.specs.Page.{page_type, checked_span, count_at, width_at, lev
 use Rattle.pst_page.specs.Fault.{page_fault}
 
 -- a page's place in the mapped part, which ends at `end` ([MS-PST] 2.2.2.7)
-pub record IsPlace (end : ℕ) (ib : ℕ) : Type 0 where
+pub record IsPagePlace (end : ℕ) (ib : ℕ) : Type 0 where
   pub whole_units : ib % 64 ≡ 0
   pub mapped : 17408 ≤ ib
   pub inside : ib + 512 ≤ end
 
 -- its trailer (2.2.2.7.1): ptype, ptypeRepeat, wSig, dwCRC, bid
-pub record HasTrailer (I : List ℕ) (kind : PageKind) (bref : Bref) : Type 0 where
+pub record HasPageTrailer (I : List ℕ) (kind : PageKind) (bref : Bref) : Type 0 where
   pub ptype : num I (bref.ib + 496) 1 ≡ page_type kind
   pub ptype_repeat : num I (bref.ib + 497) 1 ≡ page_type kind
   pub signature : num I (bref.ib + 498) 2 ≡ signature_of bref.ib bref.bid
@@ -24,8 +24,8 @@ pub record HasTrailer (I : List ℕ) (kind : PageKind) (bref : Bref) : Type 0 wh
 
 -- The page that a reference names is good: it is in the mapped part, and its trailer is right.
 pub record GoodPage (I : List ℕ) (end : ℕ) (kind : PageKind) (bref : Bref) : Type 0 where
-  pub place : IsPlace end bref.ib
-  pub trailer : HasTrailer I kind bref
+  pub place : IsPagePlace end bref.ib
+  pub trailer : HasPageTrailer I kind bref
 
 -- its shape (2.2.2.7.7.1)
 pub record HasShape (I : List ℕ) (kind : PageKind) (ib : ℕ) : Type 0 where

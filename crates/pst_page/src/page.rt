@@ -68,8 +68,10 @@ impl<'a> Page<'a> {
     pub fn place(&self, i: u8) -> u64
         requires { i < count_at (bytes_of self.now.image) self.now.bref.ib }
         ensures value { result ≡ entry_place (bytes_of self.now.image) self.now.bref.ib i }
-        ensures wide { entry_size self.now.kind (level_at (bytes_of self.now.image) self.now.bref.ib) ≤ width_at (bytes_of self.now.image) self.now.bref.ib }
-        ensures inside { result + width_at (bytes_of self.now.image) self.now.bref.ib ≤ length (bytes_of self.now.image) }
+        ensures wide { entry_size self.now.kind (level_at (bytes_of self.now.image)
+            self.now.bref.ib) ≤ width_at (bytes_of self.now.image) self.now.bref.ib }
+        ensures inside { result + width_at (bytes_of self.now.image) self.now.bref.ib ≤ length
+            (bytes_of self.now.image) }
     {
         let width = self.width();
         self.bref.ib + u64::from(u16::from(i) * u16::from(width))
@@ -78,7 +80,8 @@ impl<'a> Page<'a> {
     /// The key of an entry.
     pub fn key(&self, i: u8) -> u64
         requires { i < count_at (bytes_of self.now.image) self.now.bref.ib }
-        ensures value { result ≡ key_at self.now.kind (bytes_of self.now.image) (entry_place (bytes_of self.now.image) self.now.bref.ib i) }
+        ensures value { result ≡ key_at self.now.kind (bytes_of self.now.image)
+            (entry_place (bytes_of self.now.image) self.now.bref.ib i) }
         ensures small { result + 1 < 2 ^ 64 }
     {
         self.kind.key_at(self.image, self.place(i))
@@ -87,7 +90,8 @@ impl<'a> Page<'a> {
     /// The page that an entry of a branch names ([MS-PST] 2.2.2.7.7.2).
     pub fn child(&self, i: u8) -> Bref
         requires { i < count_at (bytes_of self.now.image) self.now.bref.ib }
-        ensures { result ≡ child_at (bytes_of self.now.image) (entry_place (bytes_of self.now.image) self.now.bref.ib i) }
+        ensures { result ≡ child_at (bytes_of self.now.image)
+            (entry_place (bytes_of self.now.image) self.now.bref.ib i) }
     {
         child_at(self.image, self.place(i))
     }
@@ -97,7 +101,8 @@ impl<'a> Page<'a> {
         requires there { i < count_at (bytes_of self.now.image) self.now.bref.ib }
         requires kind { self.now.kind ≡ Bbt }
         requires leaf { level_at (bytes_of self.now.image) self.now.bref.ib ≡ 0 }
-        ensures { result ≡ block_entry_at (bytes_of self.now.image) (entry_place (bytes_of self.now.image) self.now.bref.ib i) }
+        ensures { result ≡ block_entry_at (bytes_of self.now.image)
+            (entry_place (bytes_of self.now.image) self.now.bref.ib i) }
     {
         block_entry_at(self.image, self.place(i))
     }
@@ -107,15 +112,18 @@ impl<'a> Page<'a> {
         requires there { i < count_at (bytes_of self.now.image) self.now.bref.ib }
         requires kind { self.now.kind ≡ Nbt }
         requires leaf { level_at (bytes_of self.now.image) self.now.bref.ib ≡ 0 }
-        ensures { result ≡ node_entry_at (bytes_of self.now.image) (entry_place (bytes_of self.now.image) self.now.bref.ib i) }
+        ensures { result ≡ node_entry_at (bytes_of self.now.image)
+            (entry_place (bytes_of self.now.image) self.now.bref.ib i) }
     {
         node_entry_at(self.image, self.place(i))
     }
 
     /// The bytes of an entry, in the file's own memory; None exactly where the page has no entry with that number.
     pub fn entry(&self, i: u8) -> Option<&'a [u8]>
-        ensures value { option_map (λ s. s.now) result ≡ entry_bytes (bytes_of self.now.image) self.now.bref.ib i }
-        ensures own { IfSome result (λ s. IsPartOf self.now.image (entry_span (bytes_of self.now.image) self.now.bref.ib i) s) }
+        ensures value { option_map (λ s.
+            s.now) result ≡ entry_bytes (bytes_of self.now.image) self.now.bref.ib i }
+        ensures own { IfSome result (λ s.
+            IsPartOf self.now.image (entry_span (bytes_of self.now.image) self.now.bref.ib i) s) }
     {
         if i >= self.count() {
             return None;

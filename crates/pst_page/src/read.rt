@@ -7,7 +7,7 @@ ghost use Rattle.pst_header.specs.Head.{Head};
 ghost use Rattle.pst_header.specs.Header.{end_of};
 ghost use Rattle.pst_fault.specs.First.{Checks};
 ghost use Rattle.pst_page.specs.Page.{page_span};
-ghost use Rattle.pst_page.specs.Fault.{has_shape, place_fault, trailer_fault, shape_fault, open_fault, page_fault};
+ghost use Rattle.pst_page.specs.Fault.{has_shape, page_place_fault, page_trailer_fault, page_shape_fault, open_fault, page_fault};
 ghost use Rattle.pst_page.specs.Good.{GoodPage, HasShape};
 
 use crate::kind::PageKind;
@@ -26,10 +26,11 @@ const MAPPED: u64 = 0x4400;
 
 /// The span of the page that a reference names, or PagePlace at the page: it lies in the mapped part of the file, which
 /// begins at 0x4400 and ends at `header.end()`, on a multiple of 64 ([MS-PST] 2.2.2.7). The page is not read.
-#[tactic(auto, unfolding(crate::specs::Fault::place_fault, crate::specs::Fault::is_place))]
+#[tactic(auto, unfolding(crate::specs::Fault::page_place_fault, crate::specs::Fault::is_page_place))]
 pub fn page_place(header: &Header, bref: Bref) -> Result<Span, Fault>
     // Where it lies, or which fault it is.
-    ensures exact { result ≡ answer (place_fault (end_of header.now) bref) (page_span bref.ib) }
+    ensures exact { result ≡ answer (page_place_fault (end_of header.now) bref)
+        (page_span bref.ib) }
 
     // Whole units of 64 bytes of the mapped part.
     ensures whole_units { OnOk result (bref.ib % 64 ≡ 0) }
@@ -46,10 +47,10 @@ pub fn page_place(header: &Header, bref: Bref) -> Result<Span, Fault>
 }
 
 // The trailer ([MS-PST] 2.2.2.7.1).
-#[tactic(auto, unfolding(crate::specs::Fault::has_trailer))]
+#[tactic(auto, unfolding(crate::specs::Fault::has_page_trailer))]
 fn check_trailer(image: Image, bref: Bref, kind: PageKind) -> Result<(), Fault>
     requires { bref.ib + 512 ≤ length (bytes_of image) }
-    ensures { result ≡ answer (trailer_fault kind (bytes_of image.entry) bref) tt }
+    ensures { result ≡ answer (page_trailer_fault kind (bytes_of image.entry) bref) tt }
 {
     let ib = bref.ib;
     let page_type = kind.page_type();
@@ -73,7 +74,7 @@ fn check_trailer(image: Image, bref: Bref, kind: PageKind) -> Result<(), Fault>
 #[tactic(auto, unfolding(crate::specs::Fault::has_shape, crate::specs::Page::count_at, crate::specs::Page::width_at, crate::specs::Page::level_at))]
 fn check_shape(image: Image, bref: Bref, kind: PageKind) -> Result<(), Fault>
     requires { bref.ib + 512 ≤ length (bytes_of image) }
-    ensures { result ≡ answer (shape_fault kind (bytes_of image.entry) bref) tt }
+    ensures { result ≡ answer (page_shape_fault kind (bytes_of image.entry) bref) tt }
 {
     let count = image.number8(bref.ib + 488);
     let width = image.number8(bref.ib + 490);
@@ -132,7 +133,8 @@ fn checked<'a>(
     kind: PageKind,
 ) -> Result<Page<'a>, Fault>
     requires { Head (bytes_of image) header.now }
-    ensures exact { Checks result (page_fault (end_of header.now) kind (bytes_of image.entry) bref) }
+    ensures exact { Checks result (page_fault (end_of header.now) kind
+        (bytes_of image.entry) bref) }
     ensures image { IfOk result (λ p. p.image ≡ image.entry) }
     ensures bref { IfOk result (λ p. p.bref ≡ bref) }
     ensures kind { IfOk result (λ p. p.kind ≡ kind) }
@@ -156,10 +158,12 @@ pub fn read_page<'a>(
     ensures shape { OnOk result (HasShape (bytes_of image.entry) kind bref.ib) }
 
     // A good page with its shape is read.
-    ensures only { GoodPage (bytes_of image.entry) (end_of header.now) kind bref → HasShape (bytes_of image.entry) kind bref.ib → IsOk result }
+    ensures only { GoodPage (bytes_of image.entry) (end_of header.now) kind bref →
+        HasShape (bytes_of image.entry) kind bref.ib → IsOk result }
 
     // Which fault it is, and where.
-    ensures exact { Checks result (page_fault (end_of header.now) kind (bytes_of image.entry) bref) }
+    ensures exact { Checks result (page_fault (end_of header.now) kind
+        (bytes_of image.entry) bref) }
 
     // Which page it is.
     ensures image { IfOk result (λ p. p.image ≡ image.entry) }

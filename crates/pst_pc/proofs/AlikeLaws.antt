@@ -1,33 +1,26 @@
 -- Property contexts of roots that are alike.
-use Rattle.std.proofs.Common.{◌≡◌, ℕ, List, [], ◌∷◌, map, Option, None, refl, sym, ap, ◌∙◌}
+use Rattle.std.proofs.Common.{◌≡◌, ℕ, List, map, Option, None, sym, ap, ◌∙◌}
 use Rattle.std.specs.Prelude.{option_map}
 use Rattle.pst_bytes.specs.declared.span.Span.{Span}
 use Rattle.pst_fault.specs.declared.fault.Fault.{Fault}
 use Rattle.pst_fault.specs.Each.{first_of}
 use Rattle.pst_fault.specs.First.{◌then◌}
 use Rattle.pst_fault.proofs.ToldLemmas.{told_none}
+use Rattle.pst_fault.proofs.EachLemmas.{first_of_same}
+use Rattle.pst_fault.proofs.GeneralLemmas.{map_same}
 use Rattle.pst_block.specs.Table.{Table}
 use Rattle.pst_ndb.specs.Roots.{Roots}
 use Rattle.pst_heap.specs.Values.{user_root_of, user_root_place, HeapData, heap_at}
-use Rattle.pst_heap.specs.Fault.{heap_fault, client_fault, told_in}
+use Rattle.pst_heap.specs.Fault.{heap_fault, client_fault, told_under}
 use Rattle.pst_bth.specs.Values.{bth_records}
 use Rattle.pst_bth.specs.Fault.{bth_fault}
-use Rattle.pst_value.specs.Alike.{Alike}
+use Rattle.pst_ndb.specs.Alike.{Alike}
 use Rattle.pst_value.proofs.AlikeLaws.{heap_alike, value_alike, fault_alike}
 use Rattle.pst_pc.specs.Fault.{property_fault, untold_pc_fault, pc_fault}
 use Rattle.pst_pc.specs.Laws.{AlikePcLaw}
 use Rattle.pst_pc.specs.Values.{pc_client, pc_sizes, pc_records, record_place, kind_in, raw_in, property_with, property_at, props_of}
 
 -- ---- the same function of each member of a list
-
-first_of_same : {X : Type 0} (part other : X → Option Fault) → ((x : X) → part x ≡ other x) → (xs : List X) → first_of part xs ≡ first_of other xs
-unfolding first_of
-first_of_same part other same [] = refl
-first_of_same part other same (x ∷ rest) = rw (same x, first_of_same part other same rest) refl
-
-map_same : {X Y : Type 0} (f g : X → Y) → ((x : X) → f x ≡ g x) → (xs : List X) → map f xs ≡ map g xs
-map_same f g same [] = refl
-map_same f g same (x ∷ rest) = rw (same x, map_same f g same rest) refl
 
 -- ---- the properties
 
@@ -61,7 +54,7 @@ untold_alike t r s e =
 
 none_alike : (t : Table) (r s : Roots) → untold_pc_fault t r ≡ untold_pc_fault t s → pc_fault t r ≡ None → pc_fault t s ≡ None
 unfolding pc_fault
-none_alike t r s same none = ap (option_map (told_in s)) (sym same ∙ told_none (told_in r) (untold_pc_fault t r) none)
+none_alike t r s same none = ap (option_map (told_under s)) (sym same ∙ told_none (told_under r) (untold_pc_fault t r) none)
 
 pub alike_pc_law : AlikePcLaw
 alike_pc_law t r s e =

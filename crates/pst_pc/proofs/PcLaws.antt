@@ -10,7 +10,7 @@ use Rattle.pst_ndb.specs.Roots.{Roots}
 use Rattle.pst_fault.specs.Each.{first_of}
 use Rattle.pst_fault.proofs.EachLemmas.{of_none, none_of}
 use Rattle.pst_heap.specs.Values.{HeapData, client_of, user_root_of, user_root_place, heap_at}
-use Rattle.pst_heap.specs.Fault.{client_fault, told_in}
+use Rattle.pst_heap.specs.Fault.{client_fault, told_under}
 use Rattle.pst_heap.proofs.HeapLaws.{none_heap, heap_none}
 use Rattle.pst_bth.specs.Values.{bth_records, record_key}
 use Rattle.pst_bth.specs.Fault.{bth_fault}
@@ -45,7 +45,7 @@ has_bth : (t : Table) (r : Roots) → bth_fault (heap_at t r) pc_sizes (user_roo
 unfolding pc_records
 has_bth t r e = (bth_law (heap_at t r) pc_sizes (user_root_place (heap_at t r)) (user_root_of (heap_at t r)) (pc_records t r)).1 (e, refl)
 
-told : (r : Roots) (o : Option Fault) → o ≡ None → option_map (told_in r) o ≡ None
+told : (r : Roots) (o : Option Fault) → o ≡ None → option_map (told_under r) o ≡ None
 told r o e = rw e refl
 
 pub pc_law : PcLaw

@@ -13,7 +13,7 @@ use Rattle.pst_ndb.proofs.NodeLemmas.{first_keyed}
 use Rattle.pst_fault.proofs.EachLemmas.{each_next, each_done, each_first, each_rest}
 use Rattle.pst_fault.proofs.ToldLemmas.{told_none, told_first, told_next}
 use Rattle.pst_heap.specs.Values.{user_root_of, user_root_place, heap_at}
-use Rattle.pst_heap.specs.Fault.{heap_fault, client_fault, told_in}
+use Rattle.pst_heap.specs.Fault.{heap_fault, client_fault, told_under}
 use Rattle.pst_bth.specs.Values.{bth_records, record_key, record_span}
 use Rattle.pst_bth.specs.Fault.{bth_fault}
 use Rattle.pst_bth.proofs.BthLaws.{name_law}
@@ -36,25 +36,25 @@ records_done part g xs total is so_far = ap (option_map g) (each_done part xs to
 
 -- ---- the context
 
-pub heap_fails : (t : Table) (r : Roots) (f : Fault) → option_map (told_in r) (heap_fault (heap_at t r)) ≡ Some f → pc_fault t r ≡ Some f
+pub heap_fails : (t : Table) (r : Roots) (f : Fault) → option_map (told_under r) (heap_fault (heap_at t r)) ≡ Some f → pc_fault t r ≡ Some f
 unfolding pc_fault untold_pc_fault
-heap_fails t r f e = told_first (told_in r) (heap_fault (heap_at t r)) _ f e
+heap_fails t r f e = told_first (told_under r) (heap_fault (heap_at t r)) _ f e
 
-pub client_fails : (t : Table) (r : Roots) (f : Fault) → option_map (told_in r) (heap_fault (heap_at t r)) ≡ None → option_map (told_in r) (client_fault pc_client (heap_at t r)) ≡ Some f → pc_fault t r ≡ Some f
+pub client_fails : (t : Table) (r : Roots) (f : Fault) → option_map (told_under r) (heap_fault (heap_at t r)) ≡ None → option_map (told_under r) (client_fault pc_client (heap_at t r)) ≡ Some f → pc_fault t r ≡ Some f
 unfolding pc_fault untold_pc_fault
-client_fails t r f a e = told_next (told_in r) _ _ a ∙ told_first (told_in r) (client_fault pc_client (heap_at t r)) _ f e
+client_fails t r f a e = told_next (told_under r) _ _ a ∙ told_first (told_under r) (client_fault pc_client (heap_at t r)) _ f e
 
-pub bth_fails : (t : Table) (r : Roots) (f : Fault) → option_map (told_in r) (heap_fault (heap_at t r)) ≡ None → option_map (told_in r) (client_fault pc_client (heap_at t r)) ≡ None
-    → option_map (told_in r) (bth_fault (heap_at t r) pc_sizes (user_root_place (heap_at t r)) (user_root_of (heap_at t r))) ≡ Some f → pc_fault t r ≡ Some f
+pub bth_fails : (t : Table) (r : Roots) (f : Fault) → option_map (told_under r) (heap_fault (heap_at t r)) ≡ None → option_map (told_under r) (client_fault pc_client (heap_at t r)) ≡ None
+    → option_map (told_under r) (bth_fault (heap_at t r) pc_sizes (user_root_place (heap_at t r)) (user_root_of (heap_at t r))) ≡ Some f → pc_fault t r ≡ Some f
 unfolding pc_fault untold_pc_fault
-bth_fails t r f a b e = told_next (told_in r) _ _ a ∙ told_next (told_in r) _ _ b ∙ told_first (told_in r) (bth_fault (heap_at t r) pc_sizes (user_root_place (heap_at t r)) (user_root_of (heap_at t r))) _ f e
+bth_fails t r f a b e = told_next (told_under r) _ _ a ∙ told_next (told_under r) _ _ b ∙ told_first (told_under r) (bth_fault (heap_at t r) pc_sizes (user_root_place (heap_at t r)) (user_root_of (heap_at t r))) _ f e
 
 -- where nothing failed up to the BTH, what is left is the records
-pub all_left : (t : Table) (r : Roots) → option_map (told_in r) (heap_fault (heap_at t r)) ≡ None → option_map (told_in r) (client_fault pc_client (heap_at t r)) ≡ None
-    → option_map (told_in r) (bth_fault (heap_at t r) pc_sizes (user_root_place (heap_at t r)) (user_root_of (heap_at t r))) ≡ None
-    → option_map (told_in r) (first_of (property_fault t r) (bth_records (heap_at t r) pc_sizes (user_root_of (heap_at t r)))) ≡ pc_fault t r
+pub all_left : (t : Table) (r : Roots) → option_map (told_under r) (heap_fault (heap_at t r)) ≡ None → option_map (told_under r) (client_fault pc_client (heap_at t r)) ≡ None
+    → option_map (told_under r) (bth_fault (heap_at t r) pc_sizes (user_root_place (heap_at t r)) (user_root_of (heap_at t r))) ≡ None
+    → option_map (told_under r) (first_of (property_fault t r) (bth_records (heap_at t r) pc_sizes (user_root_of (heap_at t r)))) ≡ pc_fault t r
 unfolding pc_fault untold_pc_fault pc_records
-all_left t r a b c = sym (told_next (told_in r) _ _ a ∙ told_next (told_in r) _ _ b ∙ told_next (told_in r) _ _ c)
+all_left t r a b c = sym (told_next (told_under r) _ _ a ∙ told_next (told_under r) _ _ b ∙ told_next (told_under r) _ _ c)
 
 -- ---- without fault
 
@@ -67,7 +67,7 @@ pub record PcFacts (t : Table) (r : Roots) : Type 0 where
 pub facts : (t : Table) (r : Roots) → pc_fault t r ≡ None → PcFacts t r
 unfolding pc_fault untold_pc_fault
 facts t r none =
-    let a = none_then _ _ (told_none (told_in r) _ none) in
+    let a = none_then _ _ (told_none (told_under r) _ none) in
     let b = none_then _ _ a.1 in
     let c = none_then _ _ b.1 in
     record { heap = a.0; client = b.0; bth = c.0; records = c.1 }

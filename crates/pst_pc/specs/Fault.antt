@@ -7,7 +7,7 @@ use Rattle.pst_fault.specs.First.{◌then◌}
 use Rattle.pst_block.specs.Table.{Table}
 use Rattle.pst_ndb.specs.Roots.{Roots}
 use Rattle.pst_heap.specs.Values.{user_root_of, user_root_place, heap_at}
-use Rattle.pst_heap.specs.Fault.{heap_fault, client_fault, told_in}
+use Rattle.pst_heap.specs.Fault.{heap_fault, client_fault, told_under}
 use Rattle.pst_bth.specs.Fault.{bth_fault}
 use Rattle.pst_value.specs.Fault.{value_fault}
 use Rattle.pst_pc.specs.Values.{pc_client, pc_sizes, pc_records, record_place, kind_in, raw_in}
@@ -25,4 +25,4 @@ untold_pc_fault t r =
 
 -- of the property context of a node
 unfoldable pub pc_fault : Table → Roots → Option Fault
-pc_fault t r = option_map (told_in r) (untold_pc_fault t r)
+pc_fault t r = option_map (told_under r) (untold_pc_fault t r)

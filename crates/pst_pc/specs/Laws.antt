@@ -4,7 +4,7 @@ use Rattle.pst_bytes.specs.declared.span.Span.{Span}
 use Rattle.pst_block.specs.Table.{Table}
 use Rattle.pst_btree.specs.Order.{Rises}
 use Rattle.pst_ndb.specs.Roots.{Roots}
-use Rattle.pst_value.specs.Alike.{Alike}
+use Rattle.pst_ndb.specs.Alike.{Alike}
 use Rattle.pst_pc.specs.Fault.{untold_pc_fault, pc_fault}
 use Rattle.pst_pc.specs.Grammar.{HasPc, IsPc}
 use Rattle.pst_pc.specs.Values.{id_of, pc_records, props_of}

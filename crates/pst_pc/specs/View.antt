@@ -2,7 +2,7 @@
 use Rattle.std.specs.Prelude.{◌≡◌, ℕ, Some}
 use Rattle.pst_bytes.specs.declared.span.Span.{Span}
 use Rattle.pst_btree.specs.Entries.{first_with}
-use Rattle.pst_datatree.specs.Shown.{Shows, bytes_in}
+use Rattle.pst_datatree.specs.Shown.{ShowsSpans, bytes_in}
 use Rattle.pst_ndb.specs.declared.node.Node.{Node}
 use Rattle.pst_ndb.specs.Views.{image_of_node, table_of_node, roots_of}
 use Rattle.pst_bth.specs.Values.{record_key}
@@ -24,7 +24,7 @@ abbrev pub IsPropAt : Node → ℕ × Span → Prop → Type 0
 IsPropAt node x p =
     let t = table_of_node node in
     let r = roots_of node in
-    (property_of p ≡ property_at t r x) × Shows (image_of_node node) (spans_in t r x) p.value
+    (property_of p ≡ property_at t r x) × ShowsSpans (image_of_node node) (spans_in t r x) p.value
 
 -- the same, of the record with an identifier
 abbrev pub IsPropWith : Node → ℕ → Prop → Type 0

@@ -5,7 +5,7 @@ ghost use Rattle.pst_bytes.specs.Image.{IsInside};
 ghost use Rattle.pst_fault.specs.Each.{first_of};
 ghost use Rattle.pst_fault.specs.First.{Checks};
 ghost use Rattle.pst_ndb.specs.Views.{table_of_node, roots_of, IsIndexedBy};
-ghost use Rattle.pst_heap.specs.Fault.{told_in};
+ghost use Rattle.pst_heap.specs.Fault.{told_under};
 ghost use Rattle.pst_heap.specs.View.{node_of, data_of};
 ghost use Rattle.pst_bth.specs.View.{heap_of, sizes_in, records_of};
 ghost use Rattle.pst_pc.specs.Fault.{property_fault, pc_fault};
@@ -30,7 +30,7 @@ fn check_property(heap: &Heap, index: &SubIndex, id: u32, content: Span) -> Resu
     requires behind { 2 ≤ content.at }
     requires size { content.len ≡ 6 }
     ensures exact { let node = node_of heap.now in let r = roots_of node in
-        Checks result (option_map (told_in r) (property_fault (table_of_node node) r (id, content))) }
+        Checks result (option_map (told_under r) (property_fault (table_of_node node) r (id, content))) }
 {
     let kind = PropType(heap.image().number16(content.at));
     let raw = Span {
@@ -49,7 +49,7 @@ fn check_properties(heap: &Heap, index: &SubIndex, bth: &Bth) -> Result<(), Faul
     requires sizes { sizes_in bth.now ≡ pc_sizes }
     ensures exact { let node = node_of heap.now in let r = roots_of node in
         let first = first_of (property_fault (table_of_node node) r) (records_of bth.now) in
-        Checks result (option_map (told_in r) first) }
+        Checks result (option_map (told_under r) first) }
 {
     let mut rest = bth.records();
     while let Some(taken) = rest.next() {

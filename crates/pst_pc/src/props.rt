@@ -27,12 +27,12 @@ pub struct Props<'a> {
 }
 
 impl<'a> Props<'a> {
-    ghost use Rattle.pst_pc.specs.Left.{IsSplit};
+    ghost use Rattle.pst_pc.specs.Left.{IsPropSplit};
 
     // The first property, and what is left behind it.
     #[tactic(auto, unfolding(pst_bth::specs::Rows::row_key), using(crate::proofs::PcLemmas::first_sound, crate::proofs::PcLemmas::rest_sound))]
     fn split(self) -> Option<(Prop<'a>, Props<'a>)>
-        ensures { IsSplit self.entry result }
+        ensures { IsPropSplit self.entry result }
     {
         let mut rest = self.rest;
         let Some((_, content)) = rest.next() else {

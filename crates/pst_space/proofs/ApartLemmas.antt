@@ -1,11 +1,13 @@
 -- Spans can be claimed one after another exactly where they are apart, and set the flags of their units.
-use Rattle.std.proofs.Common.{◌≡◌, ℕ, suc, zero, ◌+◌, ◌<◌, ◌≤◌, Bool, true, false, not, ◌&&◌, ◌||◌, List, [], ◌∷◌, ◌++◌, length, replicate, Option, Some, None, refl, sym, ap, ◌∙◌, arith, ◌⊎◌, inl, inr}
+use Rattle.std.proofs.Common.{◌≡◌, ℕ, suc, zero, ◌+◌, ◌<◌, ◌≤◌, Bool, true, false, not, ◌&&◌, ◌||◌, List, [], ◌∷◌, ◌++◌, length, replicate, Some, None, refl, sym, ap, ◌∙◌, arith, inl, inr}
 use Rattle.std.specs.Prelude.{⊤}
 use Rattle.std.proofs.lemmas.List.{length-replicate}
-use Rattle.std.proofs.lemmas.Bool.{cases_lt, le-leb, lt-leb, lt-ltb, le-ltb}
+use Rattle.std.proofs.lemmas.Bool.{cases_lt, le-leb, lt-leb, lt-ltb, le-ltb, cases_Bool}
 use Rattle.pst_bytes.specs.declared.span.Span.{Span}
 use Rattle.pst_space.specs.Claimed.{Claimed, first_unit, unit_count, flag_of, IsUnits, is_clear, with_span, with_spans, claim_of, claim_all}
-use Rattle.pst_space.specs.Apart.{end_of_span, IsApartFrom, IsApartFromAll, AreApart, AreUnits, AreFree, covers, is_covered, ClaimsLaw, ApartLaw, FlagsLaw}
+use Rattle.pst_bytes.specs.Span.{IsApartFrom, IsApartFromAll, end_of_span}
+use Rattle.pst_fault.proofs.GeneralLemmas.{true_false, some_is, none_is}
+use Rattle.pst_space.specs.Apart.{AreApart, AreUnits, AreFree, covers, is_covered, ClaimsLaw, ApartLaw, FlagsLaw}
 use Rattle.pst_space.proofs.MapLemmas.{length_with_span}
 use Rattle.pst_space.proofs.MarkLemmas.{filled_in, filled_out, clear_filled, overlap, unset, clear_beyond}
 
@@ -36,9 +38,6 @@ apart_same : (m : Claimed) (s t : Span) → IsUnits m s → IsUnits m t → IsAp
 unfolding with_span
 apart_same m s t u v (inl le) = clear_filled m (first_unit s) (unit_count s) (first_unit t) (unit_count t) (inl (units_before m s t u v le))
 apart_same m s t u v (inr le) = clear_filled m (first_unit s) (unit_count s) (first_unit t) (unit_count t) (inr (units_before m t s v u le))
-
-true_false : (b : Bool) → b ≡ true → b ≡ false → ⊥
-true_false b e f = cc
 
 clear_apart : (m : Claimed) (s t : Span) → IsUnits m s → IsUnits m t → IsClear (with_span m s) t → IsApartFrom s t
 unfolding with_span
@@ -80,21 +79,11 @@ claim_clash : (m : Claimed) (s : Span) → is_clear m (first_unit s) (unit_count
 unfolding claim_of
 claim_clash m s clash = rw clash refl
 
-some_is : (x y : Claimed) → (let o : Option Claimed = Some x in o ≡ Some y) → x ≡ y
-some_is x y e = cc
-
-none_is : (y : Claimed) → (let o : Option Claimed = None in o ≡ Some y) → ⊥
-none_is y e = cc
-
-flag_known : (b : Bool) → (b ≡ true) ⊎ (b ≡ false)
-flag_known true = inl refl
-flag_known false = inr refl
-
 -- what is claimed was clear and apart
 claimed_apart : (m : Claimed) (ss : List Span) (new : Claimed) → AreUnits m ss → claim_all m ss ≡ Some new → AllClear m ss × AreApart ss
 claimed_apart m [] new us e = (tt, tt)
 claimed_apart m (s ∷ ss) new us e =
-    elim (flag_known (is_clear m (first_unit s) (unit_count s))) [
+    elim (cases_Bool (is_clear m (first_unit s) (unit_count s))) [
       | inl clear ↦
           let later : claim_all (with_span m s) ss ≡ Some new = rw (claim_clear m s clear) at e in
           let rest = claimed_apart (with_span m s) ss new (all_units_kept m ss s us.1) later in
@@ -113,7 +102,7 @@ apart_claimed m (s ∷ ss) us clear apart =
 pub claimed_is : (m : Claimed) (ss : List Span) (new : Claimed) → claim_all m ss ≡ Some new → new ≡ with_spans m ss
 claimed_is m [] new e = sym (some_is m new e)
 claimed_is m (s ∷ ss) new e =
-    elim (flag_known (is_clear m (first_unit s) (unit_count s))) [
+    elim (cases_Bool (is_clear m (first_unit s) (unit_count s))) [
       | inl clear ↦ claimed_is (with_span m s) ss new (rw (claim_clear m s clear) at e)
       | inr clash ↦ absurd (none_is new (rw (claim_clash m s clash) at e))
     ]

@@ -3,3 +3,4 @@ pub mod ClaimLemmas
 pub mod FlagLemmas
 pub mod MapLemmas
 pub mod MarkLemmas
+pub mod StepLemmas

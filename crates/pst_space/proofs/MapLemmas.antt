@@ -1,14 +1,15 @@
 -- The map pages of a file: they fit, and are apart.
-use Rattle.std.proofs.Common.{◌≡◌, ℕ, suc, zero, ◌+◌, ◌-◌, ◌*◌, ◌/◌, ◌%◌, ◌<◌, ◌≤◌, Bool, true, false, cond, eqb, List, [], ◌∷◌, ◌++◌, length, replicate, Option, Some, None, option_and_then, refl, sym, ap, ◌∙◌, arith, inl, inr, add-one}
+use Rattle.std.proofs.Common.{◌≡◌, ℕ, suc, zero, ◌+◌, ◌-◌, ◌*◌, ◌/◌, ◌%◌, ◌<◌, ◌≤◌, Bool, true, false, cond, eqb, List, [], ◌∷◌, ◌++◌, length, replicate, Some, refl, sym, ap, ◌∙◌, arith, inl, inr, add-one}
 use Rattle.std.proofs.lemmas.List.{length-replicate}
 use Rattle.std.proofs.lemmas.Bool.{cases_lt}
 use Rattle.pst_bytes.specs.declared.span.Span.{Span}
 use Rattle.pst_header.specs.declared.header.Header.{Header}
 use Rattle.pst_header.specs.Header.{amap_place, amap_count_of}
 use Rattle.pst_header.specs.Head.{IsLastMap}
-use Rattle.pst_space.specs.Claimed.{Claimed, first_unit, unit_count, unit_total, flag_of, is_clear, with_span, with_spans, claim_of, claim_all, page_at, map_pages_at, map_pages_below, map_pages, nothing_claimed, maps_claimed, MapsFit, MapsLaw}
+use Rattle.pst_space.specs.Claimed.{Claimed, first_unit, unit_count, unit_total, flag_of, is_clear, with_span, with_spans, claim_of, claim_all, page_at, map_pages_at, map_pages_below, map_pages, nothing_claimed, maps_claimed, MapsFit, MapPagesLaw}
 use Rattle.pst_space.proofs.ClaimLemmas.{length_filled}
 use Rattle.pst_space.proofs.MarkLemmas.{filled_out, clear_beyond, unset}
+use Rattle.pst_space.proofs.StepLemmas.{claim_all-append}
 
 pub length_with_span : (claimed : Claimed) (span : Span) → length (with_span claimed span) ≡ length claimed
 unfolding with_span
@@ -77,18 +78,6 @@ claim_free : (m : Claimed) (s : Span) (first count : ℕ) → first_unit s ≡ f
 unfolding claim_of
 claim_free m s first count e n clear = rw (e, n, clear) refl
 
--- claiming the first spans and then the others
-claim_all-append : (m : Claimed) (some more : List Span) (next : Claimed) → claim_all m some ≡ Some next → claim_all m (some ++ more) ≡ claim_all next more
-claim_all-append m [] more next e = ap (λ (c : Claimed). claim_all c more) (some_is m next e)
-  where
-    some_is : (x y : Claimed) → (let o : Option Claimed = Some x in o ≡ Some y) → x ≡ y
-    some_is x y e = cc
-claim_all-append m (s ∷ ss) more next e = by_claim (claim_of m s) (λ c h. claim_all-append c ss more next h) e
-  where
-    by_claim : (o : Option Claimed) → ((c : Claimed) → claim_all c ss ≡ Some next → claim_all c (ss ++ more) ≡ claim_all next more) → option_and_then (λ (c : Claimed). claim_all c ss) o ≡ Some next → option_and_then (λ (c : Claimed). claim_all c (ss ++ more)) o ≡ claim_all next more
-    by_claim None ih h = absurd cc
-    by_claim (Some c) ih h = ih c h
-
 -- from a unit on, nothing is claimed
 abbrev IsFreeFrom : Claimed → ℕ → Type 0
 IsFreeFrom m unit = (u : ℕ) → unit ≤ u → flag_of m u ≡ false
@@ -127,8 +116,8 @@ maps_all h (suc n) =
     let before = maps_all h n in
     let here = maps_here (maps_below h n) n before.1 in
     let same : maps_below h (suc n) ≡ with_spans (maps_below h n) (map_pages_at n) = with_spans-append (nothing_claimed h) (map_pages_below n) (map_pages_at n) in
-    (claim_all-append (nothing_claimed h) (map_pages_below n) (map_pages_at n) (maps_below h n) before.0 ∙ here.0 ∙ ap Some (sym same), rw same here.1)
+    (claim_all-append (nothing_claimed h) (map_pages_below n) (map_pages_at n) ∙ rw before.0 refl ∙ here.0 ∙ ap Some (sym same), rw same here.1)
 
-pub maps_law : MapsLaw
+pub maps_law : MapPagesLaw
 unfolding maps_claimed map_pages
 maps_law h = (maps_all h (amap_count_of h)).0

@@ -1,18 +1,8 @@
 -- Spans that have no byte in common, and what that says of the flags.
-use Rattle.std.specs.Prelude.{◌≡◌, ℕ, ◌+◌, ◌<◌, ◌≤◌, ◌↔◌, ◌⊎◌, ⊤, Bool, false, ◌&&◌, ◌||◌, nat_le, nat_lt, List, [], ◌∷◌, replicate, Some}
+use Rattle.std.specs.Prelude.{◌≡◌, ℕ, ◌+◌, ◌<◌, ◌≤◌, ◌↔◌, ⊤, Bool, false, ◌&&◌, ◌||◌, nat_le, nat_lt, List, [], ◌∷◌, replicate, Some}
 use Rattle.pst_bytes.specs.declared.span.Span.{Span}
+use Rattle.pst_bytes.specs.Span.{IsApartFromAll}
 use Rattle.pst_space.specs.Claimed.{Claimed, IsUnits, claim_all, with_spans, flag_of, first_unit, unit_count}
-
-abbrev pub end_of_span : Span → ℕ
-end_of_span span = span.at + span.len
-
--- two spans have no byte in common
-abbrev pub IsApartFrom : Span → Span → Type 0
-IsApartFrom s t = (end_of_span s ≤ t.at) ⊎ (end_of_span t ≤ s.at)
-
-abbrev pub IsApartFromAll : Span → List Span → Type 0
-IsApartFromAll s [] = ⊤
-IsApartFromAll s (t ∷ ts) = IsApartFrom s t × IsApartFromAll s ts
 
 -- no two places of the list have a byte in common
 abbrev pub AreApart : List Span → Type 0

@@ -98,5 +98,5 @@ unfoldable pub maps_claimed : Header → Claimed
 maps_claimed h = with_spans (nothing_claimed h) (map_pages h)
 
 -- The map pages have no byte in common, so they can be claimed one after another.
-abbrev pub MapsLaw : Type 0
-MapsLaw = (h : Header) → claim_all (nothing_claimed h) (map_pages h) ≡ Some (maps_claimed h)
+abbrev pub MapPagesLaw : Type 0
+MapPagesLaw = (h : Header) → claim_all (nothing_claimed h) (map_pages h) ≡ Some (maps_claimed h)

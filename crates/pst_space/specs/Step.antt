@@ -30,12 +30,17 @@ abbrev pub claim_step : Span → ℕ → Claimed → Step Claimed
 claim_step span bid claimed = claimed_or span bid claimed (claim_of claimed span)
 
 -- What a function returned, seen by view, and what it left claimed is what a step gives, unless memory ran out.
-abbrev pub GivesBy : {X Y : Type 0} → (X → Y) → Result X Fault → Claimed → Step Y → Type 0
-GivesBy view (Ok x) claimed step = step ≡ Ok (view x)
-GivesBy view (Err f) claimed step = (f ≡ no_memory) ⊎ (step ≡ Err (claimed, f))
+abbrev pub GivesStepBy : {X Y : Type 0} → (X → Y) → Result X Fault → Claimed → Step Y → Type 0
+GivesStepBy view (Ok x) claimed step = step ≡ Ok (view x)
+GivesStepBy view (Err f) claimed step = (f ≡ no_memory) ⊎ (step ≡ Err (claimed, f))
 
-abbrev pub Gives : {X Y : Type 0} → Result X Fault → Y → Claimed → Step Y → Type 0
-Gives result value claimed step = GivesBy (λ _. value) result claimed step
+abbrev pub GivesStep : {X Y : Type 0} → Result X Fault → Y → Claimed → Step Y → Type 0
+GivesStep result value claimed step = GivesStepBy (λ _. value) result claimed step
+
+-- What a function that takes no memory returned, and what it left claimed, is what a step gives.
+abbrev pub EndsStep : {X : Type 0} → Result X Fault → Claimed → Step Claimed → Type 0
+EndsStep (Ok x) claimed step = step ≡ Ok claimed
+EndsStep (Err f) claimed step = step ≡ Err (claimed, f)
 
 -- new is what is claimed once some of the spans, from the first on, are claimed after old
 abbrev pub ClaimsSome : Claimed → Claimed → List Span → Type 0

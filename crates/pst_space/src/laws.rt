@@ -1,7 +1,7 @@
 //! Laws of claims, each the contract of a function that does nothing.
 
 ghost use Rattle.pst_space.specs.Apart.{ApartLaw, ClaimsLaw, FlagsLaw};
-ghost use Rattle.pst_space.specs.Claimed.{MapsLaw};
+ghost use Rattle.pst_space.specs.Claimed.{MapPagesLaw};
 
 /// Spans of whole units of the mapped part can be claimed one after another exactly where none has a byte in common with
 /// what is claimed, and no two of them have one; and then their flags are set.
@@ -18,5 +18,5 @@ pub fn claims_are_apart()
 
 /// The map pages of a file have no byte in common.
 pub fn map_pages_are_apart()
-    ensures { MapsLaw }
+    ensures { MapPagesLaw }
 {}

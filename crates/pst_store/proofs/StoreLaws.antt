@@ -6,7 +6,7 @@ use Rattle.pst_header.specs.Header.{header_fault, fields}
 use Rattle.pst_page.specs.declared.kind.PageKind.TheVariants.{Bbt, Nbt}
 use Rattle.pst_btree.specs.Tree.{Tree}
 use Rattle.pst_amap.specs.declared.report.BitOrder.{BitOrder}
-use Rattle.pst_amap.specs.Marks.{order_of}
+use Rattle.pst_amap.specs.Marks.{bit_order_of}
 use Rattle.pst_ndb.specs.Database.{Database}
 use Rattle.pst_ndb.specs.Entries.{tree_under, block_table, block_list, node_list}
 use Rattle.pst_ndb.specs.Fault.{nodes_fault, file_fault, ndb_fault}
@@ -64,7 +64,7 @@ both_make I s d contents = record {
 -- ---- what a file spells
 
 abbrev Spelt : List ℕ → StoreParts → Type 0
-Spelt I s = (s.header ≡ fields I) × (s.blocks ≡ tree_under Bbt I s.header.bbt) × (s.nodes ≡ tree_under Nbt I s.header.nbt) × (s.order ≡ order_of I (space_claimed I s.header))
+Spelt I s = (s.header ≡ fields I) × (s.blocks ≡ tree_under Bbt I s.header.bbt) × (s.nodes ≡ tree_under Nbt I s.header.nbt) × (s.order ≡ bit_order_of I (space_claimed I s.header))
 
 spelt_is : (I : List ℕ) (s : StoreParts) → Spelt I s → s ≡ store_in I
 unfolding store_in

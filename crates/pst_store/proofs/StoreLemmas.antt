@@ -19,7 +19,7 @@ use Rattle.pst_pc.specs.Fault.{pc_fault}
 use Rattle.pst_pc.proofs.PcLaws.{pc_none}
 use Rattle.pst_msg.specs.declared.nid.TheConstants.{STORE, ROOT}
 use Rattle.pst_msg.specs.Values.{is_folder, is_message}
-use Rattle.pst_msg.specs.Fault.{message_fault, required_fault, node_fault, messaging_fault}
+use Rattle.pst_msg.specs.Fault.{message_fault, required_fault, typed_node_fault, messaging_fault}
 use Rattle.pst_msg.proofs.ContentsLaws.{none_required}
 use Rattle.pst_msg.proofs.FolderLemmas.{of_message}
 use Rattle.pst_store.specs.Parts.{table_in, entries_in}
@@ -50,16 +50,16 @@ entries_are I h nodes is entries = entries ∙ ap (node_list I) is ∙ sym (entr
 record Parts (t : Table) (nodes : List NodeEntry) : Type 0 where
   store : required_fault t nodes STORE ≡ None
   root : required_fault t nodes ROOT ≡ None
-  each : first_of (node_fault t nodes) (all_roots nodes) ≡ None
+  each : first_of (typed_node_fault t nodes) (all_roots nodes) ≡ None
 
 parts : (t : Table) (nodes : List NodeEntry) → messaging_fault t nodes ≡ None → Parts t nodes
 unfolding messaging_fault
 parts t nodes none =
-    let p = none_then (required_fault t nodes STORE) (required_fault t nodes ROOT then first_of (node_fault t nodes) (all_roots nodes)) none in
-    let q = none_then (required_fault t nodes ROOT) (first_of (node_fault t nodes) (all_roots nodes)) p.1 in
+    let p = none_then (required_fault t nodes STORE) (required_fault t nodes ROOT then first_of (typed_node_fault t nodes) (all_roots nodes)) none in
+    let q = none_then (required_fault t nodes ROOT) (first_of (typed_node_fault t nodes) (all_roots nodes)) p.1 in
     record { store = p.0; root = q.0; each = q.1 }
 
-pub nodes_sound : (t : Table) (nodes : List NodeEntry) → messaging_fault t nodes ≡ None → first_of (node_fault t nodes) (all_roots nodes) ≡ None
+pub nodes_sound : (t : Table) (nodes : List NodeEntry) → messaging_fault t nodes ≡ None → first_of (typed_node_fault t nodes) (all_roots nodes) ≡ None
 nodes_sound t nodes none = (parts t nodes none).each
 
 pub store_there : (t : Table) (nodes : List NodeEntry) → messaging_fault t nodes ≡ None → None ≡ node_in nodes STORE → ⊥
@@ -95,14 +95,14 @@ node_found : (part : Roots → Option Fault) (nid : ℕ) (nodes : List NodeEntry
 unfolding node_in
 node_found part nid nodes r none found = found_entry part nid nodes r none found
 
-pub node_sound : (t : Table) (nodes : List NodeEntry) (node : Node) (nid : ℕ) → messaging_fault t nodes ≡ None → Some (roots_of node) ≡ node_in nodes nid → node_fault t nodes (roots_of node) ≡ None
-node_sound t nodes node nid none is = node_found (node_fault t nodes) nid nodes (roots_of node) (parts t nodes none).each (sym is)
+pub node_sound : (t : Table) (nodes : List NodeEntry) (node : Node) (nid : ℕ) → messaging_fault t nodes ≡ None → Some (roots_of node) ≡ node_in nodes nid → typed_node_fault t nodes (roots_of node) ≡ None
+node_sound t nodes node nid none is = node_found (typed_node_fault t nodes) nid nodes (roots_of node) (parts t nodes none).each (sym is)
 
 pub kind_found : (node : Node) (nid : ℕ) → top_of node ≡ nid → is_folder nid ≡ true → is_folder (top_of node) ≡ true
 kind_found node nid is kind = rw is kind
 
 -- a node of a message's type is a message
-pub message_sound : (t u : Table) (nodes : List NodeEntry) (node : Node) → node_fault t nodes (roots_of node) ≡ None → u ≡ t → is_message (top_of node) ≡ true → message_fault u (roots_of node) ≡ None
+pub message_sound : (t u : Table) (nodes : List NodeEntry) (node : Node) → typed_node_fault t nodes (roots_of node) ≡ None → u ≡ t → is_message (top_of node) ≡ true → message_fault u (roots_of node) ≡ None
 message_sound t u nodes node none same kind = rw same (of_message t nodes (roots_of node) none kind)
 
 pub message_found : (t : Table) (nodes : List NodeEntry) (node : Node) (nid : ℕ) → messaging_fault t nodes ≡ None → Some (roots_of node) ≡ node_in nodes nid → table_of_node node ≡ t → top_of node ≡ nid → is_message nid ≡ true → message_fault (table_of_node node) (roots_of node) ≡ None

@@ -7,7 +7,7 @@ use Rattle.pst_page.specs.declared.kind.PageKind.TheVariants.{Bbt, Nbt}
 use Rattle.pst_space.specs.Apart.{AreApart}
 use Rattle.pst_block.specs.Walk.{AreGood}
 use Rattle.pst_amap.specs.Report.{Maps}
-use Rattle.pst_ndb.specs.Database.{IsSpelt, AllHaveTrees, blocks_in, used_spans, units_of}
+use Rattle.pst_ndb.specs.Database.{IsSpelt, AllHaveTrees, blocks_in, used_spans, claimed_units}
 use Rattle.pst_ndb.specs.Roots.{Roots}
 use Rattle.pst_pc.specs.Grammar.{IsPc}
 use Rattle.pst_msg.specs.declared.nid.TheConstants.{STORE, ROOT, FOLDER, SEARCH_FOLDER, MESSAGE, ASSOCIATED}
@@ -26,7 +26,7 @@ pub record IsStore (I : List ℕ) (s : StoreParts) : Type 0 where
   -- Nothing overlaps: no two of the map pages, the pages of both trees and the blocks have a byte in common.
   pub apart : AreApart (used_spans I s.header s.blocks s.nodes)
   -- The allocation maps are good, and mark the units of all of these, in one order of bits (2.2.2.7.2).
-  pub maps : Maps I s.header (units_of s.header (used_spans I s.header s.blocks s.nodes)) s.order
+  pub maps : Maps I s.header (claimed_units s.header (used_spans I s.header s.blocks s.nodes)) s.order
   -- The data of each node has a tree of blocks, and its subnodes have lists, which nest no deeper than they may (2.2.2.8.3).
   pub trees : AllHaveTrees (table_in I s) (entries_in I s)
   -- The message store and the root folder are there: their nodes are property contexts (2.4.3, 2.4.4).

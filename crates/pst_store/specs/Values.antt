@@ -2,7 +2,7 @@
 use Rattle.std.specs.Prelude.{ℕ, List}
 use Rattle.pst_header.specs.Header.{fields}
 use Rattle.pst_page.specs.declared.kind.PageKind.TheVariants.{Bbt, Nbt}
-use Rattle.pst_amap.specs.Marks.{order_of}
+use Rattle.pst_amap.specs.Marks.{bit_order_of}
 use Rattle.pst_ndb.specs.Entries.{tree_under}
 use Rattle.pst_ndb.specs.Space.{space_claimed}
 use Rattle.pst_store.specs.Parts.{StoreParts}
@@ -12,5 +12,5 @@ store_in I = record {
   header = fields I;
   blocks = tree_under Bbt I (fields I).bbt;
   nodes = tree_under Nbt I (fields I).nbt;
-  order = order_of I (space_claimed I (fields I));
+  order = bit_order_of I (space_claimed I (fields I));
 }

@@ -14,12 +14,13 @@ use Rattle.pst_datatree.specs.Seen as trees
 use Rattle.pst_datatree.proofs.AddLemmas.{has_stays}
 use Rattle.pst_subnode.specs.declared.sub.Sub.{Sub}
 use Rattle.pst_subnode.specs.declared.heights.Heights.{Heights}
-use Rattle.pst_subnode.specs.Body.{count_in, bid_in}
+use Rattle.pst_datatree.specs.List.{count_in}
+use Rattle.pst_subnode.specs.Body.{leaf_bid_in}
 use Rattle.pst_subnode.specs.List.{subs_of, list_fault}
 use Rattle.pst_subnode.specs.Heights.{state_at, state_of}
 use Rattle.pst_subnode.specs.Marks.{IsList, IsSiList, rank_of}
-use Rattle.pst_subnode.specs.Reach.{Names, Leads, goes_on}
-use Rattle.pst_subnode.specs.Known.{HasKnownHeight, IsKnown, Adds, IsKnownList, IsKnownEntry, AreLedTo, AreLedEach, AreKnownEach, AreLedBelow}
+use Rattle.pst_subnode.specs.Reach.{NamesNext, Leads, goes_on}
+use Rattle.pst_subnode.specs.Known.{HasKnownHeight, IsKnownBlock, Adds, IsKnownList, IsKnownEntry, AreLedTo, AreLedEach, AreKnownEach, AreLedBelow}
 use Rattle.pst_subnode.proofs.MarkLemmas.{IsPut, IsSame, put_at, put_cases}
 use Rattle.pst_subnode.proofs.ReachLemmas.{names_same, tree_reached, list_block, slblock_names, siblock_names, slblock_only, siblock_only}
 
@@ -75,7 +76,7 @@ entry_later t AreLed s h s' h' sub adds known = (
 
 -- ---- the data of an entry
 
-pub adds_data : (t : Table) (bid : ℕ) (s s' : Seen) (h : Heights) → trees.Adds t (IsInTree t bid) s s' → Adds t (λ from. Leads t from bid) s h s' h
+pub adds_data : (t : Table) (bid : ℕ) (s s' : Seen) (h : Heights) → trees.AddsTrees t (IsInTree t bid) s s' → Adds t (λ from. Leads t from bid) s h s' h
 adds_data t bid s s' h adds = record {
   trees = adds.stays;
   lists = λ key state was. was;
@@ -93,15 +94,15 @@ adds_data t bid s s' h adds = record {
   };
 }
 
-pub adds_first : (t : Table) (sub : Sub) (s s' : Seen) (h : Heights) → trees.Adds t (IsInTree t sub.bid_data) s s' → Adds t (λ from. AreLedTo t from sub) s h s' h
+pub adds_first : (t : Table) (sub : Sub) (s s' : Seen) (h : Heights) → trees.AddsTrees t (IsInTree t sub.bid_data) s s' → Adds t (λ from. AreLedTo t from sub) s h s' h
 adds_first t sub s s' h first = adds_of t _ (λ from. AreLedTo t from sub) s h s' h (λ from led. led.0) (adds_data t sub.bid_data s s' h first)
 
 -- and then its own list
-pub adds_both : (t : Table) (sub : Sub) (s : Seen) (h : Heights) (s' s'' : Seen) (h'' : Heights) → trees.Adds t (IsInTree t sub.bid_data) s s' → Adds t (λ from. Leads t from sub.bid_sub) s' h s'' h'' → Adds t (λ from. AreLedTo t from sub) s h s'' h''
+pub adds_both : (t : Table) (sub : Sub) (s : Seen) (h : Heights) (s' s'' : Seen) (h'' : Heights) → trees.AddsTrees t (IsInTree t sub.bid_data) s s' → Adds t (λ from. Leads t from sub.bid_sub) s' h s'' h'' → Adds t (λ from. AreLedTo t from sub) s h s'' h''
 adds_both t sub s h s' s'' h'' first second =
     adds_then t _ s h s' h s'' h'' (adds_first t sub s s' h first) (adds_of t _ _ s' h s'' h'' (λ from led. led.1) second)
 
-pub both_known : (t : Table) (sub : Sub) (AreLed : List ℕ → Type 0) (s : Seen) (h : Heights) (s' : Seen) (h' : Heights) → trees.IsKnown t s sub.bid_data → Adds t AreLed s h s' h' → IsKnownList t h' sub.bid_sub → IsKnownEntry t s' h' sub
+pub both_known : (t : Table) (sub : Sub) (AreLed : List ℕ → Type 0) (s : Seen) (h : Heights) (s' : Seen) (h' : Heights) → trees.IsKnownTree t s sub.bid_data → Adds t AreLed s h s' h' → IsKnownList t h' sub.bid_sub → IsKnownEntry t s' h' sub
 both_known t sub AreLed s h s' h' tree adds list = ((λ e is. has_stays s s' sub.bid_data adds.trees (tree e is)), list)
 
 -- ---- a list is marked, and then it gets its height or is forgotten
@@ -207,7 +208,7 @@ adds_forget t bid e s s' h begun mid new is adds put =
           | inr same ↦ (high.0, high.1, same ∙ high.2)
         ]
 
-pub adds_settle : (t : Table) (bid height : ℕ) (e : BlockEntry) (s s' : Seen) (h begun mid new : Heights) → 0 < height → IsMarked t h begun bid e → Adds t (λ from. Leads t from bid) s begun s' mid → IsPut mid new bid (Some height) → ((next : ℕ) (x : BlockEntry) → Names t bid next → IsInternal t next x → IsKnown s' mid next) → Adds t (λ from. Leads t from bid) s h s' new
+pub adds_settle : (t : Table) (bid height : ℕ) (e : BlockEntry) (s s' : Seen) (h begun mid new : Heights) → 0 < height → IsMarked t h begun bid e → Adds t (λ from. Leads t from bid) s begun s' mid → IsPut mid new bid (Some height) → ((next : ℕ) (x : BlockEntry) → NamesNext t bid next → IsInternal t next x → IsKnownBlock s' mid next) → Adds t (λ from. Leads t from bid) s h s' new
 adds_settle t bid height e s s' h begun mid new more is adds put names_known =
     let whole = adds_then t (λ from. Leads t from bid) s h s begun s' mid (adds_mark t bid e s h begun is) adds in
     record {
@@ -231,7 +232,7 @@ adds_settle t bid height e s s' h begun mid new more is adds put names_known =
       };
     }
   where
-    still : (next : ℕ) → IsKnown s' mid next → IsKnown s' new next
+    still : (next : ℕ) → IsKnownBlock s' mid next → IsKnownBlock s' new next
     still next (inl tree) = inl tree
     still next (inr high) =
         elim (put_cases mid new bid (Some height) next put) [
@@ -247,7 +248,7 @@ marked t bid h begun list fresh put = let w = list_block t bid list in (w.0, rec
 pub forgets : (t : Table) (bid : ℕ) (s s' : Seen) (h begun mid new : Heights) → list_fault t bid ≡ None → state_of h bid ≡ None → IsPut h begun bid (Some 0) → Adds t (λ from. Leads t from bid) s begun s' mid → IsPut mid new bid None → Adds t (λ from. Leads t from bid) s h s' new
 forgets t bid s s' h begun mid new list fresh put adds last = let w = marked t bid h begun list fresh put in adds_forget t bid w.0 s s' h begun mid new w.1 adds last
 
-pub settles : (t : Table) (bid height : ℕ) (s s' : Seen) (h begun mid new : Heights) → 0 < height → list_fault t bid ≡ None → state_of h bid ≡ None → IsPut h begun bid (Some 0) → Adds t (λ from. Leads t from bid) s begun s' mid → IsPut mid new bid (Some height) → ((next : ℕ) (x : BlockEntry) → Names t bid next → IsInternal t next x → IsKnown s' mid next) → Adds t (λ from. Leads t from bid) s h s' new
+pub settles : (t : Table) (bid height : ℕ) (s s' : Seen) (h begun mid new : Heights) → 0 < height → list_fault t bid ≡ None → state_of h bid ≡ None → IsPut h begun bid (Some 0) → Adds t (λ from. Leads t from bid) s begun s' mid → IsPut mid new bid (Some height) → ((next : ℕ) (x : BlockEntry) → NamesNext t bid next → IsInternal t next x → IsKnownBlock s' mid next) → Adds t (λ from. Leads t from bid) s h s' new
 settles t bid height s s' h begun mid new more list fresh put adds last names_known = let w = marked t bid h begun list fresh put in adds_settle t bid height w.0 s s' h begun mid new more w.1 adds last names_known
 
 -- ---- the parts of a list
@@ -262,7 +263,7 @@ pub list_adds : (t : Table) (bid : ℕ) (xs : List Sub) (s : Seen) (h : Heights)
 list_adds t bid xs s h s' h' is rank are adds = adds_of t (AreLedEach t xs) (λ from. Leads t from bid) s h s' h' (led_entries t bid xs is rank are) adds
 
 -- all that it names is known where its entries are
-pub slblock_known : (t : Table) (bid : ℕ) (xs : List Sub) (s : Seen) (h : Heights) → IsList t bid → rank_of t bid ≡ 0 → xs ≡ subs_of t bid → ((sub : Sub) → Contains xs sub → IsKnownEntry t s h sub) → (next : ℕ) (x : BlockEntry) → Names t bid next → IsInternal t next x → IsKnown s h next
+pub slblock_known : (t : Table) (bid : ℕ) (xs : List Sub) (s : Seen) (h : Heights) → IsList t bid → rank_of t bid ≡ 0 → xs ≡ subs_of t bid → ((sub : Sub) → Contains xs sub → IsKnownEntry t s h sub) → (next : ℕ) (x : BlockEntry) → NamesNext t bid next → IsInternal t next x → IsKnownBlock s h next
 slblock_known t bid xs s h is rank are known next x names internal =
     let w = slblock_only t bid next is rank names in
     let entry = known w.0 (rw are w.1) in
@@ -271,13 +272,13 @@ slblock_known t bid xs s h is rank are known next x names internal =
       | inr sub_is ↦ inr (rw sub_is (entry.1 x (rw sub_is at internal)))
     ]
 
-pub led_leaves : (t : Table) (bid : ℕ) (e : BlockEntry) (n : ℕ) → IsSiList t bid e → n ≡ count_in (body_of t e) → (from : List ℕ) → Leads t from bid → (i : ℕ) → i < n → Leads t from (bid_in (body_of t e) i)
-led_leaves t bid e n is count from led i lt = goes_on bid (bid_in (body_of t e) i) led (siblock_names t bid e i is (omega (arith, lt, count)))
+pub led_leaves : (t : Table) (bid : ℕ) (e : BlockEntry) (n : ℕ) → IsSiList t bid e → n ≡ count_in (body_of t e) → (from : List ℕ) → Leads t from bid → (i : ℕ) → i < n → Leads t from (leaf_bid_in (body_of t e) i)
+led_leaves t bid e n is count from led i lt = goes_on bid (leaf_bid_in (body_of t e) i) led (siblock_names t bid e i is (omega (arith, lt, count)))
 
 pub leaves_add : (t : Table) (bid : ℕ) (e : BlockEntry) (n : ℕ) (s : Seen) (h : Heights) (s' : Seen) (h' : Heights) → IsSiList t bid e → n ≡ count_in (body_of t e) → Adds t (AreLedBelow t e n) s h s' h' → Adds t (λ from. Leads t from bid) s h s' h'
 leaves_add t bid e n s h s' h' is count adds = adds_of t (AreLedBelow t e n) (λ from. Leads t from bid) s h s' h' (led_leaves t bid e n is count) adds
 
-pub siblock_known : (t : Table) (bid : ℕ) (e : BlockEntry) (n : ℕ) (s : Seen) (h : Heights) → IsSiList t bid e → n ≡ count_in (body_of t e) → ((i : ℕ) → i < n → IsKnownList t h (bid_in (body_of t e) i)) → (next : ℕ) (x : BlockEntry) → Names t bid next → IsInternal t next x → IsKnown s h next
+pub siblock_known : (t : Table) (bid : ℕ) (e : BlockEntry) (n : ℕ) (s : Seen) (h : Heights) → IsSiList t bid e → n ≡ count_in (body_of t e) → ((i : ℕ) → i < n → IsKnownList t h (leaf_bid_in (body_of t e) i)) → (next : ℕ) (x : BlockEntry) → NamesNext t bid next → IsInternal t next x → IsKnownBlock s h next
 siblock_known t bid e n s h is count known next x names internal =
     let w = siblock_only t bid next e is names in
     inr (rw w.2 (known w.0 (omega (arith, count, w.1)) x (rw w.2 at internal)))
@@ -287,13 +288,13 @@ siblock_known t bid e n s h is count known next x names internal =
 pub adds_entry : (t : Table) (xs : List Sub) (sub : Sub) (s : Seen) (h : Heights) (s' : Seen) (h' : Heights) (s'' : Seen) (h'' : Heights) → Contains xs sub → Adds t (AreLedEach t xs) s h s' h' → Adds t (λ from. AreLedTo t from sub) s' h' s'' h'' → Adds t (AreLedEach t xs) s h s'' h''
 adds_entry t xs sub s h s' h' s'' h'' w so_far one = adds_then t (AreLedEach t xs) s h s' h' s'' h'' so_far (adds_of t (λ from. AreLedTo t from sub) (AreLedEach t xs) s' h' s'' h'' (λ from led. led sub w) one)
 
-pub adds_leaf : (t : Table) (e : BlockEntry) (n i : ℕ) (s : Seen) (h : Heights) (s' : Seen) (h' : Heights) (s'' : Seen) (h'' : Heights) → i < n → Adds t (AreLedBelow t e n) s h s' h' → Adds t (λ from. Leads t from (bid_in (body_of t e) i)) s' h' s'' h'' → Adds t (AreLedBelow t e n) s h s'' h''
+pub adds_leaf : (t : Table) (e : BlockEntry) (n i : ℕ) (s : Seen) (h : Heights) (s' : Seen) (h' : Heights) (s'' : Seen) (h'' : Heights) → i < n → Adds t (AreLedBelow t e n) s h s' h' → Adds t (λ from. Leads t from (leaf_bid_in (body_of t e) i)) s' h' s'' h'' → Adds t (AreLedBelow t e n) s h s'' h''
 adds_leaf t e n i s h s' h' s'' h'' lt so_far one = adds_then t (AreLedBelow t e n) s h s' h' s'' h'' so_far (adds_of t _ (AreLedBelow t e n) s' h' s'' h'' (λ from led. led i lt) one)
 
-pub leaf_next : (t : Table) (e : BlockEntry) (AreLed : List ℕ → Type 0) (i : ℕ) (s : Seen) (h : Heights) (s' : Seen) (h' : Heights) → ((j : ℕ) → j < i → IsKnownList t h (bid_in (body_of t e) j)) → Adds t AreLed s h s' h' → IsKnownList t h' (bid_in (body_of t e) i) → (j : ℕ) → j < i + 1 → IsKnownList t h' (bid_in (body_of t e) j)
+pub leaf_next : (t : Table) (e : BlockEntry) (AreLed : List ℕ → Type 0) (i : ℕ) (s : Seen) (h : Heights) (s' : Seen) (h' : Heights) → ((j : ℕ) → j < i → IsKnownList t h (leaf_bid_in (body_of t e) j)) → Adds t AreLed s h s' h' → IsKnownList t h' (leaf_bid_in (body_of t e) i) → (j : ℕ) → j < i + 1 → IsKnownList t h' (leaf_bid_in (body_of t e) j)
 leaf_next t e AreLed i s h s' h' before adds this j lt x internal =
     elim (cases_lt j i) [
-      | inl less ↦ high_later h h' (bid_in (body_of t e) j) adds.lists (before j less x internal)
+      | inl less ↦ high_later h h' (leaf_bid_in (body_of t e) j) adds.lists (before j less x internal)
       | inr least ↦ let same : j ≡ i = omega arith in rw same (this x (rw same at internal))
     ]
 

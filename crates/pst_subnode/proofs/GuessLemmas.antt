@@ -7,8 +7,9 @@ use Rattle.pst_fault.specs.First.{join_below}
 use Rattle.pst_block.specs.Table.{Table, entry_of}
 use Rattle.pst_btree.specs.Entries.{first_with}
 use Rattle.pst_subnode.specs.declared.sub.Sub.{Sub}
-use Rattle.pst_subnode.specs.Body.{count_in, bid_in, sub_in, sub_at, subs_in}
-use Rattle.pst_subnode.specs.List.{nid_of, subs_at, slblock_subs, leaf_subs, subs_of}
+use Rattle.pst_datatree.specs.List.{count_in}
+use Rattle.pst_subnode.specs.Body.{leaf_bid_in, sub_in, sub_at, subs_in}
+use Rattle.pst_subnode.specs.List.{sub_nid, subs_at, slblock_subs, leaf_subs, subs_of}
 use Rattle.pst_subnode.specs.Tree.{sub_fault}
 use Rattle.pst_subnode.proofs.MapLaws.{map_law}
 
@@ -25,13 +26,13 @@ pub entry_there : (body : List ℕ) (i : ℕ) → i < count_in body → Contains
 unfolding subs_in
 entry_there body i lt = below_there (sub_at body) (count_in body) i (sub_in body i) lt (0, omega arith, refl)
 
-pub leaf_there : (t : Table) (body : List ℕ) (i : ℕ) (s : Sub) → i < count_in body → Contains (subs_at (slblock_subs t) (entry_of t (bid_in body i))) s → Contains (join_below (leaf_subs t body) (count_in body)) s
+pub leaf_there : (t : Table) (body : List ℕ) (i : ℕ) (s : Sub) → i < count_in body → Contains (subs_at (slblock_subs t) (entry_of t (leaf_bid_in body i))) s → Contains (join_below (leaf_subs t body) (count_in body)) s
 unfolding leaf_subs
 leaf_there t body i s lt w = below_there (leaf_subs t body) (count_in body) i s lt w
 
-pub leaf_guess : (t : Table) (body : List ℕ) (i : ℕ) (o : Option Sub) → i < count_in body → IfSome o (Contains (subs_at (slblock_subs t) (entry_of t (bid_in body i)))) → IfSome o (Contains (join_below (leaf_subs t body) (count_in body)))
+pub leaf_guess : (t : Table) (body : List ℕ) (i : ℕ) (o : Option Sub) → i < count_in body → IfSome o (Contains (subs_at (slblock_subs t) (entry_of t (leaf_bid_in body i)))) → IfSome o (Contains (join_below (leaf_subs t body) (count_in body)))
 leaf_guess t body i None lt h = h
 leaf_guess t body i (Some s) lt h = leaf_there t body i s lt h
 
-pub guessed : (t : Table) (limit bid nid : ℕ) (s : Sub) → sub_fault t limit bid ≡ None → Contains (subs_of t bid) s → s.nid ≡ nid → first_with nid_of nid (subs_of t bid) ≡ Some s
+pub guessed : (t : Table) (limit bid nid : ℕ) (s : Sub) → sub_fault t limit bid ≡ None → Contains (subs_of t bid) s → s.nid ≡ nid → first_with sub_nid nid (subs_of t bid) ≡ Some s
 guessed t limit bid nid s h w is = (map_law t limit bid nid s h).1 (w, is)

@@ -1,21 +1,21 @@
 -- Heights and limits of subnode lists, and lists of the same key.
-use Rattle.std.proofs.Common.{◌≡◌, ℕ, zero, suc, ◌-◌, ◌/◌, ◌<◌, ◌≤◌, max, Bool, true, false, List, [], ◌∷◌, length, Option, Some, None, refl, sym, ap, ◌∙◌, arith}
+use Rattle.std.proofs.Common.{◌≡◌, ℕ, zero, suc, ◌-◌, ◌<◌, ◌≤◌, max, Bool, true, false, List, [], ◌∷◌, length, Option, Some, None, refl, sym, ap, ◌∙◌, arith}
 use Rattle.std.specs.Prelude.{cond, slice_index_or}
 use Rattle.std.specs.List.{Contains}
 use Rattle.pst_fault.specs.declared.fault.Fault.{Fault}
 use Rattle.pst_fault.proofs.FirstLemmas.{none_then, then_none}
-use Rattle.pst_page.specs.Entry.{key_of}
 use Rattle.pst_page.specs.declared.entry.BlockEntry.{BlockEntry}
 use Rattle.pst_block.specs.Block.{bid_key}
 use Rattle.pst_block.specs.Table.{Table, entry_of}
 use Rattle.pst_btree.specs.Entries.{first_with}
 use Rattle.pst_datatree.specs.Bid.{is_no_block, is_internal}
-use Rattle.pst_datatree.specs.Data.{fault_or, block_missing, data_fault}
-use Rattle.pst_datatree.proofs.KeyLemmas.{none_same, entry_same}
+use Rattle.pst_datatree.specs.Data.{block_missing, data_fault}
+use Rattle.pst_datatree.proofs.KeyLemmas.{none_same, entry_same, missing_same}
+use Rattle.pst_datatree.proofs.AddLemmas.{internal_same}
 use Rattle.pst_subnode.specs.declared.sub.Sub.{Sub}
-use Rattle.pst_subnode.specs.List.{nid_of, bad_list, block_fault, list_fault, subs_of}
+use Rattle.pst_subnode.specs.List.{sub_nid, bad_list, list_block_fault, list_fault, subs_of}
 use Rattle.pst_subnode.specs.Tree.{first_among, most_among, entry_fault, entry_height, nesting, sub_fault, sub_height}
-use Rattle.pst_subnode.specs.Laws.{BelowLaw, LowerLaw, HeightLaw, LimitLaw, NoHeightLaw, SameSubLaw}
+use Rattle.pst_subnode.specs.Laws.{BelowLaw, LowerLaw, HeightLaw, HeightLimitLaw, NoHeightLaw, SameSubLaw}
 use Rattle.pst_subnode.proofs.SubLemmas.{sub_fault_none, sub_fault_below, sub_fault_list, sub_height_suc}
 use Rattle.pst_subnode.proofs.TreeLaws.{no_subs, has_within, has_agrees, entry_law, one_law}
 use Rattle.pst_subnode.proofs.MapLaws.{found_there, found_below}
@@ -27,7 +27,7 @@ height_law t limit bid h =
     let w = has_within t limit bid h in
     (w.1, (λ other le. let a = has_agrees t bid (sub_height t limit bid) (subs_of t bid) w.0 other le in (a.first, sym a.height_is)))
 
-pub limit_law : LimitLaw
+pub limit_law : HeightLimitLaw
 limit_law t limit other bid h k = (one_law t bid (sub_height t limit bid) (sub_height t other bid) (subs_of t bid) (subs_of t bid) (has_within t limit bid h).0 (has_within t other bid k).0).0
 
 -- a list with an entry is let in by a limit that is not 0
@@ -90,23 +90,15 @@ no_height_law t (suc limit) bid h z = by_test (is_no_block bid) refl
 
 -- ---- the same key
 
-internal_same : (a b : ℕ) → bid_key a ≡ bid_key b → is_internal a ≡ is_internal b
-unfolding key_of is_internal
-internal_same a b e = let half : a / 2 ≡ b / 2 = omega (arith, e) in rw half refl
-
 pub subs_same : (t : Table) (a b : ℕ) → bid_key a ≡ bid_key b → subs_of t a ≡ subs_of t b
 unfolding subs_of
 subs_same t a b e = rw (none_same a b e, entry_same t a b e) refl
 
-or_none : (f g : Fault) (part : BlockEntry → Option Fault) (o : Option BlockEntry) → fault_or f part o ≡ None → fault_or g part o ≡ None
-or_none f g part None h = cc
-or_none f g part (Some e) h = h
-
 list_none_same : (t : Table) (a b : ℕ) → bid_key a ≡ bid_key b → list_fault t a ≡ None → list_fault t b ≡ None
 unfolding list_fault
 list_none_same t a b e h =
-    let part : Bool → BlockEntry → Option Fault = λ v x. cond v (block_fault t x) (Some (bad_list x)) in
-    rw (← internal_same a b e, ← entry_same t a b e) (or_none (block_missing a) (block_missing b) (part (is_internal a)) (entry_of t a) h)
+    let part : Bool → BlockEntry → Option Fault = λ v x. cond v (list_block_fault t x) (Some (bad_list x)) in
+    rw (← internal_same a b e, ← entry_same t a b e) (missing_same (block_missing a) (block_missing b) (part (is_internal a)) (entry_of t a) h)
 
 none_same_by : (t : Table) (limit a b : ℕ) → bid_key a ≡ bid_key b → sub_fault t limit a ≡ None → sub_fault t limit b ≡ None
 none_same_by t limit a b e h = by_test (is_no_block b) refl limit h
@@ -135,7 +127,7 @@ same_sub_law t a b e = (
 pub height_low : (t : Table) (limit bid : ℕ) → sub_fault t limit bid ≡ None → sub_height t limit bid ≤ limit
 height_low t limit bid h = (height_law t limit bid h).0
 
-pub found_entry : (t : Table) (bid nid : ℕ) (s : Sub) → first_with nid_of nid (subs_of t bid) ≡ Some s → Contains (subs_of t bid) s
+pub found_entry : (t : Table) (bid nid : ℕ) (s : Sub) → first_with sub_nid nid (subs_of t bid) ≡ Some s → Contains (subs_of t bid) s
 found_entry t bid nid s is = (found_there nid (subs_of t bid) s is).0
 
 pub entry_data : (t : Table) (limit bid : ℕ) (s : Sub) → sub_fault t limit bid ≡ None → Contains (subs_of t bid) s → data_fault t s.bid_data ≡ None

@@ -1,26 +1,26 @@
 -- Entries in a map by their nids.
-use Rattle.std.proofs.Common.{◌≡◌, ℕ, Bool, true, false, cond, List, [], ◌∷◌, Option, Some, None, refl, ap, ◌∙◌, arith, BTreeMap}
+use Rattle.std.proofs.Common.{◌≡◌, ℕ, Bool, true, false, cond, List, [], ◌∷◌, Option, Some, None, refl, ap, ◌∙◌, BTreeMap}
 use Rattle.std.specs.Prelude.{nat_eq, is_some}
 use Rattle.std.specs.Option.{option_or}
 use Rattle.std.specs.Ordering.{nat_cmp}
 use Rattle.std.specs.BTreeMap.{get, is_at}
 use Rattle.std.specs.Cmp.{unsigned_tied}
-use Rattle.std.proofs.lemmas.Bool.Decides.{nat_tests}
+use Rattle.pst_fault.proofs.GeneralLemmas.{number_of_test}
 use Rattle.pst_block.specs.Block.{bid_key}
 use Rattle.pst_block.specs.Table.{Table}
 use Rattle.pst_btree.specs.Entries.{first_with}
 use Rattle.pst_subnode.specs.declared.sub.Sub.{Sub}
 use Rattle.pst_subnode.specs.declared.index.SubIndex.{SubIndex}
-use Rattle.pst_subnode.specs.List.{nid_of, subs_of}
+use Rattle.pst_subnode.specs.List.{sub_nid, subs_of}
 use Rattle.pst_subnode.specs.Index.{IsIndexOf, HasFirst}
 use Rattle.pst_subnode.proofs.HeightLaws.{same_sub_law}
 
 abbrev first : ℕ → List Sub → Option Sub
-first nid xs = first_with nid_of nid xs
+first nid xs = first_with sub_nid nid xs
 
 -- what is in the map comes before what is left, and both together are all
 abbrev pub HasSoFar : BTreeMap ℕ Sub → List Sub → List Sub → Type 0
-HasSoFar m left all = (nid : ℕ) → option_or (get nat_cmp m nid) (first_with nid_of nid left) ≡ first_with nid_of nid all
+HasSoFar m left all = (nid : ℕ) → option_or (get nat_cmp m nid) (first_with sub_nid nid left) ≡ first_with sub_nid nid all
 
 -- nothing is in the map
 pub so_far_none : (m : BTreeMap ℕ Sub) (all : List Sub) → m.entries ≡ [] → HasSoFar m all all
@@ -35,9 +35,6 @@ so_far_all m left all done so_far nid = or_none (get nat_cmp m nid) ∙ (rw done
     or_none None = refl
     or_none (Some s) = refl
 
-same_number : (a b : ℕ) → nat_eq a b ≡ true → a ≡ b
-same_number a b h = grind (arith, nat_tests)
-
 -- the map has an entry with the next one's nid
 pub so_far_met : (m : BTreeMap ℕ Sub) (left rest all : List Sub) (s : Sub) → left ≡ s ∷ rest → is_some (get nat_cmp m s.nid) ≡ true → HasSoFar m left all → HasSoFar m rest all
 unfolding first_with
@@ -47,7 +44,7 @@ so_far_met m left rest all s is met so_far nid = by_test (nat_eq s.nid nid) refl
     by_test v e (Some x) at = refl
     by_test false e None at = refl
     by_test true e None at =
-        let there : is_some (get nat_cmp m nid) ≡ true = rw (← same_number s.nid nid e) met in
+        let there : is_some (get nat_cmp m nid) ≡ true = rw (← number_of_test s.nid nid e) met in
         let bad : false ≡ true = (rw at at there) in cc
 
 -- the next entry is put in the map, which has none with its nid
@@ -62,7 +59,7 @@ so_far_more m new left rest all s is unmet puts so_far nid =
     by_test false e o at = refl
     by_test true e None at = refl
     by_test true e (Some x) at =
-        let none : is_some (get nat_cmp m nid) ≡ false = rw (← same_number s.nid nid e) unmet in
+        let none : is_some (get nat_cmp m nid) ≡ false = rw (← number_of_test s.nid nid e) unmet in
         let bad : true ≡ false = (rw at at none) in cc
 
 -- An index of a list is one of every list whose identifier differs in bit 0 alone.

@@ -12,8 +12,9 @@ use Rattle.pst_datatree.specs.Bid.{is_internal, is_no_block}
 use Rattle.pst_datatree.specs.Data.{block_missing}
 use Rattle.pst_datatree.proofs.DataLemmas.{fault_or_none}
 use Rattle.pst_subnode.specs.declared.sub.Sub.{Sub}
-use Rattle.pst_subnode.specs.Body.{count_in, bid_in, is_siblock, has_level_one}
-use Rattle.pst_subnode.specs.List.{slblock_subs, leaf_subs, siblock_subs, block_subs, subs_of, nid_of, are_distinct, bad_list, slblock_fault, leaf_fault, siblock_fault, shape_fault, block_fault, list_fault}
+use Rattle.pst_datatree.specs.List.{count_in}
+use Rattle.pst_subnode.specs.Body.{leaf_bid_in, is_siblock, has_level_one}
+use Rattle.pst_subnode.specs.List.{slblock_subs, leaf_subs, siblock_subs, block_subs, subs_of, sub_nid, are_distinct, bad_list, slblock_fault, list_leaf_fault, siblock_fault, shape_fault, list_block_fault, list_fault}
 use Rattle.pst_subnode.specs.Tree.{first_among, most_among, entry_fault, entry_height, sub_fault, sub_height}
 use Rattle.pst_subnode.specs.Marks.{IsList, IsSiList, at_leaf, at_leaves, leaf_height, most_below, rank_of}
 use Rattle.pst_subnode.proofs.ListLaws.{level_zero}
@@ -25,19 +26,19 @@ internal_of : (b : Bool) (o : Option Fault) (f : Fault) → cond b o (Some f) �
 internal_of true o f h = (refl, h)
 internal_of false o f h = cc
 
-block_of_list : (t : Table) (bid : ℕ) (e : BlockEntry) → entry_of t bid ≡ Some e → list_fault t bid ≡ None → block_fault t e ≡ None
+block_of_list : (t : Table) (bid : ℕ) (e : BlockEntry) → entry_of t bid ≡ Some e → list_fault t bid ≡ None → list_block_fault t e ≡ None
 unfolding list_fault
-block_of_list t bid e there none = (internal_of (is_internal bid) (block_fault t e) (bad_list e) (rw there at none)).1
+block_of_list t bid e there none = (internal_of (is_internal bid) (list_block_fault t e) (bad_list e) (rw there at none)).1
 
 -- what an SIBLOCK without fault has
 pub record IsSi (t : Table) (e : BlockEntry) : Type 0 where
   pub body : is_siblock (body_of t e) ≡ true
-  pub leaves : first_below (leaf_fault t e) (count_in (body_of t e)) ≡ None
+  pub leaves : first_below (list_leaf_fault t e) (count_in (body_of t e)) ≡ None
   pub subs : block_subs t e ≡ join_below (leaf_subs t (body_of t e)) (count_in (body_of t e))
-  pub distinct : are_distinct (map nid_of (join_below (leaf_subs t (body_of t e)) (count_in (body_of t e)))) ≡ true
+  pub distinct : are_distinct (map sub_nid (join_below (leaf_subs t (body_of t e)) (count_in (body_of t e)))) ≡ true
 
 pub si_of : (t : Table) (bid : ℕ) (e : BlockEntry) → IsSiList t bid e → IsSi t e
-unfolding block_fault shape_fault siblock_fault block_subs siblock_subs
+unfolding list_block_fault shape_fault siblock_fault block_subs siblock_subs
 si_of t bid e is =
     let p = none_then (if has_level_one (body_of t e) then siblock_fault t e else slblock_fault t e) _ (block_of_list t bid e is.entry is.is_list.list) in
     let q = none_then (holds_or (is_siblock (body_of t e)) (bad_list e)) _ (rw is.level at p.0) in
@@ -78,17 +79,17 @@ parts_distinct (x ∷ rest) ys h =
     both false true c h = cc
     both false false c h = (refl, h)
 
-map_append : (xs ys : List Sub) → map nid_of (xs ++ ys) ≡ map nid_of xs ++ map nid_of ys
+map_append : (xs ys : List Sub) → map sub_nid (xs ++ ys) ≡ map sub_nid xs ++ map sub_nid ys
 map_append [] ys = refl
 map_append (x ∷ rest) ys = ap (λ ns. x.nid ∷ ns) (map_append rest ys)
 
-leaf_distinct : (part : ℕ → List Sub) (n i : ℕ) → are_distinct (map nid_of (join_below part n)) ≡ true → i < n → are_distinct (map nid_of (part i)) ≡ true
+leaf_distinct : (part : ℕ → List Sub) (n i : ℕ) → are_distinct (map sub_nid (join_below part n)) ≡ true → i < n → are_distinct (map sub_nid (part i)) ≡ true
 leaf_distinct part zero i h lt = absurd (omega arith)
 leaf_distinct part (suc n) i h lt =
-    let p = parts_distinct (map nid_of (join_below part n)) (map nid_of (part n)) (rw (map_append (join_below part n) (part n)) at h) in
+    let p = parts_distinct (map sub_nid (join_below part n)) (map sub_nid (part n)) (rw (map_append (join_below part n) (part n)) at h) in
     by_test (nat_eq i n) refl p (λ less. leaf_distinct part n i p.0 less)
   where
-    by_test : (v : Bool) → nat_eq i n ≡ v → (are_distinct (map nid_of (join_below part n)) ≡ true) × (are_distinct (map nid_of (part n)) ≡ true) → (i < n → are_distinct (map nid_of (part i)) ≡ true) → are_distinct (map nid_of (part i)) ≡ true
+    by_test : (v : Bool) → nat_eq i n ≡ v → (are_distinct (map sub_nid (join_below part n)) ≡ true) × (are_distinct (map sub_nid (part n)) ≡ true) → (i < n → are_distinct (map sub_nid (part i)) ≡ true) → are_distinct (map sub_nid (part i)) ≡ true
     by_test true here p later = let same : i ≡ n = grind (arith, nat_tests) in rw same p.1
     by_test false other p later = later (grind (arith, nat_tests))
 
@@ -100,26 +101,26 @@ internal_named b h = grind (arith, nat_tests)
 
 -- it is a list of its own, with the same entries
 pub record IsLeafList (t : Table) (body : List ℕ) (i : ℕ) : Type 0 where
-  pub is_list : IsList t (bid_in body i)
-  pub subs : subs_of t (bid_in body i) ≡ leaf_subs t body i
-  pub rank : rank_of t (bid_in body i) ≡ 0
+  pub is_list : IsList t (leaf_bid_in body i)
+  pub subs : subs_of t (leaf_bid_in body i) ≡ leaf_subs t body i
+  pub rank : rank_of t (leaf_bid_in body i) ≡ 0
 
-leaf_with : (t : Table) (body : List ℕ) (i : ℕ) (x : BlockEntry) → entry_of t (bid_in body i) ≡ Some x → is_internal (bid_in body i) ≡ true → slblock_fault t x ≡ None → are_distinct (map nid_of (leaf_subs t body i)) ≡ true → IsLeafList t body i
-unfolding leaf_subs slblock_fault list_fault block_fault shape_fault block_subs subs_of rank_of
+leaf_with : (t : Table) (body : List ℕ) (i : ℕ) (x : BlockEntry) → entry_of t (leaf_bid_in body i) ≡ Some x → is_internal (leaf_bid_in body i) ≡ true → slblock_fault t x ≡ None → are_distinct (map sub_nid (leaf_subs t body i)) ≡ true → IsLeafList t body i
+unfolding leaf_subs slblock_fault list_fault list_block_fault shape_fault block_subs subs_of rank_of
 leaf_with t body i x there internal none distinct =
-    let named = internal_named (bid_in body i) internal in
+    let named = internal_named (leaf_bid_in body i) internal in
     let level : has_level_one (body_of t x) ≡ false = level_zero (body_of t x) (holds_or_none _ _ none) in
-    let apart : are_distinct (map nid_of (slblock_subs t x)) ≡ true = (rw there at distinct) in
+    let apart : are_distinct (map sub_nid (slblock_subs t x)) ≡ true = (rw there at distinct) in
     record {
       is_list = record { named = named; list = rw (there, internal, level) (then_none _ _ none ∙ holds_or_true _ _ apart) };
       subs = rw (named, there, level) refl;
       rank = rw (there, level) refl;
     }
 
-leaf_is : (t : Table) (e : BlockEntry) (i : ℕ) → leaf_fault t e i ≡ None → are_distinct (map nid_of (leaf_subs t (body_of t e) i)) ≡ true → IsLeafList t (body_of t e) i
-unfolding leaf_fault
+leaf_is : (t : Table) (e : BlockEntry) (i : ℕ) → list_leaf_fault t e i ≡ None → are_distinct (map sub_nid (leaf_subs t (body_of t e) i)) ≡ true → IsLeafList t (body_of t e) i
+unfolding list_leaf_fault
 leaf_is t e i none distinct =
-    let bid = bid_in (body_of t e) i in
+    let bid = leaf_bid_in (body_of t e) i in
     let w = fault_or_none (block_missing bid) (λ x. if is_internal bid then slblock_fault t x else Some (bad_list e)) (entry_of t bid) none in
     let p = internal_of (is_internal bid) (slblock_fault t w.0) (bad_list e) w.2 in
     leaf_with t (body_of t e) i w.0 w.1 p.0 p.1 distinct
@@ -127,7 +128,7 @@ leaf_is t e i none distinct =
 pub leaf_list : (t : Table) (bid : ℕ) (e : BlockEntry) (i : ℕ) → IsSiList t bid e → i < count_in (body_of t e) → IsLeafList t (body_of t e) i
 leaf_list t bid e i is lt =
     let si = si_of t bid e is in
-    leaf_is t e i (none_below (leaf_fault t e) (count_in (body_of t e)) i si.leaves lt) (leaf_distinct (leaf_subs t (body_of t e)) (count_in (body_of t e)) i si.distinct lt)
+    leaf_is t e i (none_below (list_leaf_fault t e) (count_in (body_of t e)) i si.leaves lt) (leaf_distinct (leaf_subs t (body_of t e)) (count_in (body_of t e)) i si.distinct lt)
 
 -- ---- the walk of an SIBLOCK is that of its SLBLOCKs
 
@@ -158,7 +159,7 @@ leaves_at t e k (suc n) each =
     let leaf = each n (omega arith) in
     among_append part (join_below (leaf_subs t body) n) (leaf_subs t body n)
     ∙ ap (λ o. o then first_among part (leaf_subs t body n)) (leaves_at t e k n (λ i lt. each i (omega arith)))
-    ∙ ap (λ o. first_below (at_leaf t e (suc k)) n then o) (sym (sub_fault_list t (suc k) k (bid_in body n) (omega arith) leaf.is_list.named ∙ (then_none _ _ leaf.is_list.list ∙ ap (first_among part) leaf.subs)))
+    ∙ ap (λ o. first_below (at_leaf t e (suc k)) n then o) (sym (sub_fault_list t (suc k) k (leaf_bid_in body n) (omega arith) leaf.is_list.named ∙ (then_none _ _ leaf.is_list.list ∙ ap (first_among part) leaf.subs)))
 
 heights_at : (t : Table) (e : BlockEntry) (k n : ℕ) → ((i : ℕ) → i < n → IsLeafList t (body_of t e) i) → most_among (entry_height (sub_height t k)) (join_below (leaf_subs t (body_of t e)) n) + 1 ≡ most_below (leaf_height t e (suc k)) n
 unfolding most_among most_below
@@ -167,7 +168,7 @@ heights_at t e k (suc n) each =
     let body = body_of t e in
     let height = entry_height (sub_height t k) in
     let leaf = each n (omega arith) in
-    let own : sub_height t (suc k) (bid_in body n) ≡ most_among height (leaf_subs t body n) + 1 = sub_height_list t (suc k) k (bid_in body n) (omega arith) leaf.is_list.named ∙ ap (λ xs. most_among height xs + 1) leaf.subs in
+    let own : sub_height t (suc k) (leaf_bid_in body n) ≡ most_among height (leaf_subs t body n) + 1 = sub_height_list t (suc k) k (leaf_bid_in body n) (omega arith) leaf.is_list.named ∙ ap (λ xs. most_among height xs + 1) leaf.subs in
     let before = heights_at t e k n (λ i lt. each i (omega arith)) in
     omega (arith, own, before, most_append height (join_below (leaf_subs t body) n) (leaf_subs t body n))
 

@@ -1,8 +1,7 @@
 -- What is left of joined lists.
 use Rattle.std.proofs.Common.{◌≡◌, ℕ, zero, suc, ◌+◌, List, [], ◌∷◌, ◌++◌, refl, sym, ap, ◌∙◌, arith, append_assoc}
 use Rattle.std.proofs.lemmas.List.{append-nil}
-use Rattle.pst_fault.specs.First.{join_below}
-use Rattle.pst_subnode.specs.Left.{join_from}
+use Rattle.pst_fault.specs.First.{join_below, join_from}
 
 pub join_from_none : {X : Type 0} (part : ℕ → List X) (i n : ℕ) → n ≡ 0 → join_from part i n ≡ []
 unfolding join_from

@@ -1,19 +1,21 @@
 -- The grammar of a subnode list, and its first fault and entries, say the same.
 use Rattle.std.proofs.Common.{◌≡◌, ℕ, zero, suc, ◌<◌, Bool, true, false, List, [], ◌∷◌, ◌++◌, Option, Some, None, refl, sym, ap, ◌∙◌, arith, ◌⊎◌, inl, inr, ◌↔◌, map}
-use Rattle.std.specs.Prelude.{cond, not, nat_eq, ◌&&◌, ◌||◌, if◌then◌else◌}
+use Rattle.std.specs.Prelude.{cond, not, nat_eq, ◌&&◌, if◌then◌else◌}
 use Rattle.std.specs.List.{list_any, IsDistinct, AllByRecursion}
 use Rattle.std.proofs.lemmas.Bool.Decides.{nat_tests}
+use Rattle.std.proofs.lemmas.Bool.{or_parts}
 use Rattle.pst_fault.specs.declared.fault.Fault.{Fault}
-use Rattle.pst_fault.specs.First.{◌then◌, holds_or, first_below, join_below}
+use Rattle.pst_fault.specs.First.{◌then◌, holds_or, first_below, join_below, AreJoined}
 use Rattle.pst_fault.proofs.FirstLemmas.{none_then, then_none, none_below, holds_or_none, holds_or_true}
 use Rattle.pst_page.specs.declared.entry.BlockEntry.{BlockEntry}
 use Rattle.pst_block.specs.Table.{Table, entry_of, body_of}
 use Rattle.pst_datatree.specs.Bid.{is_internal}
 use Rattle.pst_datatree.specs.Data.{fault_or, block_missing}
 use Rattle.pst_subnode.specs.declared.sub.Sub.{Sub}
-use Rattle.pst_subnode.specs.Body.{count_in, bid_in, is_slblock, is_siblock, has_level_one}
-use Rattle.pst_subnode.specs.List.{subs_at, slblock_subs, leaf_subs, siblock_subs, block_subs, nid_of, are_distinct, bad_list, slblock_fault, leaf_fault, siblock_fault, shape_fault, block_fault, list_fault}
-use Rattle.pst_subnode.specs.Relation.{AreJoined, IsSlblock, IsLeaf, IsSiblock, NamesList}
+use Rattle.pst_datatree.specs.List.{count_in}
+use Rattle.pst_subnode.specs.Body.{leaf_bid_in, is_slblock, is_siblock, has_level_one}
+use Rattle.pst_subnode.specs.List.{subs_at, slblock_subs, leaf_subs, siblock_subs, block_subs, sub_nid, are_distinct, bad_list, slblock_fault, list_leaf_fault, siblock_fault, shape_fault, list_block_fault, list_fault}
+use Rattle.pst_subnode.specs.Relation.{IsSlblock, IsListLeaf, IsSiblock, NamesList}
 
 -- parts that are as told, each by its function, are as told together
 module _ (IsPart : ℕ → List Sub → Type 0) (fault : ℕ → Option Fault) (subs : ℕ → List Sub) (law : (i : ℕ) (xs : List Sub) → IsPart i xs ↔ ((fault i ≡ None) × (xs ≡ subs i))) where
@@ -51,10 +53,10 @@ slblock_law t e xs = (
   (λ w. let is : is_slblock (body_of t e) ≡ true = holds_or_none _ _ w.0 in (is, (rw is at w.1))),
 )
 
-leaf_law : (t : Table) (e : BlockEntry) (i : ℕ) (xs : List Sub) → IsLeaf t e i xs ↔ ((leaf_fault t e i ≡ None) × (xs ≡ leaf_subs t (body_of t e) i))
-unfolding leaf_fault leaf_subs
+leaf_law : (t : Table) (e : BlockEntry) (i : ℕ) (xs : List Sub) → IsListLeaf t e i xs ↔ ((list_leaf_fault t e i ≡ None) × (xs ≡ leaf_subs t (body_of t e) i))
+unfolding list_leaf_fault leaf_subs
 leaf_law t e i xs =
-    let bid = bid_in (body_of t e) i in (
+    let bid = leaf_bid_in (body_of t e) i in (
       (λ w.
           let b = (slblock_law t w.0 xs).0 w.3 in
           (rw (w.1, w.2) b.0, b.1 ∙ sym (ap (subs_at (slblock_subs t)) w.1))),
@@ -68,7 +70,7 @@ siblock_law : (t : Table) (e : BlockEntry) (xs : List Sub) → IsSiblock t e xs 
 unfolding siblock_fault siblock_subs
 siblock_law t e xs =
     let body = body_of t e in
-    let law = joined_law (IsLeaf t e) (leaf_fault t e) (leaf_subs t body) (leaf_law t e) (count_in body) xs in (
+    let law = joined_law (IsListLeaf t e) (list_leaf_fault t e) (leaf_subs t body) (leaf_law t e) (count_in body) xs in (
       (λ w.
           let j = law.0 w.1 in
           (then_none _ _ (holds_or_true _ _ w.0) ∙ j.0, rw w.0 j.1)),
@@ -100,10 +102,6 @@ shape_law t e xs = (to, from (has_level_one (body_of t e)) refl)
 
 -- ---- no number twice
 
-or_false : (a b : Bool) → (a || b) ≡ false → (a ≡ false) × (b ≡ false)
-or_false true b h = cc
-or_false false b h = (refl, h)
-
 pub both_true : (a b : Bool) → (not a && b) ≡ true → (a ≡ false) × (b ≡ true)
 both_true true b h = cc
 both_true false b h = (refl, h)
@@ -112,7 +110,7 @@ others_law : (n : ℕ) (xs : List ℕ) → AllByRecursion (λ m. nat_eq n m ≡ 
 others_law n [] = ((λ w. refl), (λ w. tt))
 others_law n (x ∷ rest) = (
   (λ w. rw (w.0, (others_law n rest).0 w.1) refl),
-  (λ w. let p = or_false (nat_eq n x) (list_any (nat_eq n) rest) w in (p.0, (others_law n rest).1 p.1)),
+  (λ w. let p = or_parts (nat_eq n x) (list_any (nat_eq n) rest) w in (p.0, (others_law n rest).1 p.1)),
 )
 
 pub distinct_law : (xs : List ℕ) → IsDistinct nat_eq xs ↔ (are_distinct xs ≡ true)
@@ -126,17 +124,17 @@ distinct_law (x ∷ rest) = (
 -- ---- a block identifier
 
 pub names_law : (t : Table) (bid : ℕ) (xs : List Sub) → NamesList t bid xs ↔ ((list_fault t bid ≡ None) × (xs ≡ subs_at (block_subs t) (entry_of t bid)))
-unfolding list_fault block_fault
+unfolding list_fault list_block_fault
 names_law t bid xs = (
   (λ w.
       let p = (shape_law t w.0 xs).0 w.3 in
-      let apart : are_distinct (map nid_of (block_subs t w.0)) ≡ true = rw (← p.1) ((distinct_law (map nid_of xs)).0 w.4) in
+      let apart : are_distinct (map sub_nid (block_subs t w.0)) ≡ true = rw (← p.1) ((distinct_law (map sub_nid xs)).0 w.4) in
       (rw (w.1, w.2) (then_none _ _ p.0 ∙ holds_or_true _ _ apart), p.1 ∙ sym (ap (subs_at (block_subs t)) w.1))),
   (λ w.
-      let x = there (block_missing bid) (λ e. if is_internal bid then (shape_fault t e then holds_or (are_distinct (map nid_of (block_subs t e))) (bad_list e)) else Some (bad_list e)) (entry_of t bid) w.0 in
+      let x = there (block_missing bid) (λ e. if is_internal bid then (shape_fault t e then holds_or (are_distinct (map sub_nid (block_subs t e))) (bad_list e)) else Some (bad_list e)) (entry_of t bid) w.0 in
       let s = internal (is_internal bid) _ (bad_list x.0) x.2 in
       let p = none_then (shape_fault t x.0) _ s.1 in
       let is : xs ≡ block_subs t x.0 = w.1 ∙ ap (subs_at (block_subs t)) x.1 in
-      let apart : are_distinct (map nid_of xs) ≡ true = rw is (holds_or_none _ _ p.1) in
-      (x.0, x.1, s.0, (shape_law t x.0 xs).1 (p.0, is), (distinct_law (map nid_of xs)).1 apart)),
+      let apart : are_distinct (map sub_nid xs) ≡ true = rw is (holds_or_none _ _ p.1) in
+      (x.0, x.1, s.0, (shape_law t x.0 xs).1 (p.0, is), (distinct_law (map sub_nid xs)).1 apart)),
 )

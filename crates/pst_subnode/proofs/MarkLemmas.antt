@@ -25,14 +25,16 @@ use Rattle.pst_datatree.proofs.SeenLemmas.{same_key}
 use Rattle.pst_datatree.proofs.AddLemmas.{internal_same}
 use Rattle.pst_subnode.specs.declared.sub.Sub.{Sub}
 use Rattle.pst_subnode.specs.declared.heights.Heights.{Heights}
-use Rattle.pst_subnode.specs.List.{subs_of, list_fault, block_fault, bad_list}
+use Rattle.pst_subnode.specs.List.{subs_of, list_fault, list_block_fault, bad_list}
 use Rattle.pst_subnode.specs.Tree.{first_among, entry_fault, nesting, sub_fault, sub_height}
-use Rattle.pst_subnode.specs.Heights.{keys_of, state_at, state_of, AreTrue, NoMarks, NoNewMarks, IsTrueOf}
+use Rattle.pst_subnode.specs.Heights.{list_keys, state_at, state_of, AreTrue, NoMarks, NoNewMarks, AreHeightsTrue}
 use Rattle.pst_subnode.specs.Marks.{at_list, at_entries, at_entry, at_leaf, at_leaves, IsSiList, rank_at, rank_of, LeadsTo, HaveCome}
-use Rattle.pst_subnode.specs.Body.{count_in, bid_in, has_level_one}
+use Rattle.pst_datatree.specs.List.{count_in}
+use Rattle.pst_subnode.specs.Body.{leaf_bid_in, has_level_one}
 use Rattle.pst_subnode.proofs.LeafLemmas.{si_fault}
 use Rattle.pst_subnode.proofs.SubLemmas.{sub_fault_below, sub_fault_list}
 use Rattle.pst_subnode.proofs.HeightLemmas.{list_or_deep, depth_law, height_same, fits_yes, fits_no, entry_or_deep}
+use Rattle.pst_subnode.proofs.HeightLaws.{subs_same}
 
 -- ---- one state is changed
 
@@ -59,16 +61,12 @@ small_same : (a b : ℕ) → bid_key a ≡ bid_key b → is_no_block a ≡ is_no
 unfolding key_of is_no_block
 small_same a b e = grind (arith, nat_tests)
 
-subs_same : (t : Table) (a b : ℕ) → bid_key a ≡ bid_key b → subs_of t a ≡ subs_of t b
-unfolding subs_of
-subs_same t a b e = rw (small_same a b e, same_key t a b e) refl
-
 -- a list without fault is told of by no identifier
 list_same : (t : Table) (a b : ℕ) → bid_key a ≡ bid_key b → list_fault t a ≡ None → list_fault t b ≡ None
 unfolding list_fault
 list_same t a b e none = by_entry (entry_of t b) (rw (same_key t a b e, internal_same a b e) at none)
   where
-    by_entry : (o : Option BlockEntry) → fault_or (block_missing a) (λ x. if is_internal b then block_fault t x else Some (bad_list x)) o ≡ None → fault_or (block_missing b) (λ x. if is_internal b then block_fault t x else Some (bad_list x)) o ≡ None
+    by_entry : (o : Option BlockEntry) → fault_or (block_missing a) (λ x. if is_internal b then list_block_fault t x else Some (bad_list x)) o ≡ None → fault_or (block_missing b) (λ x. if is_internal b then list_block_fault t x else Some (bad_list x)) o ≡ None
     by_entry None h = cc
     by_entry (Some x) h = h
 
@@ -254,7 +252,7 @@ known_high t h bid height limit are known more lt =
     depth_law t w.0 limit bid w.1 ∙ fits_no _ limit (omega (arith, w.2))
 
 -- nothing is known
-pub nothing_known : (t : Table) (h : Heights) → IsEmpty h.states → IsTrueOf t h
+pub nothing_known : (t : Table) (h : Heights) → IsEmpty h.states → AreHeightsTrue t h
 unfolding state_at
 nothing_known t h empty = record {
   heights = record { holds = λ bid height more known. let bad : None ≡ Some height = (rw empty at known) in cc };
@@ -311,15 +309,15 @@ leaves_or_deep t e limit k (suc i) none =
     elim (leaves_or_deep t e limit k i p.0) [
       | inr nests ↦ inr (then_some _ _ nesting nests)
       | inl also ↦
-          elim (list_or_deep t limit k (bid_in (body_of t e) i) p.1) [
+          elim (list_or_deep t limit k (leaf_bid_in (body_of t e) i) p.1) [
             | inl one ↦ inl (then_none _ _ also ∙ one)
             | inr nests ↦ inr (then_none _ _ also ∙ nests)
           ]
     ]
 
-pub to_leaf : (t : Table) (h : Heights) (limit count i : ℕ) (e : BlockEntry) → at_leaves t e i limit ≡ None → i < count → HaveCome t h (at_leaves t e count) 0 limit → HaveCome t h (at_list t (bid_in (body_of t e) i)) 0 limit
+pub to_leaf : (t : Table) (h : Heights) (limit count i : ℕ) (e : BlockEntry) → at_leaves t e i limit ≡ None → i < count → HaveCome t h (at_leaves t e count) 0 limit → HaveCome t h (at_list t (leaf_bid_in (body_of t e) i)) 0 limit
 to_leaf t h limit count i e before lt come =
-    come_on t h h (at_leaves t e count) (at_list t (bid_in (body_of t e) i)) 0 limit 0 limit (λ q marked. marked) (omega arith)
+    come_on t h h (at_leaves t e count) (at_list t (leaf_bid_in (body_of t e) i)) 0 limit 0 limit (λ q marked. marked) (omega arith)
     (λ k le. elim (leaves_or_deep t e limit k i before) [
       | inl none ↦ inr (k, omega arith, le, (λ f at. first_at (at_leaf t e k) count i f none at lt))
       | inr nests ↦ inl (first_front (at_leaf t e k) count i nesting nests (omega (arith, lt)))
@@ -339,15 +337,15 @@ pub nothing_at : (h : Heights) → IsEmpty h.states → (key : ℕ) → state_at
 unfolding state_at
 nothing_at h empty key = rw empty refl
 
-pub state_key : (h : Heights) (key state : ℕ) → state_at h key ≡ Some state → Contains (keys_of h) key
+pub state_key : (h : Heights) (key state : ℕ) → state_at h key ≡ Some state → Contains (list_keys h) key
 unfolding state_at
 state_key h key state is =
-    Contains-from_any (λ x y e. tells_apart exact_unsigned x y e) key (keys_of h) (sym (is_some-lookup (eq_by_cmp nat_cmp key) h.states.entries) ∙ ap is_some is)
+    Contains-from_any (λ x y e. tells_apart exact_unsigned x y e) key (list_keys h) (sym (is_some-lookup (eq_by_cmp nat_cmp key) h.states.entries) ∙ ap is_some is)
 
-pub key_state : (h : Heights) (key : ℕ) → Contains (keys_of h) key → (state : ℕ) × (state_at h key ≡ Some state)
+pub key_state : (h : Heights) (key : ℕ) → Contains (list_keys h) key → (state : ℕ) × (state_at h key ≡ Some state)
 unfolding state_at
 key_state h key w =
-    by_option (state_at h key) (is_some-lookup (eq_by_cmp nat_cmp key) h.states.entries ∙ list_any-from_Contains (eq_by_cmp_equiv nat_cmp_total) key (keys_of h) w)
+    by_option (state_at h key) (is_some-lookup (eq_by_cmp nat_cmp key) h.states.entries ∙ list_any-from_Contains (eq_by_cmp_equiv nat_cmp_total) key (list_keys h) w)
   where
     by_option : (o : Option ℕ) → is_some o ≡ true → (state : ℕ) × (o ≡ Some state)
     by_option None is = cc

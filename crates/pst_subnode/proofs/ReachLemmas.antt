@@ -16,12 +16,13 @@ use Rattle.pst_datatree.specs.Names.{IsInternal, IsInTree}
 use Rattle.pst_datatree.proofs.DataLemmas.{fault_or_none}
 use Rattle.pst_datatree.proofs.AddLemmas.{is_internal_same, entry_key}
 use Rattle.pst_subnode.specs.declared.sub.Sub.{Sub}
-use Rattle.pst_subnode.specs.Body.{btype_in, count_in, bid_in, sub_in, sub_at, subs_in, is_slblock, is_siblock, has_level_one}
-use Rattle.pst_subnode.specs.List.{subs_of, slblock_subs, block_subs, slblock_fault, shape_fault, siblock_fault, block_fault, list_fault, bad_list}
+use Rattle.pst_datatree.specs.List.{btype_in, count_in}
+use Rattle.pst_subnode.specs.Body.{leaf_bid_in, sub_in, sub_at, subs_in, is_slblock, is_siblock, has_level_one}
+use Rattle.pst_subnode.specs.List.{subs_of, slblock_subs, block_subs, slblock_fault, shape_fault, siblock_fault, list_block_fault, list_fault, bad_list}
 use Rattle.pst_subnode.specs.Tree.{nesting, sub_fault}
 use Rattle.pst_subnode.specs.Heights.{HasHeight}
 use Rattle.pst_subnode.specs.Marks.{IsList, IsSiList, rank_of}
-use Rattle.pst_subnode.specs.Reach.{NamesLeaf, NamesBelow, Names, of_tree, of_siblock, of_slblock, Leads, goes_on, IsReached}
+use Rattle.pst_subnode.specs.Reach.{NamesLeaf, NamesBelow, NamesNext, of_tree, of_siblock, of_slblock, Leads, goes_on, IsReached}
 use Rattle.pst_subnode.proofs.GuessLemmas.{entry_there}
 use Rattle.pst_subnode.proofs.SubLemmas.{sub_height_none, sub_fault_below, sub_fault_list}
 use Rattle.pst_subnode.proofs.ListLaws.{level_zero, level_one}
@@ -29,7 +30,7 @@ use Rattle.pst_subnode.proofs.LeafLemmas.{si_of}
 
 -- ---- chains
 
-pub names_same : (t : Table) (a b next : ℕ) → bid_key a ≡ bid_key b → Names t b next → Names t a next
+pub names_same : (t : Table) (a b next : ℕ) → bid_key a ≡ bid_key b → NamesNext t b next → NamesNext t a next
 names_same t a b next same (of_tree _ _ e is names) = of_tree a next e (is_internal_same t a b e same is) names
 names_same t a b next same (of_siblock _ _ e is names) = of_siblock a next e (is_internal_same t a b e same is) names
 names_same t a b next same (of_slblock _ _ e is names) = of_slblock a next e (is_internal_same t a b e same is) names
@@ -54,10 +55,10 @@ pub record IsListBlock (t : Table) (bid : ℕ) (e : BlockEntry) : Type 0 where
   pub shape : shape_fault t e ≡ None
 
 pub list_block : (t : Table) (bid : ℕ) → list_fault t bid ≡ None → (e : BlockEntry) × IsListBlock t bid e
-unfolding list_fault block_fault
+unfolding list_fault list_block_fault
 list_block t bid none =
-    let w = fault_or_none (block_missing bid) (λ e. if is_internal bid then block_fault t e else Some (bad_list e)) (entry_of t bid) none in
-    let p = internal_list (is_internal bid) (block_fault t w.0) (bad_list w.0) w.2 in
+    let w = fault_or_none (block_missing bid) (λ e. if is_internal bid then list_block_fault t e else Some (bad_list e)) (entry_of t bid) none in
+    let p = internal_list (is_internal bid) (list_block_fault t w.0) (bad_list w.0) w.2 in
     (w.0, record { internal = (w.1, p.0); shape = (none_then (shape_fault t w.0) _ p.1).0 })
 
 rank_zero : (t : Table) (bid : ℕ) (e : BlockEntry) → entry_of t bid ≡ Some e → rank_of t bid ≡ 0 → has_level_one (body_of t e) ≡ false
@@ -100,7 +101,7 @@ entry_in : (body : List ℕ) (s : Sub) → Contains (subs_in body) s → (i : �
 unfolding subs_in
 entry_in body s w = below_one body (count_in body) s w
 
-pub slblock_names : (t : Table) (bid : ℕ) (s : Sub) → IsList t bid → rank_of t bid ≡ 0 → Contains (subs_of t bid) s → Names t bid s.bid_data × Names t bid s.bid_sub
+pub slblock_names : (t : Table) (bid : ℕ) (s : Sub) → IsList t bid → rank_of t bid ≡ 0 → Contains (subs_of t bid) s → NamesNext t bid s.bid_data × NamesNext t bid s.bid_sub
 slblock_names t bid s is rank w =
     let sl = sl_list t bid is rank in
     let v = entry_in (body_of t sl.0) s (rw sl.1.subs at w) in (
@@ -108,11 +109,11 @@ slblock_names t bid s is rank w =
       of_slblock bid s.bid_sub sl.0 sl.1.internal (sl.1.body, (v.0, v.1, inr (ap (λ x. x.bid_sub) v.2))),
     )
 
-pub siblock_names : (t : Table) (bid : ℕ) (e : BlockEntry) (i : ℕ) → IsSiList t bid e → i < count_in (body_of t e) → Names t bid (bid_in (body_of t e) i)
+pub siblock_names : (t : Table) (bid : ℕ) (e : BlockEntry) (i : ℕ) → IsSiList t bid e → i < count_in (body_of t e) → NamesNext t bid (leaf_bid_in (body_of t e) i)
 siblock_names t bid e i is lt =
     let w = list_block t bid is.is_list.list in
     let one : w.0 ≡ e = let both : Some w.0 ≡ Some e = sym w.1.internal.0 ∙ is.entry in cc in
-    of_siblock bid (bid_in (body_of t e) i) e (rw one at w.1.internal) ((si_of t bid e is).body, (i, lt, refl))
+    of_siblock bid (leaf_bid_in (body_of t e) i) e (rw one at w.1.internal) ((si_of t bid e is).body, (i, lt, refl))
 
 -- ---- and nothing else
 
@@ -128,10 +129,10 @@ one_entry : (t : Table) (bid : ℕ) (a b : BlockEntry) → IsInternal t bid a �
 one_entry t bid a b this other = let both : Some a ≡ Some b = sym this.0 ∙ other.0 in cc
 
 -- what an SLBLOCK names stands in an entry
-pub slblock_only : (t : Table) (bid next : ℕ) → IsList t bid → rank_of t bid ≡ 0 → Names t bid next → (s : Sub) × Contains (subs_of t bid) s × ((next ≡ s.bid_data) ⊎ (next ≡ s.bid_sub))
+pub slblock_only : (t : Table) (bid next : ℕ) → IsList t bid → rank_of t bid ≡ 0 → NamesNext t bid next → (s : Sub) × Contains (subs_of t bid) s × ((next ≡ s.bid_data) ⊎ (next ≡ s.bid_sub))
 slblock_only t bid next is rank names = let sl = sl_list t bid is rank in by_names bid next sl.0 sl.1 names
   where
-    by_names : (b n : ℕ) (e : BlockEntry) → IsSlList t b e → Names t b n → (s : Sub) × Contains (subs_of t b) s × ((n ≡ s.bid_data) ⊎ (n ≡ s.bid_sub))
+    by_names : (b n : ℕ) (e : BlockEntry) → IsSlList t b e → NamesNext t b n → (s : Sub) × Contains (subs_of t b) s × ((n ≡ s.bid_data) ⊎ (n ≡ s.bid_sub))
     by_names b n e sl (of_tree _ _ x internal w) =
         let same : btype_in (body_of t e) ≡ 1 = ap (λ y. btype_in (body_of t y)) (one_entry t b e x sl.internal internal) ∙ w.0 in
         let type = slblock_type (body_of t e) sl.body in
@@ -145,13 +146,13 @@ slblock_only t bid next is rank names = let sl = sl_list t bid is rank in by_nam
         (sub_in (body_of t e) v.1.0, rw sl.subs (entry_there (body_of t e) v.1.0 v.1.1), v.1.2)
 
 -- what an SIBLOCK names is one of its SLBLOCKs
-pub siblock_only : (t : Table) (bid next : ℕ) (e : BlockEntry) → IsSiList t bid e → Names t bid next → (i : ℕ) × (i < count_in (body_of t e)) × (next ≡ bid_in (body_of t e) i)
+pub siblock_only : (t : Table) (bid next : ℕ) (e : BlockEntry) → IsSiList t bid e → NamesNext t bid next → (i : ℕ) × (i < count_in (body_of t e)) × (next ≡ leaf_bid_in (body_of t e) i)
 siblock_only t bid next e is names = let w = list_block t bid is.is_list.list in by_names bid next e (si_of t bid e is).body is.entry names
   where
     by_entry : (b : ℕ) (x y : BlockEntry) → entry_of t b ≡ Some x → IsInternal t b y → x ≡ y
     by_entry b x y there internal = let both : Some x ≡ Some y = sym there ∙ internal.0 in cc
 
-    by_names : (b n : ℕ) (x : BlockEntry) → is_siblock (body_of t x) ≡ true → entry_of t b ≡ Some x → Names t b n → (i : ℕ) × (i < count_in (body_of t x)) × (n ≡ bid_in (body_of t x) i)
+    by_names : (b n : ℕ) (x : BlockEntry) → is_siblock (body_of t x) ≡ true → entry_of t b ≡ Some x → NamesNext t b n → (i : ℕ) × (i < count_in (body_of t x)) × (n ≡ leaf_bid_in (body_of t x) i)
     by_names b n x si there (of_tree _ _ y internal w) =
         let same : btype_in (body_of t x) ≡ 1 = ap (λ z. btype_in (body_of t z)) (by_entry b x y there internal) ∙ w.0 in
         let type = siblock_type (body_of t x) si in

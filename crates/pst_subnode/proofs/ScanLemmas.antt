@@ -6,12 +6,12 @@ use Rattle.pst_fault.specs.First.{join_below}
 use Rattle.pst_block.specs.Table.{Table, entry_of}
 use Rattle.pst_btree.specs.Entries.{first_with}
 use Rattle.pst_subnode.specs.declared.sub.Sub.{Sub}
-use Rattle.pst_subnode.specs.Body.{bid_in, sub_in, sub_at}
-use Rattle.pst_subnode.specs.List.{nid_of, subs_at, slblock_subs, leaf_subs}
+use Rattle.pst_subnode.specs.Body.{leaf_bid_in, sub_in, sub_at}
+use Rattle.pst_subnode.specs.List.{sub_nid, subs_at, slblock_subs, leaf_subs}
 use Rattle.pst_subnode.proofs.FindLemmas.{found_here, found_later, found_nowhere}
 
 abbrev first : ℕ → List Sub → Option Sub
-first nid xs = first_with nid_of nid xs
+first nid xs = first_with sub_nid nid xs
 
 behind_none : (nid : ℕ) (xs ys : List Sub) → first nid xs ≡ None → first nid (xs ++ ys) ≡ first nid ys
 unfolding first_with
@@ -45,18 +45,18 @@ below_found part nid (suc n) i s lt none is =
 below_passed : (part : ℕ → List Sub) (nid i : ℕ) → first nid (join_below part i) ≡ None → first nid (part i) ≡ None → first nid (join_below part (i + 1)) ≡ None
 below_passed part nid i none is = rw add-one (behind_none nid (join_below part i) (part i) none ∙ is)
 
-pub entry_found : (body : List ℕ) (nid n i m : ℕ) → i < n → first_with nid_of nid (join_below (sub_at body) i) ≡ None → m ≡ (sub_in body i).nid → m ≡ nid → first_with nid_of nid (join_below (sub_at body) n) ≡ Some (sub_in body i)
-entry_found body nid n i m lt none is same = below_found (sub_at body) nid n i (sub_in body i) lt none (found_here nid_of nid (sub_at body i) [] (sub_in body i) refl (sym is ∙ same))
+pub entry_found : (body : List ℕ) (nid n i m : ℕ) → i < n → first_with sub_nid nid (join_below (sub_at body) i) ≡ None → m ≡ (sub_in body i).nid → m ≡ nid → first_with sub_nid nid (join_below (sub_at body) n) ≡ Some (sub_in body i)
+entry_found body nid n i m lt none is same = below_found (sub_at body) nid n i (sub_in body i) lt none (found_here sub_nid nid (sub_at body i) [] (sub_in body i) refl (sym is ∙ same))
 
-pub entry_passed : (body : List ℕ) (nid i m : ℕ) → first_with nid_of nid (join_below (sub_at body) i) ≡ None → m ≡ (sub_in body i).nid → m ≢ nid → first_with nid_of nid (join_below (sub_at body) (i + 1)) ≡ None
+pub entry_passed : (body : List ℕ) (nid i m : ℕ) → first_with sub_nid nid (join_below (sub_at body) i) ≡ None → m ≡ (sub_in body i).nid → m ≢ nid → first_with sub_nid nid (join_below (sub_at body) (i + 1)) ≡ None
 entry_passed body nid i m none is other =
-    let apart : nid_of (sub_in body i) ≢ nid = rw (← is) other in
-    below_passed (sub_at body) nid i none (found_later nid_of nid (sub_at body i) [] (sub_in body i) refl apart ∙ found_nowhere nid_of nid [] refl)
+    let apart : sub_nid (sub_in body i) ≢ nid = rw (← is) other in
+    below_passed (sub_at body) nid i none (found_later sub_nid nid (sub_at body i) [] (sub_in body i) refl apart ∙ found_nowhere sub_nid nid [] refl)
 
-pub leaf_found : (t : Table) (body : List ℕ) (nid n i : ℕ) (s : Sub) → i < n → first_with nid_of nid (join_below (leaf_subs t body) i) ≡ None → first_with nid_of nid (subs_at (slblock_subs t) (entry_of t (bid_in body i))) ≡ Some s → first_with nid_of nid (join_below (leaf_subs t body) n) ≡ Some s
+pub leaf_found : (t : Table) (body : List ℕ) (nid n i : ℕ) (s : Sub) → i < n → first_with sub_nid nid (join_below (leaf_subs t body) i) ≡ None → first_with sub_nid nid (subs_at (slblock_subs t) (entry_of t (leaf_bid_in body i))) ≡ Some s → first_with sub_nid nid (join_below (leaf_subs t body) n) ≡ Some s
 unfolding leaf_subs
 leaf_found t body nid n i s lt none is = below_found (leaf_subs t body) nid n i s lt none is
 
-pub leaf_passed : (t : Table) (body : List ℕ) (nid i : ℕ) → first_with nid_of nid (join_below (leaf_subs t body) i) ≡ None → first_with nid_of nid (subs_at (slblock_subs t) (entry_of t (bid_in body i))) ≡ None → first_with nid_of nid (join_below (leaf_subs t body) (i + 1)) ≡ None
+pub leaf_passed : (t : Table) (body : List ℕ) (nid i : ℕ) → first_with sub_nid nid (join_below (leaf_subs t body) i) ≡ None → first_with sub_nid nid (subs_at (slblock_subs t) (entry_of t (leaf_bid_in body i))) ≡ None → first_with sub_nid nid (join_below (leaf_subs t body) (i + 1)) ≡ None
 unfolding leaf_subs
 leaf_passed t body nid i none is = below_passed (leaf_subs t body) nid i none is

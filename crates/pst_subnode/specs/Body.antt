@@ -5,16 +5,8 @@ use Rattle.pst_bytes.specs.Image.{num}
 use Rattle.pst_fault.specs.First.{join_below}
 use Rattle.pst_page.specs.declared.kind.PageKind.TheVariants.{Nbt}
 use Rattle.pst_page.specs.Entry.{key_of}
+use Rattle.pst_datatree.specs.List.{btype_in, level_in, count_in}
 use Rattle.pst_subnode.specs.declared.sub.Sub.{Sub}
-
-abbrev pub btype_in : List ℕ → ℕ
-btype_in body = num body 0 1
-
-abbrev pub level_in : List ℕ → ℕ
-level_in body = num body 1 1
-
-abbrev pub count_in : List ℕ → ℕ
-count_in body = num body 2 2
 
 -- the SLENTRY with a number (2.2.2.8.3.3.1.1): nid, 8 bytes of which the low 32 bits are the node's; bidData; bidSub
 unfoldable pub sub_in : List ℕ → ℕ → Sub
@@ -25,19 +17,19 @@ sub_in body i = record {
 }
 
 -- the block identifier of the SIENTRY with a number (2.2.2.8.3.3.2.1), behind its nid: that of an SLBLOCK
-abbrev pub bid_in : List ℕ → ℕ → ℕ
-bid_in body i = num body (16 + 16 * i) 8
+abbrev pub leaf_bid_in : List ℕ → ℕ → ℕ
+leaf_bid_in body i = num body (16 + 16 * i) 8
 
 -- the body is a list's: btype is 2, cLevel is this level, and the entries, each of this size, fit in it
-abbrev pub is_list : ℕ → ℕ → List ℕ → Bool
-is_list level size body =
+abbrev pub is_list_body : ℕ → ℕ → List ℕ → Bool
+is_list_body level size body =
     nat_le 8 (length body) && nat_eq (btype_in body) 2 && nat_eq (level_in body) level && nat_le (8 + size * count_in body) (length body)
 
 unfoldable pub is_slblock : List ℕ → Bool
-is_slblock body = is_list 0 24 body
+is_slblock body = is_list_body 0 24 body
 
 unfoldable pub is_siblock : List ℕ → Bool
-is_siblock body = is_list 1 16 body
+is_siblock body = is_list_body 1 16 body
 
 -- cLevel is 1: the body is an SIBLOCK's, if it is any
 unfoldable pub has_level_one : List ℕ → Bool

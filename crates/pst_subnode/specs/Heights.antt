@@ -9,12 +9,12 @@ use Rattle.pst_subnode.specs.declared.heights.Heights.{Heights}
 use Rattle.pst_subnode.specs.Tree.{sub_fault, sub_height}
 
 -- how many blocks of lists have been expanded
-abbrev pub expansions_of : Heights → ℕ
-expansions_of h = h.expansions
+abbrev pub list_expansions : Heights → ℕ
+list_expansions h = h.expansions
 
 -- the keys of the lists that are known, marked ones among them
-abbrev pub keys_of : Heights → List ℕ
-keys_of h = keys h.states
+abbrev pub list_keys : Heights → List ℕ
+list_keys h = keys h.states
 
 -- what is known of the list with a key: 0 marks it while it is being expanded, any other number is its height
 unfoldable pub state_at : Heights → ℕ → Option ℕ
@@ -37,7 +37,7 @@ abbrev pub NoMarks : Heights → Type 0
 NoMarks h = (bid : ℕ) → state_of h bid ≡ Some 0 → ⊥
 
 -- What is known between two calls is true: each height, and nothing is marked.
-pub record IsTrueOf (t : Table) (h : Heights) : Type 0 where
+pub record AreHeightsTrue (t : Table) (h : Heights) : Type 0 where
   pub heights : AreTrue t h
   pub unmarked : NoMarks h
 
@@ -48,9 +48,9 @@ NoNewMarks old new = (bid : ℕ) → state_of new bid ≡ Some 0 → state_of ol
 -- ---- what is counted
 
 -- how many lists are known, marked ones among them
-abbrev pub known_count : Heights → ℕ
-known_count h = btree_map_len h.states
+abbrev pub known_lists : Heights → ℕ
+known_lists h = btree_map_len h.states
 
 -- the blocks that were expanded are those that are known
-abbrev pub IsCounted : Heights → Type 0
-IsCounted h = expansions_of h ≡ raised (known_count h) 0
+abbrev pub AreHeightsCounted : Heights → Type 0
+AreHeightsCounted h = list_expansions h ≡ raised (known_lists h) 0

@@ -8,7 +8,7 @@ use Rattle.pst_btree.specs.Entries.{first_with}
 use Rattle.pst_subnode.specs.declared.sub.Sub.{Sub}
 use Rattle.pst_subnode.specs.declared.index.SubIndex.{SubIndex}
 use Rattle.pst_subnode.specs.Body.{has_level_one}
-use Rattle.pst_subnode.specs.List.{nid_of}
+use Rattle.pst_subnode.specs.List.{sub_nid}
 
 -- a list is an SIBLOCK's, and so may be long
 abbrev has_siblock : Table → Option BlockEntry → Bool
@@ -24,7 +24,7 @@ is_held index = is_some index.entries
 
 -- a map has the first of these entries with each nid, and none where there is none
 abbrev pub HasFirst : BTreeMap ℕ Sub → List Sub → Type 0
-HasFirst entries subs = (nid : ℕ) → get nat_cmp entries nid ≡ first_with nid_of nid subs
+HasFirst entries subs = (nid : ℕ) → get nat_cmp entries nid ≡ first_with sub_nid nid subs
 
 abbrev pub HoldsFirst : Option (BTreeMap ℕ Sub) → List Sub → Type 0
 HoldsFirst None subs = ⊤

@@ -7,7 +7,7 @@ use Rattle.pst_block.specs.Table.{Table}
 use Rattle.pst_btree.specs.Entries.{first_with}
 use Rattle.pst_datatree.specs.Data.{data_fault}
 use Rattle.pst_subnode.specs.declared.sub.Sub.{Sub}
-use Rattle.pst_subnode.specs.List.{nid_of, subs_of}
+use Rattle.pst_subnode.specs.List.{sub_nid, subs_of}
 use Rattle.pst_subnode.specs.Tree.{nesting, sub_fault, sub_height}
 use Rattle.pst_subnode.specs.Relation.{HasSubs}
 
@@ -36,19 +36,19 @@ EntryLaw =
 -- What is found in a list without fault has none under the same limit.
 abbrev pub FoundLaw : Type 0
 FoundLaw =
-    (t : Table) (limit bid nid : ℕ) (s : Sub) → sub_fault t limit bid ≡ None → first_with nid_of nid (subs_of t bid) ≡ Some s →
+    (t : Table) (limit bid nid : ℕ) (s : Sub) → sub_fault t limit bid ≡ None → first_with sub_nid nid (subs_of t bid) ≡ Some s →
     (data_fault t s.bid_data ≡ None) × (sub_fault t limit s.bid_sub ≡ None)
 
 -- In a list without fault an entry is found under a nid exactly where it is there and has that nid.
 abbrev pub MapLaw : Type 0
 MapLaw =
     (t : Table) (limit bid nid : ℕ) (s : Sub) → sub_fault t limit bid ≡ None →
-    (first_with nid_of nid (subs_of t bid) ≡ Some s) ↔ (Contains (subs_of t bid) s × (s.nid ≡ nid))
+    (first_with sub_nid nid (subs_of t bid) ≡ Some s) ↔ (Contains (subs_of t bid) s × (s.nid ≡ nid))
 
 -- What is found in a list without fault may nest one fewer.
 abbrev pub BelowLaw : Type 0
 BelowLaw =
-    (t : Table) (limit bid nid : ℕ) (s : Sub) → sub_fault t limit bid ≡ None → first_with nid_of nid (subs_of t bid) ≡ Some s →
+    (t : Table) (limit bid nid : ℕ) (s : Sub) → sub_fault t limit bid ≡ None → first_with sub_nid nid (subs_of t bid) ≡ Some s →
     (0 < limit) × (sub_fault t (limit - 1) s.bid_sub ≡ None)
 
 -- An entry's own list is less high than the list that it stands in.
@@ -75,8 +75,8 @@ abbrev pub DepthLaw : Type 0
 DepthLaw = (t : Table) (limit other bid : ℕ) → sub_fault t limit bid ≡ None → sub_fault t other bid ≡ limit_fault (sub_height t limit bid) other
 
 -- The limit says nothing of the height, where there is no fault under either.
-abbrev pub LimitLaw : Type 0
-LimitLaw = (t : Table) (limit other bid : ℕ) → sub_fault t limit bid ≡ None → sub_fault t other bid ≡ None → sub_height t limit bid ≡ sub_height t other bid
+abbrev pub HeightLimitLaw : Type 0
+HeightLimitLaw = (t : Table) (limit other bid : ℕ) → sub_fault t limit bid ≡ None → sub_fault t other bid ≡ None → sub_height t limit bid ≡ sub_height t other bid
 
 -- A list without fault and of no height has no entries.
 abbrev pub NoHeightLaw : Type 0

@@ -1,6 +1,7 @@
 -- What an iterator over the entries of a subnode list has left.
-use Rattle.std.specs.Prelude.{ℕ, zero, suc, ◌+◌, List, [], ◌++◌}
+use Rattle.std.specs.Prelude.{◌+◌, List, ◌++◌}
 use Rattle.pst_bytes.specs.Image.{bytes_of}
+use Rattle.pst_fault.specs.First.{join_from}
 use Rattle.pst_block.specs.Table.{Table}
 use Rattle.pst_block.specs.Blocks.{table_of}
 use Rattle.pst_subnode.specs.declared.sub.Sub.{Sub}
@@ -8,11 +9,6 @@ use Rattle.pst_subnode.specs.declared.entries.Subs.{Subs}
 use Rattle.pst_subnode.specs.declared.entries.Rest.{Rest}
 use Rattle.pst_subnode.specs.Body.{sub_at}
 use Rattle.pst_subnode.specs.List.{leaf_subs}
-
--- of the lists with the numbers i, i + 1, .. so many, joined
-unfoldable pub join_from : {X : Type 0} → (ℕ → List X) → ℕ → ℕ → List X
-join_from part i zero = []
-join_from part i (suc n) = part i ++ join_from part (i + 1) n
 
 -- the entries that are left of an SLBLOCK
 abbrev pub entries_left : Rest → List Sub

@@ -13,7 +13,8 @@ use Rattle.pst_block.specs.Table.{Table, entry_of, body_of}
 use Rattle.pst_datatree.specs.Bid.{is_internal, is_no_block}
 use Rattle.pst_datatree.specs.Data.{block_missing, fault_or}
 use Rattle.pst_subnode.specs.declared.sub.Sub.{Sub}
-use Rattle.pst_subnode.specs.Body.{count_in, bid_in, is_slblock, is_siblock, has_level_one, subs_in}
+use Rattle.pst_datatree.specs.List.{count_in}
+use Rattle.pst_subnode.specs.Body.{leaf_bid_in, is_slblock, is_siblock, has_level_one, subs_in}
 
 -- ---- the entries, where nothing is at fault
 
@@ -28,7 +29,7 @@ slblock_subs t e = if is_slblock (body_of t e) then subs_in (body_of t e) else [
 
 -- of the SLBLOCK that an SIBLOCK names with a number
 unfoldable pub leaf_subs : Table → List ℕ → ℕ → List Sub
-leaf_subs t body i = subs_at (slblock_subs t) (entry_of t (bid_in body i))
+leaf_subs t body i = subs_at (slblock_subs t) (entry_of t (leaf_bid_in body i))
 
 -- of an SIBLOCK
 unfoldable pub siblock_subs : Table → BlockEntry → List Sub
@@ -42,8 +43,8 @@ block_subs t e = if has_level_one (body_of t e) then siblock_subs t e else slblo
 unfoldable pub subs_of : Table → ℕ → List Sub
 subs_of t bid = if is_no_block bid then [] else subs_at (block_subs t) (entry_of t bid)
 
-abbrev pub nid_of : Sub → ℕ
-nid_of s = s.nid
+abbrev pub sub_nid : Sub → ℕ
+sub_nid s = s.nid
 
 -- no number stands twice
 unfoldable pub are_distinct : List ℕ → Bool
@@ -61,26 +62,26 @@ unfoldable pub slblock_fault : Table → BlockEntry → Option Fault
 slblock_fault t e = holds_or (is_slblock (body_of t e)) (bad_list e)
 
 -- a block that an SIBLOCK names is there, is internal, and is an SLBLOCK
-unfoldable pub leaf_fault : Table → BlockEntry → ℕ → Option Fault
-leaf_fault t holder i =
-    let bid = bid_in (body_of t holder) i in
+unfoldable pub list_leaf_fault : Table → BlockEntry → ℕ → Option Fault
+list_leaf_fault t holder i =
+    let bid = leaf_bid_in (body_of t holder) i in
     fault_or (block_missing bid) (λ e. if is_internal bid then slblock_fault t e else Some (bad_list holder)) (entry_of t bid)
 
 -- an SIBLOCK: its btype, level and fit, then each block that it names
 unfoldable pub siblock_fault : Table → BlockEntry → Option Fault
 siblock_fault t e =
     let body = body_of t e in
-    holds_or (is_siblock body) (bad_list e) then first_below (leaf_fault t e) (count_in body)
+    holds_or (is_siblock body) (bad_list e) then first_below (list_leaf_fault t e) (count_in body)
 
 -- a block: an SIBLOCK or an SLBLOCK
 unfoldable pub shape_fault : Table → BlockEntry → Option Fault
 shape_fault t e = if has_level_one (body_of t e) then siblock_fault t e else slblock_fault t e
 
 -- a block: its shape, then that no subnode stands twice
-unfoldable pub block_fault : Table → BlockEntry → Option Fault
-block_fault t e = shape_fault t e then holds_or (are_distinct (map nid_of (block_subs t e))) (bad_list e)
+unfoldable pub list_block_fault : Table → BlockEntry → Option Fault
+list_block_fault t e = shape_fault t e then holds_or (are_distinct (map sub_nid (block_subs t e))) (bad_list e)
 
 -- a block identifier that names a block: it is there, and is internal
 unfoldable pub list_fault : Table → ℕ → Option Fault
 list_fault t bid =
-    fault_or (block_missing bid) (λ e. if is_internal bid then block_fault t e else Some (bad_list e)) (entry_of t bid)
+    fault_or (block_missing bid) (λ e. if is_internal bid then list_block_fault t e else Some (bad_list e)) (entry_of t bid)

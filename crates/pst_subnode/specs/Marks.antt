@@ -7,7 +7,7 @@ use Rattle.pst_block.specs.Table.{Table, entry_of, body_of}
 use Rattle.pst_datatree.specs.Bid.{is_no_block}
 use Rattle.pst_subnode.specs.declared.sub.Sub.{Sub}
 use Rattle.pst_subnode.specs.declared.heights.Heights.{Heights}
-use Rattle.pst_subnode.specs.Body.{bid_in, has_level_one}
+use Rattle.pst_subnode.specs.Body.{leaf_bid_in, has_level_one}
 use Rattle.pst_subnode.specs.List.{list_fault}
 use Rattle.pst_subnode.specs.Tree.{first_among, entry_fault, sub_fault, sub_height, nesting}
 use Rattle.pst_subnode.specs.Heights.{state_of}
@@ -25,7 +25,7 @@ at_entry t s limit = entry_fault t (sub_fault t limit) s
 
 -- at the first SLBLOCKs of an SIBLOCK, each a list of its own
 abbrev pub at_leaf : Table → BlockEntry → ℕ → ℕ → Option Fault
-at_leaf t e limit i = sub_fault t limit (bid_in (body_of t e) i)
+at_leaf t e limit i = sub_fault t limit (leaf_bid_in (body_of t e) i)
 
 abbrev pub at_leaves : Table → BlockEntry → ℕ → ℕ → Option Fault
 at_leaves t e count limit = first_below (at_leaf t e limit) count
@@ -36,7 +36,7 @@ most_below height zero = 1
 most_below height (suc n) = max (most_below height n) (height n)
 
 abbrev pub leaf_height : Table → BlockEntry → ℕ → ℕ → ℕ
-leaf_height t e limit i = sub_height t limit (bid_in (body_of t e) i)
+leaf_height t e limit i = sub_height t limit (leaf_bid_in (body_of t e) i)
 
 -- an identifier names a list of its own blocks without fault
 pub record IsList (t : Table) (bid : ℕ) : Type 0 where

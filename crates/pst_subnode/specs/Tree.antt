@@ -52,12 +52,12 @@ sub_height t (suc limit) bid =
 -- ---- the same under a node
 
 -- a fault of this kind, under a node whose subnodes begin with a block identifier
-abbrev pub placed : Kind → ℕ → ℕ → Fault → Fault
-placed Nesting top nid f = record { kind = f.kind; place = record { at = f.place.at; bid = top; nid = nid } }
-placed NoMemory top nid f = f
-placed _ top nid f = at_node nid f
+abbrev pub list_placed : Kind → ℕ → ℕ → Fault → Fault
+list_placed Nesting top nid f = record { kind = f.kind; place = record { at = f.place.at; bid = top; nid = nid } }
+list_placed NoMemory top nid f = f
+list_placed _ top nid f = at_node nid f
 
 -- A fault, found under a node whose subnodes begin with a block identifier: nesting is told of that identifier, and memory
 -- that ran out of nothing.
 abbrev pub at_top : ℕ → ℕ → Fault → Fault
-at_top top nid f = placed f.kind top nid f
+at_top top nid f = list_placed f.kind top nid f

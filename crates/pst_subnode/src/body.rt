@@ -4,7 +4,8 @@ ghost use Rattle.std.specs.Prelude.{◌≡◌, ◌+◌, ◌*◌, ◌≤◌, IsTr
 ghost use Rattle.pst_bytes.specs.Image.{bytes_of};
 ghost use Rattle.pst_block.specs.Table.{body_of, IsWithin};
 ghost use Rattle.pst_block.specs.Blocks.{table_of};
-ghost use Rattle.pst_subnode.specs.Body.{count_in, sub_in, bid_in, is_slblock as slblock, is_siblock as siblock, has_level_one as level_one};
+ghost use Rattle.pst_datatree.specs.List.{count_in};
+ghost use Rattle.pst_subnode.specs.Body.{sub_in, leaf_bid_in, is_slblock as slblock, is_siblock as siblock, has_level_one as level_one};
 
 use crate::sub::Sub;
 use pst_block::{BlockEntry, Blocks};
@@ -23,7 +24,8 @@ pub(crate) fn body_in<'a>(blocks: &Blocks<'a>, entry: BlockEntry) -> Image<'a>
 #[tactic(auto, unfolding(crate::specs::Body::is_slblock))]
 pub(crate) fn is_slblock(body: Image) -> bool
     ensures value { result ≡ slblock (bytes_of body.entry) }
-    ensures fits { IsTrue result → 8 + 24 * count_in (bytes_of body.entry) ≤ length (bytes_of body.entry) }
+    ensures fits { IsTrue result →
+        8 + 24 * count_in (bytes_of body.entry) ≤ length (bytes_of body.entry) }
 {
     body.len() >= 8
         && body.number8(0) == 2
@@ -35,7 +37,8 @@ pub(crate) fn is_slblock(body: Image) -> bool
 #[tactic(auto, unfolding(crate::specs::Body::is_siblock))]
 pub(crate) fn is_siblock(body: Image) -> bool
     ensures value { result ≡ siblock (bytes_of body.entry) }
-    ensures fits { IsTrue result → 8 + 16 * count_in (bytes_of body.entry) ≤ length (bytes_of body.entry) }
+    ensures fits { IsTrue result →
+        8 + 16 * count_in (bytes_of body.entry) ≤ length (bytes_of body.entry) }
 {
     body.len() >= 8
         && body.number8(0) == 2
@@ -77,7 +80,7 @@ pub(crate) fn nid_at(body: Image, i: u16) -> u32
 // The block identifier of the SIENTRY with a number.
 pub(crate) fn bid_at(body: Image, i: u16) -> u64
     requires { 24 + 16 * i ≤ length (bytes_of body) }
-    ensures { result ≡ bid_in (bytes_of body.entry) i }
+    ensures { result ≡ leaf_bid_in (bytes_of body.entry) i }
 {
     body.number64(16 + 16 * u64::from(i))
 }

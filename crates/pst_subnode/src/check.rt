@@ -5,7 +5,7 @@ ghost use Rattle.pst_fault.specs.Fault.{no_memory};
 ghost use Rattle.pst_fault.specs.First.{answer, Tells, first_below};
 ghost use Rattle.pst_block.specs.Table.{body_of, IsWithin};
 ghost use Rattle.pst_block.specs.Blocks.{table_of};
-ghost use Rattle.pst_subnode.specs.List.{bad_list, slblock_fault, leaf_fault, siblock_fault, shape_fault, block_fault, list_fault, are_distinct as distinct, nid_of};
+ghost use Rattle.pst_subnode.specs.List.{bad_list, slblock_fault, list_leaf_fault, siblock_fault, shape_fault, list_block_fault, list_fault, are_distinct as distinct, sub_nid};
 ghost use Rattle.pst_subnode.specs.Left.{subs_left};
 
 use crate::body::{bid_at, body_in, has_level_one, is_siblock, is_slblock};
@@ -36,11 +36,11 @@ fn check_slblock(blocks: &Blocks, entry: BlockEntry) -> Result<(), Fault>
 }
 
 // The SLBLOCK that an SIBLOCK names with a number.
-#[tactic(auto, unfolding(crate::specs::List::leaf_fault))]
+#[tactic(auto, unfolding(crate::specs::List::list_leaf_fault))]
 fn check_leaf(blocks: &Blocks, holder: BlockEntry, i: u16) -> Result<(), Fault>
     requires within { IsWithin (table_of blocks.now).image holder }
     requires fits { 24 + 16 * i ≤ length (body_of (table_of blocks.now) holder) }
-    ensures { result ≡ answer (leaf_fault (table_of blocks.now) holder i) tt }
+    ensures { result ≡ answer (list_leaf_fault (table_of blocks.now) holder i) tt }
 {
     let bid = bid_at(body_in(blocks, holder), i);
     let Some(entry) = blocks.entry(bid) else {
@@ -57,7 +57,8 @@ fn check_leaf(blocks: &Blocks, holder: BlockEntry, i: u16) -> Result<(), Fault>
 fn check_leaves(blocks: &Blocks, holder: BlockEntry, count: u16) -> Result<(), Fault>
     requires within { IsWithin (table_of blocks.now).image holder }
     requires fits { 8 + 16 * count ≤ length (body_of (table_of blocks.now) holder) }
-    ensures { result ≡ answer (first_below (leaf_fault (table_of blocks.now) holder) count) tt }
+    ensures { result ≡
+        answer (first_below (list_leaf_fault (table_of blocks.now) holder) count) tt }
 {
     for i in 0..count {
         check_leaf(blocks, holder, i)?;
@@ -93,7 +94,7 @@ fn check_shape(blocks: &Blocks, entry: BlockEntry) -> Result<(), Fault>
 
 // Whether no subnode stands twice among entries; or memory ran out.
 fn are_distinct(alloc: Global, subs: Subs) -> Result<bool, Fault>
-    ensures value { IfOk result (λ b. b ≡ distinct (map nid_of (subs_left subs.entry))) }
+    ensures value { IfOk result (λ b. b ≡ distinct (map sub_nid (subs_left subs.entry))) }
     ensures memory { IfErr result (λ f. f ≡ no_memory) }
 {
     let mut met = BTreeSet::new(alloc);
@@ -107,10 +108,10 @@ fn are_distinct(alloc: Global, subs: Subs) -> Result<bool, Fault>
 }
 
 // A block of a list, all of it.
-#[tactic(auto, unfolding(crate::specs::List::block_fault))]
+#[tactic(auto, unfolding(crate::specs::List::list_block_fault))]
 fn check_block(alloc: Global, blocks: &Blocks, entry: BlockEntry) -> Result<(), Fault>
     requires { IsWithin (table_of blocks.now).image entry }
-    ensures { Tells result (block_fault (table_of blocks.now) entry) tt }
+    ensures { Tells result (list_block_fault (table_of blocks.now) entry) tt }
 {
     check_shape(blocks, entry)?;
     if !are_distinct(alloc, Subs::of_block(blocks, entry))? {

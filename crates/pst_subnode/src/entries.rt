@@ -2,7 +2,7 @@
 
 ghost use Rattle.std.specs.Prelude.{◌≡◌, ◌+◌, ◌*◌, ◌<◌, ◌≤◌, length};
 ghost use Rattle.pst_bytes.specs.Image.{bytes_of};
-ghost use Rattle.pst_subnode.specs.Body.{count_in};
+ghost use Rattle.pst_datatree.specs.List.{count_in};
 
 use crate::body::{bid_at, body_in, has_level_one, is_siblock, is_slblock, sub_at};
 use crate::sub::Sub;
@@ -162,7 +162,8 @@ impl<'a> Subs<'a> {
 
     // The entries of an SLBLOCK, by its identifier.
     fn of_leaf(blocks: &Blocks<'a>, bid: u64) -> Subs<'a>
-        ensures left { subs_left result ≡ subs_at (slblock_subs (table_of blocks.now)) (entry_of (table_of blocks.now) bid) }
+        ensures left { subs_left result ≡
+            subs_at (slblock_subs (table_of blocks.now)) (entry_of (table_of blocks.now) bid) }
         ensures blocks { result.blocks ≡ blocks.now }
         ensures leaves { result.leaves.left ≡ 0 }
     {
@@ -204,7 +205,8 @@ impl<'a> Subs<'a> {
     // The entries behind the first one, which is in the open SLBLOCK.
     fn behind_first(self) -> Subs<'a>
         requires { 0 < self.entries.left }
-        ensures { subs_left self.entry ≡ sub_in (bytes_of self.entry.entries.body) self.entry.entries.next ∷ subs_left result }
+        ensures { subs_left self.entry ≡
+            sub_in (bytes_of self.entry.entries.body) self.entry.entries.next ∷ subs_left result }
     {
         Subs {
             blocks: self.blocks,

@@ -3,7 +3,7 @@
 ghost use Rattle.std.specs.Prelude.{◌≡◌, None};
 ghost use Rattle.pst_block.specs.Blocks.{table_of};
 ghost use Rattle.pst_btree.specs.Entries.{first_with};
-ghost use Rattle.pst_subnode.specs.List.{nid_of, subs_of};
+ghost use Rattle.pst_subnode.specs.List.{sub_nid, subs_of};
 ghost use Rattle.pst_subnode.specs.Left.{subs_left};
 ghost use Rattle.pst_subnode.specs.Tree.{sub_fault};
 ghost use Rattle.pst_subnode.specs.declared.height.TheConstants.{LISTS};
@@ -26,7 +26,7 @@ pub fn subs<'a>(blocks: &Blocks<'a>, bid: u64) -> Subs<'a>
 /// identifiers rise, as writers let them; else, and where there is none, one for each entry.
 pub fn find_sub(blocks: &Blocks, bid: u64, nid: u32) -> Option<Sub>
     requires { sub_fault (table_of blocks.now) LISTS bid ≡ None }
-    ensures { result ≡ first_with nid_of nid (subs_of (table_of blocks.now) bid) }
+    ensures { result ≡ first_with sub_nid nid (subs_of (table_of blocks.now) bid) }
 {
     match guess(blocks, bid, nid) {
         Some(sub) => Some(sub),

@@ -7,7 +7,8 @@ ghost use Rattle.pst_bytes.specs.Image.{bytes_of};
 ghost use Rattle.pst_fault.specs.First.{join_below};
 ghost use Rattle.pst_block.specs.Table.{IsWithin, entry_of};
 ghost use Rattle.pst_block.specs.Blocks.{table_of};
-ghost use Rattle.pst_subnode.specs.Body.{count_in, subs_in};
+ghost use Rattle.pst_datatree.specs.List.{count_in};
+ghost use Rattle.pst_subnode.specs.Body.{subs_in};
 ghost use Rattle.pst_subnode.specs.List.{subs_at, slblock_subs, leaf_subs, siblock_subs, block_subs, subs_of};
 
 use crate::body::{bid_at, body_in, has_level_one, is_siblock, is_slblock, sub_at};
@@ -55,7 +56,8 @@ fn guess_of_slblock(blocks: &Blocks, entry: BlockEntry, nid: u32) -> Option<Sub>
 
 // The same, by the SLBLOCK's identifier.
 fn guess_of_leaf(blocks: &Blocks, bid: u64, nid: u32) -> Option<Sub>
-    ensures there { IfSome result (Contains (subs_at (slblock_subs (table_of blocks.now)) (entry_of (table_of blocks.now) bid))) }
+    ensures there { IfSome result (Contains
+        (subs_at (slblock_subs (table_of blocks.now)) (entry_of (table_of blocks.now) bid))) }
     ensures nid { IfSome result (λ s. s.nid ≡ nid) }
 {
     let entry = blocks.entry(bid)?;
@@ -74,7 +76,8 @@ fn is_behind(blocks: &Blocks, bid: u64, nid: u32) -> bool {
 // Among the entries of the SLBLOCKs that an SIBLOCK's body names.
 fn guess_of_leaves(blocks: &Blocks, body: Image, nid: u32) -> Option<Sub>
     requires { 8 + 16 * count_in (bytes_of body) ≤ length (bytes_of body) }
-    ensures there { IfSome result (Contains (join_below (leaf_subs (table_of blocks.now) (bytes_of body.entry)) (count_in (bytes_of body.entry)))) }
+    ensures there { IfSome result (Contains (join_below
+        (leaf_subs (table_of blocks.now) (bytes_of body.entry)) (count_in (bytes_of body.entry)))) }
     ensures nid { IfSome result (λ s. s.nid ≡ nid) }
 {
     let mut low = 0u16;

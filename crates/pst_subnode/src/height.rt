@@ -7,15 +7,16 @@ ghost use Rattle.pst_block.specs.Blocks.{table_of};
 ghost use Rattle.pst_datatree.specs.Data.{data_fault};
 ghost use Rattle.pst_datatree.specs.Bid.{is_no_block as no_block};
 ghost use Rattle.pst_datatree.specs.Names.{IsInTree};
-ghost use Rattle.pst_datatree.specs.Seen.{expansions_of as data_expansions, IsTrueOf as SeenIsTrue, IsKnown as IsKnownTree, Adds as TreesAdd, KeepsCount};
+ghost use Rattle.pst_datatree.specs.Seen.{tree_expansions, IsSeenTrue, IsKnownTree, AddsTrees, KeepsCount};
 ghost use Rattle.pst_subnode.specs.declared.sub.Sub.{Sub};
 ghost use Rattle.pst_subnode.specs.List.{subs_of};
 ghost use Rattle.pst_subnode.specs.Tree.{first_among, most_among, entry_fault, entry_height, nesting, sub_fault, sub_height, at_top};
 ghost use Rattle.pst_subnode.specs.Reach.{Leads};
 ghost use Rattle.pst_subnode.specs.Known.{Adds, IsKnownList, IsKnownEntry, AreLedTo, AreLedEach, AreKnownEach, AreLedBelow, AreKnownBelow};
-ghost use Rattle.pst_subnode.specs.Heights.{expansions_of, state_of, IsCounted, AreTrue, IsTrueOf, NoNewMarks};
+ghost use Rattle.pst_subnode.specs.Heights.{list_expansions, state_of, AreHeightsCounted, AreTrue, AreHeightsTrue, NoNewMarks};
 ghost use Rattle.pst_subnode.specs.Marks.{HaveCome, IsList, IsSiList, at_list, at_entries, at_entry, at_leaf, at_leaves, leaf_height, most_below, rank_of};
-ghost use Rattle.pst_subnode.specs.Body.{count_in, bid_in};
+ghost use Rattle.pst_datatree.specs.List.{count_in};
+ghost use Rattle.pst_subnode.specs.Body.{leaf_bid_in};
 ghost use Rattle.pst_block.specs.Table.{body_of, IsWithin};
 ghost use Rattle.pst_subnode.specs.Left.{subs_left};
 ghost use Rattle.pst_subnode.specs.Relation.{HasSubs};
@@ -55,13 +56,14 @@ fn leaf_count(blocks: &Blocks, bid: u64, entry: BlockEntry) -> u16
 // The data of an entry, under no node.
 #[tactic(auto, using(pst_datatree::proofs::NodeLemmas::data_no_node))]
 fn check_entry_data(alloc: Global, blocks: &Blocks, sub: Sub, seen: &mut Seen) -> Result<(), Fault>
-    requires seen { SeenIsTrue (table_of blocks.now) seen.old }
+    requires seen { IsSeenTrue (table_of blocks.now) seen.old }
     ensures first { Tells result (data_fault (table_of blocks.now) sub.bid_data) tt }
-    ensures seen { SeenIsTrue (table_of blocks.now) seen.new }
-    ensures adds { let t = table_of blocks.now in TreesAdd t (IsInTree t sub.bid_data) seen.old seen.new }
+    ensures seen { IsSeenTrue (table_of blocks.now) seen.new }
+    ensures adds { let t = table_of blocks.now in
+        AddsTrees t (IsInTree t sub.bid_data) seen.old seen.new }
     ensures there { OnOk result (IsKnownTree (table_of blocks.now) seen.new sub.bid_data) }
     ensures counts { OnOk result (KeepsCount seen.old seen.new) }
-    ensures grows { data_expansions seen.old ≤ data_expansions seen.new }
+    ensures grows { tree_expansions seen.old ≤ tree_expansions seen.new }
 {
     check_data(alloc, blocks, sub.bid_data, 0, seen)
 }
@@ -77,23 +79,24 @@ fn height_of_entry(
     seen: &mut Seen,
     heights: &mut Heights,
 ) -> Result<u32, Fault>
-    requires seen { SeenIsTrue (table_of blocks.now) seen.old }
+    requires seen { IsSeenTrue (table_of blocks.now) seen.old }
     requires known { AreTrue (table_of blocks.now) heights.old }
-    requires come { HaveCome (table_of blocks.now) heights.old (at_entry (table_of blocks.now) sub) 1 limit }
+    requires come { HaveCome (table_of blocks.now) heights.old
+        (at_entry (table_of blocks.now) sub) 1 limit }
     ensures first { let t = table_of blocks.now in
         Tells result (entry_fault t (sub_fault t limit) sub) (entry_height (sub_height t limit) sub) }
     ensures small { IfOk result (λ h. h ≤ limit) }
-    ensures seen { SeenIsTrue (table_of blocks.now) seen.new }
+    ensures seen { IsSeenTrue (table_of blocks.now) seen.new }
     ensures known { AreTrue (table_of blocks.now) heights.new }
     ensures marks { NoNewMarks heights.old heights.new }
-    ensures seen_grows { data_expansions seen.old ≤ data_expansions seen.new }
+    ensures seen_grows { tree_expansions seen.old ≤ tree_expansions seen.new }
     ensures counts { OnOk result (KeepsCount seen.old seen.new) }
-    ensures keeps { OnOk result (IsCounted heights.old → IsCounted heights.new) }
+    ensures keeps { OnOk result (AreHeightsCounted heights.old → AreHeightsCounted heights.new) }
     ensures adds { let t = table_of blocks.now in
         Adds t (λ from. AreLedTo t from sub) seen.old heights.old seen.new heights.new }
     ensures there { let t = table_of blocks.now in
         OnOk result (IsKnownEntry t seen.new heights.new sub) }
-    ensures heights_grow { expansions_of heights.old ≤ expansions_of heights.new }
+    ensures heights_grow { list_expansions heights.old ≤ list_expansions heights.new }
 {
     check_entry_data(alloc, blocks, sub, seen)?;
     height_of(alloc, blocks, sub.bid_sub, limit, seen, heights)
@@ -109,23 +112,24 @@ fn height_of_entries(
     seen: &mut Seen,
     heights: &mut Heights,
 ) -> Result<u32, Fault>
-    requires seen { SeenIsTrue (table_of blocks.now) seen.old }
+    requires seen { IsSeenTrue (table_of blocks.now) seen.old }
     requires known { AreTrue (table_of blocks.now) heights.old }
-    requires come { HaveCome (table_of blocks.now) heights.old (at_entries (table_of blocks.now) (subs_left subs)) 1 limit }
+    requires come { HaveCome (table_of blocks.now) heights.old
+        (at_entries (table_of blocks.now) (subs_left subs)) 1 limit }
     ensures first { let t = table_of blocks.now in
         Tells result (first_among (entry_fault t (sub_fault t limit)) (subs_left subs.entry)) (most_among (entry_height (sub_height t limit)) (subs_left subs.entry)) }
     ensures small { IfOk result (λ h. h ≤ limit) }
-    ensures seen { SeenIsTrue (table_of blocks.now) seen.new }
+    ensures seen { IsSeenTrue (table_of blocks.now) seen.new }
     ensures known { AreTrue (table_of blocks.now) heights.new }
     ensures marks { NoNewMarks heights.old heights.new }
-    ensures seen_grows { data_expansions seen.old ≤ data_expansions seen.new }
+    ensures seen_grows { tree_expansions seen.old ≤ tree_expansions seen.new }
     ensures counts { OnOk result (KeepsCount seen.old seen.new) }
-    ensures keeps { OnOk result (IsCounted heights.old → IsCounted heights.new) }
+    ensures keeps { OnOk result (AreHeightsCounted heights.old → AreHeightsCounted heights.new) }
     ensures adds { let t = table_of blocks.now in
         Adds t (AreLedEach t (subs_left subs.entry)) seen.old heights.old seen.new heights.new }
     ensures there { let t = table_of blocks.now in
         OnOk result (AreKnownEach t seen.new heights.new (subs_left subs.entry)) }
-    ensures heights_grow { expansions_of heights.old ≤ expansions_of heights.new }
+    ensures heights_grow { list_expansions heights.old ≤ list_expansions heights.new }
 {
     let mut most = 0;
     let mut rest = subs;
@@ -149,23 +153,25 @@ fn height_of_slblock(
     requires room { 0 < limit }
     requires is_list { IsList (table_of blocks.now) bid }
     requires rank { rank_of (table_of blocks.now) bid ≡ 0 }
-    requires seen { SeenIsTrue (table_of blocks.now) seen.old }
+    requires seen { IsSeenTrue (table_of blocks.now) seen.old }
     requires known { AreTrue (table_of blocks.now) heights.old }
-    requires come { HaveCome (table_of blocks.now) heights.old (at_list (table_of blocks.now) bid) 0 limit }
+    requires come { HaveCome (table_of blocks.now) heights.old
+        (at_list (table_of blocks.now) bid) 0 limit }
     requires fresh { state_of heights.old bid ≡ None }
-    ensures first { let t = table_of blocks.now in Tells result (sub_fault t limit bid) (sub_height t limit bid) }
+    ensures first { let t = table_of blocks.now in
+        Tells result (sub_fault t limit bid) (sub_height t limit bid) }
     ensures small { IfOk result (λ h. h ≤ limit) }
-    ensures seen { SeenIsTrue (table_of blocks.now) seen.new }
+    ensures seen { IsSeenTrue (table_of blocks.now) seen.new }
     ensures known { AreTrue (table_of blocks.now) heights.new }
     ensures marks { NoNewMarks heights.old heights.new }
-    ensures seen_grows { data_expansions seen.old ≤ data_expansions seen.new }
+    ensures seen_grows { tree_expansions seen.old ≤ tree_expansions seen.new }
     ensures counts { OnOk result (KeepsCount seen.old seen.new) }
-    ensures keeps { OnOk result (IsCounted heights.old → IsCounted heights.new) }
+    ensures keeps { OnOk result (AreHeightsCounted heights.old → AreHeightsCounted heights.new) }
     ensures adds { let t = table_of blocks.now in
         Adds t (λ from. Leads t from bid) seen.old heights.old seen.new heights.new }
     ensures there { let t = table_of blocks.now in
         OnOk result (IsKnownList t heights.new bid) }
-    ensures heights_grow { expansions_of heights.old ≤ expansions_of heights.new }
+    ensures heights_grow { list_expansions heights.old ≤ list_expansions heights.new }
 {
     let list = subs(blocks, bid);
     heights.begin(bid)?;
@@ -195,24 +201,28 @@ fn height_of_leaf(
     requires room { 0 < limit }
     requires within { IsWithin (table_of blocks.now).image holder }
     requires fits { 24 + 16 * i ≤ length (body_of (table_of blocks.now) holder) }
-    requires is_list { IsList (table_of blocks.now) (bid_in (body_of (table_of blocks.now) holder) i) }
-    requires rank { rank_of (table_of blocks.now) (bid_in (body_of (table_of blocks.now) holder) i) ≡ 0 }
-    requires seen { SeenIsTrue (table_of blocks.now) seen.old }
+    requires is_list { IsList (table_of blocks.now)
+        (leaf_bid_in (body_of (table_of blocks.now) holder) i) }
+    requires rank { rank_of (table_of blocks.now)
+        (leaf_bid_in (body_of (table_of blocks.now) holder) i) ≡ 0 }
+    requires seen { IsSeenTrue (table_of blocks.now) seen.old }
     requires known { AreTrue (table_of blocks.now) heights.old }
-    requires come { HaveCome (table_of blocks.now) heights.old (at_list (table_of blocks.now) (bid_in (body_of (table_of blocks.now) holder) i)) 0 limit }
-    ensures first { let t = table_of blocks.now in Tells result (at_leaf t holder limit i) (leaf_height t holder limit i) }
+    requires come { HaveCome (table_of blocks.now) heights.old (at_list
+        (table_of blocks.now) (leaf_bid_in (body_of (table_of blocks.now) holder) i)) 0 limit }
+    ensures first { let t = table_of blocks.now in
+        Tells result (at_leaf t holder limit i) (leaf_height t holder limit i) }
     ensures small { IfOk result (λ h. h ≤ limit) }
-    ensures seen { SeenIsTrue (table_of blocks.now) seen.new }
+    ensures seen { IsSeenTrue (table_of blocks.now) seen.new }
     ensures known { AreTrue (table_of blocks.now) heights.new }
     ensures marks { NoNewMarks heights.old heights.new }
-    ensures seen_grows { data_expansions seen.old ≤ data_expansions seen.new }
+    ensures seen_grows { tree_expansions seen.old ≤ tree_expansions seen.new }
     ensures counts { OnOk result (KeepsCount seen.old seen.new) }
-    ensures keeps { OnOk result (IsCounted heights.old → IsCounted heights.new) }
+    ensures keeps { OnOk result (AreHeightsCounted heights.old → AreHeightsCounted heights.new) }
     ensures adds { let t = table_of blocks.now in
-        Adds t (λ from. Leads t from (bid_in (body_of t holder) i)) seen.old heights.old seen.new heights.new }
+        Adds t (λ from. Leads t from (leaf_bid_in (body_of t holder) i)) seen.old heights.old seen.new heights.new }
     ensures there { let t = table_of blocks.now in
-        OnOk result (IsKnownList t heights.new (bid_in (body_of t holder) i)) }
-    ensures heights_grow { expansions_of heights.old ≤ expansions_of heights.new }
+        OnOk result (IsKnownList t heights.new (leaf_bid_in (body_of t holder) i)) }
+    ensures heights_grow { list_expansions heights.old ≤ list_expansions heights.new }
 {
     let bid = bid_at(body_in(blocks, holder), i);
     if let Some(height) = heights.state(bid) {
@@ -235,24 +245,28 @@ fn height_of_leaves(
     requires room { 0 < limit }
     requires within { IsWithin (table_of blocks.now).image holder }
     requires fits { 8 + 16 * count ≤ length (body_of (table_of blocks.now) holder) }
-    requires are_lists { (i : ℕ) → i < count → IsList (table_of blocks.now) (bid_in (body_of (table_of blocks.now) holder) i) }
-    requires ranks { (i : ℕ) → i < count → rank_of (table_of blocks.now) (bid_in (body_of (table_of blocks.now) holder) i) ≡ 0 }
-    requires seen { SeenIsTrue (table_of blocks.now) seen.old }
+    requires are_lists { (i : ℕ) → i < count →
+        IsList (table_of blocks.now) (leaf_bid_in (body_of (table_of blocks.now) holder) i) }
+    requires ranks { (i : ℕ) → i < count →
+        rank_of (table_of blocks.now) (leaf_bid_in (body_of (table_of blocks.now) holder) i) ≡ 0 }
+    requires seen { IsSeenTrue (table_of blocks.now) seen.old }
     requires known { AreTrue (table_of blocks.now) heights.old }
-    requires come { HaveCome (table_of blocks.now) heights.old (at_leaves (table_of blocks.now) holder count) 0 limit }
-    ensures first { let t = table_of blocks.now in Tells result (at_leaves t holder count limit) (most_below (leaf_height t holder limit) count) }
+    requires come { HaveCome (table_of blocks.now) heights.old
+        (at_leaves (table_of blocks.now) holder count) 0 limit }
+    ensures first { let t = table_of blocks.now in Tells result
+        (at_leaves t holder count limit) (most_below (leaf_height t holder limit) count) }
     ensures small { IfOk result (λ h. h ≤ limit) }
-    ensures seen { SeenIsTrue (table_of blocks.now) seen.new }
+    ensures seen { IsSeenTrue (table_of blocks.now) seen.new }
     ensures known { AreTrue (table_of blocks.now) heights.new }
     ensures marks { NoNewMarks heights.old heights.new }
-    ensures seen_grows { data_expansions seen.old ≤ data_expansions seen.new }
+    ensures seen_grows { tree_expansions seen.old ≤ tree_expansions seen.new }
     ensures counts { OnOk result (KeepsCount seen.old seen.new) }
-    ensures keeps { OnOk result (IsCounted heights.old → IsCounted heights.new) }
+    ensures keeps { OnOk result (AreHeightsCounted heights.old → AreHeightsCounted heights.new) }
     ensures adds { let t = table_of blocks.now in
         Adds t (AreLedBelow t holder count) seen.old heights.old seen.new heights.new }
     ensures there { let t = table_of blocks.now in
         OnOk result (AreKnownBelow t heights.new holder count) }
-    ensures heights_grow { expansions_of heights.old ≤ expansions_of heights.new }
+    ensures heights_grow { list_expansions heights.old ≤ list_expansions heights.new }
 {
     let mut most = 1;
     for i in 0..count {
@@ -275,23 +289,25 @@ fn height_of_siblock(
     requires room { 0 < limit }
     requires within { IsWithin (table_of blocks.now).image entry }
     requires is_list { IsSiList (table_of blocks.now) bid entry }
-    requires seen { SeenIsTrue (table_of blocks.now) seen.old }
+    requires seen { IsSeenTrue (table_of blocks.now) seen.old }
     requires known { AreTrue (table_of blocks.now) heights.old }
-    requires come { HaveCome (table_of blocks.now) heights.old (at_list (table_of blocks.now) bid) 1 limit }
+    requires come { HaveCome (table_of blocks.now) heights.old
+        (at_list (table_of blocks.now) bid) 1 limit }
     requires fresh { state_of heights.old bid ≡ None }
-    ensures first { let t = table_of blocks.now in Tells result (sub_fault t limit bid) (sub_height t limit bid) }
+    ensures first { let t = table_of blocks.now in
+        Tells result (sub_fault t limit bid) (sub_height t limit bid) }
     ensures small { IfOk result (λ h. h ≤ limit) }
-    ensures seen { SeenIsTrue (table_of blocks.now) seen.new }
+    ensures seen { IsSeenTrue (table_of blocks.now) seen.new }
     ensures known { AreTrue (table_of blocks.now) heights.new }
     ensures marks { NoNewMarks heights.old heights.new }
-    ensures seen_grows { data_expansions seen.old ≤ data_expansions seen.new }
+    ensures seen_grows { tree_expansions seen.old ≤ tree_expansions seen.new }
     ensures counts { OnOk result (KeepsCount seen.old seen.new) }
-    ensures keeps { OnOk result (IsCounted heights.old → IsCounted heights.new) }
+    ensures keeps { OnOk result (AreHeightsCounted heights.old → AreHeightsCounted heights.new) }
     ensures adds { let t = table_of blocks.now in
         Adds t (λ from. Leads t from bid) seen.old heights.old seen.new heights.new }
     ensures there { let t = table_of blocks.now in
         OnOk result (IsKnownList t heights.new bid) }
-    ensures heights_grow { expansions_of heights.old ≤ expansions_of heights.new }
+    ensures heights_grow { list_expansions heights.old ≤ list_expansions heights.new }
 {
     let count = leaf_count(blocks, bid, entry);
     heights.begin(bid)?;
@@ -320,23 +336,25 @@ fn height_of_list(
 ) -> Result<u32, Fault>
     requires room { 0 < limit }
     requires named { no_block bid ≡ false }
-    requires seen { SeenIsTrue (table_of blocks.now) seen.old }
+    requires seen { IsSeenTrue (table_of blocks.now) seen.old }
     requires known { AreTrue (table_of blocks.now) heights.old }
-    requires come { HaveCome (table_of blocks.now) heights.old (at_list (table_of blocks.now) bid) 1 limit }
+    requires come { HaveCome (table_of blocks.now) heights.old
+        (at_list (table_of blocks.now) bid) 1 limit }
     requires fresh { state_of heights.old bid ≡ None }
-    ensures first { let t = table_of blocks.now in Tells result (sub_fault t limit bid) (sub_height t limit bid) }
+    ensures first { let t = table_of blocks.now in
+        Tells result (sub_fault t limit bid) (sub_height t limit bid) }
     ensures small { IfOk result (λ h. h ≤ limit) }
-    ensures seen { SeenIsTrue (table_of blocks.now) seen.new }
+    ensures seen { IsSeenTrue (table_of blocks.now) seen.new }
     ensures known { AreTrue (table_of blocks.now) heights.new }
     ensures marks { NoNewMarks heights.old heights.new }
-    ensures seen_grows { data_expansions seen.old ≤ data_expansions seen.new }
+    ensures seen_grows { tree_expansions seen.old ≤ tree_expansions seen.new }
     ensures counts { OnOk result (KeepsCount seen.old seen.new) }
-    ensures keeps { OnOk result (IsCounted heights.old → IsCounted heights.new) }
+    ensures keeps { OnOk result (AreHeightsCounted heights.old → AreHeightsCounted heights.new) }
     ensures adds { let t = table_of blocks.now in
         Adds t (λ from. Leads t from bid) seen.old heights.old seen.new heights.new }
     ensures there { let t = table_of blocks.now in
         OnOk result (IsKnownList t heights.new bid) }
-    ensures heights_grow { expansions_of heights.old ≤ expansions_of heights.new }
+    ensures heights_grow { list_expansions heights.old ≤ list_expansions heights.new }
 {
     check_list(alloc, blocks, bid)?;
     let Some(entry) = blocks.entry(bid) else {
@@ -372,22 +390,24 @@ fn height_of(
     seen: &mut Seen,
     heights: &mut Heights,
 ) -> Result<u32, Fault>
-    requires seen { SeenIsTrue (table_of blocks.now) seen.old }
+    requires seen { IsSeenTrue (table_of blocks.now) seen.old }
     requires known { AreTrue (table_of blocks.now) heights.old }
-    requires come { HaveCome (table_of blocks.now) heights.old (at_list (table_of blocks.now) bid) 1 limit }
-    ensures first { let t = table_of blocks.now in Tells result (sub_fault t limit bid) (sub_height t limit bid) }
+    requires come { HaveCome (table_of blocks.now) heights.old
+        (at_list (table_of blocks.now) bid) 1 limit }
+    ensures first { let t = table_of blocks.now in
+        Tells result (sub_fault t limit bid) (sub_height t limit bid) }
     ensures small { IfOk result (λ h. h ≤ limit) }
-    ensures seen { SeenIsTrue (table_of blocks.now) seen.new }
+    ensures seen { IsSeenTrue (table_of blocks.now) seen.new }
     ensures known { AreTrue (table_of blocks.now) heights.new }
     ensures marks { NoNewMarks heights.old heights.new }
-    ensures seen_grows { data_expansions seen.old ≤ data_expansions seen.new }
+    ensures seen_grows { tree_expansions seen.old ≤ tree_expansions seen.new }
     ensures counts { OnOk result (KeepsCount seen.old seen.new) }
-    ensures keeps { OnOk result (IsCounted heights.old → IsCounted heights.new) }
+    ensures keeps { OnOk result (AreHeightsCounted heights.old → AreHeightsCounted heights.new) }
     ensures adds { let t = table_of blocks.now in
         Adds t (λ from. Leads t from bid) seen.old heights.old seen.new heights.new }
     ensures there { let t = table_of blocks.now in
         OnOk result (IsKnownList t heights.new bid) }
-    ensures heights_grow { expansions_of heights.old ≤ expansions_of heights.new }
+    ensures heights_grow { list_expansions heights.old ≤ list_expansions heights.new }
 {
     if is_no_block(bid) {
         return Ok(0);
@@ -442,22 +462,25 @@ pub fn check_sub(
     heights: &mut Heights,
 ) -> Result<u32, Fault>
     // What is known is true, and stays so; no list is left marked.
-    requires seen { SeenIsTrue (table_of blocks.now) seen.old }
-    requires known { IsTrueOf (table_of blocks.now) heights.old }
-    ensures seen { SeenIsTrue (table_of blocks.now) seen.new }
-    ensures known { IsTrueOf (table_of blocks.now) heights.new }
+    requires seen { IsSeenTrue (table_of blocks.now) seen.old }
+    requires known { AreHeightsTrue (table_of blocks.now) heights.old }
+    ensures seen { IsSeenTrue (table_of blocks.now) seen.new }
+    ensures known { AreHeightsTrue (table_of blocks.now) heights.new }
 
     // The height, or the first fault; or that memory ran out.
-    ensures first { Tells result (option_map (at_top bid nid) (sub_fault (table_of blocks.now) LISTS bid)) (sub_height (table_of blocks.now) LISTS bid) }
+    ensures first { Tells result (option_map (at_top bid nid)
+        (sub_fault (table_of blocks.now) LISTS bid)) (sub_height (table_of blocks.now) LISTS bid) }
     ensures small { IfOk result (λ h. h ≤ LISTS) }
 
     ensures none { OnOk result (sub_fault (table_of blocks.now) LISTS bid ≡ None) }
 
     // The identifier has the list of this height, as the format says.
-    ensures found { IfOk result (λ h. HasSubs (table_of blocks.now) bid h (subs_of (table_of blocks.now) bid)) }
+    ensures found { IfOk result (λ h.
+        HasSubs (table_of blocks.now) bid h (subs_of (table_of blocks.now) bid)) }
 
     // Where it has a list whose height is within the limit, only memory is refused.
-    ensures only { (h : ℕ) (list : List Sub) → HasSubs (table_of blocks.now) bid h list → h ≤ LISTS → IfErr result (λ f. f ≡ no_memory) }
+    ensures only { (h : ℕ) (list : List Sub) → HasSubs (table_of blocks.now) bid h list →
+        h ≤ LISTS → IfErr result (λ f. f ≡ no_memory) }
 
     // Chains from the identifier lead to all that is known since; where there is no fault, the list is known.
     ensures adds { let t = table_of blocks.now in
@@ -465,10 +488,10 @@ pub fn check_sub(
     ensures there { OnOk result (IsKnownList (table_of blocks.now) heights.new bid) }
 
     // What is counted never falls.
-    ensures seen_grows { data_expansions seen.old ≤ data_expansions seen.new }
+    ensures seen_grows { tree_expansions seen.old ≤ tree_expansions seen.new }
     ensures counts { OnOk result (KeepsCount seen.old seen.new) }
-    ensures keeps { OnOk result (IsCounted heights.old → IsCounted heights.new) }
-    ensures heights_grow { expansions_of heights.old ≤ expansions_of heights.new }
+    ensures keeps { OnOk result (AreHeightsCounted heights.old → AreHeightsCounted heights.new) }
+    ensures heights_grow { list_expansions heights.old ≤ list_expansions heights.new }
 {
     match height_of(alloc, blocks, bid, LISTS, seen, heights) {
         Ok(height) => Ok(height),

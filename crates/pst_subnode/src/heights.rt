@@ -23,13 +23,13 @@ impl Heights {
     ghost use Rattle.pst_fault.specs.Fault.{no_memory};
     ghost use Rattle.pst_block.specs.Block.{bid_key};
     ghost use Rattle.pst_block.specs.Table.{Table};
-    ghost use Rattle.pst_subnode.specs.Heights.{expansions_of, keys_of, state_at, state_of, known_count, IsCounted, IsTrueOf};
+    ghost use Rattle.pst_subnode.specs.Heights.{list_expansions, list_keys, state_at, state_of, known_lists, AreHeightsCounted, AreHeightsTrue};
 
     /// Nothing is known, and nothing has been expanded. No memory is taken.
     pub fn new(alloc: Global) -> Heights
-        ensures counts { expansions_of result ≡ 0 }
-        ensures known { (t : Table) → IsTrueOf t result }
-        ensures none { known_count result ≡ 0 }
+        ensures counts { list_expansions result ≡ 0 }
+        ensures known { (t : Table) → AreHeightsTrue t result }
+        ensures none { known_lists result ≡ 0 }
         ensures empty { (key : ℕ) → state_at result key ≡ None }
     {
         Heights {
@@ -41,14 +41,14 @@ impl Heights {
     /// How many SLBLOCKs and SIBLOCKs have been expanded, whose entries were followed: each once, however it was named. A
     /// list counts as soon as it is begun. The count stays at its greatest value.
     pub fn expansions(&self) -> u64
-        ensures { result ≡ expansions_of self.now }
+        ensures { result ≡ list_expansions self.now }
     {
         self.expansions
     }
 
     /// A law of what is known: the keys of the lists strictly rise.
     pub fn keys_rise(&self)
-        ensures { IsStrictlySortedBy nat_cmp (keys_of self.now) }
+        ensures { IsStrictlySortedBy nat_cmp (list_keys self.now) }
     {
         let _count = self.states.len();
     }
@@ -64,11 +64,12 @@ impl Heights {
     // A list has this state from now on. It is counted as expanded where nothing was known of it.
     #[tactic(auto, using(crate::proofs::MarkLemmas::new_counted, crate::proofs::MarkLemmas::old_counted), unfolding(crate::specs::Heights::state_at))]
     fn put(&mut self, bid: u64, state: u32) -> Result<(), Fault>
-        ensures put { OnOk result ((key : ℕ) → state_at self.new key ≡ cond (eq_by_cmp nat_cmp (bid_key bid) key) (Some state) (state_at self.old key)) }
+        ensures put { OnOk result ((key : ℕ) → state_at self.new key ≡
+            cond (eq_by_cmp nat_cmp (bid_key bid) key) (Some state) (state_at self.old key)) }
         ensures same { OnErr result ((key : ℕ) → state_at self.new key ≡ state_at self.old key) }
         ensures memory { IfErr result (λ f. f ≡ no_memory) }
-        ensures keeps { OnOk result (IsCounted self.old → IsCounted self.new) }
-        ensures grows { expansions_of self.old ≤ expansions_of self.new }
+        ensures keeps { OnOk result (AreHeightsCounted self.old → AreHeightsCounted self.new) }
+        ensures grows { list_expansions self.old ≤ list_expansions self.new }
     {
         let old = self.states.insert(PageKind::Bbt.key_of(bid), state)?;
         if old.is_none() {
@@ -80,30 +81,34 @@ impl Heights {
     // Nothing is known of a list any more.
     #[tactic(auto, unfolding(crate::specs::Heights::state_at))]
     pub(crate) fn forget(&mut self, bid: u64)
-        ensures put { (key : ℕ) → state_at self.new key ≡ cond (eq_by_cmp nat_cmp (bid_key bid) key) None (state_at self.old key) }
-        ensures counts { expansions_of self.new ≡ expansions_of self.old }
+        ensures put { (key : ℕ) → state_at self.new key ≡
+            cond (eq_by_cmp nat_cmp (bid_key bid) key) None (state_at self.old key) }
+        ensures counts { list_expansions self.new ≡ list_expansions self.old }
     {
         let _ = self.states.remove(&PageKind::Bbt.key_of(bid));
     }
 
     // A list of one block is being expanded, and marked.
     pub(crate) fn begin(&mut self, bid: u64) -> Result<(), Fault>
-        ensures put { OnOk result ((key : ℕ) → state_at self.new key ≡ cond (eq_by_cmp nat_cmp (bid_key bid) key) (Some 0) (state_at self.old key)) }
+        ensures put { OnOk result ((key : ℕ) → state_at self.new key ≡
+            cond (eq_by_cmp nat_cmp (bid_key bid) key) (Some 0) (state_at self.old key)) }
         ensures same { OnErr result ((key : ℕ) → state_at self.new key ≡ state_at self.old key) }
         ensures memory { IfErr result (λ f. f ≡ no_memory) }
-        ensures keeps { OnOk result (IsCounted self.old → IsCounted self.new) }
-        ensures grows { expansions_of self.old ≤ expansions_of self.new }
+        ensures keeps { OnOk result (AreHeightsCounted self.old → AreHeightsCounted self.new) }
+        ensures grows { list_expansions self.old ≤ list_expansions self.new }
     {
         self.put(bid, 0)
     }
 
     // A list has this height; or memory is refused, and nothing is known of it any more.
     pub(crate) fn settle(&mut self, bid: u64, height: u32) -> Result<(), Fault>
-        ensures put { OnOk result ((key : ℕ) → state_at self.new key ≡ cond (eq_by_cmp nat_cmp (bid_key bid) key) (Some height) (state_at self.old key)) }
-        ensures forgotten { OnErr result ((key : ℕ) → state_at self.new key ≡ cond (eq_by_cmp nat_cmp (bid_key bid) key) None (state_at self.old key)) }
+        ensures put { OnOk result ((key : ℕ) → state_at self.new key ≡
+            cond (eq_by_cmp nat_cmp (bid_key bid) key) (Some height) (state_at self.old key)) }
+        ensures forgotten { OnErr result ((key : ℕ) → state_at self.new key ≡
+            cond (eq_by_cmp nat_cmp (bid_key bid) key) None (state_at self.old key)) }
         ensures memory { IfErr result (λ f. f ≡ no_memory) }
-        ensures keeps { OnOk result (IsCounted self.old → IsCounted self.new) }
-        ensures grows { expansions_of self.old ≤ expansions_of self.new }
+        ensures keeps { OnOk result (AreHeightsCounted self.old → AreHeightsCounted self.new) }
+        ensures grows { list_expansions self.old ≤ list_expansions self.new }
     {
         if let Err(fault) = self.put(bid, height) {
             self.forget(bid);

@@ -5,7 +5,7 @@ ghost use Rattle.pst_fault.specs.Fault.{no_memory};
 ghost use Rattle.pst_block.specs.Blocks.{table_of};
 ghost use Rattle.pst_btree.specs.Entries.{first_with};
 ghost use Rattle.pst_subnode.specs.declared.height.TheConstants.{LISTS};
-ghost use Rattle.pst_subnode.specs.List.{nid_of, subs_of};
+ghost use Rattle.pst_subnode.specs.List.{sub_nid, subs_of};
 ghost use Rattle.pst_subnode.specs.Left.{subs_left};
 ghost use Rattle.pst_subnode.specs.Tree.{sub_fault};
 ghost use Rattle.pst_subnode.specs.Index.{HasFirst, IsIndexOf, is_long};
@@ -93,7 +93,7 @@ impl SubIndex {
 pub fn find_sub_by(blocks: &Blocks, bid: u64, index: &SubIndex, nid: u32) -> Option<Sub>
     requires sound { sub_fault (table_of blocks.now) LISTS bid ≡ None }
     requires index { IsIndexOf index.now (subs_of (table_of blocks.now) bid) }
-    ensures { result ≡ first_with nid_of nid (subs_of (table_of blocks.now) bid) }
+    ensures { result ≡ first_with sub_nid nid (subs_of (table_of blocks.now) bid) }
 {
     match &index.entries {
         Some(entries) => entries.get(&nid).copied(),

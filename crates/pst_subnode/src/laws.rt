@@ -1,6 +1,6 @@
 //! Laws of subnodes, each the contract of a function that does nothing.
 
-ghost use Rattle.pst_subnode.specs.Laws.{SubLaw, OneLaw, MoreLaw, EntryLaw, FoundLaw, MapLaw, BelowLaw, LowerLaw, HeightLaw, DepthLaw, LimitLaw, NoHeightLaw, SameSubLaw};
+ghost use Rattle.pst_subnode.specs.Laws.{SubLaw, OneLaw, MoreLaw, EntryLaw, FoundLaw, MapLaw, BelowLaw, LowerLaw, HeightLaw, DepthLaw, HeightLimitLaw, NoHeightLaw, SameSubLaw};
 
 /// A block identifier has a list of a height within the limit exactly where it has no first fault, and then these are they.
 pub fn sub_decides()
@@ -54,7 +54,7 @@ pub fn height_tells()
 
 /// The limit says nothing of the height, where there is no fault under either.
 pub fn limit_says_nothing()
-    ensures { LimitLaw }
+    ensures { HeightLimitLaw }
 {}
 
 /// A list without fault and of no height has no entries.

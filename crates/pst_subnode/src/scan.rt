@@ -6,8 +6,9 @@ ghost use Rattle.pst_fault.specs.First.{join_below};
 ghost use Rattle.pst_block.specs.Table.{IsWithin, entry_of};
 ghost use Rattle.pst_block.specs.Blocks.{table_of};
 ghost use Rattle.pst_btree.specs.Entries.{first_with};
-ghost use Rattle.pst_subnode.specs.Body.{count_in, subs_in};
-ghost use Rattle.pst_subnode.specs.List.{nid_of, subs_at, slblock_subs, leaf_subs, siblock_subs, block_subs, subs_of};
+ghost use Rattle.pst_datatree.specs.List.{count_in};
+ghost use Rattle.pst_subnode.specs.Body.{subs_in};
+ghost use Rattle.pst_subnode.specs.List.{sub_nid, subs_at, slblock_subs, leaf_subs, siblock_subs, block_subs, subs_of};
 
 use crate::body::{bid_at, body_in, has_level_one, is_siblock, is_slblock, nid_at, sub_at};
 use crate::sub::Sub;
@@ -19,7 +20,7 @@ use pst_datatree::is_no_block;
 #[tactic(auto, using(crate::proofs::ScanLemmas::entry_found, crate::proofs::ScanLemmas::entry_passed, crate::proofs::FindLemmas::found_nowhere), unfolding(crate::specs::Body::subs_in))]
 fn scan_entries(body: Image, nid: u32) -> Option<Sub>
     requires { 8 + 24 * count_in (bytes_of body) ≤ length (bytes_of body) }
-    ensures { result ≡ first_with nid_of nid (subs_in (bytes_of body.entry)) }
+    ensures { result ≡ first_with sub_nid nid (subs_in (bytes_of body.entry)) }
 {
     for i in 0..body.number16(2) {
         if nid_at(body, i) == nid {
@@ -33,7 +34,7 @@ fn scan_entries(body: Image, nid: u32) -> Option<Sub>
 #[tactic(auto, unfolding(crate::specs::List::slblock_subs, pst_btree::specs::Entries::first_with))]
 fn scan_slblock(blocks: &Blocks, entry: BlockEntry, nid: u32) -> Option<Sub>
     requires { IsWithin (table_of blocks.now).image entry }
-    ensures { result ≡ first_with nid_of nid (slblock_subs (table_of blocks.now) entry) }
+    ensures { result ≡ first_with sub_nid nid (slblock_subs (table_of blocks.now) entry) }
 {
     let body = body_in(blocks, entry);
     if !is_slblock(body) {
@@ -45,7 +46,8 @@ fn scan_slblock(blocks: &Blocks, entry: BlockEntry, nid: u32) -> Option<Sub>
 // The same, by the SLBLOCK's identifier.
 #[tactic(auto, unfolding(pst_btree::specs::Entries::first_with))]
 fn scan_leaf(blocks: &Blocks, bid: u64, nid: u32) -> Option<Sub>
-    ensures { result ≡ first_with nid_of nid (subs_at (slblock_subs (table_of blocks.now)) (entry_of (table_of blocks.now) bid)) }
+    ensures { result ≡ first_with sub_nid nid
+        (subs_at (slblock_subs (table_of blocks.now)) (entry_of (table_of blocks.now) bid)) }
 {
     let entry = blocks.entry(bid)?;
     scan_slblock(blocks, entry, nid)
@@ -55,7 +57,8 @@ fn scan_leaf(blocks: &Blocks, bid: u64, nid: u32) -> Option<Sub>
 #[tactic(auto, using(crate::proofs::ScanLemmas::leaf_found, crate::proofs::ScanLemmas::leaf_passed, crate::proofs::FindLemmas::found_nowhere))]
 fn scan_leaves(blocks: &Blocks, body: Image, nid: u32) -> Option<Sub>
     requires { 8 + 16 * count_in (bytes_of body) ≤ length (bytes_of body) }
-    ensures { result ≡ first_with nid_of nid (join_below (leaf_subs (table_of blocks.now) (bytes_of body.entry)) (count_in (bytes_of body.entry))) }
+    ensures { result ≡ first_with sub_nid nid (join_below
+        (leaf_subs (table_of blocks.now) (bytes_of body.entry)) (count_in (bytes_of body.entry))) }
 {
     for i in 0..body.number16(2) {
         if let Some(sub) = scan_leaf(blocks, bid_at(body, i), nid) {
@@ -69,7 +72,7 @@ fn scan_leaves(blocks: &Blocks, body: Image, nid: u32) -> Option<Sub>
 #[tactic(auto, unfolding(crate::specs::List::siblock_subs, pst_btree::specs::Entries::first_with))]
 fn scan_siblock(blocks: &Blocks, entry: BlockEntry, nid: u32) -> Option<Sub>
     requires { IsWithin (table_of blocks.now).image entry }
-    ensures { result ≡ first_with nid_of nid (siblock_subs (table_of blocks.now) entry) }
+    ensures { result ≡ first_with sub_nid nid (siblock_subs (table_of blocks.now) entry) }
 {
     let body = body_in(blocks, entry);
     if !is_siblock(body) {
@@ -82,7 +85,7 @@ fn scan_siblock(blocks: &Blocks, entry: BlockEntry, nid: u32) -> Option<Sub>
 #[tactic(auto, unfolding(crate::specs::List::block_subs))]
 fn scan_block(blocks: &Blocks, entry: BlockEntry, nid: u32) -> Option<Sub>
     requires { IsWithin (table_of blocks.now).image entry }
-    ensures { result ≡ first_with nid_of nid (block_subs (table_of blocks.now) entry) }
+    ensures { result ≡ first_with sub_nid nid (block_subs (table_of blocks.now) entry) }
 {
     if has_level_one(body_in(blocks, entry)) {
         scan_siblock(blocks, entry, nid)
@@ -94,7 +97,7 @@ fn scan_block(blocks: &Blocks, entry: BlockEntry, nid: u32) -> Option<Sub>
 // Among the entries of a block identifier.
 #[tactic(auto, unfolding(crate::specs::List::subs_of, pst_btree::specs::Entries::first_with))]
 pub(crate) fn scan(blocks: &Blocks, bid: u64, nid: u32) -> Option<Sub>
-    ensures { result ≡ first_with nid_of nid (subs_of (table_of blocks.now) bid) }
+    ensures { result ≡ first_with sub_nid nid (subs_of (table_of blocks.now) bid) }
 {
     if is_no_block(bid) {
         return None;

@@ -1,24 +1,27 @@
 -- Table contexts of roots that are alike.
-use Rattle.std.proofs.Common.{◌≡◌, ℕ, zero, suc, List, [], ◌∷◌, map, Option, Some, None, refl, sym, ap, ◌∙◌}
+use Rattle.std.proofs.Common.{◌≡◌, ℕ, List, map, Option, Some, None, refl, sym, ap, ◌∙◌}
 use Rattle.std.specs.Prelude.{option_map}
 use Rattle.pst_bytes.specs.declared.span.Span.{Span}
 use Rattle.pst_bytes.specs.Image.{num}
 use Rattle.pst_fault.specs.declared.fault.Fault.{Fault}
 use Rattle.pst_fault.specs.Each.{first_of, there_or}
-use Rattle.pst_fault.specs.First.{◌then◌, first_below}
+use Rattle.pst_fault.specs.First.{◌then◌}
 use Rattle.pst_fault.proofs.ToldLemmas.{told_none}
+use Rattle.pst_fault.proofs.EachLemmas.{first_of_same}
+use Rattle.pst_fault.proofs.GeneralLemmas.{map_same}
+use Rattle.pst_fault.proofs.FirstLemmas.{first_below_same}
 use Rattle.pst_block.specs.Table.{Table}
 use Rattle.pst_btree.specs.Entries.{first_with}
 use Rattle.pst_datatree.proofs.KeyLemmas.{data_spans_same}
 use Rattle.pst_subnode.specs.declared.sub.Sub.{Sub}
-use Rattle.pst_subnode.specs.List.{nid_of, subs_of}
+use Rattle.pst_subnode.specs.List.{sub_nid, subs_of}
 use Rattle.pst_subnode.proofs.HeightLaws.{subs_same}
 use Rattle.pst_ndb.specs.Roots.{Roots, sub_roots, subnode_of}
 use Rattle.pst_heap.specs.Values.{HeapData, heap_at, user_root_of, user_root_place, item_of}
-use Rattle.pst_heap.specs.Fault.{heap_fault, client_fault, item_or, told_in}
+use Rattle.pst_heap.specs.Fault.{heap_fault, client_fault, item_or, told_under}
 use Rattle.pst_bth.specs.Fault.{bth_fault}
 use Rattle.pst_bth.specs.Values.{bth_records}
-use Rattle.pst_value.specs.Alike.{Alike}
+use Rattle.pst_ndb.specs.Alike.{Alike}
 use Rattle.pst_value.specs.Fault.{missing_at}
 use Rattle.pst_value.proofs.AlikeLaws.{heap_alike, value_alike, fault_alike, alike_value_law}
 use Rattle.pst_tc.specs.Info.{column_count, column_kind, column_place, column_places, column_tag, cell_span, index_place, index_hid, matrix_place, matrix_hnid, row_size}
@@ -27,19 +30,6 @@ use Rattle.pst_tc.specs.Fault.{info_fault, cell_fault, cells_fault, bad_row, row
 use Rattle.pst_tc.specs.Laws.{AlikeTcLaw}
 
 -- ---- the same function of each member of a list, and of each number
-
-first_of_same : {X : Type 0} (part other : X → Option Fault) → ((x : X) → part x ≡ other x) → (xs : List X) → first_of part xs ≡ first_of other xs
-unfolding first_of
-first_of_same part other same [] = refl
-first_of_same part other same (x ∷ rest) = rw (same x, first_of_same part other same rest) refl
-
-first_below_same : (part other : ℕ → Option Fault) → ((i : ℕ) → part i ≡ other i) → (n : ℕ) → first_below part n ≡ first_below other n
-first_below_same part other same zero = refl
-first_below_same part other same (suc n) = rw (same n, first_below_same part other same n) refl
-
-map_same : {X Y : Type 0} (f g : X → Y) → ((x : X) → f x ≡ g x) → (xs : List X) → map f xs ≡ map g xs
-map_same f g same [] = refl
-map_same f g same (x ∷ rest) = rw (same x, map_same f g same rest) refl
 
 -- ---- TCINFO and the row index
 
@@ -63,7 +53,7 @@ data_row_same t r s size n (Some x) = refl
 
 data_row_alike : (t : Table) (r s : Roots) (size n nid : ℕ) → Alike r s → row_of_data t size n (subnode_of t r nid) ≡ row_of_data t size n (subnode_of t s nid)
 unfolding subnode_of
-data_row_alike t r s size n nid e = rw (subs_same t r.bid_sub s.bid_sub e.1) (data_row_same t r s size n (first_with nid_of nid (subs_of t s.bid_sub)))
+data_row_alike t r s size n nid e = rw (subs_same t r.bid_sub s.bid_sub e.1) (data_row_same t r s size n (first_with sub_nid nid (subs_of t s.bid_sub)))
 
 matrix_alike : (t : Table) (r s : Roots) (hnid size n : ℕ) → Alike r s → row_of_matrix t r hnid size n ≡ row_of_matrix t s hnid size n
 unfolding row_of_matrix
@@ -162,7 +152,7 @@ untold_alike t r s e =
 
 none_alike : (t : Table) (r s : Roots) → untold_tc_fault t r ≡ untold_tc_fault t s → tc_fault t r ≡ None → tc_fault t s ≡ None
 unfolding tc_fault
-none_alike t r s same none = ap (option_map (told_in s)) (sym same ∙ told_none (told_in r) (untold_tc_fault t r) none)
+none_alike t r s same none = ap (option_map (told_under s)) (sym same ∙ told_none (told_under r) (untold_tc_fault t r) none)
 
 pub alike_tc_law : AlikeTcLaw
 alike_tc_law t r s e =

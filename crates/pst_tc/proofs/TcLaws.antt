@@ -13,7 +13,7 @@ use Rattle.pst_heap.specs.Fault.{item_or}
 use Rattle.pst_heap.specs.Fault.{client_fault}
 use Rattle.pst_heap.specs.Values.{client_of, user_root_of, user_root_place}
 use Rattle.pst_heap.specs.Values.{heap_at}
-use Rattle.pst_heap.specs.Fault.{told_in}
+use Rattle.pst_heap.specs.Fault.{told_under}
 use Rattle.pst_heap.proofs.HeapLaws.{none_heap, heap_none}
 use Rattle.pst_bth.specs.Values.{bth_records, record_key}
 use Rattle.pst_bth.specs.Fault.{bth_fault}
@@ -126,7 +126,7 @@ item_there : (named : ℕ) (part : Span → Option Fault) (o : Option Span) → 
 item_there named part None e = absurd cc
 item_there named part (Some x) e = (x, refl, e)
 
-told : (r : Roots) (o : Option Fault) → o ≡ None → option_map (told_in r) o ≡ None
+told : (r : Roots) (o : Option Fault) → o ≡ None → option_map (told_under r) o ≡ None
 told r o e = rw e refl
 
 pub tc_law : TcLaw
@@ -139,7 +139,7 @@ tc_law t r = (
       told r _ (both_none _ _ (heap_none h tc.heap) (both_none _ _ ((client_law h 0x7C).0 tc.client) item))),
   (λ none.
       let h = heap_at t r in
-      let a = none_then _ _ (told_none (told_in r) _ none) in
+      let a = none_then _ _ (told_none (told_under r) _ none) in
       let b = none_then _ _ a.1 in
       let f = item_there (user_root_place h) (tc_body_fault t r) (item_of h (user_root_of h)) b.1 in
       (f.0, tc_records t r f.0, record { heap = none_heap h a.0; client = (client_law h 0x7C).1 b.0; item = f.1; body = none_table t r f.0 f.2 })),

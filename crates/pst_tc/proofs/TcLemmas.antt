@@ -14,7 +14,7 @@ use Rattle.pst_heap.specs.Fault.{item_or, no_item}
 use Rattle.pst_heap.specs.Fault.{heap_fault, client_fault}
 use Rattle.pst_heap.specs.Values.{user_root_of, user_root_place}
 use Rattle.pst_heap.specs.Values.{heap_at}
-use Rattle.pst_heap.specs.Fault.{told_in}
+use Rattle.pst_heap.specs.Fault.{told_under}
 use Rattle.pst_tc.specs.Info.{column_count, column_place, index_place, index_hid, matrix_place, matrix_hnid}
 use Rattle.pst_fault.specs.Each.{there_or}
 use Rattle.pst_fault.proofs.EachLemmas.{each_next, each_done}
@@ -27,19 +27,19 @@ use Rattle.pst_tc.specs.Values.{tc_sizes, tc_records}
 
 -- ---- cells
 
-pub cells_more : (t : Table) (r : Roots) (s : Span) (row i c : ℕ) → first_below (λ k. cell_fault t r s row (column_place s k)) i ≡ None → c ≡ column_place s i → option_map (told_in r) (cell_fault t r s row c) ≡ None → first_below (λ k. cell_fault t r s row (column_place s k)) (i + 1) ≡ None
+pub cells_more : (t : Table) (r : Roots) (s : Span) (row i c : ℕ) → first_below (λ k. cell_fault t r s row (column_place s k)) i ≡ None → c ≡ column_place s i → option_map (told_under r) (cell_fault t r s row c) ≡ None → first_below (λ k. cell_fault t r s row (column_place s k)) (i + 1) ≡ None
 cells_more t r s row i c before is passed =
-    first_more (λ k. cell_fault t r s row (column_place s k)) i before (rw is at (told_none (told_in r) (cell_fault t r s row c) passed))
+    first_more (λ k. cell_fault t r s row (column_place s k)) i before (rw is at (told_none (told_under r) (cell_fault t r s row c) passed))
 
-pub cells_fail : (t : Table) (r : Roots) (s : Span) (row i c : ℕ) (f : Fault) → i < column_count t.image s → first_below (λ k. cell_fault t r s row (column_place s k)) i ≡ None → c ≡ column_place s i → option_map (told_in r) (cell_fault t r s row c) ≡ Some f → option_map (told_in r) (cells_fault t r s row) ≡ Some f
+pub cells_fail : (t : Table) (r : Roots) (s : Span) (row i c : ℕ) (f : Fault) → i < column_count t.image s → first_below (λ k. cell_fault t r s row (column_place s k)) i ≡ None → c ≡ column_place s i → option_map (told_under r) (cell_fault t r s row c) ≡ Some f → option_map (told_under r) (cells_fault t r s row) ≡ Some f
 unfolding cells_fault
 cells_fail t r s row i c f lt before is failed =
-    let here : option_map (told_in r) (cell_fault t r s row (column_place s i)) ≡ Some f = rw is at failed in
-    let x = told_some (told_in r) (cell_fault t r s row (column_place s i)) f here in
+    let here : option_map (told_under r) (cell_fault t r s row (column_place s i)) ≡ Some f = rw is at failed in
+    let x = told_some (told_under r) (cell_fault t r s row (column_place s i)) f here in
     let all = first_at (λ k. cell_fault t r s row (column_place s k)) (column_count t.image s) i x.0 before x.1 lt in
     rw all (ap Some x.2)
 
-pub cells_done : (t : Table) (r : Roots) (s : Span) (row : ℕ) → first_below (λ k. cell_fault t r s row (column_place s k)) (column_count t.image s) ≡ None → option_map (told_in r) (cells_fault t r s row) ≡ None
+pub cells_done : (t : Table) (r : Roots) (s : Span) (row : ℕ) → first_below (λ k. cell_fault t r s row (column_place s k)) (column_count t.image s) ≡ None → option_map (told_under r) (cells_fault t r s row) ≡ None
 unfolding cells_fault
 cells_done t r s row e = rw e refl
 
@@ -73,45 +73,45 @@ pub matrix_missing : (t : Table) (r : Roots) (s : Span) (hnid : ℕ) → hnid �
 unfolding matrix_fault
 matrix_missing t r s hnid is e = rw is (there_is_none (hnid_spans t r (matrix_hnid t.image s)) _ (rw is at e))
 
-pub info_told_none : (r : Roots) (I : List ℕ) (s : Span) → option_map (told_in r) (info_fault I s) ≡ None → info_fault I s ≡ None
-info_told_none r I s e = told_none (told_in r) (info_fault I s) e
+pub info_told_none : (r : Roots) (I : List ℕ) (s : Span) → option_map (told_under r) (info_fault I s) ≡ None → info_fault I s ≡ None
+info_told_none r I s e = told_none (told_under r) (info_fault I s) e
 
 -- ---- the table
 
-pub front_fails : (t : Table) (r : Roots) (s : Span) (f : Fault) → option_map (told_in r) (info_fault t.image s) ≡ Some f → option_map (told_in r) (tc_body_fault t r s) ≡ Some f
+pub front_fails : (t : Table) (r : Roots) (s : Span) (f : Fault) → option_map (told_under r) (info_fault t.image s) ≡ Some f → option_map (told_under r) (tc_body_fault t r s) ≡ Some f
 unfolding tc_body_fault
-front_fails t r s f e = told_first (told_in r) (info_fault t.image s) _ f e
+front_fails t r s f e = told_first (told_under r) (info_fault t.image s) _ f e
 
-pub index_fails : (t : Table) (r : Roots) (s : Span) (f : Fault) → option_map (told_in r) (info_fault t.image s) ≡ None → option_map (told_in r) (bth_fault (heap_at t r) tc_sizes (index_place s) (index_hid t.image s)) ≡ Some f → option_map (told_in r) (tc_body_fault t r s) ≡ Some f
+pub index_fails : (t : Table) (r : Roots) (s : Span) (f : Fault) → option_map (told_under r) (info_fault t.image s) ≡ None → option_map (told_under r) (bth_fault (heap_at t r) tc_sizes (index_place s) (index_hid t.image s)) ≡ Some f → option_map (told_under r) (tc_body_fault t r s) ≡ Some f
 unfolding tc_body_fault
-index_fails t r s f a e = told_next (told_in r) _ _ a ∙ told_first (told_in r) (bth_fault (heap_at t r) tc_sizes (index_place s) (index_hid t.image s)) _ f e
+index_fails t r s f a e = told_next (told_under r) _ _ a ∙ told_first (told_under r) (bth_fault (heap_at t r) tc_sizes (index_place s) (index_hid t.image s)) _ f e
 
-pub matrix_fails : (t : Table) (r : Roots) (s : Span) (f : Fault) → option_map (told_in r) (info_fault t.image s) ≡ None → option_map (told_in r) (bth_fault (heap_at t r) tc_sizes (index_place s) (index_hid t.image s)) ≡ None
-    → option_map (told_in r) (matrix_fault t r s) ≡ Some f → option_map (told_in r) (tc_body_fault t r s) ≡ Some f
+pub matrix_fails : (t : Table) (r : Roots) (s : Span) (f : Fault) → option_map (told_under r) (info_fault t.image s) ≡ None → option_map (told_under r) (bth_fault (heap_at t r) tc_sizes (index_place s) (index_hid t.image s)) ≡ None
+    → option_map (told_under r) (matrix_fault t r s) ≡ Some f → option_map (told_under r) (tc_body_fault t r s) ≡ Some f
 unfolding tc_body_fault
-matrix_fails t r s f a b e = told_next (told_in r) _ _ a ∙ told_next (told_in r) _ _ b ∙ told_first (told_in r) (matrix_fault t r s) _ f e
+matrix_fails t r s f a b e = told_next (told_under r) _ _ a ∙ told_next (told_under r) _ _ b ∙ told_first (told_under r) (matrix_fault t r s) _ f e
 
-pub rows_left : (t : Table) (r : Roots) (s : Span) → option_map (told_in r) (info_fault t.image s) ≡ None → option_map (told_in r) (bth_fault (heap_at t r) tc_sizes (index_place s) (index_hid t.image s)) ≡ None
-    → option_map (told_in r) (matrix_fault t r s) ≡ None
-    → option_map (told_in r) (first_of (row_record_fault t r s) (bth_records (heap_at t r) tc_sizes (index_hid t.image s))) ≡ option_map (told_in r) (tc_body_fault t r s)
+pub rows_left : (t : Table) (r : Roots) (s : Span) → option_map (told_under r) (info_fault t.image s) ≡ None → option_map (told_under r) (bth_fault (heap_at t r) tc_sizes (index_place s) (index_hid t.image s)) ≡ None
+    → option_map (told_under r) (matrix_fault t r s) ≡ None
+    → option_map (told_under r) (first_of (row_record_fault t r s) (bth_records (heap_at t r) tc_sizes (index_hid t.image s))) ≡ option_map (told_under r) (tc_body_fault t r s)
 unfolding tc_body_fault tc_records
-rows_left t r s a b c = sym (told_next (told_in r) _ _ a ∙ told_next (told_in r) _ _ b ∙ told_next (told_in r) _ _ c)
+rows_left t r s a b c = sym (told_next (told_under r) _ _ a ∙ told_next (told_under r) _ _ b ∙ told_next (told_under r) _ _ c)
 
 -- ---- the context
 
-pub heap_fails : (t : Table) (r : Roots) (f : Fault) → option_map (told_in r) (heap_fault (heap_at t r)) ≡ Some f → tc_fault t r ≡ Some f
+pub heap_fails : (t : Table) (r : Roots) (f : Fault) → option_map (told_under r) (heap_fault (heap_at t r)) ≡ Some f → tc_fault t r ≡ Some f
 unfolding tc_fault untold_tc_fault
-heap_fails t r f e = told_first (told_in r) (heap_fault (heap_at t r)) _ f e
+heap_fails t r f e = told_first (told_under r) (heap_fault (heap_at t r)) _ f e
 
-pub client_fails : (t : Table) (r : Roots) (f : Fault) → option_map (told_in r) (heap_fault (heap_at t r)) ≡ None → option_map (told_in r) (client_fault 0x7C (heap_at t r)) ≡ Some f → tc_fault t r ≡ Some f
+pub client_fails : (t : Table) (r : Roots) (f : Fault) → option_map (told_under r) (heap_fault (heap_at t r)) ≡ None → option_map (told_under r) (client_fault 0x7C (heap_at t r)) ≡ Some f → tc_fault t r ≡ Some f
 unfolding tc_fault untold_tc_fault
-client_fails t r f a e = told_next (told_in r) _ _ a ∙ told_first (told_in r) (client_fault 0x7C (heap_at t r)) _ f e
+client_fails t r f a e = told_next (told_under r) _ _ a ∙ told_first (told_under r) (client_fault 0x7C (heap_at t r)) _ f e
 
 -- where nothing failed up to the client signature, what is left is what TCINFO names
-pub context_left : (t : Table) (r : Roots) → option_map (told_in r) (heap_fault (heap_at t r)) ≡ None → option_map (told_in r) (client_fault 0x7C (heap_at t r)) ≡ None
-    → (o : Option Span) → o ≡ item_of (heap_at t r) (user_root_of (heap_at t r)) → option_map (told_in r) (item_or (user_root_place (heap_at t r)) (tc_body_fault t r) o) ≡ tc_fault t r
+pub context_left : (t : Table) (r : Roots) → option_map (told_under r) (heap_fault (heap_at t r)) ≡ None → option_map (told_under r) (client_fault 0x7C (heap_at t r)) ≡ None
+    → (o : Option Span) → o ≡ item_of (heap_at t r) (user_root_of (heap_at t r)) → option_map (told_under r) (item_or (user_root_place (heap_at t r)) (tc_body_fault t r) o) ≡ tc_fault t r
 unfolding tc_fault untold_tc_fault
-context_left t r a b o is = rw is (sym (told_next (told_in r) _ _ a ∙ told_next (told_in r) _ _ b))
+context_left t r a b o is = rw is (sym (told_next (told_under r) _ _ a ∙ told_next (told_under r) _ _ b))
 
 -- ---- without fault
 
@@ -122,7 +122,7 @@ pub record TcFacts (t : Table) (r : Roots) : Type 0 where
 pub facts : (t : Table) (r : Roots) → tc_fault t r ≡ None → TcFacts t r
 unfolding tc_fault untold_tc_fault
 facts t r none =
-    let a = none_then _ _ (told_none (told_in r) _ none) in
+    let a = none_then _ _ (told_none (told_under r) _ none) in
     let b = none_then _ _ a.1 in
     record { heap = a.0; table = b.1 }
 

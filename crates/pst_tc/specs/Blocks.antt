@@ -9,5 +9,5 @@ use Rattle.pst_tc.specs.declared.blocks.Blocks.{Blocks}
 abbrev pub blocks_node : Blocks → Node
 blocks_node b = b.node
 
-abbrev pub blocks_in : Blocks → List Span
-blocks_in b = data_spans (table_of_node b.node) (data_bid_of b.node)
+abbrev pub matrix_spans : Blocks → List Span
+matrix_spans b = data_spans (table_of_node b.node) (data_bid_of b.node)

@@ -11,7 +11,7 @@ use Rattle.pst_fault.specs.Each.{first_of, there_or}
 use Rattle.pst_block.specs.Table.{Table}
 use Rattle.pst_ndb.specs.Roots.{Roots}
 use Rattle.pst_heap.specs.Values.{heap_at, user_root_of, user_root_place, item_of}
-use Rattle.pst_heap.specs.Fault.{heap_fault, client_fault, item_or, told_in}
+use Rattle.pst_heap.specs.Fault.{heap_fault, client_fault, item_or, told_under}
 use Rattle.pst_bth.specs.Fault.{bth_fault}
 use Rattle.pst_value.specs.Values.{hnid_spans}
 use Rattle.pst_value.specs.Fault.{missing_at, value_fault}
@@ -75,4 +75,4 @@ untold_tc_fault t r =
 
 -- of the table context of a node
 unfoldable pub tc_fault : Table → Roots → Option Fault
-tc_fault t r = option_map (told_in r) (untold_tc_fault t r)
+tc_fault t r = option_map (told_under r) (untold_tc_fault t r)

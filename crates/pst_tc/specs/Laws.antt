@@ -4,7 +4,7 @@ use Rattle.pst_bytes.specs.declared.span.Span.{Span}
 use Rattle.pst_block.specs.Table.{Table}
 use Rattle.pst_btree.specs.Order.{Rises}
 use Rattle.pst_ndb.specs.Roots.{Roots}
-use Rattle.pst_value.specs.Alike.{Alike}
+use Rattle.pst_ndb.specs.Alike.{Alike}
 use Rattle.pst_tc.specs.Fault.{untold_tc_fault, tc_fault}
 use Rattle.pst_tc.specs.Grammar.{HasTc, IsTc}
 use Rattle.pst_tc.specs.Values.{info_of, tc_records, tc_columns, row_id_of, tc_rows, tc_cell}

@@ -9,14 +9,14 @@ use Rattle.pst_ndb.specs.Roots.{Roots}
 use Rattle.pst_ndb.specs.Views.{table_of_node}
 use Rattle.pst_tc.specs.declared.matrix.Matrix.{Matrix}
 use Rattle.pst_tc.specs.declared.matrix.Matrix.TheVariants.{Nothing, Item, Blocks}
-use Rattle.pst_tc.specs.Blocks.{blocks_node, blocks_in}
+use Rattle.pst_tc.specs.Blocks.{blocks_node, matrix_spans}
 use Rattle.pst_tc.specs.Values.{row_of_span, row_of_blocks, row_of_matrix}
 
 -- the row with a number, of rows of so many bytes
 abbrev pub matrix_row : Matrix → ℕ → ℕ → Option Span
 matrix_row Nothing size n = None
 matrix_row (Item s) size n = row_of_span size n s
-matrix_row (Blocks b) size n = row_of_blocks size n (blocks_in b)
+matrix_row (Blocks b) size n = row_of_blocks size n (matrix_spans b)
 
 -- it lies in the file with these bytes
 abbrev pub LiesIn : List ℕ → Matrix → Type 0

@@ -28,7 +28,7 @@ impl<'a> Blocks<'a> {
     ghost use Rattle.std.specs.Prelude.{◌≡◌, ◌^◌, ◌<◌, IfSome, slice_get};
     ghost use Rattle.pst_bytes.specs.Image.{IsInside};
     ghost use Rattle.pst_ndb.specs.Views.{table_of_node};
-    ghost use Rattle.pst_tc.specs.Blocks.{blocks_node, blocks_in};
+    ghost use Rattle.pst_tc.specs.Blocks.{blocks_node, matrix_spans};
 
     /// All blocks of a subnode.
     pub(crate) fn of(node: Node<'a>) -> Blocks<'a>
@@ -48,7 +48,7 @@ impl<'a> Blocks<'a> {
     // The first block that was not come to.
     fn step(self) -> (Option<Span>, Blocks<'a>)
         requires { self.next < 2 ^ 32 }
-        ensures value { result.0 ≡ slice_get (blocks_in self.entry) self.entry.next }
+        ensures value { result.0 ≡ slice_get (matrix_spans self.entry) self.entry.next }
         ensures same { blocks_node result.1 ≡ blocks_node self.entry }
     {
         let mut rest = self.rest;
@@ -69,7 +69,7 @@ impl<'a> Blocks<'a> {
     #[tactic(auto, using(crate::proofs::BlockLemmas::got_inside))]
     pub(crate) fn block(self, number: u64) -> (Option<Span>, Blocks<'a>)
         requires { number < 2 ^ 32 }
-        ensures value { result.0 ≡ slice_get (blocks_in self.entry) number }
+        ensures value { result.0 ≡ slice_get (matrix_spans self.entry) number }
         ensures inside { IfSome result.0 (IsInside (table_of_node (blocks_node self.entry)).image) }
         ensures same { blocks_node result.1 ≡ blocks_node self.entry }
     {

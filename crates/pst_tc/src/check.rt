@@ -5,7 +5,7 @@ ghost use Rattle.pst_bytes.specs.Image.{IsInside};
 ghost use Rattle.pst_fault.specs.First.{Checks};
 ghost use Rattle.pst_fault.specs.Each.{first_of};
 ghost use Rattle.pst_ndb.specs.Views.{table_of_node, roots_of, IsIndexedBy};
-ghost use Rattle.pst_heap.specs.Fault.{told_in};
+ghost use Rattle.pst_heap.specs.Fault.{told_under};
 ghost use Rattle.pst_heap.specs.View.{node_of, data_of};
 ghost use Rattle.pst_bth.specs.View.{heap_of, sizes_in, records_of};
 ghost use Rattle.pst_tc.specs.Info.{row_size, is_column, matrix_hnid};
@@ -44,7 +44,7 @@ fn check_cell(
     requires good { is_column (data_of heap.now).image info column ≡ true }
     ensures exact { let node = node_of heap.now in let r = roots_of node in
         let first = cell_fault (table_of_node node) r info row.at column in
-        Checks result (option_map (told_in r) first) }
+        Checks result (option_map (told_under r) first) }
 {
     let image = heap.image();
     if !is_present(image, info, row, column) {
@@ -71,7 +71,7 @@ fn check_cells(heap: &Heap, index: &SubIndex, info: Span, row: Span) -> Result<(
     requires row { IsInside (data_of heap.now).image row }
     requires size { row.len ≡ row_size (data_of heap.now).image info }
     ensures exact { let node = node_of heap.now in let r = roots_of node in
-        Checks result (option_map (told_in r) (cells_fault (table_of_node node) r info row.at)) }
+        Checks result (option_map (told_under r) (cells_fault (table_of_node node) r info row.at)) }
 {
     let image = heap.image();
     let count = column_count(image, info);
@@ -104,7 +104,7 @@ fn check_row<'a>(
     requires four { content.len ≡ 4 }
     ensures exact { let node = node_of heap.now in let r = roots_of node in
         let first = row_record_fault (table_of_node node) r info (id, content) in
-        Checks result (option_map (told_in r) first) }
+        Checks result (option_map (told_under r) first) }
     ensures lies { IfOk result (LiesIn (data_of heap.now).image) }
     ensures same { (size n : ℕ) →
         IfOk result (λ m. matrix_row m size n ≡ matrix_row matrix.entry size n) }
@@ -143,7 +143,7 @@ fn check_rows<'a>(
     requires sizes { sizes_in bth.now ≡ tc_sizes }
     ensures exact { let node = node_of heap.now in let r = roots_of node in
         let first = first_of (row_record_fault (table_of_node node) r info) (records_of bth.now) in
-        Checks result (option_map (told_in r) first) }
+        Checks result (option_map (told_under r) first) }
 {
     let mut matrix = matrix;
     let mut rest = bth.records();
@@ -157,7 +157,7 @@ fn check_rows<'a>(
 fn check_front(heap: &Heap, info: Span) -> Result<(), Fault>
     requires { IsInside (data_of heap.now).image info }
     ensures exact { let first = info_fault (data_of heap.now).image info in
-        Checks result (option_map (told_in (roots_of (node_of heap.now))) first) }
+        Checks result (option_map (told_under (roots_of (node_of heap.now))) first) }
 {
     match check_info(heap.image(), info) {
         Ok(()) => Ok(()),
@@ -172,7 +172,7 @@ fn check_matrix<'a>(heap: &Heap<'a>, index: &SubIndex, info: Span) -> Result<Mat
     requires info { IsInside (data_of heap.now).image info }
     requires room { 22 ≤ info.len }
     ensures exact { let node = node_of heap.now in let r = roots_of node in
-        Checks result (option_map (told_in r) (matrix_fault (table_of_node node) r info)) }
+        Checks result (option_map (told_under r) (matrix_fault (table_of_node node) r info)) }
     ensures inside { IfOk result (LiesIn (data_of heap.now).image) }
     ensures rows { let node = node_of heap.now in let t = table_of_node node in
         let hnid = matrix_hnid t.image info in (size n : ℕ) →
@@ -193,7 +193,7 @@ fn check_body(heap: &Heap, index: &SubIndex, info: Span) -> Result<(), Fault>
     requires index { IsIndexedBy (node_of heap.now) index.now }
     requires inside { IsInside (data_of heap.now).image info }
     ensures exact { let node = node_of heap.now in let r = roots_of node in
-        Checks result (option_map (told_in r) (tc_body_fault (table_of_node node) r info)) }
+        Checks result (option_map (told_under r) (tc_body_fault (table_of_node node) r info)) }
 {
     check_front(heap, info)?;
     let _count = column_count(heap.image(), info);

@@ -8,13 +8,13 @@ use Rattle.pst_block.specs.Table.{Table}
 use Rattle.pst_btree.specs.Entries.{first_with}
 use Rattle.pst_datatree.proofs.KeyLemmas.{data_spans_same}
 use Rattle.pst_subnode.specs.declared.sub.Sub.{Sub}
-use Rattle.pst_subnode.specs.List.{nid_of, subs_of}
+use Rattle.pst_subnode.specs.List.{sub_nid, subs_of}
 use Rattle.pst_subnode.proofs.HeightLaws.{subs_same}
 use Rattle.pst_ndb.specs.Roots.{Roots, sub_roots, subnode_of}
 use Rattle.pst_heap.specs.Values.{HeapData, heap_at}
-use Rattle.pst_value.specs.Alike.{Alike}
+use Rattle.pst_ndb.specs.Alike.{Alike}
 use Rattle.pst_value.specs.Values.{held_of, data_under, hnid_spans, some_spans, held_spans, value_spans}
-use Rattle.pst_value.specs.Fault.{missing_at, length_fault, hnid_fault, held_fault, value_fault}
+use Rattle.pst_value.specs.Fault.{missing_at, length_fault, hnid_fault, value_held_fault, value_fault}
 use Rattle.pst_value.specs.Laws.{AlikeValueLaw}
 
 abbrev heap_with : List ℕ → List Span → HeapData
@@ -31,7 +31,7 @@ data_under_same t r s (Some x) = refl
 
 subnode_alike : (t : Table) (r s : Roots) (nid : ℕ) → Alike r s → option_map (data_under t) (subnode_of t r nid) ≡ option_map (data_under t) (subnode_of t s nid)
 unfolding subnode_of
-subnode_alike t r s nid e = rw (subs_same t r.bid_sub s.bid_sub e.1) (data_under_same t r s (first_with nid_of nid (subs_of t s.bid_sub)))
+subnode_alike t r s nid e = rw (subs_same t r.bid_sub s.bid_sub e.1) (data_under_same t r s (first_with sub_nid nid (subs_of t s.bid_sub)))
 
 hnid_alike : (t : Table) (r s : Roots) (hnid : ℕ) → Alike r s → hnid_spans t r hnid ≡ hnid_spans t s hnid
 unfolding hnid_spans
@@ -51,7 +51,7 @@ named_alike t r s kind place named e =
     let hnid = num t.image named 4 in
     ap (there_or (missing_at named hnid) (length_fault kind place)) (hnid_alike t r s hnid e)
 
-held_alike : (t : Table) (r s : Roots) (kind place : ℕ) (raw : Span) (held : Option ℕ) → Alike r s → held_fault t r kind place raw held ≡ held_fault t s kind place raw held
+held_alike : (t : Table) (r s : Roots) (kind place : ℕ) (raw : Span) (held : Option ℕ) → Alike r s → value_held_fault t r kind place raw held ≡ value_held_fault t s kind place raw held
 held_alike t r s kind place raw None e = named_alike t r s kind place raw.at e
 held_alike t r s kind place raw (Some width) e = refl
 

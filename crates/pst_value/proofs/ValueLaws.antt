@@ -14,7 +14,7 @@ use Rattle.pst_value.specs.declared.class.Class.{Class}
 use Rattle.pst_value.specs.declared.class.Class.TheVariants.{Inline, Eight, Guid, Object, Open, Multi, Opaque}
 use Rattle.pst_value.specs.Class.{class_of}
 use Rattle.pst_value.specs.Values.{held_of, one_span, data_under, hnid_spans, some_spans, held_spans, value_spans}
-use Rattle.pst_value.specs.Fault.{missing_at, is_length_of, is_length, length_fault, hnid_fault, held_fault, value_fault}
+use Rattle.pst_value.specs.Fault.{missing_at, is_length_of, is_length, length_fault, hnid_fault, value_held_fault, value_fault}
 use Rattle.pst_value.specs.Grammar.{HasHnid, HasLength, HasValueAs, HasValue}
 use Rattle.pst_value.specs.Laws.{ValueLaw, PlaceLaw}
 
@@ -101,7 +101,7 @@ named_law t r kind place named spans =
     whole (Some x) e is = rw is e
 
 as_law : (t : Table) (r : Roots) (kind place : ℕ) (raw : Span) (spans : List Span) (o : Option ℕ) →
-    HasValueAs t r kind raw spans o ↔ ((held_fault t r kind place raw o ≡ None) × (spans ≡ held_spans t r raw o))
+    HasValueAs t r kind raw spans o ↔ ((value_held_fault t r kind place raw o ≡ None) × (spans ≡ held_spans t r raw o))
 as_law t r kind place raw spans None = named_law t r kind place raw.at spans
 as_law t r kind place raw spans (Some width) = ((λ w. (refl, w)), (λ w. w.1))
 

@@ -49,10 +49,10 @@ hnid_fault t r kind place named =
     let hnid = num t.image named 4 in
     there_or (missing_at named hnid) (length_fault kind place) (hnid_spans t r hnid)
 
-abbrev pub held_fault : Table → Roots → ℕ → ℕ → Span → Option ℕ → Option Fault
-held_fault t r kind place raw None = hnid_fault t r kind place raw.at
-held_fault t r kind place raw (Some width) = None
+abbrev pub value_held_fault : Table → Roots → ℕ → ℕ → Span → Option ℕ → Option Fault
+value_held_fault t r kind place raw None = hnid_fault t r kind place raw.at
+value_held_fault t r kind place raw (Some width) = None
 
 -- of a type, in a raw span; Property is told at the place
 unfoldable pub value_fault : Table → Roots → ℕ → ℕ → Span → Option Fault
-value_fault t r kind place raw = held_fault t r kind place raw (held_of kind raw.len)
+value_fault t r kind place raw = value_held_fault t r kind place raw (held_of kind raw.len)

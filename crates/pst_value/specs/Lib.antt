@@ -2,7 +2,6 @@ pub mod Class
 pub mod Values
 pub mod Fault
 pub mod Grammar
-pub mod Alike
 pub mod Laws
 pub mod View
 pub mod Read

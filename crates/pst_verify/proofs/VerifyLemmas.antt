@@ -3,7 +3,7 @@ use Rattle.std.proofs.Common.{◌≡◌, ℕ, List, length, Option, None, Result
 use Rattle.std.specs.Prelude.{IfOk, IfErr, OnOk}
 use Rattle.pst_fault.specs.declared.fault.Fault.{Fault}
 use Rattle.pst_fault.specs.Fault.{no_memory}
-use Rattle.pst_fault.specs.First.{IsFirst}
+use Rattle.pst_fault.specs.First.{IsFirst, TellsFirst}
 use Rattle.pst_fault.proofs.FirstLemmas.{is_first_then, is_first_after, only_memory}
 use Rattle.pst_header.specs.declared.header.Header.{Header}
 use Rattle.pst_header.specs.Header.{fields}
@@ -31,7 +31,7 @@ use Rattle.pst_verify.specs.declared.counts.Counts.{Counts}
 use Rattle.pst_verify.specs.declared.check.Verified.{Verified}
 use Rattle.pst_verify.specs.Counts.{count_of}
 use Rattle.pst_verify.specs.Report.{IsReportOf}
-use Rattle.pst_verify.specs.Verified.{IsVerified, TellsFirst}
+use Rattle.pst_verify.specs.Verified.{IsVerified}
 
 -- ---- the first fault
 

@@ -1,7 +1,5 @@
 -- What an answer of the check of a whole file says.
-use Rattle.std.specs.Prelude.{◌≡◌, ℕ, List, Option, None, Result, Ok, Err}
-use Rattle.pst_fault.specs.declared.fault.Fault.{Fault}
-use Rattle.pst_fault.specs.First.{IsFirst}
+use Rattle.std.specs.Prelude.{◌≡◌, ℕ, List}
 use Rattle.pst_store.specs.Grammar.{IsStore}
 use Rattle.pst_store.specs.Values.{store_in}
 use Rattle.pst_store.specs.View.{bytes_of_store}
@@ -14,8 +12,3 @@ pub record IsVerified (I : List ℕ) (v : Verified) : Type 0 where
   pub store : IsStore I (store_in I)
   pub view : bytes_of_store v.store ≡ I
   pub report : IsReportOf I (store_in I) v.report
-
--- A yes where there is no first fault, and nowhere else; a no with the first fault, unless memory ran out.
-abbrev pub TellsFirst : {X : Type 0} → Result X Fault → Option Fault → Type 0
-TellsFirst (Ok x) first = first ≡ None
-TellsFirst (Err f) first = IsFirst first f

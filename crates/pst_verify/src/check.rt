@@ -3,7 +3,7 @@
 ghost use Rattle.std.specs.Prelude.{◌≡◌, None, IfOk, IfErr, OnOk, length};
 ghost use Rattle.pst_bytes.specs.Image.{bytes_of};
 ghost use Rattle.pst_fault.specs.Fault.{no_memory};
-ghost use Rattle.pst_fault.specs.First.{IsFirst};
+ghost use Rattle.pst_fault.specs.First.{IsFirst, TellsFirst};
 ghost use Rattle.pst_header.specs.Header.{fields};
 ghost use Rattle.pst_amap.specs.Report.{IsReport};
 ghost use Rattle.pst_ndb.specs.Counts.{AreExpanded};
@@ -18,7 +18,7 @@ ghost use Rattle.pst_store.specs.Parts.{StoreParts};
 ghost use Rattle.pst_store.specs.Values.{store_in};
 ghost use Rattle.pst_store.specs.View.{bytes_of_store};
 ghost use Rattle.pst_verify.specs.Report.{IsReportOf};
-ghost use Rattle.pst_verify.specs.Verified.{IsVerified, TellsFirst};
+ghost use Rattle.pst_verify.specs.Verified.{IsVerified};
 
 use crate::counts::count_nodes;
 use crate::report::Report;

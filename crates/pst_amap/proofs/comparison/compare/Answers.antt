@@ -1,12 +1,12 @@
 use Rattle.pst_bytes.specs.Image.{bytes_of}
-use Rattle.pst_amap.specs.Marks.{order_of}
+use Rattle.pst_amap.specs.Marks.{bit_order_of}
 use Rattle.pst_amap.specs.Report.{maps_fault}
 use Rattle.pst_amap.proofs.ReportLemmas.{found_none, report_is, claims_are}
 use Rattle.pst_amap.proofs.comparison.compare.Goals as goal
 
 pub returns-clause-none : goal.returns-clause-none
 returns-clause-none c =
-    found_none (maps_fault (bytes_of c.args.image) c.args.header.now c.args.claims.now) (order_of (bytes_of c.args.image) c.args.claims.now) c.in_ok-order.order c.in_ok-order.ensures
+    found_none (maps_fault (bytes_of c.args.image) c.args.header.now c.args.claims.now) (bit_order_of (bytes_of c.args.image) c.args.claims.now) c.in_ok-order.order c.in_ok-order.ensures
 
 pub returns-clause-report : goal.returns-clause-report
 returns-clause-report c =

@@ -5,7 +5,7 @@ use Rattle.pst_make.specs.declared.layout.PlacedBlock.{PlacedBlock}
 use Rattle.pst_make.specs.declared.plan.BlockPlan.{BlockPlan}
 use Rattle.pst_make.specs.Layout.{after, IsBlockBelow}
 use Rattle.pst_make.specs.Plan.{body_length}
-use Rattle.pst_make.specs.Sealed.{block_size}
+use Rattle.pst_make.specs.Sealed.{sealed_size}
 use Rattle.pst_make.proofs.LayoutLemmas.{fault_later, blocks_reach, blocks_step, blocks_below}
 use Rattle.pst_make.proofs.layout.place_blocks.Goals as goal
 
@@ -18,12 +18,12 @@ returns-in_err-ib-clause-fault c =
 pub loop-block-preserved : goal.loop-block-preserved
 loop-block-preserved c =
     let body-is = c.as_slice-body.ensures.value in
-    let size-is : c.block_size.result ≡ block_size (body_length c.block-item.result) = c.block_size.ensures ∙ ap (λ (b : List ℕ). block_size (length b)) body-is in
+    let size-is : c.block_size.result ≡ sealed_size (body_length c.block-item.result) = c.block_size.ensures ∙ ap (λ (b : List ℕ). sealed_size (length b)) body-is in
     let next-is = c.in_ok-ib.ensures.placed.1 ∙ ap (after c.loop-block.cursor.next) size-is in
     let short : body_length c.block-item.result ≤ 8176 = subst (λ (b : BlockPlan). body_length b ≤ 8176) (sym c.block-item.is) (c.requires c.loop-block.block-index c.block-item.result c.loop-block-test.true) in
     let few : length c.as_slice-body.result.now ≤ 8176 = rw body-is short in
     let above = c.loop-block.cursor.from in
-    let ends : c.in_ok-ib.ib + block_size (length c.as_slice-body.result.now) ≤ c.place.new.self.next =
+    let ends : c.in_ok-ib.ib + sealed_size (length c.as_slice-body.result.now) ≤ c.place.new.self.next =
     omega (arith, c.in_ok-ib.ensures.placed.0, c.in_ok-ib.ensures.placed.1, c.block_size.ensures) in
     let forward : c.loop-block.cursor.next ≤ c.place.new.self.next = omega (arith, c.in_ok-ib.ensures.forward, c.in_ok-ib.ensures.placed.0, c.in_ok-ib.ensures.placed.1) in
     record {

@@ -5,7 +5,7 @@ use Rattle.pst_tc.specs.Left.{tc_rows_left}
 use Rattle.pst_tc.specs.View.{row_parts}
 use Rattle.pst_tc.specs.Values.{RowParts}
 use Rattle.pst_msg.specs.Known.{NamedIn}
-use Rattle.pst_msg.specs.Fault.{row_fault, below_message}
+use Rattle.pst_msg.specs.Fault.{attachment_row_fault, below_message}
 use Rattle.pst_fault.proofs.EachLemmas.{each_refused, each_next}
 use Rattle.pst_msg.proofs.KnownLemmas.{known_message, known_attachment, known_list, message_remembered, attachment_remembered, list_remembered}
 use Rattle.pst_msg.proofs.MessageLemmas.{row_found}
@@ -41,7 +41,7 @@ pub check_rows-returns-in_err-check_row-clause-exact : goal.check_rows-returns-i
 check_rows-returns-in_err-check_row-clause-exact t c =
     let p = err_from_is_err_and c.from_residual.result c.from_residual.ensures.1 in
     let table = table_of_node c.args.node in
-    let part = row_fault table (below_message table c.args.limit) (roots_of c.args.node) c.args.bid in
+    let part = attachment_row_fault table (below_message table c.args.limit) (roots_of c.args.node) c.args.bid in
     rw (p.1, p.2) (each_refused part (tc_rows_left c.loop-row.rest) (tc_rows_left c.next.new.self) (row_parts c.in-Some.row) _ _ c.in-Some.ensures.steps.0 c.in_err-check_row.ensures.exact c.loop-row.invariant.first)
 
 -- ---- a remembered message
@@ -126,7 +126,7 @@ check_rows-loop-row-preserved t c =
     let steps = c.in-Some.ensures.steps.0 in
     let before = c.loop-row.invariant in
     record {
-      first = each_next (row_fault table (below_message table c.args.limit) r c.args.bid) (tc_rows_left c.loop-row.rest) (tc_rows_left c.next.new.self) (row_parts c.in-Some.row) _ steps c.in_ok-check_row.ensures.exact.0 before.first;
+      first = each_next (attachment_row_fault table (below_message table c.args.limit) r c.args.bid) (tc_rows_left c.loop-row.rest) (tc_rows_left c.next.new.self) (row_parts c.in-Some.row) _ steps c.in_ok-check_row.ensures.exact.0 before.first;
       known = c.check_row.ensures.known;
       grows = rows_grow _ _ (row_parts c.in-Some.row) _ _ _ _ (within_here _ _ _ _ steps before.within) before.grows c.check_row.ensures.grows;
       within = within_later _ _ _ _ steps before.within;

@@ -9,7 +9,7 @@ use Rattle.pst_msg.specs.Known.{NamedIn, IsTrueOf}
 use Rattle.pst_msg.specs.Grammar.{IsAttachmentRow}
 use Rattle.pst_msg.specs.Counts.{HasMessage}
 use Rattle.pst_msg.specs.Growth.{Grows}
-use Rattle.pst_msg.specs.Fault.{row_fault, below_message}
+use Rattle.pst_msg.specs.Fault.{attachment_row_fault, below_message}
 use Rattle.pst_msg.proofs.message.+message.Given as goal
 
 abbrev pub decreases-check_message_at : goal.decreases-check_message_at
@@ -45,7 +45,7 @@ decreases-check_embedded l = 7 * l.limit
 -- the first fault of the rows that are left is that of all
 abbrev pub invariant-check_rows-loop-row : goal.invariant-check_rows-loop-row
 invariant-check_rows-loop-row l = record {
-  first : let part = row_fault (table_of_node l.node) (below_message (table_of_node l.node) l.limit) (roots_of l.node) l.bid in
+  first : let part = attachment_row_fault (table_of_node l.node) (below_message (table_of_node l.node) l.limit) (roots_of l.node) l.bid in
       first_of part (tc_rows_left l.rest) ≡ first_of part (tc_rows (table_of_node (node_of_tc l.fn.table)) (roots_of (node_of_tc l.fn.table)));
   known : IsTrueOf (table_of_node l.node) l.known;
   grows : let t = table_of_node l.node in let all = tc_rows (table_of_node (node_of_tc l.fn.table)) (roots_of (node_of_tc l.fn.table)) in

@@ -1,6 +1,6 @@
 use Rattle.std.proofs.lemmas.Result.{err_from_is_err_and}
 use Rattle.pst_ndb.specs.Views.{table_of_node, roots_of}
-use Rattle.pst_heap.specs.Fault.{told_in}
+use Rattle.pst_heap.specs.Fault.{told_under}
 use Rattle.pst_heap.specs.View.{node_of}
 use Rattle.pst_pc.specs.Fault.{property_fault}
 use Rattle.pst_pc.proofs.PcLemmas.{record_fails}
@@ -11,4 +11,4 @@ returns-in_err-check_property c =
     let p = err_from_is_err_and c.from_residual.result c.from_residual.ensures.1 in
     let t = table_of_node (node_of c.args.heap.now) in
     let r = roots_of (node_of c.args.heap.now) in
-    record { exact = rw (p.1, p.2) (record_fails (property_fault t r) (told_in r) _ _ c.in-Some.taken _ _ c.in-Some.ensures.steps.0 c.in_err-check_property.ensures.exact c.loop-taken.invariant.left) }
+    record { exact = rw (p.1, p.2) (record_fails (property_fault t r) (told_under r) _ _ c.in-Some.taken _ _ c.in-Some.ensures.steps.0 c.in_err-check_property.ensures.exact c.loop-taken.invariant.left) }

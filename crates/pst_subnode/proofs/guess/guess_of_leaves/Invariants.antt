@@ -1,6 +1,6 @@
 use Rattle.std.proofs.Common.{◌-◌, ◌≤◌}
 use Rattle.pst_bytes.specs.Image.{bytes_of}
-use Rattle.pst_subnode.specs.Body.{count_in}
+use Rattle.pst_datatree.specs.List.{count_in}
 use Rattle.pst_subnode.proofs.guess.guess_of_leaves.Given as goal
 
 abbrev pub invariant-loop-low : goal.invariant-loop-low

@@ -4,7 +4,7 @@ use Rattle.pst_datatree.proofs.AddLemmas.{none_internal}
 use Rattle.pst_block.specs.Blocks.{table_of}
 use Rattle.pst_fault.proofs.FirstLemmas.{is_first_then, is_first_after, is_first_at, first_more}
 use Rattle.pst_block.specs.Table.{body_of}
-use Rattle.pst_subnode.specs.Body.{bid_in, has_level_one}
+use Rattle.pst_subnode.specs.Body.{leaf_bid_in, has_level_one}
 use Rattle.pst_subnode.specs.Heights.{state_of}
 use Rattle.pst_subnode.specs.Marks.{HaveCome, at_list, at_leaf, at_leaves, leaf_height}
 use Rattle.pst_subnode.proofs.LeafLemmas.{leaf_list, si_fault, si_tells, list_tells, most_start, most_next, most_least}
@@ -100,13 +100,13 @@ pub height_of_leaf-returns-in-Some-clause-first : goal.height_of_leaf-returns-in
 height_of_leaf-returns-in-Some-clause-first t c =
     let table = table_of c.args.blocks.now in
     let known = c.height_known.ensures in
-    let same : c.bid_at-bid.result ≡ bid_in (body_of table c.args.holder) c.args.i = c.bid_at-bid.ensures ∙ ap (λ b. bid_in b c.args.i) c.body_in.ensures in
-    known_tells table c.args.heights.now (bid_in (body_of table c.args.holder) c.args.i) c.in-Some.height 0 c.args.limit c.height_known.result (omega (arith, c.requires.rank)) c.requires.known c.requires.come (ap (state_of c.args.heights.now) (sym same) ∙ (sym c.state.ensures ∙ c.in-Some.is)) known.marked known.fits known.high
+    let same : c.bid_at-bid.result ≡ leaf_bid_in (body_of table c.args.holder) c.args.i = c.bid_at-bid.ensures ∙ ap (λ b. leaf_bid_in b c.args.i) c.body_in.ensures in
+    known_tells table c.args.heights.now (leaf_bid_in (body_of table c.args.holder) c.args.i) c.in-Some.height 0 c.args.limit c.height_known.result (omega (arith, c.requires.rank)) c.requires.known c.requires.come (ap (state_of c.args.heights.now) (sym same) ∙ (sym c.state.ensures ∙ c.in-Some.is)) known.marked known.fits known.high
 
 pub height_of_leaf-returns-clause-there : goal.height_of_leaf-returns-clause-there
 height_of_leaf-returns-clause-there t c =
     let table = table_of c.args.blocks.now in
-    let same : c.bid_at-bid.result ≡ bid_in (body_of table c.args.holder) c.args.i = c.bid_at-bid.ensures ∙ ap (λ b. bid_in b c.args.i) c.body_in.ensures in
+    let same : c.bid_at-bid.result ≡ leaf_bid_in (body_of table c.args.holder) c.args.i = c.bid_at-bid.ensures ∙ ap (λ b. leaf_bid_in b c.args.i) c.body_in.ensures in
     rw same at c.height_of_slblock.ensures.there
 
 pub height_of_leaves-returns-clause-there : goal.height_of_leaves-returns-clause-there

@@ -7,7 +7,7 @@ use Rattle.pst_ndb.specs.Views.{roots_of}
 use Rattle.pst_fault.specs.Each.{first_of}
 use Rattle.pst_heap.specs.View.{node_of}
 use Rattle.pst_heap.specs.Values.{heap_at}
-use Rattle.pst_heap.specs.Fault.{told_in}
+use Rattle.pst_heap.specs.Fault.{told_under}
 use Rattle.pst_bth.specs.Fault.{bth_fault}
 use Rattle.pst_bth.specs.Values.{bth_records}
 use Rattle.pst_tc.specs.Info.{index_place, index_hid}
@@ -30,7 +30,7 @@ returns-in_err-bth c =
     let t = table_of_node (node_of c.args.heap.now) in
     let r = roots_of (node_of c.args.heap.now) in
     let hid : c.number32.result ≡ index_hid t.image c.args.info = rw c.image-2.ensures.bytes at c.number32.ensures in
-    let index : option_map (told_in r) (bth_fault (heap_at t r) tc_sizes (index_place c.args.info) (index_hid t.image c.args.info)) ≡ Some c.in_err-bth.field-0.0 = rw hid at c.in_err-bth.ensures.exact in
+    let index : option_map (told_under r) (bth_fault (heap_at t r) tc_sizes (index_place c.args.info) (index_hid t.image c.args.info)) ≡ Some c.in_err-bth.field-0.0 = rw hid at c.in_err-bth.ensures.exact in
     record { exact = rw (p.1, p.2) (index_fails t r c.args.info _ c.in_ok-check_front.ensures.exact index) }
 
 pub returns-in_err-matrix : goal.returns-in_err-matrix
@@ -39,7 +39,7 @@ returns-in_err-matrix c =
     let t = table_of_node (node_of c.args.heap.now) in
     let r = roots_of (node_of c.args.heap.now) in
     let hid : c.number32.result ≡ index_hid t.image c.args.info = rw c.image-2.ensures.bytes at c.number32.ensures in
-    let index : option_map (told_in r) (bth_fault (heap_at t r) tc_sizes (index_place c.args.info) (index_hid t.image c.args.info)) ≡ None = rw hid at c.in_ok-bth.ensures.exact in
+    let index : option_map (told_under r) (bth_fault (heap_at t r) tc_sizes (index_place c.args.info) (index_hid t.image c.args.info)) ≡ None = rw hid at c.in_ok-bth.ensures.exact in
     record { exact = rw (p.1, p.2) (matrix_fails t r c.args.info _ c.in_ok-check_front.ensures.exact index c.in_err-matrix.ensures.exact) }
 
 pub returns : goal.returns
@@ -47,8 +47,8 @@ returns c =
     let t = table_of_node (node_of c.args.heap.now) in
     let r = roots_of (node_of c.args.heap.now) in
     let hid : c.number32.result ≡ index_hid t.image c.args.info = rw c.image-2.ensures.bytes at c.number32.ensures in
-    let index : option_map (told_in r) (bth_fault (heap_at t r) tc_sizes (index_place c.args.info) (index_hid t.image c.args.info)) ≡ None = rw hid at c.in_ok-bth.ensures.exact in
-    let left : Checks c.check_rows.result (option_map (told_in r) (first_of (row_record_fault t r c.args.info) (bth_records (heap_at t r) tc_sizes (index_hid t.image c.args.info)))) =
+    let index : option_map (told_under r) (bth_fault (heap_at t r) tc_sizes (index_place c.args.info) (index_hid t.image c.args.info)) ≡ None = rw hid at c.in_ok-bth.ensures.exact in
+    let left : Checks c.check_rows.result (option_map (told_under r) (first_of (row_record_fault t r c.args.info) (bth_records (heap_at t r) tc_sizes (index_hid t.image c.args.info)))) =
     rw (c.in_ok-bth.ensures.records, hid) at c.check_rows.ensures.exact in
     record { exact = rw (← rows_left t r c.args.info c.in_ok-check_front.ensures.exact index c.in_ok-matrix.ensures.exact) left }
 

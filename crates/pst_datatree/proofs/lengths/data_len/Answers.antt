@@ -2,7 +2,7 @@ use Rattle.std.proofs.Common.{◌≡◌, true, false, sym, ◌∙◌}
 use Rattle.std.proofs.lemmas.Result.{IfOk-weaker}
 use Rattle.pst_block.specs.Blocks.{table_of}
 use Rattle.pst_datatree.proofs.AddLemmas.{adds_of, tree_of_named, known_named, none_internal}
-use Rattle.pst_datatree.proofs.check.data_len.Goals as goal
+use Rattle.pst_datatree.proofs.lengths.data_len.Goals as goal
 
 pub returns-then-is_no_block-clause-there : goal.returns-then-is_no_block-clause-there
 returns-then-is_no_block-clause-there c e internal =

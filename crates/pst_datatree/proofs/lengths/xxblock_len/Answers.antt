@@ -2,7 +2,7 @@ use Rattle.std.proofs.Common.{sym, ◌∙◌}
 use Rattle.pst_bytes.specs.Image.{bytes_of}
 use Rattle.pst_block.specs.Blocks.{table_of}
 use Rattle.pst_datatree.proofs.AddLemmas.{adds_children}
-use Rattle.pst_datatree.proofs.check.xxblock_len.Goals as goal
+use Rattle.pst_datatree.proofs.lengths.xxblock_len.Goals as goal
 
 pub returns-in_err-total-clause-adds : goal.returns-in_err-total-clause-adds
 returns-in_err-total-clause-adds c =

@@ -3,7 +3,7 @@ use Rattle.pst_block.specs.Blocks.{table_of}
 use Rattle.pst_datatree.specs.Data.{size_of, tree_fault}
 use Rattle.pst_datatree.proofs.SeenLemmas.{tree_of_two, spans_of_two}
 use Rattle.pst_datatree.proofs.AddLemmas.{adds_xxblock}
-use Rattle.pst_datatree.proofs.check.xxblock_once.Goals as goal
+use Rattle.pst_datatree.proofs.lengths.xxblock_once.Goals as goal
 
 pub returns-then-knows-clause-value : goal.returns-then-knows-clause-value
 returns-then-knows-clause-value c =

@@ -3,7 +3,7 @@ use Rattle.pst_block.specs.Table.{body_of}
 use Rattle.pst_block.specs.Blocks.{table_of}
 use Rattle.pst_datatree.specs.List.{bid_in}
 use Rattle.pst_datatree.proofs.AddLemmas.{adds_of, key_of_named, has_named}
-use Rattle.pst_datatree.proofs.check.child_len.Goals as goal
+use Rattle.pst_datatree.proofs.lengths.child_len.Goals as goal
 
 pub returns-clause-adds : goal.returns-clause-adds
 returns-clause-adds c =

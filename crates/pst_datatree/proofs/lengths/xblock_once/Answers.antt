@@ -7,7 +7,7 @@ use Rattle.pst_datatree.specs.Data.{size_of, tree_fault}
 use Rattle.pst_block.specs.Block.{bid_key}
 use Rattle.pst_datatree.proofs.AddLemmas.{adds_same, adds_then, adds_put, xblock_names}
 use Rattle.pst_datatree.proofs.SeenLemmas.{tree_of_one, spans_of_one, put_level}
-use Rattle.pst_datatree.proofs.check.xblock_once.Goals as goal
+use Rattle.pst_datatree.proofs.lengths.xblock_once.Goals as goal
 
 pub returns-then-knows-clause-value : goal.returns-then-knows-clause-value
 returns-then-knows-clause-value c =

@@ -5,7 +5,7 @@ use Rattle.pst_block.specs.Blocks.{table_of}
 use Rattle.pst_fault.proofs.FirstLemmas.{is_first_at}
 use Rattle.pst_datatree.specs.Data.{child_fault}
 use Rattle.pst_datatree.proofs.AddLemmas.{adds_next, there_next}
-use Rattle.pst_datatree.proofs.check.children_len.Goals as goal
+use Rattle.pst_datatree.proofs.lengths.children_len.Goals as goal
 
 pub returns-in_err-total-clause-value : goal.returns-in_err-total-clause-value
 returns-in_err-total-clause-value c =
