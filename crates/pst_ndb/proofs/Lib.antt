@@ -5,3 +5,4 @@ pub mod SpaceLaws
 pub mod SpaceLemmas
 pub mod UnitLemmas
 pub mod CountLemmas
+pub mod ListingLaws

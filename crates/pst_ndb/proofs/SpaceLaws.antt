@@ -25,9 +25,10 @@ use Rattle.pst_block.proofs.WalkLaws.{blocks_claims}
 use Rattle.pst_block.proofs.UnitLemmas.{blocks_units}
 use Rattle.pst_ndb.specs.Entries.{tree_under, block_list}
 use Rattle.pst_ndb.specs.Space.{space_walk, space_claimed}
+use Rattle.pst_ndb.specs.Trees.{trees_walk}
 use Rattle.pst_ndb.specs.Database.{IsSpelt, blocks_in, used_spans}
 use Rattle.pst_ndb.proofs.UnitLemmas.{maps_units}
-use Rattle.pst_ndb.proofs.SpaceLemmas.{space_ends, space_is}
+use Rattle.pst_ndb.proofs.SpaceLemmas.{trees_end, trees_claim, space_ends, space_is}
 
 -- ---- a tree that is spelt is the one that lies there
 
@@ -112,21 +113,23 @@ space_walked I h blocks nodes head s =
     let trees = claim_parts (maps_claimed h) (page_spans blocks) (page_spans nodes) front.0 front.1 in
     let list = list_is I h blocks (spelt_is Bbt I (end_of h) h.bbt blocks s.block_tree) in
     let last = (blocks_claims I (end_of h) front.0 all.0 (blocks_in I blocks)).0 (s.good, front.2) in
-    let is = space_is I h (maps_claimed h) trees.0 front.0 all.0 blocks nodes (blocks_in I blocks) trees.1 trees.2 front.2
-    (spelt_is Bbt I (end_of h) h.bbt blocks s.block_tree) (spelt_is Nbt I (end_of h) h.nbt nodes s.node_tree) list in
-    space_ends I h (maps_claimed h) (found_so_far trees.0 (entries_of blocks) (length (pages_of blocks))) (found_so_far front.0 (entries_of nodes) (length (pages_of nodes))) (blocks_in I blocks) (Ok (space_claimed I h))
+    let spelt_b = spelt_is Bbt I (end_of h) h.bbt blocks s.block_tree in
+    let spelt_n = spelt_is Nbt I (end_of h) h.nbt nodes s.node_tree in
+    let is = space_is I h (maps_claimed h) front.0 all.0 (blocks_in I blocks) (trees_claim I h (maps_claimed h) trees.0 front.0 blocks nodes trees.1 trees.2 spelt_b spelt_n) front.2 list in
+    space_ends I h (maps_claimed h) (found_so_far front.0 (entries_of nodes) (length (pages_of nodes))) (blocks_in I blocks) (Ok (space_claimed I h))
+    (trees_end I h (maps_claimed h) (found_so_far trees.0 (entries_of blocks) (length (pages_of blocks))) (found_so_far front.0 (entries_of nodes) (length (pages_of nodes)))
     (spelt_walked Bbt I (end_of h) h.bbt blocks (maps_claimed h) trees.0 s.block_tree trees.1)
-    (spelt_walked Nbt I (end_of h) h.nbt nodes trees.0 front.0 s.node_tree trees.2)
+    (spelt_walked Nbt I (end_of h) h.nbt nodes trees.0 front.0 s.node_tree trees.2))
     list (last ∙ ap Ok is)
 
 -- what is walked is used as it has to be
 pub walked_space : (I : List ℕ) (h : Header) (new : Claimed) → Head I h → space_walk I h (maps_claimed h) ≡ Ok new → IsSpace I h (tree_under Bbt I h.bbt) (tree_under Nbt I h.nbt) × (new ≡ space_claimed I h)
-unfolding space_walk block_list
+unfolding space_walk trees_walk block_list
 walked_space I h new head e =
-    let one = bind_ok (tree_walk Bbt I (end_of h) (maps_claimed h) h.bbt) _ new e in
-    let two = bind_ok (tree_walk Nbt I (end_of h) one.0.claimed h.nbt) _ new one.2 in
+    let two = bind_ok (trees_walk I h (maps_claimed h)) _ new e in
+    let one = bind_ok (tree_walk Bbt I (end_of h) (maps_claimed h) h.bbt) _ two.0 two.1 in
     let b = (walk_claims Bbt I (end_of h) (maps_claimed h) h.bbt one.0).0 one.1 in
-    let n = (walk_claims Nbt I (end_of h) one.0.claimed h.nbt two.0).0 two.1 in
+    let n = (walk_claims Nbt I (end_of h) one.0.claimed h.nbt two.0).0 one.2 in
     let last = (blocks_claims I (end_of h) two.0.claimed new (block_list I h)).1 two.2 in
     let spelt_b : IsSpelt Bbt I (end_of h) h.bbt b.1 = (b.0, b.2) in
     let spelt_n : IsSpelt Nbt I (end_of h) h.nbt n.1 = (n.0, n.2) in
@@ -141,5 +144,6 @@ walked_space I h new head e =
     let all = claim_join (maps_claimed h) two.0.claimed new (page_spans (tree_under Bbt I h.bbt) ++ page_spans (tree_under Nbt I h.nbt)) (block_spans (block_list I h)) trees last.1 in
     let units = used_units I h (tree_under Bbt I h.bbt) (tree_under Nbt I h.nbt) head at_b at_n good in (
       record { block_tree = at_b; node_tree = at_n; good = good; apart = claims_apart h _ new units all },
-      space_is I h (maps_claimed h) one.0.claimed two.0.claimed new (tree_under Bbt I h.bbt) (tree_under Nbt I h.nbt) (block_list I h) claims_b claims_n last.1 refl refl refl,
+      space_is I h (maps_claimed h) two.0.claimed new (block_list I h)
+          (trees_claim I h (maps_claimed h) one.0.claimed two.0.claimed (tree_under Bbt I h.bbt) (tree_under Nbt I h.nbt) claims_b claims_n refl refl) last.1 refl,
     )

@@ -1,5 +1,5 @@
 -- The entries that the walks give are those that lie in the file.
-use Rattle.std.proofs.Common.{◌≡◌, ℕ, List, ◌+◌, ◌++◌, length, map, Some, Ok, refl, sym, ap, ◌∙◌}
+use Rattle.std.proofs.Common.{◌≡◌, ℕ, List, ◌+◌, length, map, Some, Ok, refl, sym, ap, ◌∙◌}
 use Rattle.pst_header.specs.declared.header.Header.{Header}
 use Rattle.pst_header.specs.declared.header.Bref.{Bref}
 use Rattle.pst_page.specs.declared.kind.PageKind.{PageKind}
@@ -8,7 +8,6 @@ use Rattle.pst_page.specs.Entry.{block_entry_at, node_entry_at}
 use Rattle.pst_page.specs.Page.{level_at}
 use Rattle.pst_bytes.specs.declared.Image.{Image}
 use Rattle.pst_bytes.specs.Image.{bytes_of}
-use Rattle.pst_bytes.specs.declared.span.Span.{Span}
 use Rattle.pst_btree.specs.declared.block_tree.BlockTree.{BlockTree}
 use Rattle.pst_btree.specs.declared.node_tree.NodeTree.{NodeTree}
 use Rattle.pst_btree.specs.Trees.{block_view, node_view, block_entries, node_entries}
@@ -24,6 +23,7 @@ use Rattle.pst_space.proofs.MapLemmas.{with_spans-append}
 use Rattle.pst_space.specs.Step.{Step}
 use Rattle.pst_ndb.specs.Entries.{tree_under, page_total, block_list, node_list}
 use Rattle.pst_ndb.specs.Space.{space_walk, space_spans}
+use Rattle.pst_ndb.specs.Trees.{trees_walk, trees_spans}
 
 same_tree : (kind k : PageKind) (I J : List ℕ) (level l : ℕ) (root r : Bref) → J ≡ I → k ≡ kind → r ≡ root → l ≡ level → tree_at k J l r ≡ tree_at kind I level root
 same_tree kind k I J level l root r i e f g = rw (i, e, f, g) refl
@@ -48,23 +48,32 @@ unfolding node_list
 node_list_is tree image h i e = same_list node_entry_at (bytes_of image) (bytes_of (node_view tree).image) (tree_under Nbt (bytes_of image) h.nbt) (tree_of (node_view tree)) (ap bytes_of i) e
 
 -- the walks one after another
-pub space_ends : (I : List ℕ) (h : Header) (claimed : Claimed) (blocks nodes : Found) (entries : List BlockEntry) (last : Step Claimed) → tree_walk Bbt I (end_of h) claimed h.bbt ≡ Ok blocks
-    → tree_walk Nbt I (end_of h) blocks.claimed h.nbt ≡ Ok nodes → entries ≡ block_list I h → blocks_walk (end_of h) I nodes.claimed entries ≡ last → space_walk I h claimed ≡ last
+pub trees_end : (I : List ℕ) (h : Header) (claimed : Claimed) (blocks nodes : Found) → tree_walk Bbt I (end_of h) claimed h.bbt ≡ Ok blocks → tree_walk Nbt I (end_of h) blocks.claimed h.nbt ≡ Ok nodes → trees_walk I h claimed ≡ Ok nodes
+unfolding trees_walk
+trees_end I h claimed blocks nodes one two = rw one two
+
+pub space_ends : (I : List ℕ) (h : Header) (claimed : Claimed) (trees : Found) (entries : List BlockEntry) (last : Step Claimed) → trees_walk I h claimed ≡ Ok trees
+    → entries ≡ block_list I h → blocks_walk (end_of h) I trees.claimed entries ≡ last → space_walk I h claimed ≡ last
 unfolding space_walk
-space_ends I h claimed blocks nodes entries last one two same three = rw (one, two, ← same) three
+space_ends I h claimed trees entries last one same two = rw (one, ← same) two
 
-three_claims : (claimed one two new : Claimed) (xs ys zs : List Span) → claim_all claimed xs ≡ Some one → claim_all one ys ≡ Some two → claim_all two zs ≡ Some new → new ≡ with_spans claimed (xs ++ ys ++ zs)
-three_claims claimed one two new xs ys zs a b c =
-    claimed_is two zs new c
-    ∙ ap (λ (m : Claimed). with_spans m zs) (claimed_is one ys two b ∙ ap (λ (m : Claimed). with_spans m ys) (claimed_is claimed xs one a) ∙ sym (with_spans-append claimed xs ys))
-    ∙ sym (with_spans-append claimed (xs ++ ys) zs)
+-- what is claimed once the pages are, and by the end
+pub trees_claim : (I : List ℕ) (h : Header) (claimed one two : Claimed) (blocks nodes : Tree) → claim_all claimed (page_spans blocks) ≡ Some one → claim_all one (page_spans nodes) ≡ Some two
+    → blocks ≡ tree_under Bbt I h.bbt → nodes ≡ tree_under Nbt I h.nbt → two ≡ with_spans claimed (trees_spans I h)
+trees_claim I h claimed one two blocks nodes a b e f =
+    rw (← e, ← f)
+    (claimed_is one (page_spans nodes) two b
+    ∙ ap (λ (m : Claimed). with_spans m (page_spans nodes)) (claimed_is claimed (page_spans blocks) one a)
+    ∙ sym (with_spans-append claimed (page_spans blocks) (page_spans nodes)))
 
--- what is claimed by the end
-pub space_is : (I : List ℕ) (h : Header) (claimed one two new : Claimed) (blocks nodes : Tree) (entries : List BlockEntry) → claim_all claimed (page_spans blocks) ≡ Some one → claim_all one (page_spans nodes) ≡ Some two
-    → claim_all two (block_spans entries) ≡ Some new → blocks ≡ tree_under Bbt I h.bbt → nodes ≡ tree_under Nbt I h.nbt → entries ≡ block_list I h → new ≡ with_spans claimed (space_spans I h)
+pub space_is : (I : List ℕ) (h : Header) (claimed trees new : Claimed) (entries : List BlockEntry) → trees ≡ with_spans claimed (trees_spans I h) → claim_all trees (block_spans entries) ≡ Some new
+    → entries ≡ block_list I h → new ≡ with_spans claimed (space_spans I h)
 unfolding space_spans
-space_is I h claimed one two new blocks nodes entries a b c e f g =
-    rw (← e, ← f, ← g) (three_claims claimed one two new (page_spans blocks) (page_spans nodes) (block_spans entries) a b c)
+space_is I h claimed trees new entries a c same =
+    claimed_is trees (block_spans entries) new c
+    ∙ ap (λ (m : Claimed). with_spans m (block_spans entries)) a
+    ∙ ap (λ (es : List BlockEntry). with_spans (with_spans claimed (trees_spans I h)) (block_spans es)) same
+    ∙ sym (with_spans-append claimed (trees_spans I h) (block_spans (block_list I h)))
 
 -- how many pages there are
 pub pages_are : (I : List ℕ) (h : Header) (total : ℕ) (blocks nodes : Tree) → total ≡ length (pages_of blocks) + length (pages_of nodes) → blocks ≡ tree_under Bbt I h.bbt → nodes ≡ tree_under Nbt I h.nbt → total ≡ page_total I h

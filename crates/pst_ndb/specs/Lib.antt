@@ -9,3 +9,4 @@ pub mod Space
 pub mod Views
 pub mod Known
 pub mod Counts
+pub mod Trees

@@ -9,12 +9,14 @@ mod ndb;
 mod node;
 mod nodes;
 mod space;
+mod trees;
 
 pub use check::{Checked, Work, check_ndb};
 pub use each::Nodes;
-pub use laws::{counts_agree, database_decides};
+pub use laws::{counts_agree, database_decides, nodes_decide};
 pub use ndb::Ndb;
 pub use node::Node;
+pub use trees::read_nodes;
 
 #[cfg(test)]
 mod tests;

@@ -1,24 +1,22 @@
 //! The space that a file uses: the pages of both B-trees and the blocks, and the allocation maps.
 
-ghost use Rattle.std.specs.Prelude.{◌≡◌, ◌+◌, ◌≤◌, length, None, IfOk, IfErr, OnOk};
+ghost use Rattle.std.specs.Prelude.{◌≡◌, length, None, IfOk, IfErr, OnOk};
 ghost use Rattle.pst_bytes.specs.Image.{bytes_of};
 ghost use Rattle.pst_fault.specs.First.{IsFirst};
 ghost use Rattle.pst_header.specs.Head.{Head};
-ghost use Rattle.pst_header.specs.Header.{end_of};
 ghost use Rattle.pst_space.specs.Claimed.{unit_total, with_spans};
 ghost use Rattle.pst_space.specs.Step.{GivesStep};
-ghost use Rattle.pst_btree.specs.Trees.{block_view, node_view, node_entries};
-ghost use Rattle.pst_btree.specs.View.{tree_of};
-ghost use Rattle.pst_btree.specs.Tree.{pages_of};
+ghost use Rattle.pst_btree.specs.Trees.{node_entries};
 ghost use Rattle.pst_block.specs.Blocks.{table_of, image_of};
 ghost use Rattle.pst_amap.specs.Report.{IsReport};
 ghost use Rattle.pst_ndb.specs.Entries.{page_total, block_list, node_list, block_table};
 ghost use Rattle.pst_ndb.specs.Marks.{MapsMark};
 ghost use Rattle.pst_ndb.specs.Space.{space_walk, space_spans, space_claimed, space_fault};
 
+use crate::trees::walk_trees;
 use pst_amap::{MapReport, compare};
 use pst_block::{Blocks, sum_blocks};
-use pst_btree::{BlockTree, NodeTree, walk_blocks, walk_nodes};
+use pst_btree::NodeTree;
 use pst_bytes::Image;
 use pst_fault::Fault;
 use pst_header::Header;
@@ -36,16 +34,6 @@ pub(crate) struct Space<'a> {
     pub(crate) pages: u64,
     /// How many blocks were check-summed.
     pub(crate) sums: u64,
-}
-
-// How many pages both trees have; they are no more than the file has bytes.
-fn page_total(tree: &BlockTree, nodes: &NodeTree, eof: u64) -> u64
-    requires { length (pages_of (tree_of (block_view tree.now))) + length
-        (pages_of (tree_of (node_view nodes.now))) ≤ eof }
-    ensures { result ≡ length (pages_of (tree_of (block_view tree.now))) + length
-        (pages_of (tree_of (node_view nodes.now))) }
-{
-    tree.pages() + nodes.pages()
 }
 
 /// Walks both B-trees and checks all blocks, and claims their space.
@@ -72,13 +60,12 @@ pub(crate) fn check_space<'a>(
     ensures sums { IfOk result (λ s.
         s.sums ≡ length (block_list (bytes_of image.entry) header.now)) }
 {
-    let (tree, entries) = walk_blocks(alloc, image, header, claims)?;
-    let (nodes, _) = walk_nodes(alloc, image, header, claims)?;
-    let (blocks, sums) = sum_blocks(image, header, tree, &entries, claims)?;
+    let trees = walk_trees(alloc, image, header, claims)?;
+    let (blocks, sums) = sum_blocks(image, header, trees.blocks, &trees.entries, claims)?;
     Ok(Space {
         blocks,
-        nodes,
-        pages: page_total(&tree, &nodes, header.eof),
+        nodes: trees.nodes,
+        pages: trees.pages,
         sums,
     })
 }

@@ -1,6 +1,7 @@
 //! Whole files: small stores with bytes changed, and what their check answers.
 
 mod fronts;
+mod listing;
 mod maps;
 mod order;
 mod rows;
