@@ -16,23 +16,6 @@ fn keys_of_blocks_rise_without_bit_zero(rt: HostRuntime) -> Result<(), Fail> {
     Ok(())
 }
 
-// A branch over three leaves, of which the second ends with this key. The third has the key 40 in the branch.
-fn three_leaves(alloc: Global, last: u64) -> Result<Vec<u8>, Fail> {
-    let mut image = small_store(alloc)?;
-    let root = [branch(4, 1), branch(20, 2), branch(40, 3)];
-    put_page(&mut image, PageKind::Bbt, page_at(0), 1, &root)?;
-    let leaves = [
-        [empty_block(4), empty_block(8)],
-        [empty_block(20), empty_block(last)],
-        [empty_block(40), empty_block(44)],
-    ];
-    for (number, leaf) in (1..).zip(leaves) {
-        put_page(&mut image, PageKind::Bbt, page_at(number), 0, &leaf)?;
-    }
-    set_root(&mut image, PageKind::Bbt, page_at(0))?;
-    Ok(image)
-}
-
 // The fault of three leaves, of which the second ends with this key.
 fn last_key(alloc: Global, last: u64) -> Result<Option<Fault>, Fail> {
     let image = three_leaves(alloc, last)?;
