@@ -13,5 +13,5 @@ returns-then-has-clause-exact c =
 pub returns-clause-listings : goal.returns-clause-listings
 returns-clause-listings c =
     let named = c.key_of-taken.ensures ∙ ap (λ n. key n (roots_of c.args.table)) c.role_number.ensures in
-    let is = c.known_tc.ensures in
-    one_listed (table_of_ndb c.args.ndb.now) (table_of_node (node_of_tc c.known_tc.result)) (nodes_of c.args.ndb.now) c.args.items (roots_of c.args.table) (roots_of (node_of_tc c.known_tc.result)) c.bid_data.result c.args.listings.now c.put.new.self c.key_of-taken.result (ap table_of_node is ∙ c.requires.table) (ap roots_of is) c.bid_data.ensures c.requires.listings c.in_ok-check_items.ensures.exact.0 named c.put.ensures.only
+    let is = c.known_tc-rows.ensures in
+    one_listed (table_of_ndb c.args.ndb.now) (table_of_node (node_of_tc c.known_tc-rows.result)) (nodes_of c.args.ndb.now) c.args.items (roots_of c.args.table) (roots_of (node_of_tc c.known_tc-rows.result)) c.bid_data.result c.args.listings.now c.put.new.self c.key_of-taken.result (ap table_of_node is ∙ c.requires.table) (ap roots_of is) c.bid_data.ensures c.requires.listings c.in_ok-check_items.ensures.exact.0 named c.put.ensures.only
