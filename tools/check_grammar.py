@@ -19,7 +19,7 @@ def imported(text):
     """Each word that a file brings in from specs/, with its crate, its module and its name there."""
     words = {}
     for crate, module, names in IMPORT.findall(text):
-        if module.startswith("declared"):
+        if "declared" in module.split("."):
             continue
         for name in names.split(","):
             there, _, here = name.strip().partition(" as ")

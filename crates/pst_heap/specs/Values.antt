@@ -7,7 +7,7 @@ use Rattle.pst_bytes.specs.declared.span.Span.{Span}
 use Rattle.pst_bytes.specs.Image.{num}
 use Rattle.pst_datatree.specs.Data.{data_spans}
 use Rattle.pst_datatree.specs.Spans.{first_span}
-use Rattle.pst_block.specs.Table.{Table}
+use Rattle.pst_ndb.specs.pst_block.Table.{Table}
 use Rattle.pst_ndb.specs.declared.node.Node.{Node}
 use Rattle.pst_ndb.specs.Roots.{Roots}
 use Rattle.pst_ndb.specs.Views.{table_of_node, roots_of}

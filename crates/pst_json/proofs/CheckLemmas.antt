@@ -8,8 +8,8 @@ use Rattle.pst_bytes.specs.declared.span.Span.{Span}
 use Rattle.pst_amap.specs.declared.report.BitOrder.{BitOrder}
 use Rattle.pst_amap.specs.declared.report.BitOrder.TheVariants.{High, Low}
 use Rattle.pst_json.specs.Check.{ReportParts, lost_data, order_data, yes_data, check_data, check_front, check_middle, check_back, check_line}
-use Rattle.pst_json.specs.Line.{line_of, rows_text}
-use Rattle.pst_json.specs.Parts.{natural}
+use Rattle.pst_value_json.specs.Line.{line_of, rows_text}
+use Rattle.pst_value_json.specs.Parts.{natural}
 
 pub lost_has_none : (s : Span) → has_float (lost_data s) ≡ false
 unfolding lost_data

@@ -2,7 +2,7 @@
 use Rattle.std.proofs.Common.{◌≡◌, ℕ, ◌+◌, ◌≤◌, List, [], ◌∷◌, map, arith}
 use Rattle.std.specs.Prelude.{Option, None}
 use Rattle.pst_btree.specs.Order.{Rises}
-use Rattle.pst_tc.specs.Values.{RowParts, row_id_of}
+use Rattle.pst_value_json.specs.pst_tc.Values.{RowParts, row_id_of}
 
 lower : (n m : ℕ) (high : Option ℕ) (keys : List ℕ) → n ≤ m → Rises m high keys → Rises n high keys
 lower n m high [] le rises = rises

@@ -9,22 +9,22 @@ use Rattle.pst_page.specs.declared.entry.NodeEntry.{NodeEntry}
 use Rattle.pst_block.specs.Table.{Table}
 use Rattle.pst_btree.specs.Entries.{first_with}
 use Rattle.pst_ndb.specs.Roots.{Roots, all_roots}
-use Rattle.pst_pc.specs.Values.{Property, id_of, props_of}
-use Rattle.pst_tc.specs.Values.{RowParts}
-use Rattle.pst_msg.specs.declared.items.Items.TheVariants.{Subfolders, Messages, Associated}
-use Rattle.pst_msg.specs.declared.object.Object.{Object}
-use Rattle.pst_msg.specs.Shown.{Shown, object_shown, rows_there, folder_table}
-use Rattle.pst_msg.specs.Values.{is_folder, is_message}
-use Rattle.pst_store.specs.Kind.{of_kind, node_of_kind}
+use Rattle.pst_value_json.specs.pst_pc.Values.{Property, id_of, props_of}
+use Rattle.pst_value_json.specs.pst_tc.Values.{RowParts}
+use Rattle.pst_verify.specs.pst_msg.declared.items.Items.TheVariants.{Subfolders, Messages, Associated}
+use Rattle.pst_verify.specs.pst_msg.declared.object.Object.{Object}
+use Rattle.pst_verify.specs.pst_msg.Shown.{Shown, object_shown, rows_there, folder_table}
+use Rattle.pst_verify.specs.pst_msg.Values.{is_folder, is_message}
+use Rattle.pst_verify.specs.pst_store.Kind.{of_kind, node_of_kind}
 use Rattle.pst_json.specs.declared.texts.TheConstants.{NAME, CLASS, SENDER, SUBJECT}
 use Rattle.pst_json.specs.Contents.{text_there, listed_data, contents_data}
 use Rattle.pst_json.specs.Folders.{text_or_null, text_property, row_nid, folder_data, folders_data, folders_line}
-use Rattle.pst_json.specs.Line.{line_of, rows_text}
-use Rattle.pst_json.specs.Names.{nid_data}
+use Rattle.pst_value_json.specs.Line.{line_of, rows_text}
+use Rattle.pst_value_json.specs.Names.{nid_data}
 use Rattle.pst_json.specs.Node.{nid_of_object}
-use Rattle.pst_json.specs.Plain.{IsPlain}
-use Rattle.pst_json.specs.Value.{text_data}
-use Rattle.pst_json.proofs.PlainLemmas.{list_is_plain}
+use Rattle.pst_value_json.specs.Plain.{IsPlain}
+use Rattle.pst_value_json.specs.Value.{text_data}
+use Rattle.pst_value_json.proofs.PlainLemmas.{list_is_plain}
 
 -- ---- no floating-point number
 

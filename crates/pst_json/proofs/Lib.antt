@@ -1,12 +1,6 @@
-pub mod CellLemmas
 pub mod CheckLemmas
 pub mod CountLemmas
 pub mod FolderLemmas
 pub mod HeadLemmas
-pub mod HexLemmas
 pub mod NodeLemmas
 pub mod NodeLineLemmas
-pub mod PlainLemmas
-pub mod PropLemmas
-pub mod RowLemmas
-pub mod ValueLemmas

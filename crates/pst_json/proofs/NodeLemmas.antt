@@ -5,7 +5,7 @@ use Rattle.serde_json.specs.View.{items_of}
 use Rattle.serde_json.specs.Written.{compact_text, items_text, has_float}
 use Rattle.serde_json.proofs.OnLiterals.{serde_json_on_literals}
 use Rattle.pst_page.specs.declared.entry.NodeEntry.{NodeEntry}
-use Rattle.pst_json.specs.Line.{line_of, rows_text}
+use Rattle.pst_value_json.specs.Line.{line_of, rows_text}
 use Rattle.pst_json.specs.Nodes.{node_data, nodes_data, nodes_line}
 
 pub node_has_none : (entry : NodeEntry) → has_float (node_data entry) ≡ false

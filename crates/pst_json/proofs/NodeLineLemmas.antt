@@ -7,18 +7,18 @@ use Rattle.serde_json.specs.Written.{compact_text, items_text, members_text, com
 use Rattle.serde_json.proofs.OnLiterals.{serde_json_on_literals}
 use Rattle.pst_block.specs.Table.{Table}
 use Rattle.pst_ndb.specs.Roots.{Roots, subnode_of}
-use Rattle.pst_pc.specs.Values.{props_of}
-use Rattle.pst_tc.specs.Values.{tc_rows}
+use Rattle.pst_value_json.specs.pst_pc.Values.{props_of}
+use Rattle.pst_value_json.specs.pst_tc.Values.{tc_rows}
 use Rattle.pst_ndb.specs.Views.{roots_of}
-use Rattle.pst_msg.specs.declared.attachment_view.Attachment.{Attachment}
-use Rattle.pst_msg.specs.View.{attachment_shown, node_of_attachment}
-use Rattle.pst_msg.specs.Shown.{Shown, row_shown, attachment_rows}
-use Rattle.pst_json.specs.Cells.{table_row_data}
-use Rattle.pst_json.specs.Line.{line_of, row_text, rows_text}
-use Rattle.pst_json.specs.Names.{nid_data, nid_or_null}
+use Rattle.pst_verify.specs.pst_msg.declared.attachment_view.Attachment.{Attachment}
+use Rattle.pst_verify.specs.pst_msg.View.{attachment_shown, node_of_attachment}
+use Rattle.pst_verify.specs.pst_msg.Shown.{Shown, row_shown, attachment_rows}
+use Rattle.pst_value_json.specs.Cells.{table_row_data}
+use Rattle.pst_value_json.specs.Line.{line_of, row_text, rows_text}
+use Rattle.pst_value_json.specs.Names.{nid_data, nid_or_null}
 use Rattle.pst_json.specs.Node.{recipient_nid, attachment_data, attachment_front, recipients_there, message_data, message_front, node_props_data, embedded_there, props_there}
-use Rattle.pst_json.specs.Parts.{list_data}
-use Rattle.pst_json.specs.Props.{prop_data}
+use Rattle.pst_value_json.specs.Parts.{list_data}
+use Rattle.pst_value_json.specs.Props.{prop_data}
 
 pub nid_has_none : (o : Option ℕ) → has_float (nid_or_null o) ≡ false
 nid_has_none None = refl

@@ -6,8 +6,8 @@ use Rattle.pst_bytes.specs.declared.span.Span.{Span}
 use Rattle.pst_amap.specs.declared.report.BitOrder.{BitOrder}
 use Rattle.pst_amap.specs.declared.report.BitOrder.TheVariants.{High, Low}
 use Rattle.pst_verify.specs.declared.report.Report.{Report}
-use Rattle.pst_json.specs.Parts.{natural, list_data}
-use Rattle.pst_json.specs.Line.{line_of, rows_text}
+use Rattle.pst_value_json.specs.Parts.{natural, list_data}
+use Rattle.pst_value_json.specs.Line.{line_of, rows_text}
 
 -- ---- what is shown of a report
 

@@ -4,20 +4,20 @@ use Rattle.serde_json.specs.Data.{Data, null, object, member, no_members}
 use Rattle.pst_page.specs.declared.entry.NodeEntry.{NodeEntry}
 use Rattle.pst_block.specs.Table.{Table}
 use Rattle.pst_ndb.specs.Roots.{Roots, node_in}
-use Rattle.pst_tc.specs.Values.{RowParts}
-use Rattle.pst_msg.specs.declared.items.Items.TheVariants.{Messages}
-use Rattle.pst_msg.specs.declared.nid.TheConstants.{FOLDER}
-use Rattle.pst_msg.specs.Nid.{is_type}
-use Rattle.pst_msg.specs.Shown.{rows_there, folder_table}
-use Rattle.pst_msg.specs.Values.{is_message}
-use Rattle.pst_store.specs.Kind.{node_of_kind}
+use Rattle.pst_value_json.specs.pst_tc.Values.{RowParts}
+use Rattle.pst_verify.specs.pst_msg.declared.items.Items.TheVariants.{Messages}
+use Rattle.pst_verify.specs.pst_msg.declared.nid.TheConstants.{FOLDER}
+use Rattle.pst_verify.specs.pst_msg.Nid.{is_type}
+use Rattle.pst_verify.specs.pst_msg.Shown.{rows_there, folder_table}
+use Rattle.pst_verify.specs.pst_msg.Values.{is_message}
+unfoldable pub use Rattle.pst_verify.specs.pst_store.Kind.{node_of_kind}
 use Rattle.pst_json.specs.declared.fault.DocFault.{DocFault}
 use Rattle.pst_json.specs.declared.fault.DocFault.TheVariants.{NoFolder}
 use Rattle.pst_json.specs.declared.texts.TheConstants.{CLASS, SENDER, SUBJECT}
 use Rattle.pst_json.specs.Folders.{text_property}
 use Rattle.pst_json.specs.Told.{lined}
-use Rattle.pst_json.specs.Names.{nid_data}
-use Rattle.pst_json.specs.Parts.{list_data}
+use Rattle.pst_value_json.specs.Names.{nid_data}
+use Rattle.pst_value_json.specs.Parts.{list_data}
 
 -- the text of a property of a node, where that is there
 abbrev pub text_there : Table → Option Roots → ℕ → Data

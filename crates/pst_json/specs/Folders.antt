@@ -5,17 +5,17 @@ use Rattle.pst_page.specs.declared.entry.NodeEntry.{NodeEntry}
 use Rattle.pst_block.specs.Table.{Table}
 use Rattle.pst_btree.specs.Entries.{first_with}
 use Rattle.pst_ndb.specs.Roots.{Roots, all_roots}
-use Rattle.pst_pc.specs.Values.{Property, id_of, props_of}
-use Rattle.pst_tc.specs.Values.{RowParts}
-use Rattle.pst_msg.specs.declared.items.Items.TheVariants.{Subfolders, Messages, Associated}
-use Rattle.pst_msg.specs.Shown.{rows_there, folder_table}
-use Rattle.pst_msg.specs.Values.{is_folder}
-use Rattle.pst_store.specs.Kind.{of_kind}
+use Rattle.pst_value_json.specs.pst_pc.Values.{Property, id_of, props_of}
+use Rattle.pst_value_json.specs.pst_tc.Values.{RowParts}
+use Rattle.pst_verify.specs.pst_msg.declared.items.Items.TheVariants.{Subfolders, Messages, Associated}
+use Rattle.pst_verify.specs.pst_msg.Shown.{rows_there, folder_table}
+use Rattle.pst_verify.specs.pst_msg.Values.{is_folder}
+use Rattle.pst_verify.specs.pst_store.Kind.{of_kind}
 use Rattle.pst_json.specs.declared.texts.TheConstants.{NAME}
-use Rattle.pst_json.specs.Line.{line_of}
-use Rattle.pst_json.specs.Names.{nid_data}
-use Rattle.pst_json.specs.Parts.{natural, list_data}
-use Rattle.pst_json.specs.Value.{text_data}
+use Rattle.pst_value_json.specs.Line.{line_of}
+use Rattle.pst_value_json.specs.Names.{nid_data}
+use Rattle.pst_value_json.specs.Parts.{natural, list_data}
+use Rattle.pst_value_json.specs.Value.{text_data}
 
 -- the text of a property, where it is there and is text
 abbrev pub text_or_null : Option Property → Data

@@ -2,8 +2,8 @@
 use Rattle.std.specs.Prelude.{ℕ}
 use Rattle.serde_json.specs.Data.{Data}
 use Rattle.pst_ndb.specs.Views.{table_of_node, roots_of}
-use Rattle.pst_pc.specs.View.{node_of_pc}
-use Rattle.pst_msg.specs.View.{node_of_message}
+use Rattle.pst_value_json.specs.pst_pc.View.{node_of_pc}
+use Rattle.pst_verify.specs.pst_msg.View.{node_of_message}
 use Rattle.pst_json.specs.declared.node.Found.{Found}
 use Rattle.pst_json.specs.declared.node.Found.TheVariants.{Message, Pc}
 use Rattle.pst_json.specs.Node.{message_data, node_props_data}

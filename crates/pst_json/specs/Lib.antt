@@ -1,13 +1,11 @@
-pub mod Names
-pub mod Parts
-pub mod Line
-pub mod Plain
+pub use Rattle.pst_value_json.specs.Line
+pub use Rattle.pst_value_json.specs.Parts
+pub use Rattle.pst_value_json.specs.Names
+pub use Rattle.pst_value_json.specs.Value
+pub use Rattle.pst_value_json.specs.Props
+pub use Rattle.pst_value_json.specs.Cells
 pub mod Head
 pub mod Nodes
-pub mod Form
-pub mod Value
-pub mod Props
-pub mod Cells
 pub mod Check
 pub mod Told
 pub mod Folders
@@ -15,3 +13,7 @@ pub mod Contents
 pub mod Node
 pub mod Found
 pub mod Output
+pub use Rattle.pst_verify.specs as pst_verify
+pub use Rattle.pst_verify.specs.pst_store as pst_store
+pub use Rattle.pst_verify.specs.pst_msg as pst_msg
+pub use Rattle.pst_ndb.specs as pst_ndb

@@ -6,19 +6,19 @@ use Rattle.pst_fault.specs.declared.fault.Fault.{Fault}
 use Rattle.pst_page.specs.declared.entry.NodeEntry.{NodeEntry}
 use Rattle.pst_block.specs.Table.{Table}
 use Rattle.pst_ndb.specs.Roots.{Roots, node_in, subnode_of}
-use Rattle.pst_pc.specs.Fault.{pc_fault}
-use Rattle.pst_pc.specs.Values.{Property, props_of}
-use Rattle.pst_tc.specs.Values.{tc_rows}
-use Rattle.pst_msg.specs.declared.object.Object.{Object}
-use Rattle.pst_msg.specs.Shown.{Shown, row_shown, attachment_rows}
-use Rattle.pst_msg.specs.Values.{is_message, embedded_of}
+use Rattle.pst_value_json.specs.pst_pc.Fault.{pc_fault}
+use Rattle.pst_value_json.specs.pst_pc.Values.{Property, props_of}
+use Rattle.pst_value_json.specs.pst_tc.Values.{tc_rows}
+use Rattle.pst_verify.specs.pst_msg.declared.object.Object.{Object}
+use Rattle.pst_verify.specs.pst_msg.Shown.{Shown, row_shown, attachment_rows}
+use Rattle.pst_verify.specs.pst_msg.Values.{is_message, embedded_of}
 use Rattle.pst_json.specs.declared.fault.DocFault.{DocFault}
 use Rattle.pst_json.specs.declared.fault.DocFault.TheVariants.{NoNode, Bad}
-use Rattle.pst_json.specs.Cells.{table_row_data}
-use Rattle.pst_json.specs.Line.{rows_text}
-use Rattle.pst_json.specs.Names.{nid_data, nid_or_null}
-use Rattle.pst_json.specs.Parts.{list_data}
-use Rattle.pst_json.specs.Props.{prop_data}
+use Rattle.pst_value_json.specs.Cells.{table_row_data}
+use Rattle.pst_value_json.specs.Line.{rows_text}
+use Rattle.pst_value_json.specs.Names.{nid_data, nid_or_null}
+use Rattle.pst_value_json.specs.Parts.{list_data}
+use Rattle.pst_value_json.specs.Props.{prop_data}
 use Rattle.pst_json.specs.Told.{lined}
 
 -- the properties of a node

@@ -2,9 +2,9 @@
 use Rattle.std.specs.Prelude.{ℕ, List, codes}
 use Rattle.serde_json.specs.Data.{Data, object, member, no_members}
 use Rattle.pst_page.specs.declared.entry.NodeEntry.{NodeEntry}
-use Rattle.pst_json.specs.Names.{nid_data}
-use Rattle.pst_json.specs.Parts.{natural, list_data}
-use Rattle.pst_json.specs.Line.{line_of}
+use Rattle.pst_value_json.specs.Names.{nid_data}
+use Rattle.pst_value_json.specs.Parts.{natural, list_data}
+use Rattle.pst_value_json.specs.Line.{line_of}
 
 -- the members stand in the order of their keys' bytes
 unfoldable pub node_data : NodeEntry → Data

@@ -3,15 +3,15 @@ use Rattle.std.specs.Prelude.{◌≡◌, ℕ, List, Result, Ok, Err}
 use Rattle.serde_json.specs.Data.{Data}
 use Rattle.pst_json.specs.declared.fault.DocFault.{DocFault}
 use Rattle.pst_json.specs.declared.fault.DocFault.TheVariants.{NoFolder, NoNode, Bad, Memory}
-use Rattle.pst_json.specs.Line.{line_of}
+use Rattle.pst_value_json.specs.Line.{line_of}
 
 -- what is given shows the answer, or the answer is this fault, unless memory ran out
-abbrev pub Shows : {X Y : Type 0} → (Y → X) → Result Y DocFault → Result X DocFault → Type 0
-Shows shown (Ok y) answer = answer ≡ Ok (shown y)
-Shows shown (Err NoFolder) answer = answer ≡ Err NoFolder
-Shows shown (Err NoNode) answer = answer ≡ Err NoNode
-Shows shown (Err (Bad f)) answer = answer ≡ Err (Bad f)
-Shows shown (Err Memory) answer = Unit {0}
+abbrev pub TellsDoc : {X Y : Type 0} → (Y → X) → Result Y DocFault → Result X DocFault → Type 0
+TellsDoc shown (Ok y) answer = answer ≡ Ok (shown y)
+TellsDoc shown (Err NoFolder) answer = answer ≡ Err NoFolder
+TellsDoc shown (Err NoNode) answer = answer ≡ Err NoNode
+TellsDoc shown (Err (Bad f)) answer = answer ≡ Err (Bad f)
+TellsDoc shown (Err Memory) answer = Unit {0}
 
 -- the line of a document, where there is one
 abbrev pub lined : Result Data DocFault → Result (List ℕ) DocFault

@@ -3,11 +3,11 @@
 ghost use Rattle.std.specs.Prelude.{◌≡◌, ◌++◌, IfOk, OnOk, false, map};
 ghost use Rattle.serde_json.specs.View.{view};
 ghost use Rattle.pst_json.specs.Check.{lost_data, report_parts, order_data, check_data, check_front, check_middle, check_back, check_line as line_of_check};
-ghost use Rattle.pst_json.specs.Line.{rows_text};
+ghost use Rattle.pst_value_json.specs.Line.{rows_text};
 
-use crate::compact::{put_doc, put_natural, put_row};
 use pst_amap::BitOrder;
 use pst_bytes::Span;
+use pst_value_json::{put_doc, put_natural, put_row};
 use pst_verify::Report;
 use serde_json::{Value as Doc, json};
 use std::alloc::{AllocError, Global};
@@ -71,7 +71,7 @@ pub fn check_doc(alloc: Global, report: &Report) -> Result<Doc, AllocError>
 }
 
 // Puts lost runs and the bracket that closes their list behind a text.
-#[tactic(auto, using(crate::proofs::RowLemmas::put_at, crate::proofs::RowLemmas::put_past, crate::proofs::CheckLemmas::lost_has_none))]
+#[tactic(auto, using(pst_value_json::proofs::RowLemmas::put_at, pst_value_json::proofs::RowLemmas::put_past, crate::proofs::CheckLemmas::lost_has_none))]
 fn put_lost(alloc: Global, runs: &[Span], text: &mut Vec<u8>) -> Result<(), AllocError>
     ensures { OnOk result (text.new.items ≡ text.old.items ++ rows_text lost_data false runs.now) }
 {

@@ -4,27 +4,26 @@ ghost use Rattle.std.specs.Prelude.{◌≡◌, ◌++◌, Ok, Err, IfOk, IfErr, O
 ghost use Rattle.serde_json.specs.View.{view};
 ghost use Rattle.pst_block.specs.Table.{Table};
 ghost use Rattle.pst_ndb.specs.Views.{table_of_ndb, nodes_of, table_of_node, roots_of};
-ghost use Rattle.pst_tc.specs.Left.{tc_left, tc_rows_left};
-ghost use Rattle.pst_tc.specs.Tc.{node_of_tc};
-ghost use Rattle.pst_tc.specs.Values.{tc_rows};
-ghost use Rattle.pst_tc.specs.View.{row_parts};
-ghost use Rattle.pst_msg.specs.declared.items.Items.TheVariants.{Messages};
-ghost use Rattle.pst_msg.specs.Shown.{rows_there, folder_table};
-ghost use Rattle.pst_msg.specs.View.{tc_roots, node_of_message, message_roots};
-ghost use Rattle.pst_store.specs.View.{ndb_of_store};
+ghost use Rattle.pst_value_json.specs.pst_tc.Left.{tc_left, tc_rows_left};
+ghost use Rattle.pst_value_json.specs.pst_tc.Tc.{node_of_tc};
+ghost use Rattle.pst_value_json.specs.pst_tc.Values.{tc_rows};
+ghost use Rattle.pst_value_json.specs.pst_tc.View.{row_parts};
+ghost use Rattle.pst_verify.specs.pst_msg.declared.items.Items.TheVariants.{Messages};
+ghost use Rattle.pst_verify.specs.pst_msg.Shown.{rows_there, folder_table};
+ghost use Rattle.pst_verify.specs.pst_msg.View.{tc_roots, node_of_message, message_roots};
+ghost use Rattle.pst_verify.specs.pst_store.View.{ndb_of_store};
 ghost use Rattle.pst_json.specs.declared.fault.DocFault.TheVariants.{NoFolder};
 ghost use Rattle.pst_json.specs.Contents.{text_there, listed_data, contents_data, contents_of, contents_line as line_of_contents};
-ghost use Rattle.pst_json.specs.Line.{line_of, rows_text};
-ghost use Rattle.pst_json.specs.Parts.{list_data};
-ghost use Rattle.pst_json.specs.Told.{Shows};
+ghost use Rattle.pst_value_json.specs.Line.{line_of, rows_text};
+ghost use Rattle.pst_value_json.specs.Parts.{list_data};
+ghost use Rattle.pst_json.specs.Told.{TellsDoc};
 
-use crate::compact::{put_nid, put_row};
 use crate::fault::DocFault;
-use crate::names::nid_text;
 use crate::texts::{CLASS, SENDER, SUBJECT, text_property_doc};
-use pst_msg::{FOLDER, Message};
-use pst_store::Store;
-use pst_tc::{Row, Rows, Tc};
+use pst_value_json::tc::{Row, Rows, Tc};
+use pst_value_json::{nid_text, put_nid, put_row};
+use pst_verify::msg::{FOLDER, Message, is_type};
+use pst_verify::store::Store;
 use serde_json::{Value as Doc, json};
 use std::alloc::{AllocError, Global};
 
@@ -54,7 +53,7 @@ fn listed_doc(alloc: Global, store: &Store, row: Row) -> Result<Doc, AllocError>
 }
 
 // The contents table of a folder, where it is there, or that there is no such folder.
-#[tactic(auto, unfolding(pst_store::specs::Kind::node_of_kind, crate::specs::Contents::contents_of))]
+#[tactic(auto, unfolding(crate::specs::Contents::node_of_kind, crate::specs::Contents::contents_of))]
 fn contents_table<'a>(store: &Store<'a>, nid: u32) -> Result<Option<Tc<'a>>, DocFault>
     ensures found { let ndb = ndb_of_store store.now in let t = table_of_ndb ndb in let nodes = nodes_of ndb in
         IfOk result (λ table. contents_of t nodes nid ≡ Ok (contents_data t nodes nid)) }
@@ -65,7 +64,7 @@ fn contents_table<'a>(store: &Store<'a>, nid: u32) -> Result<Option<Tc<'a>>, Doc
     ensures table { let t = table_of_ndb (ndb_of_store store.now) in
         IfOk result (λ table. IfSome table (λ x. table_of_node (node_of_tc x) ≡ t)) }
 {
-    if nid % 32 != FOLDER {
+    if !is_type(FOLDER, nid) {
         return Err(DocFault::NoFolder);
     }
     match store.folder(nid) {
@@ -128,14 +127,14 @@ fn folder_contents_doc(
 /// its subject, each a text or null. NoFolder where the store has no node of type 02 with the identifier.
 pub fn contents_doc(alloc: Global, store: &Store, nid: u32) -> Result<Doc, DocFault>
     ensures { let ndb = ndb_of_store store.now in
-        Shows view result (contents_of (table_of_ndb ndb) (nodes_of ndb) nid) }
+        TellsDoc view result (contents_of (table_of_ndb ndb) (nodes_of ndb) nid) }
 {
     let table = contents_table(store, nid)?;
     Ok(folder_contents_doc(alloc, store, nid, table)?)
 }
 
 // Puts the messages that a table lists and the bracket that closes their list behind a text.
-#[tactic(auto, using(crate::proofs::RowLemmas::put_next, crate::proofs::RowLemmas::put_end, crate::proofs::FolderLemmas::listed_has_none))]
+#[tactic(auto, using(pst_value_json::proofs::RowLemmas::put_next, pst_value_json::proofs::RowLemmas::put_end, crate::proofs::FolderLemmas::listed_has_none))]
 fn put_listed(
     alloc: Global,
     store: &Store,
@@ -157,7 +156,7 @@ fn put_listed(
 }
 
 // The same, of a table that may be there.
-#[tactic(auto, using(crate::proofs::RowLemmas::no_rows))]
+#[tactic(auto, using(pst_value_json::proofs::RowLemmas::no_rows))]
 fn put_messages(
     alloc: Global,
     store: &Store,
@@ -208,7 +207,7 @@ fn folder_contents_line(
 #[tactic(auto, unfolding(crate::specs::Contents::contents_line))]
 pub fn contents_line(alloc: Global, store: &Store, nid: u32) -> Result<Vec<u8>, DocFault>
     ensures { let ndb = ndb_of_store store.now in
-        Shows (λ t. t.items) result (line_of_contents (table_of_ndb ndb) (nodes_of ndb) nid) }
+        TellsDoc (λ t. t.items) result (line_of_contents (table_of_ndb ndb) (nodes_of ndb) nid) }
 {
     let table = contents_table(store, nid)?;
     Ok(folder_contents_line(alloc, store, nid, table)?)

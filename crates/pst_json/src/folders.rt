@@ -4,21 +4,20 @@ ghost use Rattle.std.specs.Prelude.{◌≡◌, ◌++◌, IfOk, OnOk, IfSome, fal
 ghost use Rattle.serde_json.specs.View.{view};
 ghost use Rattle.pst_block.specs.Table.{Table};
 ghost use Rattle.pst_ndb.specs.Views.{table_of_ndb, nodes_of, table_of_node, roots_of};
-ghost use Rattle.pst_tc.specs.Tc.{node_of_tc};
-ghost use Rattle.pst_tc.specs.Values.{tc_rows};
-ghost use Rattle.pst_msg.specs.Shown.{rows_there};
-ghost use Rattle.pst_msg.specs.View.{tc_roots, ndb_of_folder, folder_roots};
-ghost use Rattle.pst_store.specs.View.{ndb_of_store, folders_left, folders_ndb};
+ghost use Rattle.pst_value_json.specs.pst_tc.Tc.{node_of_tc};
+ghost use Rattle.pst_value_json.specs.pst_tc.Values.{tc_rows};
+ghost use Rattle.pst_verify.specs.pst_msg.Shown.{rows_there};
+ghost use Rattle.pst_verify.specs.pst_msg.View.{tc_roots, ndb_of_folder, folder_roots};
+ghost use Rattle.pst_verify.specs.pst_store.View.{ndb_of_store, folders_left, folders_ndb};
 ghost use Rattle.pst_json.specs.Folders.{row_nid, folder_data, folders_data, folders_line as line_of_folders};
-ghost use Rattle.pst_json.specs.Line.{rows_text};
-ghost use Rattle.pst_json.specs.Parts.{list_data};
+ghost use Rattle.pst_value_json.specs.Line.{rows_text};
+ghost use Rattle.pst_value_json.specs.Parts.{list_data};
 
-use crate::compact::put_row;
-use crate::names::nid_text;
 use crate::texts::{NAME, text_property_doc};
-use pst_msg::Folder;
-use pst_store::{Folders, Store};
-use pst_tc::{Tc, tc_ids_rise};
+use pst_value_json::tc::{Tc, tc_ids_rise};
+use pst_value_json::{nid_text, put_row};
+use pst_verify::msg::Folder;
+use pst_verify::store::{Folders, Store};
 use serde_json::{Value as Doc, json};
 use std::alloc::{AllocError, Global};
 
@@ -109,7 +108,7 @@ pub fn folders_doc(alloc: Global, store: &Store) -> Result<Doc, AllocError>
 }
 
 // Puts folders and the bracket that closes their list behind a text.
-#[tactic(auto, using(crate::proofs::RowLemmas::put_next, crate::proofs::RowLemmas::put_end, crate::proofs::FolderLemmas::folder_has_none))]
+#[tactic(auto, using(pst_value_json::proofs::RowLemmas::put_next, pst_value_json::proofs::RowLemmas::put_end, crate::proofs::FolderLemmas::folder_has_none))]
 fn put_folders(alloc: Global, folders: Folders, text: &mut Vec<u8>) -> Result<(), AllocError>
     ensures { let ndb = folders_ndb folders.entry in
         let shown = folder_data (table_of_ndb ndb) (nodes_of ndb) in

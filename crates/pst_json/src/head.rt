@@ -4,8 +4,8 @@ ghost use Rattle.std.specs.Prelude.{◌≡◌, IfOk};
 ghost use Rattle.serde_json.specs.View.{view};
 ghost use Rattle.pst_json.specs.Head.{bref_data, head_data, head_line as line_of_head};
 
-use crate::compact::line;
 use pst_header::{Bref, Header};
+use pst_value_json::line;
 use serde_json::{Value as Doc, json};
 use std::alloc::{AllocError, Global};
 

@@ -1,27 +1,26 @@
 //! The documents of a store, as JSON.
+//!
+//! Each has two calls: one gives it as a tree of JSON, the other its line, the compact text of that tree and a line feed, made
+//! row by row. `emit` writes a text:
+//!
+//! ```text
+//! let line = folders_line(alloc, &store)?;
+//! emit(&line, &mut out)?;
+//! ```
 #![tactic(auto)]
 
-mod cells;
 mod check;
-mod compact;
 mod contents;
 mod fault;
 mod folders;
-mod form;
 mod head;
-mod names;
 mod node;
 mod node_line;
 mod nodes;
 mod output;
-mod props;
-mod scalar;
 mod texts;
-mod value;
 
-pub use cells::table_doc;
 pub use check::{check_doc, check_line};
-pub use compact::text;
 pub use contents::{contents_doc, contents_line};
 pub use fault::DocFault;
 pub use folders::{folders_doc, folders_line};
@@ -30,8 +29,8 @@ pub use node::props_doc;
 pub use node_line::props_line;
 pub use nodes::{nodes_doc, nodes_line};
 pub use output::{EmitFault, emit};
-pub use props::pc_doc;
-pub use value::{hex_doc, value_doc};
+pub use pst_value_json::{hex_doc, pc_doc, table_doc, text, value_doc};
+pub use pst_verify as verify;
 
 #[cfg(test)]
 mod tests;

@@ -4,25 +4,23 @@ ghost use Rattle.std.specs.Prelude.{◌≡◌, Some, IfOk, IfSome, option_map};
 ghost use Rattle.serde_json.specs.View.{view};
 ghost use Rattle.pst_block.specs.Table.{Table};
 ghost use Rattle.pst_ndb.specs.Views.{table_of_ndb, nodes_of, table_of_node, roots_of};
-ghost use Rattle.pst_pc.specs.View.{node_of_pc};
-ghost use Rattle.pst_tc.specs.Tc.{node_of_tc};
-ghost use Rattle.pst_msg.specs.Shown.{row_shown, attachment_rows};
-ghost use Rattle.pst_msg.specs.View.{tc_roots, node_of_message, message_roots, node_of_attachment, attachment_shown, attachments_left, holder_left};
-ghost use Rattle.pst_store.specs.View.{ndb_of_store};
+ghost use Rattle.pst_value_json.specs.pst_pc.View.{node_of_pc};
+ghost use Rattle.pst_value_json.specs.pst_tc.Tc.{node_of_tc};
+ghost use Rattle.pst_verify.specs.pst_msg.Shown.{row_shown, attachment_rows};
+ghost use Rattle.pst_verify.specs.pst_msg.View.{tc_roots, node_of_message, message_roots, node_of_attachment, attachment_shown, attachments_left, holder_left};
+ghost use Rattle.pst_verify.specs.pst_store.View.{ndb_of_store};
 ghost use Rattle.pst_json.specs.Found.{found_data};
 ghost use Rattle.pst_json.specs.Node.{embedded_there, attachment_data, attachments_data, recipients_there, message_data, node_props_data, props_told};
-ghost use Rattle.pst_json.specs.Parts.{list_data};
-ghost use Rattle.pst_json.specs.Told.{Shows};
+ghost use Rattle.pst_value_json.specs.Parts.{list_data};
+ghost use Rattle.pst_json.specs.Told.{TellsDoc};
 
-use crate::cells::table_doc;
 use crate::fault::DocFault;
-use crate::names::{nid_or_null_doc, nid_text};
-use crate::props::pc_doc;
-use pst_msg::{Attachment, Attachments, Message, is_message};
 use pst_ndb::Node;
-use pst_pc::{Pc, check_pc};
-use pst_store::Store;
-use pst_tc::Tc;
+use pst_value_json::pc::{Pc, check_pc};
+use pst_value_json::tc::Tc;
+use pst_value_json::{nid_or_null_doc, nid_text, pc_doc, table_doc};
+use pst_verify::msg::{Attachment, Attachments, Message, is_message};
+use pst_verify::store::Store;
 use serde_json::{Value as Doc, json};
 use std::alloc::{AllocError, Global};
 
@@ -107,10 +105,10 @@ pub(crate) enum Found<'a> {
 }
 
 /// What the node with an identifier is, or why it has no document.
-#[tactic(auto, unfolding(pst_store::specs::Kind::node_of_kind, crate::specs::Node::props_told))]
+#[tactic(auto, unfolding(crate::specs::Contents::node_of_kind, crate::specs::Node::props_told))]
 pub(crate) fn found_in<'a>(store: &Store<'a>, nid: u32) -> Result<Found<'a>, DocFault>
     ensures { let ndb = ndb_of_store store.now in
-        Shows (found_data nid) result (props_told (table_of_ndb ndb) (nodes_of ndb) nid) }
+        TellsDoc (found_data nid) result (props_told (table_of_ndb ndb) (nodes_of ndb) nid) }
 {
     if is_message(nid) {
         return match store.message(nid) {
@@ -143,7 +141,7 @@ fn found_doc(alloc: Global, nid: u32, found: Found) -> Result<Doc, AllocError>
 /// node; Bad with the fault of `check_pc` where it is neither a message nor a property context.
 pub fn props_doc(alloc: Global, store: &Store, nid: u32) -> Result<Doc, DocFault>
     ensures { let ndb = ndb_of_store store.now in
-        Shows view result (props_told (table_of_ndb ndb) (nodes_of ndb) nid) }
+        TellsDoc view result (props_told (table_of_ndb ndb) (nodes_of ndb) nid) }
 {
     let found = found_in(store, nid)?;
     Ok(found_doc(alloc, nid, found)?)

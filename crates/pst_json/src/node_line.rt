@@ -5,27 +5,24 @@ ghost use Rattle.serde_json.specs.Written.{compact_text};
 ghost use Rattle.pst_block.specs.Table.{Table};
 ghost use Rattle.pst_ndb.specs.Roots.{subnode_of};
 ghost use Rattle.pst_ndb.specs.Views.{table_of_ndb, nodes_of, table_of_node, roots_of};
-ghost use Rattle.pst_pc.specs.Values.{props_of};
-ghost use Rattle.pst_pc.specs.View.{node_of_pc};
-ghost use Rattle.pst_tc.specs.Tc.{node_of_tc};
-ghost use Rattle.pst_msg.specs.View.{tc_roots, node_of_message, node_of_attachment, attachment_shown, attachments_left, holder_left};
-ghost use Rattle.pst_store.specs.View.{ndb_of_store};
+ghost use Rattle.pst_value_json.specs.pst_pc.Values.{props_of};
+ghost use Rattle.pst_value_json.specs.pst_pc.View.{node_of_pc};
+ghost use Rattle.pst_value_json.specs.pst_tc.Tc.{node_of_tc};
+ghost use Rattle.pst_verify.specs.pst_msg.View.{tc_roots, node_of_message, node_of_attachment, attachment_shown, attachments_left, holder_left};
+ghost use Rattle.pst_verify.specs.pst_store.View.{ndb_of_store};
 ghost use Rattle.pst_json.specs.Found.{found_data};
-ghost use Rattle.pst_json.specs.Line.{line_of, row_text, rows_text};
+ghost use Rattle.pst_value_json.specs.Line.{line_of, row_text, rows_text};
 ghost use Rattle.pst_json.specs.Node.{attachment_data, attachment_front, recipient_nid, recipients_there, message_data, message_front, node_props_data, props_line as line_of_props};
-ghost use Rattle.pst_json.specs.Props.{prop_data};
-ghost use Rattle.pst_json.specs.Told.{Shows};
+ghost use Rattle.pst_value_json.specs.Props.{prop_data};
+ghost use Rattle.pst_json.specs.Told.{TellsDoc};
 
-use crate::cells::put_table;
-use crate::compact::{put_comma, put_doc, put_nid};
 use crate::fault::DocFault;
-use crate::names::nid_or_null_doc;
 use crate::node::{Found, embedded_nid, found_in};
-use crate::props::put_props;
-use pst_msg::{Attachment, Attachments, Message};
-use pst_pc::Pc;
-use pst_store::Store;
-use pst_tc::Tc;
+use pst_value_json::pc::Pc;
+use pst_value_json::tc::Tc;
+use pst_value_json::{nid_or_null_doc, put_comma, put_doc, put_nid, put_props, put_table};
+use pst_verify::msg::{Attachment, Attachments, Message};
+use pst_verify::store::Store;
 use std::alloc::{AllocError, Global};
 
 // What stands before the properties of an attachment.
@@ -64,7 +61,7 @@ fn put_attachment(
 }
 
 // Puts attachments and the bracket that closes their list behind a text.
-#[tactic(auto, using(crate::proofs::RowLemmas::put_next, crate::proofs::RowLemmas::put_end))]
+#[tactic(auto, using(pst_value_json::proofs::RowLemmas::put_next, pst_value_json::proofs::RowLemmas::put_end))]
 fn put_attachments(
     alloc: Global,
     attachments: Attachments,
@@ -167,7 +164,7 @@ fn found_line(alloc: Global, nid: u32, found: Found) -> Result<Vec<u8>, AllocErr
 #[tactic(auto, unfolding(crate::specs::Node::props_line))]
 pub fn props_line(alloc: Global, store: &Store, nid: u32) -> Result<Vec<u8>, DocFault>
     ensures { let ndb = ndb_of_store store.now in
-        Shows (λ t. t.items) result (line_of_props (table_of_ndb ndb) (nodes_of ndb) nid) }
+        TellsDoc (λ t. t.items) result (line_of_props (table_of_ndb ndb) (nodes_of ndb) nid) }
 {
     let found = found_in(store, nid)?;
     Ok(found_line(alloc, nid, found)?)

@@ -3,12 +3,11 @@
 ghost use Rattle.std.specs.Prelude.{◌≡◌, ◌++◌, IfOk, OnOk, false};
 ghost use Rattle.serde_json.specs.View.{view};
 ghost use Rattle.pst_btree.specs.Trees.{node_entries};
-ghost use Rattle.pst_json.specs.Line.{rows_text};
+ghost use Rattle.pst_value_json.specs.Line.{rows_text};
 ghost use Rattle.pst_json.specs.Nodes.{node_data, nodes_data, nodes_line as line_of_nodes};
 
-use crate::compact::put_row;
-use crate::names::nid_text;
 use pst_btree::{NodeEntry, NodeTree};
+use pst_value_json::{nid_text, put_row};
 use serde_json::{Value as Doc, json};
 use std::alloc::{AllocError, Global};
 
@@ -38,7 +37,7 @@ pub fn nodes_doc(alloc: Global, tree: &NodeTree) -> Result<Doc, AllocError>
 }
 
 // Puts the nodes and the bracket that closes their list behind a text.
-#[tactic(auto, using(crate::proofs::RowLemmas::put_next, crate::proofs::RowLemmas::put_end, crate::proofs::NodeLemmas::node_has_none))]
+#[tactic(auto, using(pst_value_json::proofs::RowLemmas::put_next, pst_value_json::proofs::RowLemmas::put_end, crate::proofs::NodeLemmas::node_has_none))]
 fn put_nodes(alloc: Global, tree: &NodeTree, text: &mut Vec<u8>) -> Result<(), AllocError>
     ensures { OnOk result (text.new.items ≡ text.old.items ++ rows_text node_data false (node_entries tree.now)) }
 {

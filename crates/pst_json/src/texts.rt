@@ -3,12 +3,12 @@
 ghost use Rattle.std.specs.Prelude.{◌≡◌, IfOk};
 ghost use Rattle.serde_json.specs.View.{view};
 ghost use Rattle.pst_ndb.specs.Views.{table_of_node, roots_of};
-ghost use Rattle.pst_pc.specs.View.{node_of_pc};
+ghost use Rattle.pst_value_json.specs.pst_pc.View.{node_of_pc};
 ghost use Rattle.pst_json.specs.Folders.{text_property};
 
-use crate::scalar::text_doc;
-use pst_pc::Pc;
-use pst_value::PropType;
+use pst_value_json::pc::Pc;
+use pst_value_json::text_doc;
+use pst_value_json::values::PropType;
 use serde_json::Value as Doc;
 use std::alloc::{AllocError, Global};
 

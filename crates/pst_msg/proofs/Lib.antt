@@ -16,3 +16,5 @@ pub mod NamesLaws
 pub mod OneCount
 pub mod ViewLemmas
 pub mod FolderLemmas
+pub use Rattle.pst_pc.proofs as pst_pc
+pub use Rattle.pst_tc.proofs as pst_tc

@@ -33,7 +33,7 @@ pub(crate) const CONTENTS: u32 = 0x0e;
 pub(crate) const ASSOCIATED_CONTENTS: u32 = 0x0f;
 
 /// Whether a node is of a type.
-pub(crate) fn is_type(kind: u32, nid: u32) -> bool
+pub fn is_type(kind: u32, nid: u32) -> bool
     ensures { result ≡ is_type kind nid }
 {
     nid % 32 == kind

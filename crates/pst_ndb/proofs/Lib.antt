@@ -6,3 +6,4 @@ pub mod SpaceLemmas
 pub mod UnitLemmas
 pub mod CountLemmas
 pub mod ListingLaws
+pub use Rattle.pst_subnode.proofs as pst_subnode

@@ -17,6 +17,7 @@ pub use laws::{counts_agree, database_decides, nodes_decide};
 pub use ndb::Ndb;
 pub use node::Node;
 pub use trees::read_nodes;
+pub use pst_subnode as subnode;
 
 #[cfg(test)]
 mod tests;

@@ -19,7 +19,7 @@ use pst_bytes::Span;
 use pst_fault::Fault;
 use pst_heap::{Heap, check_client, check_heap};
 use pst_ndb::Node;
-use pst_subnode::SubIndex;
+use pst_ndb::subnode::SubIndex;
 use pst_value::{PropType, resolve_by};
 
 // The value of a record.

@@ -2,12 +2,12 @@
 use Rattle.std.proofs.Common.{◌≡◌, ℕ, List, Ok, Err, refl, sym, ap, ◌∙◌}
 use Rattle.std.specs.Prelude.{Bool, ◌&&◌, ◌==◌, not, length, Some, None}
 use Rattle.pst_fault.specs.declared.fault.Fault.{Fault}
-use Rattle.pst_store.specs.Fault.{store_fault}
-use Rattle.pst_store.specs.Values.{store_in}
-use Rattle.pst_verify.specs.declared.check.Verified.{Verified}
-use Rattle.pst_verify.specs.declared.report.Report.{Report}
-use Rattle.pst_verify.specs.Report.{IsReportOf}
-use Rattle.pst_verify.specs.Verified.{IsVerified}
+use Rattle.pst_json.specs.pst_store.Fault.{store_fault}
+use Rattle.pst_json.specs.pst_store.Values.{store_in}
+use Rattle.pst_json.specs.pst_verify.declared.check.Verified.{Verified}
+use Rattle.pst_json.specs.pst_verify.declared.report.Report.{Report}
+use Rattle.pst_json.specs.pst_verify.Report.{IsReportOf}
+use Rattle.pst_json.specs.pst_verify.Verified.{IsVerified}
 use Rattle.pst_json.specs.Check.{report_parts, check_line}
 use Rattle.pst_show.specs.declared.ask.Ask.TheVariants.{Check}
 use Rattle.pst_show.specs.Refusal.{refusal_of}

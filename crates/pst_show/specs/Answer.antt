@@ -7,14 +7,14 @@ use Rattle.pst_amap.specs.Lost.{lost_runs}
 use Rattle.pst_btree.specs.Tree.{pages_of}
 use Rattle.pst_page.specs.declared.entry.NodeEntry.{NodeEntry}
 use Rattle.pst_block.specs.Table.{Table}
-use Rattle.pst_ndb.specs.Database.{blocks_in}
-use Rattle.pst_ndb.specs.Roots.{all_roots}
-use Rattle.pst_msg.specs.Values.{is_folder, is_message}
-use Rattle.pst_store.specs.Fault.{store_fault}
-use Rattle.pst_store.specs.Parts.{table_in, entries_in}
-use Rattle.pst_store.specs.Values.{store_in}
-use Rattle.pst_verify.specs.Counts.{count_of}
-use Rattle.pst_verify.specs.Report.{claimed_in}
+use Rattle.pst_json.specs.pst_ndb.Database.{blocks_in}
+use Rattle.pst_json.specs.pst_ndb.Roots.{all_roots}
+use Rattle.pst_json.specs.pst_msg.Values.{is_folder, is_message}
+use Rattle.pst_json.specs.pst_store.Fault.{store_fault}
+use Rattle.pst_json.specs.pst_store.Parts.{table_in, entries_in}
+use Rattle.pst_json.specs.pst_store.Values.{store_in}
+use Rattle.pst_json.specs.pst_verify.Counts.{count_of}
+use Rattle.pst_json.specs.pst_verify.Report.{claimed_in}
 use Rattle.pst_json.specs.declared.fault.DocFault.{DocFault}
 use Rattle.pst_json.specs.Check.{ReportParts, check_line}
 use Rattle.pst_json.specs.Contents.{contents_line}

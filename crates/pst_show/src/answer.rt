@@ -8,7 +8,7 @@ use crate::refusal::Refusal;
 use pst_bytes::Image;
 use pst_header::read_header;
 use pst_json::{check_line, contents_line, folders_line, head_line, nodes_line, props_line};
-use pst_verify::verify;
+use pst_json::verify::verify;
 use std::alloc::Global;
 
 /// What a command shows.

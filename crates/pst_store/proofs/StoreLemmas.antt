@@ -15,8 +15,8 @@ use Rattle.pst_ndb.specs.Entries.{block_table, node_list}
 use Rattle.pst_ndb.specs.Fault.{ndb_fault}
 use Rattle.pst_ndb.specs.Roots.{Roots, entry_roots, node_in, all_roots}
 use Rattle.pst_ndb.specs.Views.{table_of_node, top_of, roots_of}
-use Rattle.pst_pc.specs.Fault.{pc_fault}
-use Rattle.pst_pc.proofs.PcLaws.{pc_none}
+use Rattle.pst_msg.specs.pst_pc.Fault.{pc_fault}
+use Rattle.pst_msg.proofs.pst_pc.PcLaws.{pc_none}
 use Rattle.pst_msg.specs.declared.nid.TheConstants.{STORE, ROOT}
 use Rattle.pst_msg.specs.Values.{is_folder, is_message}
 use Rattle.pst_msg.specs.Fault.{message_fault, required_fault, typed_node_fault, messaging_fault}

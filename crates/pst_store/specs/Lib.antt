@@ -5,3 +5,4 @@ pub mod Values
 pub mod Laws
 pub mod Kind
 pub mod View
+pub use Rattle.pst_msg.specs as pst_msg

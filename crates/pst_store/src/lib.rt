@@ -19,6 +19,7 @@ mod store;
 pub use folders::Folders;
 pub use laws::store_decides;
 pub use messages::Messages;
+pub use pst_msg as msg;
 pub use store::Store;
 
 #[cfg(test)]

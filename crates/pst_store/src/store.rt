@@ -8,9 +8,9 @@ ghost use Rattle.pst_store.specs.Fault.{store_fault};
 
 use crate::folders::Folders;
 use crate::messages::Messages;
+use pst_msg::pc::{Pc, known_pc};
 use pst_msg::{Folder, Message, ROOT, STORE, is_folder, is_message, known_folder, known_message};
 use pst_ndb::{Ndb, Node};
-use pst_pc::{Pc, known_pc};
 
 /// A store: its file has no fault.
 #[derive(Clone, Copy)]
@@ -24,7 +24,7 @@ impl<'a> Store<'a> {
     ghost use Rattle.std.specs.Prelude.{◌≡◌, Some, None, IfSome, option_map};
     ghost use Rattle.pst_ndb.specs.Roots.{node_in, all_roots};
     ghost use Rattle.pst_ndb.specs.Views.{header_of, image_of_ndb, table_of_ndb, nodes_of, image_of_node, table_of_node, top_of, nid_of, roots_of};
-    ghost use Rattle.pst_pc.specs.View.{node_of_pc};
+    ghost use Rattle.pst_msg.specs.pst_pc.View.{node_of_pc};
     ghost use Rattle.pst_msg.specs.Fault.{messaging_fault};
     ghost use Rattle.pst_msg.specs.Values.{is_folder as folder_kind, is_message as message_kind};
     ghost use Rattle.pst_msg.specs.View.{node_of_folder, ndb_of_folder, folder_roots, node_of_message, message_roots};

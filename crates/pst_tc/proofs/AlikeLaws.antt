@@ -13,9 +13,9 @@ use Rattle.pst_fault.proofs.FirstLemmas.{first_below_same}
 use Rattle.pst_block.specs.Table.{Table}
 use Rattle.pst_btree.specs.Entries.{first_with}
 use Rattle.pst_datatree.proofs.KeyLemmas.{data_spans_same}
-use Rattle.pst_subnode.specs.declared.sub.Sub.{Sub}
-use Rattle.pst_subnode.specs.List.{sub_nid, subs_of}
-use Rattle.pst_subnode.proofs.HeightLaws.{subs_same}
+use Rattle.pst_ndb.specs.pst_subnode.declared.sub.Sub.{Sub}
+use Rattle.pst_ndb.specs.pst_subnode.List.{sub_nid, subs_of}
+use Rattle.pst_ndb.proofs.pst_subnode.HeightLaws.{subs_same}
 use Rattle.pst_ndb.specs.Roots.{Roots, sub_roots, subnode_of}
 use Rattle.pst_heap.specs.Values.{HeapData, heap_at, user_root_of, user_root_place, item_of}
 use Rattle.pst_heap.specs.Fault.{heap_fault, client_fault, item_or, told_under}

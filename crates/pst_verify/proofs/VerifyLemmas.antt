@@ -18,9 +18,9 @@ use Rattle.pst_ndb.specs.Fault.{ndb_fault}
 use Rattle.pst_ndb.specs.Marks.{MapsMark}
 use Rattle.pst_ndb.specs.Roots.{all_roots}
 use Rattle.pst_ndb.specs.Space.{space_claimed}
-use Rattle.pst_msg.specs.Counts.{IsRaised}
-use Rattle.pst_msg.specs.Fault.{messaging_fault}
-use Rattle.pst_msg.specs.Values.{is_folder, is_message}
+use Rattle.pst_store.specs.pst_msg.Counts.{IsRaised}
+use Rattle.pst_store.specs.pst_msg.Fault.{messaging_fault}
+use Rattle.pst_store.specs.pst_msg.Values.{is_folder, is_message}
 use Rattle.pst_store.specs.Fault.{store_fault}
 use Rattle.pst_store.specs.Grammar.{IsStore}
 use Rattle.pst_store.specs.Parts.{StoreParts, table_in, entries_in}

@@ -1,3 +1,5 @@
 pub mod Counts
 pub mod Report
 pub mod Verified
+pub use Rattle.pst_store.specs as pst_store
+pub use Rattle.pst_store.specs.pst_msg as pst_msg

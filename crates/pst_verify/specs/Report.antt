@@ -4,8 +4,8 @@ use Rattle.pst_amap.specs.Exact.{MarkExactly}
 use Rattle.pst_amap.specs.Lost.{lost_runs}
 use Rattle.pst_amap.specs.Report.{old_maps}
 use Rattle.pst_btree.specs.Tree.{pages_of}
-use Rattle.pst_msg.specs.Counts.{IsRaised}
-use Rattle.pst_msg.specs.Values.{is_folder, is_message}
+use Rattle.pst_store.specs.pst_msg.Counts.{IsRaised}
+use Rattle.pst_store.specs.pst_msg.Values.{is_folder, is_message}
 use Rattle.pst_ndb.specs.Counts.{AreExpanded}
 use Rattle.pst_ndb.specs.Database.{blocks_in}
 use Rattle.pst_ndb.specs.Roots.{all_roots}

@@ -11,7 +11,7 @@ ghost use Rattle.pst_ndb.specs.Entries.{page_total, block_list};
 ghost use Rattle.pst_ndb.specs.Marks.{MapsMark};
 ghost use Rattle.pst_ndb.specs.Space.{space_claimed};
 ghost use Rattle.pst_ndb.specs.Views.{image_of_ndb, table_of_ndb, nodes_of};
-ghost use Rattle.pst_msg.specs.Counts.{IsRaised};
+ghost use Rattle.pst_store.specs.pst_msg.Counts.{IsRaised};
 ghost use Rattle.pst_store.specs.Fault.{store_fault};
 ghost use Rattle.pst_store.specs.Grammar.{IsStore};
 ghost use Rattle.pst_store.specs.Parts.{StoreParts};
@@ -25,9 +25,9 @@ use crate::report::Report;
 use pst_amap::MapReport;
 use pst_bytes::Image;
 use pst_fault::Fault;
-use pst_msg::check_messaging;
 use pst_ndb::{Ndb, Work, check_ndb};
 use pst_store::Store;
+use pst_store::msg::check_messaging;
 use std::alloc::Global;
 
 /// What is found in a file that is a store.

@@ -8,6 +8,8 @@ mod counts;
 mod report;
 
 pub use check::{Verified, verify};
+pub use pst_store as store;
+pub use pst_store::msg;
 pub use report::Report;
 
 #[cfg(test)]

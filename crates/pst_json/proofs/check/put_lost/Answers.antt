@@ -1,7 +1,7 @@
 use Rattle.std.proofs.Common.{◌++◌, ◌∙◌, false, rules}
 use Rattle.pst_json.specs.Check.{lost_data}
-use Rattle.pst_json.specs.Line.{rows_text}
-use Rattle.pst_json.proofs.RowLemmas.{put_past}
+use Rattle.pst_value_json.specs.Line.{rows_text}
+use Rattle.pst_value_json.proofs.RowLemmas.{put_past}
 use Rattle.pst_json.proofs.check.put_lost.Goals as goal
 
 pub returns : goal.returns

@@ -1,6 +1,6 @@
 use Rattle.std.proofs.Common.{◌≡◌, ◌++◌, false, drop}
 use Rattle.pst_json.specs.Check.{lost_data}
-use Rattle.pst_json.specs.Line.{rows_text}
+use Rattle.pst_value_json.specs.Line.{rows_text}
 use Rattle.pst_json.proofs.check.put_lost.Given as goal
 
 -- what stands there, and the runs that are left, are all

@@ -1,10 +1,10 @@
 use Rattle.std.proofs.Common.{◌≡◌, ◌++◌, map}
 use Rattle.serde_json.specs.View.{view}
 use Rattle.pst_ndb.specs.Views.{table_of_ndb, nodes_of}
-use Rattle.pst_tc.specs.Left.{tc_left, tc_rows_left}
-use Rattle.pst_tc.specs.Values.{tc_rows}
-use Rattle.pst_msg.specs.View.{tc_roots}
-use Rattle.pst_store.specs.View.{ndb_of_store}
+use Rattle.pst_value_json.specs.pst_tc.Left.{tc_left, tc_rows_left}
+use Rattle.pst_value_json.specs.pst_tc.Values.{tc_rows}
+use Rattle.pst_verify.specs.pst_msg.View.{tc_roots}
+use Rattle.pst_verify.specs.pst_store.View.{ndb_of_store}
 use Rattle.pst_json.specs.Contents.{listed_data}
 use Rattle.pst_json.proofs.contents.listed_docs.Given as goal
 

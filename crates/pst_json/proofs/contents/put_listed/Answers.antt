@@ -1,10 +1,10 @@
 use Rattle.std.proofs.Common.{◌++◌, ◌∙◌, false}
 use Rattle.pst_ndb.specs.Views.{table_of_ndb, nodes_of}
-use Rattle.pst_tc.specs.Left.{tc_rows_left}
-use Rattle.pst_store.specs.View.{ndb_of_store}
+use Rattle.pst_value_json.specs.pst_tc.Left.{tc_rows_left}
+use Rattle.pst_verify.specs.pst_store.View.{ndb_of_store}
 use Rattle.pst_json.specs.Contents.{listed_data}
-use Rattle.pst_json.specs.Line.{rows_text}
-use Rattle.pst_json.proofs.RowLemmas.{put_end}
+use Rattle.pst_value_json.specs.Line.{rows_text}
+use Rattle.pst_value_json.proofs.RowLemmas.{put_end}
 use Rattle.pst_json.proofs.contents.put_listed.Goals as goal
 
 pub returns : goal.returns

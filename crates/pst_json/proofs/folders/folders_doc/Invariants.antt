@@ -2,9 +2,9 @@ use Rattle.std.proofs.Common.{◌≡◌, ◌++◌, map}
 use Rattle.serde_json.specs.View.{view}
 use Rattle.pst_ndb.specs.Roots.{all_roots}
 use Rattle.pst_ndb.specs.Views.{table_of_ndb, nodes_of}
-use Rattle.pst_msg.specs.Values.{is_folder}
-use Rattle.pst_store.specs.Kind.{of_kind}
-use Rattle.pst_store.specs.View.{ndb_of_store, folders_left, folders_ndb}
+use Rattle.pst_verify.specs.pst_msg.Values.{is_folder}
+use Rattle.pst_verify.specs.pst_store.Kind.{of_kind}
+use Rattle.pst_verify.specs.pst_store.View.{ndb_of_store, folders_left, folders_ndb}
 use Rattle.pst_json.specs.Folders.{folder_data}
 use Rattle.pst_json.proofs.folders.folders_doc.Given as goal
 

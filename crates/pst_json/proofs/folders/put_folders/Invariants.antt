@@ -1,8 +1,8 @@
 use Rattle.std.proofs.Common.{◌≡◌, ◌++◌, false}
 use Rattle.pst_ndb.specs.Views.{table_of_ndb, nodes_of}
-use Rattle.pst_store.specs.View.{folders_left, folders_ndb}
+use Rattle.pst_verify.specs.pst_store.View.{folders_left, folders_ndb}
 use Rattle.pst_json.specs.Folders.{folder_data}
-use Rattle.pst_json.specs.Line.{rows_text}
+use Rattle.pst_value_json.specs.Line.{rows_text}
 use Rattle.pst_json.proofs.folders.put_folders.Given as goal
 
 -- what stands there, and the folders that are left, are all

@@ -2,9 +2,9 @@ use Rattle.std.proofs.Common.{◌≡◌, ◌+◌, length, map}
 use Rattle.std.specs.Prelude.{None}
 use Rattle.pst_btree.specs.Order.{Rises}
 use Rattle.pst_ndb.specs.Views.{table_of_node, roots_of}
-use Rattle.pst_tc.specs.Left.{tc_left, tc_rows_left}
-use Rattle.pst_tc.specs.Tc.{node_of_tc}
-use Rattle.pst_tc.specs.Values.{row_id_of, tc_rows}
+use Rattle.pst_value_json.specs.pst_tc.Left.{tc_left, tc_rows_left}
+use Rattle.pst_value_json.specs.pst_tc.Tc.{node_of_tc}
+use Rattle.pst_value_json.specs.pst_tc.Values.{row_id_of, tc_rows}
 use Rattle.pst_json.proofs.folders.row_count.Given as goal
 
 -- those counted and those left are all; the identifiers that are left rise from the count on

@@ -1,9 +1,9 @@
 use Rattle.std.proofs.Common.{◌≡◌, ◌++◌, map}
 use Rattle.serde_json.specs.View.{view}
 use Rattle.pst_ndb.specs.Views.{table_of_node, roots_of}
-use Rattle.pst_tc.specs.Left.{tc_left, tc_rows_left}
-use Rattle.pst_tc.specs.Tc.{node_of_tc}
-use Rattle.pst_tc.specs.Values.{tc_rows}
+use Rattle.pst_value_json.specs.pst_tc.Left.{tc_left, tc_rows_left}
+use Rattle.pst_value_json.specs.pst_tc.Tc.{node_of_tc}
+use Rattle.pst_value_json.specs.pst_tc.Values.{tc_rows}
 use Rattle.pst_json.specs.Folders.{row_nid}
 use Rattle.pst_json.proofs.folders.row_nids_doc.Given as goal
 

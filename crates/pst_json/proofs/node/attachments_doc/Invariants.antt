@@ -1,7 +1,7 @@
 use Rattle.std.proofs.Common.{◌≡◌, ◌++◌, map}
 use Rattle.serde_json.specs.View.{view}
 use Rattle.pst_ndb.specs.Views.{table_of_node}
-use Rattle.pst_msg.specs.View.{attachments_left, holder_left}
+use Rattle.pst_verify.specs.pst_msg.View.{attachments_left, holder_left}
 use Rattle.pst_json.specs.Node.{attachment_data}
 use Rattle.pst_json.proofs.node.attachments_doc.Given as goal
 

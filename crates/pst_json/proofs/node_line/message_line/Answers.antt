@@ -2,11 +2,11 @@ use Rattle.std.proofs.Common.{[], ◌∷◌, ◌++◌, false, codes, ap, ap₂, 
 use Rattle.serde_json.specs.Written.{compact_text}
 use Rattle.pst_ndb.specs.Roots.{subnode_of}
 use Rattle.pst_ndb.specs.Views.{table_of_node, roots_of}
-use Rattle.pst_pc.specs.Values.{props_of}
-use Rattle.pst_msg.specs.View.{node_of_message}
-use Rattle.pst_json.specs.Line.{rows_text}
+use Rattle.pst_value_json.specs.pst_pc.Values.{props_of}
+use Rattle.pst_verify.specs.pst_msg.View.{node_of_message}
+use Rattle.pst_value_json.specs.Line.{rows_text}
 use Rattle.pst_json.specs.Node.{recipient_nid, recipients_there}
-use Rattle.pst_json.specs.Props.{prop_data}
+use Rattle.pst_value_json.specs.Props.{prop_data}
 use Rattle.pst_json.proofs.NodeLineLemmas.{message_line_of}
 use Rattle.pst_json.proofs.node_line.message_line.Goals as goal
 

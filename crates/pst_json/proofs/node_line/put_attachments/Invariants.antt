@@ -1,7 +1,7 @@
 use Rattle.std.proofs.Common.{◌≡◌, ◌++◌, false}
 use Rattle.pst_ndb.specs.Views.{table_of_node}
-use Rattle.pst_msg.specs.View.{attachments_left, holder_left}
-use Rattle.pst_json.specs.Line.{rows_text}
+use Rattle.pst_verify.specs.pst_msg.View.{attachments_left, holder_left}
+use Rattle.pst_value_json.specs.Line.{rows_text}
 use Rattle.pst_json.specs.Node.{attachment_data}
 use Rattle.pst_json.proofs.node_line.put_attachments.Given as goal
 

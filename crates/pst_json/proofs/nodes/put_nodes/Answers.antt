@@ -1,9 +1,9 @@
 use Rattle.std.proofs.Common.{◌++◌, ◌∙◌, false}
 use Rattle.pst_btree.specs.Nodes.{nodes_left}
 use Rattle.pst_btree.specs.Trees.{node_entries}
-use Rattle.pst_json.specs.Line.{rows_text}
+use Rattle.pst_value_json.specs.Line.{rows_text}
 use Rattle.pst_json.specs.Nodes.{node_data}
-use Rattle.pst_json.proofs.RowLemmas.{put_end}
+use Rattle.pst_value_json.proofs.RowLemmas.{put_end}
 use Rattle.pst_json.proofs.nodes.put_nodes.Goals as goal
 
 pub returns : goal.returns

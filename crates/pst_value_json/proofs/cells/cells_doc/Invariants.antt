@@ -1,0 +1,14 @@
+use Rattle.std.proofs.Common.{◌≡◌, ◌++◌, map, drop}
+use Rattle.serde_json.specs.View.{view}
+use Rattle.pst_ndb.specs.Views.{table_of_node, roots_of}
+use Rattle.pst_tc.specs.Tc.{node_of_tc}
+use Rattle.pst_tc.specs.View.{column_of, row_parts, tc_of_row}
+use Rattle.pst_value_json.specs.Cells.{cell_data, cells_of}
+use Rattle.pst_value_json.proofs.cells.cells_doc.Given as goal
+
+-- what stands there, and the cells in the columns that are left, are all
+abbrev pub invariant-loop-column : goal.invariant-loop-column
+invariant-loop-column l =
+    let node = node_of_tc (tc_of_row l.row) in
+    let cells = cells_of (table_of_node node) (roots_of node) (row_parts l.row).place.at in
+    map view l.docs.items ++ map cell_data (cells (map column_of (drop l.column-index l.columns))) ≡ map cell_data (cells (map column_of l.columns))

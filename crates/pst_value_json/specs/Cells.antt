@@ -1,0 +1,79 @@
+-- The rows of a table as a document, with the cells that they have ([MS-PST] 2.3.4).
+use Rattle.std.specs.Prelude.{ℕ, Bool, ◌%◌, nat_eq, List, [], ◌∷◌, ◌++◌, Option, Some, None, option_map, codes, if◌then◌else◌}
+use Rattle.std.specs.List.{list_any}
+use Rattle.serde_json.specs.Data.{Data, string, object, member, no_members}
+use Rattle.pst_block.specs.Table.{Table}
+use Rattle.pst_datatree.specs.Spans.{joined_bytes}
+use Rattle.pst_ndb.specs.Roots.{Roots}
+use Rattle.pst_value.specs.Class.{cell_width_of}
+use Rattle.pst_tc.specs.Info.{has_width}
+use Rattle.pst_tc.specs.Values.{ColumnParts, RowParts, tc_cell, tc_columns}
+use Rattle.pst_value_json.specs.Names.{nid_data, tag_text}
+use Rattle.pst_value_json.specs.Parts.{list_data}
+use Rattle.pst_value_json.specs.Value.{value_data, hex_data}
+
+-- ---- the columns that are shown
+
+-- a column with this tag is among them
+abbrev pub has_tag : ℕ → List ColumnParts → Bool
+has_tag tag columns = list_any (λ c. nat_eq c.tag tag) columns
+
+-- one more, unless an earlier one has its tag
+abbrev pub with_column : List ColumnParts → ColumnParts → List ColumnParts
+with_column shown c = if has_tag c.tag shown then shown else shown ++ c ∷ []
+
+abbrev pub with_columns : List ColumnParts → List ColumnParts → List ColumnParts
+with_columns shown [] = shown
+with_columns shown (c ∷ rest) = with_columns (with_column shown c) rest
+
+-- all columns in order, but for those whose tag an earlier one has
+unfoldable pub distinct_columns : List ColumnParts → List ColumnParts
+distinct_columns columns = with_columns [] columns
+
+-- ---- cells
+
+-- a cell that a row has: the tag and the width of its column, and the bytes of its value
+pub record Cell : Type 0 where
+  pub tag : ℕ
+  pub width : ℕ
+  pub bytes : List ℕ
+
+-- the type of a column
+abbrev pub tag_kind : ℕ → ℕ
+tag_kind tag = tag % 0x10000
+
+-- a value of the column's type, where the column has the width of its type; else only bytes
+abbrev pub cell_value : Cell → Data
+cell_value c =
+    if has_width (cell_width_of (tag_kind c.tag)) c.width then value_data (tag_kind c.tag) c.bytes else hex_data c.bytes
+
+unfoldable pub cell_data : Cell → Data
+cell_data c = object (member (codes "tag") (string (tag_text c.tag)) (member (codes "value") (cell_value c) no_members))
+
+abbrev pub cell_with : ColumnParts → List ℕ → Cell
+cell_with c bytes = record { tag = c.tag; width = c.width; bytes = bytes }
+
+-- the cell of a column, where the row has it
+abbrev pub cell_in : ColumnParts → Option (List ℕ) → List Cell
+cell_in c None = []
+cell_in c (Some bytes) = cell_with c bytes ∷ []
+
+-- the bytes of the cell that the row at a place has in the first column with a tag
+abbrev pub cell_bytes : Table → Roots → ℕ → ℕ → Option (List ℕ)
+cell_bytes t r row tag = option_map (joined_bytes t.image) (tc_cell t r row tag)
+
+-- the cells that it has in these columns
+unfoldable pub cells_of : Table → Roots → ℕ → List ColumnParts → List Cell
+cells_of t r row [] = []
+cells_of t r row (c ∷ rest) = cell_in c (cell_bytes t r row c.tag) ++ cells_of t r row rest
+
+-- ---- rows
+
+-- a row: its cells in these columns, and its identifier
+unfoldable pub row_data : Table → Roots → List ColumnParts → RowParts → Data
+row_data t r columns x =
+    object (member (codes "cells") (list_data cell_data (cells_of t r x.place.at columns)) (member (codes "row") (nid_data x.id) no_members))
+
+-- a row of the table context of a node, with its cells in all columns that are shown
+abbrev pub table_row_data : Table → Roots → RowParts → Data
+table_row_data t r = row_data t r (distinct_columns (tc_columns t r))

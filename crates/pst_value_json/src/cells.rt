@@ -1,0 +1,153 @@
+//! The rows of a table as documents, with the cells that they have.
+
+ghost use Rattle.std.specs.Prelude.{◌≡◌, ◌++◌, false, IfOk, OnOk, map, option_map};
+ghost use Rattle.serde_json.specs.View.{view};
+ghost use Rattle.pst_datatree.specs.Shown.{bytes_in};
+ghost use Rattle.pst_ndb.specs.Views.{table_of_node, roots_of};
+ghost use Rattle.pst_tc.specs.Left.{columns_left};
+ghost use Rattle.pst_tc.specs.Tc.{node_of_tc};
+ghost use Rattle.pst_tc.specs.Values.{tc_columns, tc_rows};
+ghost use Rattle.pst_tc.specs.View.{column_of, row_parts, tc_of_row};
+ghost use Rattle.pst_value_json.specs.Cells.{has_tag, distinct_columns, cell_with, cell_in, cell_bytes, cell_value, cell_data, cells_of, row_data, table_row_data};
+ghost use Rattle.pst_value_json.specs.Line.{rows_text};
+ghost use Rattle.pst_value_json.specs.Parts.{list_data};
+
+use crate::compact::put_row;
+use crate::names::{nid_text, tag_text};
+use crate::value::{hex_doc, value_doc};
+use pst_datatree::Value;
+use pst_tc::{Column, Columns, Row, Tc};
+use pst_value::PropType;
+use serde_json::{Value as Doc, json};
+use std::alloc::{AllocError, Global};
+
+// Whether a column with this tag is among these.
+fn is_among(columns: &[Column], tag: u32) -> bool
+    ensures { result ≡ has_tag tag (map column_of columns.now) }
+{
+    for column in columns {
+        if column.tag == tag {
+            return true;
+        }
+    }
+    false
+}
+
+// All columns in order, but for those whose tag an earlier one has.
+#[tactic(auto, unfolding(crate::specs::Cells::distinct_columns))]
+fn shown_columns(alloc: Global, columns: Columns) -> Result<Vec<Column>, AllocError>
+    ensures { IfOk result (λ v. map column_of v.items ≡ distinct_columns (columns_left columns.entry)) }
+{
+    let mut shown = Vec::new(alloc);
+    for column in columns {
+        if !is_among(&shown, column.tag) {
+            shown.push(column)?;
+        }
+    }
+    Ok(shown)
+}
+
+// The value of a cell.
+fn cell_value_doc(alloc: Global, column: Column, value: Value) -> Result<Doc, AllocError>
+    ensures { IfOk result (λ d. view d ≡ cell_value (cell_with (column_of column) (bytes_in value.entry))) }
+{
+    let kind = PropType((column.tag % 0x1_0000) as u16);
+    if kind.cell_width() == Some(column.width) {
+        value_doc(alloc, kind, value)
+    } else {
+        hex_doc(alloc, value)
+    }
+}
+
+// A cell as an object.
+#[tactic(auto, unfolding(crate::specs::Cells::cell_data))]
+fn cell_doc(alloc: Global, column: Column, value: Value) -> Result<Doc, AllocError>
+    ensures { IfOk result (λ d. view d ≡ cell_data (cell_with (column_of column) (bytes_in value.entry))) }
+{
+    let tag = tag_text(alloc, column.tag)?;
+    let value = cell_value_doc(alloc, column, value)?;
+    json!(in alloc; {"tag": tag, "value": value})
+}
+
+// The value of the cell that a row has in the first column with a tag.
+#[tactic(auto, using(crate::proofs::CellLemmas::value_bytes))]
+fn cell_at<'a>(row: Row<'a>, tag: u32) -> Option<Value<'a>>
+    ensures { let node = node_of_tc (tc_of_row row.entry) in
+        option_map bytes_in result ≡ cell_bytes (table_of_node node) (roots_of node) (row_parts row.entry).place.at tag }
+{
+    row.cell(tag)
+}
+
+// Puts the cell of a column behind others, where the row has it.
+fn push_cell(
+    alloc: Global,
+    column: Column,
+    value: Option<Value>,
+    docs: &mut Vec<Doc>,
+) -> Result<(), AllocError>
+    ensures { let cell = cell_in (column_of column) (option_map bytes_in value.entry) in
+        OnOk result (map view docs.new.items ≡ map view docs.old.items ++ map cell_data cell) }
+{
+    if let Some(value) = value {
+        docs.push(cell_doc(alloc, column, value)?)?;
+    }
+    Ok(())
+}
+
+// The cells that a row has in these columns, as a list of objects.
+#[tactic(auto, using(crate::proofs::CellLemmas::cells_at, crate::proofs::CellLemmas::cells_past))]
+fn cells_doc(alloc: Global, row: Row, columns: &[Column]) -> Result<Doc, AllocError>
+    ensures { let node = node_of_tc (tc_of_row row.entry) in
+        let cells = cells_of (table_of_node node) (roots_of node) (row_parts row.entry).place.at (map column_of columns.now) in
+        IfOk result (λ d. view d ≡ list_data cell_data cells) }
+{
+    let mut docs = Vec::new(alloc);
+    for column in columns {
+        push_cell(alloc, *column, cell_at(row, column.tag), &mut docs)?;
+    }
+    Ok(Doc::from(docs))
+}
+
+// A row as an object.
+#[tactic(auto, unfolding(crate::specs::Cells::row_data))]
+fn row_doc(alloc: Global, row: Row, columns: &[Column]) -> Result<Doc, AllocError>
+    ensures { let node = node_of_tc (tc_of_row row.entry) in
+        IfOk result (λ d. view d ≡ row_data (table_of_node node) (roots_of node) (map column_of columns.now) (row_parts row.entry)) }
+{
+    let cells = cells_doc(alloc, row, columns)?;
+    let id = nid_text(alloc, row.id())?;
+    json!(in alloc; {"cells": cells, "row": id})
+}
+
+/// The rows of a table as a JSON array of objects, in order of their identifiers, each with its cells, in order of the
+/// columns, and its identifier. Cells that a row has not, and columns whose tag an earlier one has, are left out. A cell
+/// has the tag of its column, and its value, as `value_doc` gives it, or, in a column that has not the width of its type,
+/// as `hex_doc` does.
+pub fn table_doc(alloc: Global, tc: &Tc) -> Result<Doc, AllocError>
+    ensures { let node = node_of_tc tc.now in let t = table_of_node node in let r = roots_of node in
+        IfOk result (λ d. view d ≡ list_data (table_row_data t r) (tc_rows t r)) }
+{
+    let columns = shown_columns(alloc, tc.columns())?;
+    let mut docs = Vec::new(alloc);
+    for row in tc.rows() {
+        docs.push(row_doc(alloc, row, &columns)?)?;
+    }
+    Ok(Doc::from(docs))
+}
+
+/// Puts the rows of a table and the bracket that closes their list behind a text.
+#[tactic(auto, using(crate::proofs::RowLemmas::put_next, crate::proofs::RowLemmas::put_end, crate::proofs::CellLemmas::row_has_none))]
+pub fn put_table(alloc: Global, tc: &Tc, text: &mut Vec<u8>) -> Result<(), AllocError>
+    ensures { let node = node_of_tc tc.now in let t = table_of_node node in let r = roots_of node in
+        OnOk result (text.new.items ≡ text.old.items ++ rows_text (table_row_data t r) false (tc_rows t r)) }
+{
+    let columns = shown_columns(alloc, tc.columns())?;
+    let mut later = false;
+    for row in tc.rows() {
+        let doc = row_doc(alloc, row, &columns)?;
+        put_row(alloc, &doc, later, text)?;
+        later = true;
+    }
+    text.push(b']')?;
+    Ok(())
+}

@@ -1,0 +1,75 @@
+//! The text of a document.
+
+ghost use Rattle.std.specs.Prelude.{◌≡◌, ◌++◌, IfOk, OnOk, false};
+ghost use Rattle.serde_json.specs.View.{view};
+ghost use Rattle.serde_json.specs.Written.{compact_text, comma_if, has_float};
+ghost use Rattle.pst_value_json.specs.Line.{line_of, row_text};
+ghost use Rattle.pst_value_json.specs.Names.{nid_data};
+ghost use Rattle.pst_value_json.specs.Parts.{natural};
+
+use crate::names::nid_text;
+use serde_json::Value as Doc;
+use std::alloc::{AllocError, Global};
+
+/// A document's compact text, and a line feed. Nothing is said of a document with a floating-point number.
+#[tactic(auto, unfolding(crate::specs::Line::line_of))]
+pub fn text(alloc: Global, doc: &Doc) -> Result<Vec<u8>, AllocError>
+    ensures { IfOk result (λ t. has_float (view doc.now) ≡ false → t.items ≡ line_of (view doc.now)) }
+{
+    let mut text = doc.to_vec(alloc)?;
+    text.push(b'\n')?;
+    Ok(text)
+}
+
+/// The line that shows a document, which has no floating-point number.
+pub fn line(alloc: Global, doc: &Doc) -> Result<Vec<u8>, AllocError>
+    requires { has_float (view doc.now) ≡ false }
+    ensures { IfOk result (λ t. t.items ≡ line_of (view doc.now)) }
+{
+    text(alloc, doc)
+}
+
+/// Puts a comma behind a text where something stands there.
+pub fn put_comma(later: bool, text: &mut Vec<u8>) -> Result<(), AllocError>
+    ensures { OnOk result (text.new.items ≡ text.old.items ++ comma_if later) }
+{
+    if later {
+        text.push(b',')?;
+    }
+    Ok(())
+}
+
+/// Puts the text of a document behind a text.
+pub fn put_doc(alloc: Global, doc: &Doc, text: &mut Vec<u8>) -> Result<(), AllocError>
+    requires { has_float (view doc.now) ≡ false }
+    ensures { OnOk result (text.new.items ≡ text.old.items ++ compact_text (view doc.now)) }
+{
+    let more = doc.to_vec(alloc)?;
+    text.extend_from_slice(&more)?;
+    Ok(())
+}
+
+/// Puts a number behind a text.
+pub fn put_natural(alloc: Global, n: u64, text: &mut Vec<u8>) -> Result<(), AllocError>
+    ensures { OnOk result (text.new.items ≡ text.old.items ++ compact_text (natural n)) }
+{
+    put_doc(alloc, &Doc::from(n), text)
+}
+
+/// Puts a node's identifier behind a text.
+pub fn put_nid(alloc: Global, nid: u32, text: &mut Vec<u8>) -> Result<(), AllocError>
+    ensures { OnOk result (text.new.items ≡ text.old.items ++ compact_text (nid_data nid)) }
+{
+    let doc = Doc::from(nid_text(alloc, nid)?);
+    put_doc(alloc, &doc, text)
+}
+
+/// Puts an item of a list behind a text, and a comma before it where others stand there.
+#[tactic(auto, unfolding(crate::specs::Line::row_text))]
+pub fn put_row(alloc: Global, doc: &Doc, later: bool, text: &mut Vec<u8>) -> Result<(), AllocError>
+    requires { has_float (view doc.now) ≡ false }
+    ensures { OnOk result (text.new.items ≡ text.old.items ++ row_text (view doc.now) later) }
+{
+    put_comma(later, text)?;
+    put_doc(alloc, doc, text)
+}
