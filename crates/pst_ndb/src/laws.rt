@@ -16,6 +16,6 @@ pub fn counts_agree()
 
 /// Nodes are listed exactly where the file has a good header and two trees without fault whose pages have no byte in
 /// common; and they are the entries of the node B-tree from left to right.
-pub fn nodes_decide()
+pub fn listing_decides()
     ensures { ListingLaw }
 {}

@@ -13,7 +13,7 @@ mod trees;
 
 pub use check::{Checked, Work, check_ndb};
 pub use each::Nodes;
-pub use laws::{counts_agree, database_decides, nodes_decide};
+pub use laws::{counts_agree, database_decides, listing_decides};
 pub use ndb::Ndb;
 pub use node::Node;
 pub use trees::read_nodes;

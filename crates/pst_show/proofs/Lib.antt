@@ -1,6 +1,5 @@
 pub mod AnswerLemmas
 pub mod CommandLaws
-pub mod ListingLemmas
 pub mod Loading
 pub mod NidLemmas
 pub mod WordLemmas

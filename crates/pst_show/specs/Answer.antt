@@ -9,6 +9,7 @@ use Rattle.pst_page.specs.declared.entry.NodeEntry.{NodeEntry}
 use Rattle.pst_block.specs.Table.{Table}
 use Rattle.pst_json.specs.pst_ndb.Database.{blocks_in}
 use Rattle.pst_json.specs.pst_ndb.Roots.{all_roots}
+use Rattle.pst_json.specs.pst_ndb.Trees.{listed_nodes}
 use Rattle.pst_json.specs.pst_msg.Values.{is_folder, is_message}
 use Rattle.pst_json.specs.pst_store.Fault.{store_fault}
 use Rattle.pst_json.specs.pst_store.Parts.{table_in, entries_in}
@@ -27,7 +28,6 @@ use Rattle.pst_show.specs.declared.ask.Ask.{Ask}
 use Rattle.pst_show.specs.declared.ask.Ask.TheVariants.{Check, Head, Nodes, Folders, Contents, Props}
 use Rattle.pst_show.specs.declared.refusal.Refusal.{Refusal}
 use Rattle.pst_show.specs.declared.refusal.Refusal.TheVariants as refusal
-use Rattle.pst_show.specs.Nodes.{nodes_of}
 use Rattle.pst_show.specs.Refusal.{refusal_of, refusal_for}
 
 -- ---- what is shown: a text, and whether the run ends with status 1 all the same
@@ -92,7 +92,7 @@ line_of_node nid (Err f) = Err (refusal_for nid f)
 unfoldable pub answer_to : Ask → List ℕ → Result Told Refusal
 answer_to (Check strict) I = of_store (store_fault I) (Ok (report_told strict (report_in I)))
 answer_to Head I = line_or_fault head_line (answer (header_fault I) (fields I))
-answer_to Nodes I = line_or_fault nodes_line (nodes_of I)
+answer_to Nodes I = line_or_fault nodes_line (listed_nodes I)
 answer_to Folders I = of_store (store_fault I) (Ok (plain (folders_line (table_of_file I) (entries_of_file I))))
 answer_to (Contents nid) I = of_store (store_fault I) (line_of_node nid (contents_line (table_of_file I) (entries_of_file I) nid))
 answer_to (Props nid) I = of_store (store_fault I) (line_of_node nid (props_line (table_of_file I) (entries_of_file I) nid))

@@ -1,9 +1,7 @@
 pub mod Answer
 pub mod Ask
-pub mod Listing
 pub mod Loading
 pub mod Nid
-pub mod Nodes
 pub mod Refusal
 pub mod Run
 pub mod Verbs

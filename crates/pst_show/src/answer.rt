@@ -3,11 +3,11 @@
 ghost use Rattle.pst_show.specs.Answer.{Gives, answer_to};
 
 use crate::ask::Ask;
-use crate::nodes::read_nodes;
 use crate::refusal::Refusal;
 use pst_bytes::Image;
 use pst_header::read_header;
 use pst_json::{check_line, contents_line, folders_line, head_line, nodes_line, props_line};
+use pst_json::ndb::read_nodes;
 use pst_json::verify::verify;
 use std::alloc::Global;
 

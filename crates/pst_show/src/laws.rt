@@ -1,16 +1,9 @@
 //! Laws of the words and of what is shown, each the contract of a function that does nothing.
 
-ghost use Rattle.pst_show.specs.Listing.{ListingLaw};
 ghost use Rattle.pst_show.specs.Words.{WordsLaw};
 
 /// The words of each command are accepted, and ask for what it shows of the file that they name, whatever its name, if it begins
 /// with no hyphen.
 pub fn commands_are_asked()
     ensures { WordsLaw }
-{}
-
-/// Nodes are listed exactly where the file has a good header and two trees without fault whose pages have no byte in
-/// common; and they are the entries of the node B-tree from left to right.
-pub fn nodes_decides()
-    ensures { ListingLaw }
 {}

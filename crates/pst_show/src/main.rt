@@ -6,7 +6,6 @@ mod ask;
 mod input;
 mod laws;
 mod nid;
-mod nodes;
 mod refusal;
 mod run;
 mod source;

@@ -1,5 +1,5 @@
 use Rattle.pst_ndb.proofs.ListingLaws.{listing_law}
-use Rattle.pst_ndb.proofs.laws.nodes_decide.Goals as goal
+use Rattle.pst_ndb.proofs.laws.listing_decides.Goals as goal
 
 pub returns : goal.returns
 returns c = listing_law
