@@ -39,7 +39,8 @@ pub fn nodes_doc(alloc: Global, tree: &NodeTree) -> Result<Doc, AllocError>
 // Puts the nodes and the bracket that closes their list behind a text.
 #[tactic(auto, using(pst_value_json::proofs::RowLemmas::put_next, pst_value_json::proofs::RowLemmas::put_end, crate::proofs::NodeLemmas::node_has_none))]
 fn put_nodes(alloc: Global, tree: &NodeTree, text: &mut Vec<u8>) -> Result<(), AllocError>
-    ensures { OnOk result (text.new.items ≡ text.old.items ++ rows_text node_data false (node_entries tree.now)) }
+    ensures { OnOk result (text.new.items ≡
+        text.old.items ++ rows_text node_data false (node_entries tree.now)) }
 {
     let mut later = false;
     for entry in tree.nodes() {

@@ -70,9 +70,12 @@ impl<'a> Store<'a> {
 
     /// The node with an identifier; None exactly where the store has none.
     pub fn node(&self, nid: u32) -> Option<Node<'a>>
-        ensures roots { option_map roots_of result ≡ node_in (nodes_of (ndb_of_store self.now)) nid }
-        ensures image { IfSome result (λ n. image_of_node n ≡ image_of_ndb (ndb_of_store self.now)) }
-        ensures table { IfSome result (λ n. table_of_node n ≡ table_of_ndb (ndb_of_store self.now)) }
+        ensures roots { option_map roots_of result ≡
+            node_in (nodes_of (ndb_of_store self.now)) nid }
+        ensures image { IfSome result (λ n.
+            image_of_node n ≡ image_of_ndb (ndb_of_store self.now)) }
+        ensures table { IfSome result (λ n.
+            table_of_node n ≡ table_of_ndb (ndb_of_store self.now)) }
         ensures top { IfSome result (λ n. top_of n ≡ nid) }
         ensures nid { IfSome result (λ n. nid_of n ≡ nid) }
     {

@@ -56,7 +56,8 @@ impl<'a> Front<'a> {
     pub(crate) fn is_sound(&self)
         ensures is { let node = node_of_tc (front_tc self.now) in
             front_item self.now ≡ info_of (table_of_node node) (roots_of node) }
-        ensures inside { IsInside (table_of_node (node_of_tc (front_tc self.now))).image (front_item self.now) }
+        ensures inside { IsInside (table_of_node (node_of_tc (front_tc self.now))).image
+            (front_item self.now) }
         ensures sound { let node = node_of_tc (front_tc self.now) in
             tc_body_fault (table_of_node node) (roots_of node) (front_item self.now) ≡ None }
     {}

@@ -36,7 +36,8 @@ fn is_among(columns: &[Column], tag: u32) -> bool
 // All columns in order, but for those whose tag an earlier one has.
 #[tactic(auto, unfolding(crate::specs::Cells::distinct_columns))]
 fn shown_columns(alloc: Global, columns: Columns) -> Result<Vec<Column>, AllocError>
-    ensures { IfOk result (λ v. map column_of v.items ≡ distinct_columns (columns_left columns.entry)) }
+    ensures { IfOk result (λ v.
+        map column_of v.items ≡ distinct_columns (columns_left columns.entry)) }
 {
     let mut shown = Vec::new(alloc);
     for column in columns {
@@ -49,7 +50,8 @@ fn shown_columns(alloc: Global, columns: Columns) -> Result<Vec<Column>, AllocEr
 
 // The value of a cell.
 fn cell_value_doc(alloc: Global, column: Column, value: Value) -> Result<Doc, AllocError>
-    ensures { IfOk result (λ d. view d ≡ cell_value (cell_with (column_of column) (bytes_in value.entry))) }
+    ensures { IfOk result (λ d.
+        view d ≡ cell_value (cell_with (column_of column) (bytes_in value.entry))) }
 {
     let kind = PropType((column.tag % 0x1_0000) as u16);
     if kind.cell_width() == Some(column.width) {
@@ -62,7 +64,8 @@ fn cell_value_doc(alloc: Global, column: Column, value: Value) -> Result<Doc, Al
 // A cell as an object.
 #[tactic(auto, unfolding(crate::specs::Cells::cell_data))]
 fn cell_doc(alloc: Global, column: Column, value: Value) -> Result<Doc, AllocError>
-    ensures { IfOk result (λ d. view d ≡ cell_data (cell_with (column_of column) (bytes_in value.entry))) }
+    ensures { IfOk result (λ d.
+        view d ≡ cell_data (cell_with (column_of column) (bytes_in value.entry))) }
 {
     let tag = tag_text(alloc, column.tag)?;
     let value = cell_value_doc(alloc, column, value)?;

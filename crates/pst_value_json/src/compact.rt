@@ -14,7 +14,8 @@ use std::alloc::{AllocError, Global};
 /// A document's compact text, and a line feed. Nothing is said of a document with a floating-point number.
 #[tactic(auto, unfolding(crate::specs::Line::line_of))]
 pub fn text(alloc: Global, doc: &Doc) -> Result<Vec<u8>, AllocError>
-    ensures { IfOk result (λ t. has_float (view doc.now) ≡ false → t.items ≡ line_of (view doc.now)) }
+    ensures { IfOk result (λ t.
+        has_float (view doc.now) ≡ false → t.items ≡ line_of (view doc.now)) }
 {
     let mut text = doc.to_vec(alloc)?;
     text.push(b'\n')?;

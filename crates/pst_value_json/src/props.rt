@@ -51,7 +51,8 @@ pub fn pc_doc(alloc: Global, pc: &Pc) -> Result<Doc, AllocError>
 /// Puts properties and the bracket that closes their list behind a text.
 #[tactic(auto, using(crate::proofs::RowLemmas::put_next, crate::proofs::RowLemmas::put_end, crate::proofs::PropLemmas::prop_has_none))]
 pub fn put_props(alloc: Global, props: Props, text: &mut Vec<u8>) -> Result<(), AllocError>
-    ensures { OnOk result (text.new.items ≡ text.old.items ++ rows_text prop_data false (props_left props.entry)) }
+    ensures { OnOk result (text.new.items ≡
+        text.old.items ++ rows_text prop_data false (props_left props.entry)) }
 {
     let mut later = false;
     for prop in props {

@@ -73,7 +73,8 @@ pub(crate) fn bytes_or_null_doc(alloc: Global, value: Value) -> Result<Doc, Allo
 
 /// A signed number of 2 bytes.
 pub(crate) fn i16_doc(alloc: Global, value: Value) -> Result<Doc, AllocError>
-    ensures { IfOk result (λ d. view d ≡ or_hex integer (exactly 2 i16_of (bytes_in value.entry)) (bytes_in value.entry)) }
+    ensures { IfOk result (λ d.
+        view d ≡ or_hex integer (exactly 2 i16_of (bytes_in value.entry)) (bytes_in value.entry)) }
 {
     match as_i16(value) {
         Some(n) => Ok(Doc::from(n)),
@@ -83,7 +84,8 @@ pub(crate) fn i16_doc(alloc: Global, value: Value) -> Result<Doc, AllocError>
 
 /// A signed number of 4 bytes.
 pub(crate) fn i32_doc(alloc: Global, value: Value) -> Result<Doc, AllocError>
-    ensures { IfOk result (λ d. view d ≡ or_hex integer (exactly 4 i32_of (bytes_in value.entry)) (bytes_in value.entry)) }
+    ensures { IfOk result (λ d.
+        view d ≡ or_hex integer (exactly 4 i32_of (bytes_in value.entry)) (bytes_in value.entry)) }
 {
     match as_i32(value) {
         Some(n) => Ok(Doc::from(n)),
@@ -93,7 +95,8 @@ pub(crate) fn i32_doc(alloc: Global, value: Value) -> Result<Doc, AllocError>
 
 /// A signed number of 8 bytes.
 pub(crate) fn i64_doc(alloc: Global, value: Value) -> Result<Doc, AllocError>
-    ensures { IfOk result (λ d. view d ≡ or_hex integer (exactly 8 i64_of (bytes_in value.entry)) (bytes_in value.entry)) }
+    ensures { IfOk result (λ d.
+        view d ≡ or_hex integer (exactly 8 i64_of (bytes_in value.entry)) (bytes_in value.entry)) }
 {
     match as_i64(value) {
         Some(n) => Ok(Doc::from(n)),
@@ -103,7 +106,8 @@ pub(crate) fn i64_doc(alloc: Global, value: Value) -> Result<Doc, AllocError>
 
 /// A number of 4 bytes.
 pub(crate) fn u32_doc(alloc: Global, value: Value) -> Result<Doc, AllocError>
-    ensures { IfOk result (λ d. view d ≡ or_hex natural (exactly 4 u32_of (bytes_in value.entry)) (bytes_in value.entry)) }
+    ensures { IfOk result (λ d.
+        view d ≡ or_hex natural (exactly 4 u32_of (bytes_in value.entry)) (bytes_in value.entry)) }
 {
     match as_u32(value) {
         Some(n) => Ok(Doc::from(n)),
@@ -113,7 +117,8 @@ pub(crate) fn u32_doc(alloc: Global, value: Value) -> Result<Doc, AllocError>
 
 /// A number of 8 bytes.
 pub(crate) fn u64_doc(alloc: Global, value: Value) -> Result<Doc, AllocError>
-    ensures { IfOk result (λ d. view d ≡ or_hex natural (exactly 8 u64_of (bytes_in value.entry)) (bytes_in value.entry)) }
+    ensures { IfOk result (λ d.
+        view d ≡ or_hex natural (exactly 8 u64_of (bytes_in value.entry)) (bytes_in value.entry)) }
 {
     match as_u64(value) {
         Some(n) => Ok(Doc::from(n)),
@@ -123,7 +128,8 @@ pub(crate) fn u64_doc(alloc: Global, value: Value) -> Result<Doc, AllocError>
 
 /// A truth value.
 pub(crate) fn bool_doc(alloc: Global, value: Value) -> Result<Doc, AllocError>
-    ensures { IfOk result (λ d. view d ≡ or_hex boolean (exactly 1 bool_of (bytes_in value.entry)) (bytes_in value.entry)) }
+    ensures { IfOk result (λ d.
+        view d ≡ or_hex boolean (exactly 1 bool_of (bytes_in value.entry)) (bytes_in value.entry)) }
 {
     match as_bool(value) {
         Some(truth) => Ok(Doc::from(truth)),
@@ -133,7 +139,8 @@ pub(crate) fn bool_doc(alloc: Global, value: Value) -> Result<Doc, AllocError>
 
 /// A GUID.
 pub(crate) fn guid_doc(alloc: Global, value: Value) -> Result<Doc, AllocError>
-    ensures { IfOk result (λ d. view d ≡ or_hex guid_data (exactly 16 guid_of (bytes_in value.entry)) (bytes_in value.entry)) }
+    ensures { IfOk result (λ d. view d ≡
+        or_hex guid_data (exactly 16 guid_of (bytes_in value.entry)) (bytes_in value.entry)) }
 {
     match as_guid(value) {
         Some(guid) => Ok(Doc::from(format!(in alloc; "{guid}")?)),
@@ -151,7 +158,8 @@ fn nid_and_size_doc(alloc: Global, nid: u32, size: u32) -> Result<Doc, AllocErro
 
 /// An object.
 pub(crate) fn object_doc(alloc: Global, value: Value) -> Result<Doc, AllocError>
-    ensures { IfOk result (λ d. view d ≡ or_hex object_data (object_of (bytes_in value.entry)) (bytes_in value.entry)) }
+    ensures { IfOk result (λ d.
+        view d ≡ or_hex object_data (object_of (bytes_in value.entry)) (bytes_in value.entry)) }
 {
     match as_object(value) {
         Some((nid, size)) => nid_and_size_doc(alloc, nid, size),
