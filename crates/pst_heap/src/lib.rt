@@ -18,7 +18,7 @@ mod told;
 pub use check::{SPANS, check_client, check_heap, known_heap};
 pub use heap::Heap;
 pub use laws::{heap_decides, items_lie_in_spans};
-pub use pst_ndb as ndb;
+pub use pst_ndb::check_ndb;
 pub use told::told_of;
 
 #[cfg(test)]

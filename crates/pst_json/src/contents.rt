@@ -20,10 +20,8 @@ ghost use Rattle.pst_json.specs.Told.{TellsDoc};
 
 use crate::fault::DocFault;
 use crate::texts::{CLASS, SENDER, SUBJECT, text_property_doc};
-use pst_value_json::tc::{Row, Rows, Tc};
-use pst_value_json::{nid_text, put_nid, put_row};
-use pst_verify::msg::{FOLDER, Message, is_type};
-use pst_verify::store::Store;
+use pst_value_json::{Row, Rows, Tc, nid_text, put_nid, put_row};
+use pst_verify::{FOLDER, Message, Store, is_type};
 use serde_json::{Value as Doc, json};
 use std::alloc::{AllocError, Global};
 

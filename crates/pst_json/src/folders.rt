@@ -14,10 +14,8 @@ ghost use Rattle.pst_value_json.specs.Line.{rows_text};
 ghost use Rattle.pst_value_json.specs.Parts.{list_data};
 
 use crate::texts::{NAME, text_property_doc};
-use pst_value_json::tc::{Tc, tc_ids_rise};
-use pst_value_json::{nid_text, put_row};
-use pst_verify::msg::Folder;
-use pst_verify::store::{Folders, Store};
+use pst_value_json::{Tc, nid_text, put_row, tc_ids_rise};
+use pst_verify::{Folder, Folders, Store};
 use serde_json::{Value as Doc, json};
 use std::alloc::{AllocError, Global};
 

@@ -29,9 +29,9 @@ pub use node::props_doc;
 pub use node_line::props_line;
 pub use nodes::{nodes_doc, nodes_line};
 pub use output::{EmitFault, emit};
-pub use pst_ndb as ndb;
+pub use pst_ndb::read_nodes;
 pub use pst_value_json::{hex_doc, pc_doc, table_doc, text, value_doc};
-pub use pst_verify as verify;
+pub use pst_verify::verify;
 
 #[cfg(test)]
 mod tests;

@@ -16,11 +16,8 @@ ghost use Rattle.pst_json.specs.Told.{TellsDoc};
 
 use crate::fault::DocFault;
 use pst_ndb::Node;
-use pst_value_json::pc::{Pc, check_pc};
-use pst_value_json::tc::Tc;
-use pst_value_json::{nid_or_null_doc, nid_text, pc_doc, table_doc};
-use pst_verify::msg::{Attachment, Attachments, Message, is_message};
-use pst_verify::store::Store;
+use pst_value_json::{Pc, Tc, check_pc, nid_or_null_doc, nid_text, pc_doc, table_doc};
+use pst_verify::{Attachment, Attachments, Message, Store, is_message};
 use serde_json::{Value as Doc, json};
 use std::alloc::{AllocError, Global};
 

@@ -18,11 +18,8 @@ ghost use Rattle.pst_json.specs.Told.{TellsDoc};
 
 use crate::fault::DocFault;
 use crate::node::{Found, embedded_nid, found_in};
-use pst_value_json::pc::Pc;
-use pst_value_json::tc::Tc;
-use pst_value_json::{nid_or_null_doc, put_comma, put_doc, put_nid, put_props, put_table};
-use pst_verify::msg::{Attachment, Attachments, Message};
-use pst_verify::store::Store;
+use pst_value_json::{Pc, Tc, nid_or_null_doc, put_comma, put_doc, put_nid, put_props, put_table};
+use pst_verify::{Attachment, Attachments, Message, Store};
 use std::alloc::{AllocError, Global};
 
 // What stands before the properties of an attachment.

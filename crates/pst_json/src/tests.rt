@@ -10,7 +10,7 @@ use pst_header::read_header;
 use pst_make::m0;
 use pst_ndb::{Ndb, check_ndb};
 use pst_space::Claims;
-use pst_value_json::pc::check_pc;
+use pst_value_json::check_pc;
 use std::alloc::Global;
 use std::process::Abort;
 use std::test::Fail;

@@ -6,9 +6,7 @@ ghost use Rattle.pst_ndb.specs.Views.{table_of_node, roots_of};
 ghost use Rattle.pst_value_json.specs.pst_pc.View.{node_of_pc};
 ghost use Rattle.pst_json.specs.Folders.{text_property};
 
-use pst_value_json::pc::Pc;
-use pst_value_json::text_doc;
-use pst_value_json::values::PropType;
+use pst_value_json::{Pc, PropType, text_doc};
 use serde_json::Value as Doc;
 use std::alloc::{AllocError, Global};
 

@@ -17,4 +17,3 @@ pub mod OneCount
 pub mod ViewLemmas
 pub mod FolderLemmas
 pub use Rattle.pst_pc.proofs as pst_pc
-pub use Rattle.pst_tc.proofs as pst_tc

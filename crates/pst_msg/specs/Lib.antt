@@ -14,4 +14,3 @@ pub mod Shown
 pub mod Left
 pub mod View
 pub use Rattle.pst_pc.specs as pst_pc
-pub use Rattle.pst_tc.specs as pst_tc

@@ -37,8 +37,8 @@ pub use laws::{
 pub use message_view::Message;
 pub use nid::{ASSOCIATED, FOLDER, MESSAGE, ROOT, SEARCH_FOLDER, STORE, is_type};
 pub use object::Object;
-pub use pst_pc as pc;
-pub use pst_tc as tc;
+pub use pst_pc::{Pc, known_pc};
+pub use pst_tc::Tc;
 pub use role::Role;
 pub use views::{known_folder, known_message, nodes_decide};
 

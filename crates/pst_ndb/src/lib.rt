@@ -16,8 +16,8 @@ pub use each::Nodes;
 pub use laws::{counts_agree, database_decides, listing_decides};
 pub use ndb::Ndb;
 pub use node::Node;
+pub use pst_subnode::SubIndex;
 pub use trees::read_nodes;
-pub use pst_subnode as subnode;
 
 #[cfg(test)]
 mod tests;

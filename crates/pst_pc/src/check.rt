@@ -18,8 +18,7 @@ use pst_bth::{Bth, check_bth_at};
 use pst_bytes::Span;
 use pst_fault::Fault;
 use pst_heap::{Heap, check_client, check_heap};
-use pst_ndb::Node;
-use pst_ndb::subnode::SubIndex;
+use pst_ndb::{Node, SubIndex};
 use pst_value::{PropType, resolve_by};
 
 // The value of a record.

@@ -6,9 +6,9 @@ use crate::ask::Ask;
 use crate::refusal::Refusal;
 use pst_bytes::Image;
 use pst_header::read_header;
-use pst_json::{check_line, contents_line, folders_line, head_line, nodes_line, props_line};
-use pst_json::ndb::read_nodes;
-use pst_json::verify::verify;
+use pst_json::{
+    check_line, contents_line, folders_line, head_line, nodes_line, props_line, read_nodes, verify,
+};
 use std::alloc::Global;
 
 /// What a command shows.

@@ -19,7 +19,10 @@ mod store;
 pub use folders::Folders;
 pub use laws::store_decides;
 pub use messages::Messages;
-pub use pst_msg as msg;
+pub use pst_msg::{
+    Attachment, Attachments, FOLDER, Folder, Message, check_messaging, is_folder, is_message,
+    is_type,
+};
 pub use store::Store;
 
 #[cfg(test)]

@@ -8,8 +8,9 @@ ghost use Rattle.pst_store.specs.Fault.{store_fault};
 
 use crate::folders::Folders;
 use crate::messages::Messages;
-use pst_msg::pc::{Pc, known_pc};
-use pst_msg::{Folder, Message, ROOT, STORE, is_folder, is_message, known_folder, known_message};
+use pst_msg::{
+    Folder, Message, Pc, ROOT, STORE, is_folder, is_message, known_folder, known_message, known_pc,
+};
 use pst_ndb::{Ndb, Node};
 
 /// A store: its file has no fault.

@@ -23,8 +23,7 @@ use pst_bth::{Bth, check_bth_at};
 use pst_bytes::Span;
 use pst_fault::{Fault, Kind};
 use pst_heap::{Heap, check_client, check_heap, told_of};
-use pst_ndb::Node;
-use pst_ndb::subnode::SubIndex;
+use pst_ndb::{Node, SubIndex};
 use pst_value::{PropType, missing_at, resolve_by};
 
 // The cell of a column in a row.

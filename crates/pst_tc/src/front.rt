@@ -15,7 +15,7 @@ use crate::tc::Tc;
 use pst_bth::{Bth, known_bth};
 use pst_bytes::{Image, Span};
 use pst_heap::Heap;
-use pst_ndb::subnode::SubIndex;
+use pst_ndb::SubIndex;
 
 /// TCINFO of a table context, looked up once.
 #[derive(Clone, Copy)]

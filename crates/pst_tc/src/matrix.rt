@@ -11,7 +11,7 @@ ghost use Rattle.pst_tc.specs.Matrix.{matrix_row, LiesIn};
 use crate::blocks::Blocks;
 use pst_bytes::{Image, Span};
 use pst_heap::Heap;
-use pst_ndb::subnode::SubIndex;
+use pst_ndb::SubIndex;
 
 // Where the rows of a table lie: nowhere, in an item of the heap, or in the blocks of a subnode.
 #[derive(Clone, Copy)]

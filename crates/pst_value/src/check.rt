@@ -17,8 +17,7 @@ use pst_bytes::Span;
 use pst_datatree::{Value, value_at};
 use pst_fault::{Fault, Kind};
 use pst_heap::{Heap, told_of};
-use pst_ndb::Node;
-use pst_ndb::subnode::SubIndex;
+use pst_ndb::{Node, SubIndex};
 
 // How many bytes of a raw span with so many are the value; None where an HNID stands there.
 #[tactic(auto, unfolding(crate::specs::Values::held_of))]

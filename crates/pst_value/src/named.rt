@@ -10,7 +10,7 @@ ghost use Rattle.pst_value.specs.View.{IsValueOf};
 use pst_datatree::{Value, empty_value, value_at};
 use pst_fault::{Fault, Kind};
 use pst_heap::Heap;
-use pst_ndb::subnode::SubIndex;
+use pst_ndb::SubIndex;
 
 /// What an HNID names, as `named_value` gives it, a subnode found by an index.
 #[tactic(auto, unfolding(crate::specs::Values::hnid_spans))]

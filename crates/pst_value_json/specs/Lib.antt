@@ -6,6 +6,5 @@ pub mod Form
 pub mod Value
 pub mod Props
 pub mod Cells
-pub use Rattle.pst_value.specs as pst_value
 pub use Rattle.pst_pc.specs as pst_pc
 pub use Rattle.pst_tc.specs as pst_tc

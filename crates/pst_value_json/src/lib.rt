@@ -24,9 +24,9 @@ pub use cells::{put_table, table_doc};
 pub use compact::{line, put_comma, put_doc, put_natural, put_nid, put_row, text};
 pub use names::{nid_or_null_doc, nid_text};
 pub use props::{pc_doc, put_props};
-pub use pst_pc as pc;
-pub use pst_tc as tc;
-pub use pst_value as values;
+pub use pst_pc::{Pc, check_pc};
+pub use pst_tc::{Row, Rows, Tc, check_tc, tc_ids_rise};
+pub use pst_value::PropType;
 pub use scalar::text_doc;
 pub use value::{hex_doc, value_doc};
 

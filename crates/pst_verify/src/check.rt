@@ -26,8 +26,7 @@ use pst_amap::MapReport;
 use pst_bytes::Image;
 use pst_fault::Fault;
 use pst_ndb::{Ndb, Work, check_ndb};
-use pst_store::Store;
-use pst_store::msg::check_messaging;
+use pst_store::{Store, check_messaging};
 use std::alloc::Global;
 
 /// What is found in a file that is a store.

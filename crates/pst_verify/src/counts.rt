@@ -7,7 +7,7 @@ ghost use Rattle.pst_store.specs.pst_msg.Values.{is_folder as folder_kind, is_me
 ghost use Rattle.pst_verify.specs.Counts.{count_of};
 
 use pst_ndb::Ndb;
-use pst_store::msg::{is_folder, is_message};
+use pst_store::{is_folder, is_message};
 
 /// How many nodes there are, and how many of them are folders and messages.
 #[derive(Clone, Copy, Debug, PartialEq, Eq)]

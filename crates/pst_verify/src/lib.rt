@@ -8,8 +8,9 @@ mod counts;
 mod report;
 
 pub use check::{Verified, verify};
-pub use pst_store as store;
-pub use pst_store::msg;
+pub use pst_store::{
+    Attachment, Attachments, FOLDER, Folder, Folders, Message, Store, is_message, is_type,
+};
 pub use report::Report;
 
 #[cfg(test)]

@@ -2,7 +2,7 @@
 
 use super::*;
 use pst_make::{build, m1_plan};
-use pst_value_json::tc::check_tc;
+use pst_value_json::check_tc;
 
 // Bytes set from an offset of the table's block on.
 type Change = (usize, &'static [u8]);

@@ -3,7 +3,7 @@
 use super::*;
 use pst_datatree::Value;
 use pst_make::{BlockPlan, NodePlan, Plan, build};
-use pst_value_json::values::PropType;
+use pst_value_json::PropType;
 
 // A type, the bytes of a value, and the JSON value.
 type Row = (u16, &'static [u8], &'static str);

@@ -2,7 +2,7 @@
 
 use super::bodies::EMBEDS;
 use super::{Store, image, store_of};
-use pst_msg::tc::Tc;
+use pst_msg::Tc;
 use std::alloc::Global;
 use std::test::Fail;
 
