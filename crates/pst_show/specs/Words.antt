@@ -75,13 +75,14 @@ pub record IsAsked (words : List Text) (a : Asked) : Type 0 where
   pub accepted : fault_of show_app words ≡ []
   pub is : asked words ≡ Ok a
 
--- a word that begins with no hyphen
+-- a word that begins with no hyphen, or is one
 abbrev pub IsNoOption : Text → Type 0
 IsNoOption [] = ⊤
-IsNoOption (b ∷ rest) = b ≢ 45
+IsNoOption (b ∷ []) = ⊤
+IsNoOption (b ∷ c ∷ rest) = b ≢ 45
 
--- Each command and a file, whatever its name, if it begins with no hyphen, are accepted, and ask for what the command shows of
--- that file; of `contents` and `props` with the identifier of a node behind the file.
+-- Each command and a file, whatever its name, if it begins with no hyphen, or is one, are accepted, and ask for what the command
+-- shows of that file; of `contents` and `props` with the identifier of a node behind the file.
 pub record WordsLaw : Type 0 where
   pub check : (file : Text) → IsNoOption file → IsAsked (codes "check" ∷ file ∷ []) (asked_of (ask.Check false) file)
   pub strict : (file : Text) → IsNoOption file → IsAsked (codes "check" ∷ codes "--strict" ∷ file ∷ []) (asked_of (ask.Check true) file)
