@@ -1,12 +1,15 @@
 //! What the words after the program's name ask for.
 
+mod help;
+
 ghost use Rattle.std.specs.Prelude.{◌≡◌, IfOk, IfErr, false};
 ghost use Rattle.clap.specs.Words.{FailsBy, HasMatchesOf, app_of, fault_of, rule_of};
 ghost use Rattle.pst_show.specs.Ask.{order_of};
-ghost use Rattle.pst_show.specs.Words.{AddsAs, file_rule, node_rule, strict_rule, app_taking, base, with_verb, show_app, texts, IsAsked, Declines};
+ghost use Rattle.pst_show.specs.Words.{AddsAs, file_rule, node_rule, strict_rule, app_for, base, with_verb, show_app, texts, IsAsked, Declines};
 
 use crate::ask::{Lack, Order, order_in};
 use crate::verb::{Takes, Verb};
+use crate::words::help::{PROGRAM, ending_of};
 use clap::{Arg, ArgAction, ArgMatches, Command, Error};
 use std::alloc::{AllocError, Global};
 
@@ -28,7 +31,7 @@ fn file_arg<'a>(alloc: Global) -> Arg<'a>
     ensures local { result.global ≡ false }
 {
     Arg::new(alloc, "FILE")
-        .help("The file to read")
+        .help("The file to read, or - for standard input")
         .required(true)
 }
 
@@ -53,16 +56,14 @@ fn strict_arg<'a>(alloc: Global) -> Arg<'a>
         .action(ArgAction::SetTrue)
 }
 
-// A command of a name, and what stands behind that.
-fn command_taking<'a>(
-    alloc: Global,
-    takes: Takes,
-    name: &'a str,
-    about: &'a str,
-) -> Result<Command<'a>, AllocError>
-    ensures { IfOk result (AddsAs (app_taking takes name.entry.now).top) }
+// A command.
+fn command_for<'a>(alloc: Global, verb: Verb) -> Result<Command<'a>, AllocError>
+    ensures { IfOk result (AddsAs (app_for verb).top) }
 {
-    let command = Command::new(alloc, name).about(about);
+    let (name, about, takes) = verb.line();
+    let command = Command::new(alloc, name)
+        .about(about)
+        .after_help(ending_of(verb));
     match takes {
         Takes::File => command.arg(file_arg(alloc)),
         Takes::Strict => command.arg(strict_arg(alloc))?.arg(file_arg(alloc)),
@@ -78,8 +79,7 @@ fn with_command<'a>(
 ) -> Result<Command<'a>, AllocError>
     ensures { IfOk result (λ c. app_of c ≡ with_verb (app_of program.entry) verb) }
 {
-    let (name, about, takes) = verb.line();
-    program.subcommand(command_taking(alloc, takes, name, about)?)
+    program.subcommand(command_for(alloc, verb)?)
 }
 
 // The program without its commands.
@@ -89,6 +89,7 @@ fn program<'a>(alloc: Global) -> Result<Command<'a>, AllocError>
     let program = Command::new(alloc, "pst_show")
         .bin_name("pst_show")?
         .about("Checks and shows Personal Folders Files (.pst)")
+        .after_help(PROGRAM)
         .version(VERSION)
         .no_binary_name(true)
         .subcommand_required(true);

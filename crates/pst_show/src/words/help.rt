@@ -1,0 +1,91 @@
+//! What help says at its end: what a command prints, and the statuses with which the program ends.
+
+use crate::verb::Verb;
+
+// What a command prints, and when the status is 0 and when 1. The other statuses are the same for each.
+macro_rules! ending {
+    ($prints:literal, $shown:literal, $refused:literal) => {
+        concat!(
+            $prints,
+            "\n\nExit status:\n  0  ",
+            $shown,
+            "\n  1  ",
+            $refused,
+            "\n  2  The words are refused",
+            "\n  3  The file cannot be read or is too long, or the output cannot be written",
+            "\n  4  Memory was refused"
+        )
+    };
+}
+
+/// The end of the help of the program.
+pub(super) const PROGRAM: &str =
+    "The answer is one line of JSON on standard output. Where there is none, one line on
+standard error says why. FILE is the name of a file, or - for standard input; the
+program only reads it.
+
+Exit status:
+  0    The answer is printed; of check: the file is a store
+  1    The file breaks a rule of the format, or has no such folder or node; or, with
+       check --strict, space is lost
+  2    The words are refused
+  3    The file cannot be read or is too long, or the output cannot be written
+  4    Memory was refused
+  125  The program could not be built, of the script that builds it first";
+
+const CHECK: &str = ending!(
+    "Checks the whole file, and prints how many pages, blocks, nodes, folders and messages
+there are, the order of the bits in the allocation maps, and the lost runs: space that
+is marked as used, and that nothing uses.",
+    "The file is a store",
+    "It breaks a rule of the format: standard error tells the first fault; or, with
+     --strict, there are lost runs"
+);
+
+const HEAD: &str = ending!(
+    "Prints the fields of the header, and looks at nothing else.",
+    "The fields are printed",
+    "The header breaks a rule of the format: standard error tells the first fault"
+);
+
+const NODES: &str = ending!(
+    "Checks the header and both B-trees, but no block, and prints of each node its
+identifier, that of its parent, and those of the blocks of its data and its subnodes.",
+    "The nodes are printed",
+    "The header or a tree breaks a rule of the format: standard error tells the first fault"
+);
+
+const FOLDERS: &str = ending!(
+    "Checks the whole file, and prints of each folder its identifier and its name, the
+identifiers of its subfolders, how many messages are in it, and how many belong to the
+folder itself.",
+    "The folders are printed",
+    "The file breaks a rule of the format: standard error tells the first fault"
+);
+
+const CONTENTS: &str = ending!(
+    "Checks the whole file, and prints of each message in the folder NID its identifier,
+its class, its sender and its subject.",
+    "The messages are printed",
+    "The file breaks a rule of the format, or has no such folder: standard error tells which"
+);
+
+const PROPS: &str = ending!(
+    "Checks the whole file, and prints of each property of the node NID its identifier, its
+type and its value; of a message also the attachments and the recipients.",
+    "The properties are printed",
+    "The file breaks a rule of the format, or has no such node, or that has no properties:
+     standard error tells which"
+);
+
+/// The end of the help of a command.
+pub(super) fn ending_of<'a>(verb: Verb) -> &'a str {
+    match verb {
+        Verb::Check => CHECK,
+        Verb::Head => HEAD,
+        Verb::Nodes => NODES,
+        Verb::Folders => FOLDERS,
+        Verb::Contents => CONTENTS,
+        Verb::Props => PROPS,
+    }
+}
