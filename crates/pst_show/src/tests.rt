@@ -12,6 +12,7 @@ mod check_nodes;
 mod check_order;
 mod nodes;
 mod stores;
+mod words;
 
 use crate::input::{LoadFault, Reads, load, load_counted};
 use crate::run::run;
@@ -432,69 +433,6 @@ fn an_error_output_that_fails(rt: HostRuntime) -> Result<(), Fail> {
         let mut input: &[u8] = &[];
         assert_eq!(rt; run(alloc, &words, &mut input, &mut out, &mut err), status);
         assert!(rt; out.is_empty());
-    }
-    Ok(())
-}
-
-// Nothing is read: the reader would fail.
-#[test]
-fn words_that_are_refused(rt: HostRuntime) -> Result<(), Fail> {
-    let alloc = rt.alloc();
-    let rows: [&[&str]; 14] = [
-        &[],
-        &["check"],
-        &["check", "--strict"],
-        &["check", "a.pst", "0x21"],
-        &["head", "--strict", "a.pst"],
-        &["contents", "a.pst"],
-        &["props", "a.pst"],
-        &["head"],
-        &["nodes"],
-        &["head", "a.pst", "b.pst"],
-        &["nodes", "a.pst", "b.pst"],
-        &["tail", "a.pst"],
-        &["--loud", "head", "a.pst"],
-        &["head", "--loud", "a.pst"],
-    ];
-    for row in rows {
-        let words = words_of(alloc, row)?;
-        let mut out = Vec::new(alloc);
-        let mut err = Vec::new(alloc);
-        let mut input = Failing::new(0, ErrorKind::PermissionDenied);
-        assert_eq!(rt; run(alloc, &words, &mut input, &mut out, &mut err), 2);
-        assert!(rt; out.is_empty());
-        assert_eq!(rt; err.last(), Some(&b'\n'));
-        assert_eq!(rt; input.reads, 0);
-    }
-    Ok(())
-}
-
-#[test]
-fn help_and_the_version_are_shown(rt: HostRuntime) -> Result<(), Fail> {
-    let alloc = rt.alloc();
-    let rows: [(&[&str], &[u8]); 8] = [
-        (
-            &["--help"],
-            b"Checks and shows Personal Folders Files (.pst)\n",
-        ),
-        (&["-h"], b"Checks and shows Personal Folders Files (.pst)\n"),
-        (&["help", "head"], b"Shows the fields of the header\n"),
-        (&["head", "--help"], b"Shows the fields of the header\n"),
-        (&["help", "nodes"], b"Lists the nodes\n"),
-        (&["nodes", "--help"], b"Lists the nodes\n"),
-        (&["--version"], b"pst_show 0.1.0\n"),
-        (&["-V"], b"pst_show 0.1.0\n"),
-    ];
-    for (row, front) in rows {
-        let words = words_of(alloc, row)?;
-        let mut out = Vec::new(alloc);
-        let mut err = Vec::new(alloc);
-        let mut input = Failing::new(0, ErrorKind::PermissionDenied);
-        assert_eq!(rt; run(alloc, &words, &mut input, &mut out, &mut err), 0);
-        assert_eq!(rt; out.get(..front.len()), Some(front));
-        assert_eq!(rt; out.last(), Some(&b'\n'));
-        assert!(rt; err.is_empty());
-        assert_eq!(rt; input.reads, 0);
     }
     Ok(())
 }
