@@ -62,7 +62,7 @@ pub(super) fn seal_front(image: &mut [u8]) -> Result<(), Fail> {
     Ok(())
 }
 
-fn seal_page_at(image: &mut [u8], at: u64) -> Result<(), Fail> {
+pub(super) fn seal_page_at(image: &mut [u8], at: u64) -> Result<(), Fail> {
     if !has_bytes(image, at, 512) {
         return Err(Fail::from("no whole page"));
     }

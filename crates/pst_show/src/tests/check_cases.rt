@@ -1,9 +1,10 @@
-//! `check` over stores with bytes changed: what a case is, and how it is run.
+//! Runs over stores with bytes changed: what a case is, and how it is run.
 
 use super::change::{Change, change_all};
+use super::heaps::{Numbered, Property, context_of, heap_of, numbered_of, table_of};
 use super::words_of;
 use crate::run::run;
-use pst_make::{BlockPlan, NodePlan, Plan, build, m0, m0_plan, m1};
+use pst_make::{BlockPlan, NodePlan, Plan, build, m0, m0_plan, m1, m2};
 use std::alloc::Global;
 use std::process::Abort;
 use std::str;
@@ -18,6 +19,14 @@ pub(super) enum Body<'a> {
     Zeros(usize),
     /// Those of a block that names others: its first 8 bytes, and then numbers of 8 bytes.
     Names([u8; 8], &'a [u64]),
+    /// Those of a heap, by the last byte of its signature and its items.
+    Heap(u8, &'a [&'a [u8]]),
+    /// Those of a property context.
+    Properties(&'a [Property<'a>]),
+    /// Those of one whose properties are numbered.
+    Numbered(&'a [Numbered<'a>]),
+    /// Those of a table whose rows have these identifiers, and nothing else.
+    Rows(&'a [u32]),
 }
 
 /// A store, before bytes are changed in it.
@@ -27,6 +36,8 @@ pub(super) enum Store<'a> {
     M0,
     /// Those, and a hierarchy table that names one folder more.
     M1,
+    /// A message store, a root folder with a named property, and a name map.
+    M2,
     /// M0 with more blocks, each its identifier and its bytes, and more nodes, each its identifier, its data and its
     /// subnodes.
     Wider(&'a [(u64, Body<'a>)], &'a [(u32, u64, u64)]),
@@ -36,7 +47,7 @@ pub(super) enum Store<'a> {
     TwoRegions,
 }
 
-/// What `check` answers.
+/// What is answered.
 #[derive(Clone, Copy)]
 pub(super) enum Answer<'a> {
     /// This document.
@@ -64,6 +75,9 @@ pub(super) const LIST_OF_ONE: [u8; 8] = [2, 0, 1, 0, 0, 0, 0, 0];
 /// The first bytes of a subnode list of two entries.
 pub(super) const LIST_OF_TWO: [u8; 8] = [2, 0, 2, 0, 0, 0, 0, 0];
 
+/// Words, and what is answered to them.
+pub(super) type Asked<'a> = (&'a [&'a str], Answer<'a>);
+
 fn body_of(alloc: Global, body: Body) -> Result<Vec<u8>, Fail> {
     match body {
         Body::Bytes(bytes) => Ok(Vec::from_slice(alloc, bytes)?),
@@ -75,6 +89,10 @@ fn body_of(alloc: Global, body: Body) -> Result<Vec<u8>, Fail> {
             }
             Ok(bytes)
         }
+        Body::Heap(client, items) => heap_of(alloc, client, items),
+        Body::Properties(properties) => context_of(alloc, properties),
+        Body::Numbered(rows) => numbered_of(alloc, rows),
+        Body::Rows(rows) => table_of(alloc, rows),
     }
 }
 
@@ -147,6 +165,7 @@ pub(super) fn store_of(alloc: Global, store: Store) -> Result<Vec<u8>, Fail> {
     match store {
         Store::M0 => Ok(m0(alloc)?),
         Store::M1 => Ok(m1(alloc)?),
+        Store::M2 => Ok(m2(alloc)?),
         Store::Wider(blocks, nodes) => wider(alloc, blocks, nodes),
         Store::Nested(lists) => nested(alloc, lists),
         Store::TwoRegions => {
@@ -176,6 +195,14 @@ pub(super) fn ends_with<R: Abort + AllocGlobal>(
     Ok(())
 }
 
+// The status, the output and the error output of an answer.
+fn end_of<'a>(answer: Answer<'a>) -> (u8, &'a str, &'a str) {
+    match answer {
+        Answer::Yes(document) => (0, document, ""),
+        Answer::No(line) => (1, "", line),
+    }
+}
+
 /// Runs `check` over a file, and compares what is answered.
 pub(super) fn is_answered<R: Abort + AllocGlobal>(
     rt: &R,
@@ -183,11 +210,23 @@ pub(super) fn is_answered<R: Abort + AllocGlobal>(
     answer: Answer,
     what: &str,
 ) -> Result<(), Fail> {
-    let wanted = match answer {
-        Answer::Yes(document) => (0, document, ""),
-        Answer::No(line) => (1, "", line),
-    };
-    ends_with(rt, &["check", "store.pst"], image, wanted, what)
+    ends_with(rt, &["check", "store.pst"], image, end_of(answer), what)
+}
+
+/// Runs words, one after another, over a store in which bytes are changed.
+pub(super) fn are_asked<R: Abort + AllocGlobal>(
+    rt: &R,
+    store: Store,
+    changes: &[Change],
+    rows: &[Asked],
+) -> Result<(), Fail> {
+    let mut image = store_of(rt.alloc(), store)?;
+    change_all(rt.alloc(), &mut image, changes)?;
+    for (words, answer) in rows {
+        let what = words.last().copied().unwrap_or("no words");
+        ends_with(rt, words, &image, end_of(*answer), what)?;
+    }
+    Ok(())
 }
 
 /// Runs each case.

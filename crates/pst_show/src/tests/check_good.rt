@@ -111,8 +111,12 @@ fn lost_runs_give_a_status_where_one_is_strict(rt: HostRuntime) -> Result<(), Fa
         let mut image = store_of(rt.alloc(), Store::M0)?;
         let changes = [Set(0x4404, &[marks]), Page(0x4400)];
         change_all(rt.alloc(), &mut image, &changes)?;
-        let words = ["check", "--strict", "store.pst"];
-        ends_with(&rt, &words, &image, (status, document, ""), "strict")?;
+        for words in [
+            ["check", "--strict", "store.pst"],
+            ["check", "store.pst", "--strict"],
+        ] {
+            ends_with(&rt, &words, &image, (status, document, ""), "strict")?;
+        }
     }
     Ok(())
 }

@@ -1,15 +1,16 @@
 //! `nodes` over small stores, from the words to the status. The lines are those of another program.
 
-use super::{outcome_of, seal, set};
+use super::change::{seal_front, seal_page_at, set};
+use super::outcome_of;
 use pst_make::{BlockPlan, NodePlan, Plan, build, m0, m1};
 use std::alloc::Global;
 use std::process::Abort;
 use std::test::Fail;
 
 // The offsets of the root pages of M0 and M1.
-const NBT: usize = 0x4800;
+const NBT: u64 = 0x4800;
 
-const BBT: usize = 0x4a00;
+const BBT: u64 = 0x4a00;
 
 const M0_LINE: &str =
     "{\"nodes\":[{\"data_bid\":4,\"nid\":\"0x21\",\"parent\":\"0x0\",\"sub_bid\":0},{\"data_bid\":8,\"nid\":\"0x122\",\"parent\":\"0x122\",\"sub_bid\":0}]}\n";
@@ -67,22 +68,15 @@ fn nodes_of<R: Abort + AllocGlobal>(
 // Runs `nodes` over M0 with other bytes in a page, whose check value is made right again.
 fn refused_with<R: Abort + AllocGlobal>(
     rt: &R,
-    page: usize,
+    page: u64,
     offset: usize,
     bytes: &[u8],
     line: &str,
 ) -> Result<(), Fail> {
     let mut image = m0(rt.alloc())?;
-    set(&mut image, page.saturating_add(offset), bytes)?;
-    seal_page(&mut image, page)?;
+    set(&mut image, (page as usize).saturating_add(offset), bytes)?;
+    seal_page_at(&mut image, page)?;
     nodes_of(rt, &image, 1, "", line)
-}
-
-// Writes the check value of a page that is right for what stands there.
-fn seal_page(image: &mut [u8], at: usize) -> Result<(), Fail> {
-    let end = at.saturating_add(496);
-    let check = pst_crc::check(image.get(at..end).ok_or("too short")?);
-    set(image, end.saturating_add(4), &check.to_le_bytes())
 }
 
 // A store of blocks of no bytes with these identifiers, and of these nodes.
@@ -130,7 +124,7 @@ fn nodes_are_listed_where_blocks_are_damaged(rt: HostRuntime) -> Result<(), Fail
 #[test]
 fn the_header_is_looked_at_first(rt: HostRuntime) -> Result<(), Fail> {
     let mut image = m0(rt.alloc())?;
-    set(&mut image, BBT, &[0xff])?;
+    set(&mut image, BBT as usize, &[0xff])?;
     set(&mut image, 300, &[1])?;
     let line = "no: 5 HeaderCheck at 0x4 bid 0x0 nid 0x0\n";
     nodes_of(&rt, &image, 1, "", line)
@@ -140,8 +134,8 @@ fn the_header_is_looked_at_first(rt: HostRuntime) -> Result<(), Fail> {
 #[test]
 fn the_block_tree_is_walked_first(rt: HostRuntime) -> Result<(), Fail> {
     let mut image = m0(rt.alloc())?;
-    set(&mut image, NBT, &[0xff])?;
-    set(&mut image, BBT, &[0xff])?;
+    set(&mut image, NBT as usize, &[0xff])?;
+    set(&mut image, BBT as usize, &[0xff])?;
     let line = "no: 9 PageTrailer at 0x4a00 bid 0x8 nid 0x0\n";
     nodes_of(&rt, &image, 1, "", line)
 }
@@ -179,7 +173,7 @@ fn a_root_that_cannot_be_there_is_refused(rt: HostRuntime) -> Result<(), Fail> {
     for (place, line) in rows {
         let mut image = m0(rt.alloc())?;
         set(&mut image, 224, place)?;
-        seal(&mut image)?;
+        seal_front(&mut image)?;
         nodes_of(&rt, &image, 1, "", line)?;
     }
     Ok(())
@@ -195,11 +189,11 @@ fn keys_keep_the_bounds_of_the_pages_above(rt: HostRuntime) -> Result<(), Fail> 
     let mut image = store_of(rt.alloc(), &bids, &[])?;
     nodes_of(&rt, &image, 0, NO_NODES, "")?;
     set(&mut image, 0x4dc8, &328u64.to_le_bytes())?;
-    seal_page(&mut image, 0x4c00)?;
+    seal_page_at(&mut image, 0x4c00)?;
     let line = "no: 11 KeyOrder at 0x4dc8 bid 0xc nid 0x0\n";
     nodes_of(&rt, &image, 1, "", line)?;
     set(&mut image, 0x4dc8, &324u64.to_le_bytes())?;
-    seal_page(&mut image, 0x4c00)?;
+    seal_page_at(&mut image, 0x4c00)?;
     nodes_of(&rt, &image, 0, NO_NODES, "")
 }
 
@@ -228,7 +222,7 @@ fn fronts_of_a_store(rt: HostRuntime) -> Result<(), Fail> {
     for (len, status, out, err) in rows {
         let mut image = m0(rt.alloc())?;
         set(&mut image, 184, &len.to_le_bytes())?;
-        seal(&mut image)?;
+        seal_front(&mut image)?;
         let front = image.get(..len as usize).ok_or("too short")?;
         nodes_of(&rt, front, status, out, err)?;
     }
