@@ -212,10 +212,22 @@ const MULTIPLE_STORE: Store<'static> = Store::Wider(
 const TEXT_STORE: Store<'static> = Store::Wider(&[(12, Body::Numbered(&TEXTS))], &[(0x201, 12, 0)]);
 
 #[test]
-fn values_are_shown(rt: HostRuntime) -> Result<(), Fail> {
-    are_shown(&rt, SINGLE_STORE, &SINGLE, "single values")?;
-    are_shown(&rt, EMPTY_STORE, &EMPTY, "values of no bytes")?;
-    are_shown(&rt, MULTIPLE_STORE, &MULTIPLE, "several values")?;
+fn single_values_are_shown(rt: HostRuntime) -> Result<(), Fail> {
+    are_shown(&rt, SINGLE_STORE, &SINGLE, "single values")
+}
+
+#[test]
+fn values_of_no_bytes_are_shown(rt: HostRuntime) -> Result<(), Fail> {
+    are_shown(&rt, EMPTY_STORE, &EMPTY, "values of no bytes")
+}
+
+#[test]
+fn several_values_are_shown(rt: HostRuntime) -> Result<(), Fail> {
+    are_shown(&rt, MULTIPLE_STORE, &MULTIPLE, "several values")
+}
+
+#[test]
+fn texts_are_shown(rt: HostRuntime) -> Result<(), Fail> {
     are_shown(&rt, TEXT_STORE, &TEXTS, "texts")
 }
 
