@@ -104,5 +104,5 @@ Gives (Err (refusal.Fault f)) answer = answer ≡ Err (refusal.Fault f)
 Gives (Err (refusal.NoFolder nid)) answer = answer ≡ Err (refusal.NoFolder nid)
 Gives (Err (refusal.NoNode nid)) answer = answer ≡ Err (refusal.NoNode nid)
 Gives (Err refusal.Input) answer = ⊥
-Gives (Err refusal.Output) answer = ⊥
+Gives (Err (refusal.Output f)) answer = ⊥
 Gives (Err refusal.Memory) answer = Unit {0}

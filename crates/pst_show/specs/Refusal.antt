@@ -30,7 +30,7 @@ IsOfInput (refusal.Fault f) = ⊥
 IsOfInput (refusal.NoFolder nid) = ⊥
 IsOfInput (refusal.NoNode nid) = ⊥
 IsOfInput refusal.Input = Unit {0}
-IsOfInput refusal.Output = ⊥
+IsOfInput (refusal.Output f) = ⊥
 IsOfInput refusal.Memory = Unit {0}
 
 -- the status with which a run ends that is refused
@@ -39,5 +39,5 @@ status_of (refusal.Fault f) = 1
 status_of (refusal.NoFolder nid) = 1
 status_of (refusal.NoNode nid) = 1
 status_of refusal.Input = 3
-status_of refusal.Output = 3
+status_of (refusal.Output f) = 3
 status_of refusal.Memory = 4

@@ -28,7 +28,7 @@ Ends (Err (refusal.Fault f)) answer old new = (answer ≡ Err (refusal.Fault f))
 Ends (Err (refusal.NoFolder nid)) answer old new = (answer ≡ Err (refusal.NoFolder nid)) × Keeps old new
 Ends (Err (refusal.NoNode nid)) answer old new = (answer ≡ Err (refusal.NoNode nid)) × Keeps old new
 Ends (Err refusal.Input) answer old new = Keeps old new
-Ends (Err refusal.Output) answer old new = ShowsFront answer old new
+Ends (Err (refusal.Output f)) answer old new = ShowsFront answer old new
 Ends (Err refusal.Memory) answer old new = Keeps old new
 
 -- The answer is written, and the status is its; or it is that of a refusal of these bytes, and nothing is written. Only a

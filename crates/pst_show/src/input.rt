@@ -10,11 +10,11 @@ use std::io;
 use std::io::{ErrorKind, Read};
 use thiserror::Error;
 
-// The most bytes that a file may have.
-const MOST_BYTES: usize = 17_179_869_184;
+/// The most bytes that a file may have.
+pub const MOST_BYTES: usize = 17_179_869_184;
 
-// The most reads that are asked of a reader.
-const MOST_READS: u32 = 16_777_216;
+/// The most reads that are asked of a reader.
+pub const MOST_READS: u32 = 16_777_216;
 
 // How many bytes are asked for at a time.
 const PIECE: usize = 65_536;

@@ -14,33 +14,31 @@ mod tests;
 mod verb;
 mod words;
 
-use clap::error::ErrorKind;
+use ask::Order;
 use refusal::Refusal;
-use run::{refuse, run};
-use source::Source;
+use run::{carry_out, decline, refuse};
+use source::{Source, Watched, explain};
 use std::io::Write;
 use std::process::ExitCode;
-use std::{env, fs, io};
-use words::{NoOrder, parse};
+use std::{env, io};
+use words::parse;
 
-// The file that the words name. Where they name none, or one that cannot be opened, the source fails at its first
-// read.
-fn source_of(rt: &HostRuntime, words: &[String]) -> Result<Source, Refusal> {
-    match parse(rt.alloc(), words) {
-        Ok(order) => match fs::open(rt, order.file) {
-            Ok(file) => Ok(Source::File(file)),
-            Err(_) => Ok(Source::Missing),
-        },
-        Err(NoOrder::Words(error)) if error.kind() == ErrorKind::OutOfMemory => {
-            Err(Refusal::Memory)
+// Shows what is asked for of what the file's name stands for. Where that cannot be read, a line says why.
+fn show(rt: &HostRuntime, order: Order<'_>) -> u8 {
+    let mut input = Watched::new(Source::named(rt, order.file));
+    let (mut out, mut err) = (rt.stdout(), rt.stderr());
+    let status = carry_out(rt.alloc(), order.ask, &mut input, &mut out, &mut err);
+    match input.fault() {
+        Some(error) if status == Refusal::Input.status() => {
+            explain(rt.alloc(), order.file, error, &mut err);
         }
-        Err(_) => Ok(Source::Missing),
+        _ => {}
     }
+    status
 }
 
 // The status with which the program ends, or why it cannot begin.
 fn status(rt: &HostRuntime) -> Result<u8, Refusal> {
-    let alloc = rt.alloc();
     let args = match env::args(rt) {
         Ok(args) => args,
         Err(error) if error.kind() == io::ErrorKind::OutOfMemory => return Err(Refusal::Memory),
@@ -49,15 +47,14 @@ fn status(rt: &HostRuntime) -> Result<u8, Refusal> {
             return Ok(2);
         }
     };
-    let words: Vec<String> = args.skip(1).collect(alloc).map_err(|_| Refusal::Memory)?;
-    let mut source = source_of(rt, &words)?;
-    Ok(run(
-        alloc,
-        &words,
-        &mut source,
-        &mut rt.stdout(),
-        &mut rt.stderr(),
-    ))
+    let words: Vec<String> = args
+        .skip(1)
+        .collect(rt.alloc())
+        .map_err(|_| Refusal::Memory)?;
+    match parse(rt.alloc(), &words) {
+        Ok(order) => Ok(show(rt, order)),
+        Err(none) => Ok(decline(none, &mut rt.stdout(), &mut rt.stderr())),
+    }
 }
 
 fn main(rt: HostRuntime) -> ExitCode {

@@ -25,9 +25,9 @@ pub enum Refusal {
     /// The file cannot be read, or is too long.
     #[error("cannot read the file")]
     Input,
-    /// The output cannot be written.
-    #[error("cannot write")]
-    Output,
+    /// The output cannot be written. Where it is closed no line is written.
+    #[error("{0}")]
+    Output(EmitFault),
     /// Memory was refused.
     #[error("out of memory")]
     Memory,
@@ -40,7 +40,7 @@ impl Refusal {
     {
         match self {
             Refusal::Fault(_) | Refusal::NoFolder(_) | Refusal::NoNode(_) => 1,
-            Refusal::Input | Refusal::Output => 3,
+            Refusal::Input | Refusal::Output(_) => 3,
             Refusal::Memory => 4,
         }
     }
@@ -90,9 +90,9 @@ impl From<LoadFault> for Refusal {
 }
 
 impl From<EmitFault> for Refusal {
-    ghost from_gives = { λ _ r. r ≡ refusal.Output };
+    ghost from_gives = { λ f r. r ≡ refusal.Output f };
 
-    fn from(_fault: EmitFault) -> Refusal {
-        Refusal::Output
+    fn from(fault: EmitFault) -> Refusal {
+        Refusal::Output(fault)
     }
 }

@@ -3,6 +3,7 @@
 ghost use Rattle.std.specs.Prelude.{◌≡◌, ◌≢◌, ◌⊎◌, [], Err, IfSome};
 ghost use Rattle.clap.specs.Words.{fault_of, kind_of};
 ghost use Rattle.pst_show.specs.Answer.{answer_to};
+ghost use Rattle.pst_show.specs.declared.refusal.Refusal.TheVariants as refused;
 ghost use Rattle.pst_show.specs.Refusal.{status_of};
 ghost use Rattle.pst_show.specs.Run.{Ends, Answers};
 ghost use Rattle.pst_show.specs.Ask.{Asked};
@@ -14,7 +15,7 @@ use crate::input::load;
 use crate::refusal::Refusal;
 use crate::words::{NoOrder, parse};
 use clap::error::ErrorKind;
-use pst_json::emit;
+use pst_json::{EmitFault, emit};
 use std::alloc::Global;
 use std::io::{Read, Write};
 
@@ -35,16 +36,19 @@ fn show<R: Read, W: Write>(
 }
 
 /// Says on the error output why nothing is shown, and gives the status for it. A line that cannot be written changes
-/// nothing.
+/// nothing. Of an output that is closed nothing is said.
 pub fn refuse<E: Write>(refusal: Refusal, err: &mut E) -> u8
-    ensures { result ≡ status_of refusal }
+    ensures status { result ≡ status_of refusal }
+    ensures closed { refusal ≡ refused.Output EmitFault.Closed → err.new ≡ err.old }
 {
-    let _ = writeln!(err, "{refusal}");
+    if refusal != Refusal::Output(EmitFault::Closed) {
+        let _ = writeln!(err, "{refusal}");
+    }
     refusal.status()
 }
 
-// What is said where there is nothing to be done: help and the version on the output, all else on the error output.
-fn decline<W: Write, E: Write>(none: NoOrder, out: &mut W, err: &mut E) -> u8
+/// Says why nothing is done, and gives the status for it: help and the version on the output, all else on the error output.
+pub fn decline<W: Write, E: Write>(none: NoOrder, out: &mut W, err: &mut E) -> u8
     ensures status { MatchNone none (λ e. IsStatusOf (kind_of e) result) (result ≡ 2) }
     ensures quiet { (result ≡ 2) ⊎ (result ≡ 4) → out.new ≡ out.old }
 {
@@ -58,7 +62,7 @@ fn decline<W: Write, E: Write>(none: NoOrder, out: &mut W, err: &mut E) -> u8
             } else {
                 match write!(out, "{error}") {
                     Ok(()) => 0,
-                    Err(_) => refuse(Refusal::Output, err),
+                    Err(error) => refuse(Refusal::from(EmitFault::of(error)), err),
                 }
             }
         }
@@ -70,6 +74,28 @@ fn decline<W: Write, E: Write>(none: NoOrder, out: &mut W, err: &mut E) -> u8
             let _ = writeln!(err, "nothing is asked for");
             2
         }
+    }
+}
+
+/// Shows what is asked for of what the reader gives, and gives the status with which the program ends, as `run` says.
+pub fn carry_out<R: Read, W: Write, E: Write>(
+    alloc: Global,
+    ask: Ask,
+    input: &mut R,
+    out: &mut W,
+    err: &mut E,
+) -> u8
+    // The status and what is written are the answer to the bytes of the file.
+    ensures answered { IfSome (R.remaining input.old) (λ bytes.
+        Answers (answer_to ask bytes) result (W.contents out.old) (W.contents out.new)) }
+
+    // It is not that of words that are refused.
+    ensures accepted { result ≢ 2 }
+{
+    match show(alloc, ask, input, out) {
+        Ok(false) => 0,
+        Ok(true) => 1,
+        Err(refusal) => refuse(refusal, err),
     }
 }
 
@@ -102,11 +128,7 @@ pub fn run<R: Read, W: Write, E: Write>(
     ensures quiet { result ≡ 2 → out.new ≡ out.old }
 {
     match parse(alloc, words) {
-        Ok(order) => match show(alloc, order.ask, input, out) {
-            Ok(false) => 0,
-            Ok(true) => 1,
-            Err(refusal) => refuse(refusal, err),
-        },
+        Ok(order) => carry_out(alloc, order.ask, input, out, err),
         Err(none) => decline(none, out, err),
     }
 }

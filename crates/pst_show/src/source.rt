@@ -1,23 +1,135 @@
-//! The file that the words name, or what stands for it where it cannot be opened.
+//! Where the bytes come from that a word names, and why no more of them came.
 
+ghost use Rattle.std.specs.Io.{ReadsAtMost};
+ghost use Rattle.std.specs.Io.KnownBytes.{ReadConsumes};
+
+use crate::input::{MOST_BYTES, MOST_READS, Reads};
+use std::alloc::Global;
 use std::fs::File;
-use std::io;
-use std::io::{ErrorKind, Read};
+use std::io::{ErrorKind, Read, Stdin, Write};
+use std::{fs, io};
 
-/// What `run` reads.
+// The word that names standard input.
+const STANDARD_INPUT: &str = "-";
+
+/// What a word names.
 #[derive(Drop)]
 pub enum Source {
-    /// The file, open.
+    /// A file, open.
     File(File),
-    /// There is no file to read: each read fails.
-    Missing,
+    /// Standard input.
+    Input(Stdin),
+    /// Nothing that can be read, and why: each read fails so.
+    Missing(io::Error),
+}
+
+impl Source {
+    /// What a word names: `-` standard input, and any other word a file.
+    pub fn named(rt: &HostRuntime, name: &str) -> Source {
+        if name == STANDARD_INPUT {
+            return Source::Input(rt.stdin());
+        }
+        match open(rt, name) {
+            Ok(file) => Source::File(file),
+            Err(error) => Source::Missing(error),
+        }
+    }
+}
+
+// A file, open. A regular one that says that it is too long is not read.
+fn open(rt: &HostRuntime, name: &str) -> io::Result<File> {
+    let file = fs::open(rt, name)?;
+    match file.metadata() {
+        Ok(about) if about.is_file() && about.len() > MOST_BYTES as u64 => Err(too_long()),
+        _ => Ok(file),
+    }
+}
+
+fn too_long() -> io::Error {
+    io::Error::new(ErrorKind::FileTooLarge, "larger than 17179869184 bytes")
+}
+
+fn endless() -> io::Error {
+    io::Error::new(ErrorKind::TimedOut, "16777216 reads did not show its end")
 }
 
 impl Read for Source {
     fn read(&mut self, buf: &mut [u8]) -> io::Result<usize> {
         match self {
             Source::File(file) => file.read(buf),
-            Source::Missing => Err(io::Error::from(ErrorKind::NotFound)),
+            Source::Input(input) => input.read(buf),
+            Source::Missing(error) => Err(*error),
         }
     }
+}
+
+/// A reader that remembers how its reads went.
+#[derive(Drop)]
+pub struct Watched<R> {
+    reader: R,
+    reads: Reads,
+    is_at_end: bool,
+    error: Option<io::Error>,
+}
+
+impl<R> Watched<R> {
+    /// A reader that was not read yet.
+    pub fn new(reader: R) -> Watched<R> {
+        Watched {
+            reader,
+            reads: Reads { count: 0, bytes: 0 },
+            is_at_end: false,
+            error: None,
+        }
+    }
+
+    /// Why `load` could not take all of its bytes: the error of a read, or the limit that was reached before the end.
+    /// None where it was read to its end.
+    pub fn fault(&self) -> Option<io::Error> {
+        if self.error.is_some() || self.is_at_end {
+            self.error
+        } else if self.reads.bytes > MOST_BYTES as u64 {
+            Some(too_long())
+        } else if self.reads.count >= MOST_READS {
+            Some(endless())
+        } else {
+            None
+        }
+    }
+}
+
+/// The bytes are those of the reader.
+impl<R: Read> Read for Watched<R> {
+    ghost remaining = { λ w. R.remaining w.reader };
+
+    fn read(&mut self, buf: &mut [u8]) -> io::Result<usize> {
+        let got = self.reader.read(buf);
+        self.reads.count = self.reads.count.saturating_add(1);
+        match got {
+            Ok(n) => {
+                self.reads.bytes = self.reads.bytes.saturating_add(n as u64);
+                self.is_at_end = n == 0;
+            }
+            Err(error) if error.kind() == ErrorKind::Interrupted => {}
+            Err(error) => self.error = Some(error),
+        }
+        got
+    }
+}
+
+// The text of an error without the number that the system has for it.
+fn without_number(text: &str) -> &str {
+    match text.split_once(" (os error ") {
+        Some((words, _)) => words,
+        None => text,
+    }
+}
+
+/// Says below the line of a refusal why the bytes of a file of this name did not come. A line that cannot be written
+/// changes nothing.
+pub fn explain<E: Write>(alloc: Global, name: &str, error: io::Error, err: &mut E) {
+    let _ = match format!(in alloc; "{error}") {
+        Ok(text) => writeln!(err, "  {name}: {}", without_number(text.as_str())),
+        Err(_) => writeln!(err, "  {name}: {error}"),
+    };
 }

@@ -167,7 +167,8 @@ impl<'a> Read for Interrupted<'a> {
 #[test]
 fn a_file_that_cannot_be_read(rt: HostRuntime) -> Result<(), Fail> {
     let line = "cannot read the file\n";
-    head_of(&rt, &mut Source::Missing, 3, "", line)?;
+    let missing = io::Error::from(ErrorKind::NotFound);
+    head_of(&rt, &mut Source::Missing(missing), 3, "", line)?;
     for good in [0, 1, 563, 564, 100_000] {
         let mut input = Failing::new(good, ErrorKind::PermissionDenied);
         head_of(&rt, &mut input, 3, "", line)?;
@@ -284,10 +285,10 @@ impl Write for Slow {
 fn a_front_is_left_where_a_write_fails(rt: HostRuntime) -> Result<(), Fail> {
     let line = SMALL_LINE.as_bytes();
     for (good, _) in line.iter().enumerate() {
-        for fault in [Fault::Fails(ErrorKind::BrokenPipe), Fault::TakesNothing] {
+        for fault in [Fault::Fails(ErrorKind::StorageFull), Fault::TakesNothing] {
             let count = u32::try_from(good).map_err(|_| "too many")?;
             let mut out = Slow::new(rt.alloc(), count, 1, fault);
-            assert_eq!(rt; emit(line, &mut out), Err(EmitFault));
+            assert_eq!(rt; emit(line, &mut out), Err(EmitFault::Failed));
             assert_eq!(rt; Some(out.taken.as_slice()), line.get(..good));
         }
     }
@@ -302,7 +303,7 @@ fn interrupted_writes_are_made_again(rt: HostRuntime) {
     assert_eq!(rt; emit(line, &mut out), Ok(()));
     assert_eq!(rt; out.taken.as_slice(), line);
     let mut out = Slow::new(rt.alloc(), 5, 1_025, interrupted);
-    assert_eq!(rt; emit(line, &mut out), Err(EmitFault));
+    assert_eq!(rt; emit(line, &mut out), Err(EmitFault::Failed));
     assert_eq!(rt; Some(out.taken.as_slice()), line.get(..5));
 }
 
@@ -313,7 +314,7 @@ fn an_output_that_cannot_be_written(rt: HostRuntime) -> Result<(), Fail> {
     for words in [&["head", "store.pst"][..], &["--help"], &["--version"]] {
         let words = words_of(alloc, words)?;
         let mut input = image.as_slice();
-        let mut out = Slow::new(alloc, 3, u32::MAX, Fault::Fails(ErrorKind::BrokenPipe));
+        let mut out = Slow::new(alloc, 3, u32::MAX, Fault::Fails(ErrorKind::StorageFull));
         let mut said = Vec::new(alloc);
         let got = run(alloc, &words, &mut input, &mut out, &mut said);
         assert_eq!(rt; said.as_slice(), b"cannot write\n".as_slice());
