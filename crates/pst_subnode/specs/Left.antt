@@ -1,5 +1,5 @@
 -- What an iterator over the entries of a subnode list has left.
-use Rattle.std.specs.Prelude.{◌+◌, List, ◌++◌}
+use Rattle.std.specs.Prelude.{List, ◌++◌}
 use Rattle.pst_bytes.specs.Image.{bytes_of}
 use Rattle.pst_fault.specs.First.{join_from}
 use Rattle.pst_block.specs.Table.{Table}

@@ -1,6 +1,6 @@
 //! The check of a subnode list: of its own blocks, and that no subnode stands in it twice.
 
-ghost use Rattle.std.specs.Prelude.{◌≡◌, ◌+◌, ◌*◌, ◌≤◌, length, map, IfOk, IfErr};
+ghost use Rattle.std.specs.Prelude.{◌≡◌, ◌+◌, ◌*◌, ◌≤◌, length, map, true, IfOk, IfErr};
 ghost use Rattle.pst_fault.specs.Fault.{no_memory};
 ghost use Rattle.pst_fault.specs.First.{answer, Tells, first_below};
 ghost use Rattle.pst_block.specs.Table.{body_of, IsWithin};
@@ -92,11 +92,32 @@ fn check_shape(blocks: &Blocks, entry: BlockEntry) -> Result<(), Fault>
     }
 }
 
-// Whether no subnode stands twice among entries; or memory ran out.
+// Whether each entry's identifier is above the one before; then no subnode stands twice.
+fn rise(subs: Subs) -> bool
+    ensures { result ≡ true → distinct (map sub_nid (subs_left subs.entry)) ≡ true }
+{
+    let mut rest = subs;
+    let Some(first) = rest.next() else {
+        return true;
+    };
+    let mut last = first.nid;
+    while let Some(sub) = rest.next() {
+        if sub.nid <= last {
+            return false;
+        }
+        last = sub.nid;
+    }
+    true
+}
+
+// Whether no subnode stands twice among entries; or memory ran out. Where identifiers rise, as the format has them, none is taken.
 fn are_distinct(alloc: Global, subs: Subs) -> Result<bool, Fault>
     ensures value { IfOk result (λ b. b ≡ distinct (map sub_nid (subs_left subs.entry))) }
     ensures memory { IfErr result (λ f. f ≡ no_memory) }
 {
+    if rise(subs) {
+        return Ok(true);
+    }
     let mut met = BTreeSet::new(alloc);
     let mut rest = subs;
     while let Some(sub) = rest.next() {
