@@ -16,6 +16,7 @@ mod head;
 mod heaps;
 mod messages;
 mod nodes;
+mod reading;
 mod values;
 mod words;
 
