@@ -80,9 +80,11 @@ fn read_once<R: Read>(input: &mut R, piece: &mut [u8], reads: &mut Reads) -> io:
 fn fill<R: Read>(alloc: Global, input: &mut R, reads: &mut Reads) -> Result<Vec<u8>, Stop>
     requires count { reads.old.count ≡ 0 }
     requires bytes { reads.old.bytes ≡ 0 }
-    ensures whole { IfOk result (λ bytes. IfSome (R.remaining input.old) (λ known. bytes.items ≡ known)) }
+    ensures whole { IfOk result (λ bytes.
+        IfSome (R.remaining input.old) (λ known. bytes.items ≡ known)) }
     ensures fits { IfOk result (λ bytes. vec_len bytes ≤ 17179869184) }
-    ensures too_long { IsErrOf result Stop.Bytes → IfSome (R.remaining input.old) (λ known. 17179869184 < length known) }
+    ensures too_long { IsErrOf result Stop.Bytes → IfSome (R.remaining input.old) (λ known.
+        17179869184 < length known) }
     ensures past { IsErrOf result Stop.Bytes → 17179869184 < reads.new.bytes }
     ensures too_many { IsErrOf result Stop.Reads → reads.new.count ≡ 16777216 }
     ensures ends { reads.new.count ≤ 16777216 }
@@ -116,12 +118,15 @@ fn fill<R: Read>(alloc: Global, input: &mut R, reads: &mut Reads) -> Result<Vec<
 /// All bytes that a reader gives, or why they were not taken, as `load` says; and how much was read.
 pub fn load_counted<R: Read>(alloc: Global, input: &mut R) -> (Result<Vec<u8>, LoadFault>, Reads)
     // What is given is all that the reader had, within the limit.
-    ensures whole { IfOk result.0 (λ bytes. IfSome (R.remaining input.old) (λ known. bytes.items ≡ known)) }
+    ensures whole { IfOk result.0 (λ bytes.
+        IfSome (R.remaining input.old) (λ known. bytes.items ≡ known)) }
     ensures fits { IfOk result.0 (λ bytes. vec_len bytes ≤ 17179869184) }
 
     // A file is too long where more bytes came, which the reader then had, or where the most reads were made.
-    ensures too_long { IsErrOf result.0 LoadFault.TooLong → (17179869184 < result.1.bytes) ⊎ (result.1.count ≡ 16777216) }
-    ensures longer { IsErrOf result.0 LoadFault.TooLong → IfSome (R.remaining input.old) (λ known. 17179869184 < length known) ⊎ (result.1.count ≡ 16777216) }
+    ensures too_long { IsErrOf result.0 LoadFault.TooLong → (17179869184 < result.1.bytes)
+        ⊎ (result.1.count ≡ 16777216) }
+    ensures longer { IsErrOf result.0 LoadFault.TooLong → IfSome (R.remaining input.old) (λ known.
+        17179869184 < length known) ⊎ (result.1.count ≡ 16777216) }
 
     // No more reads are made, whatever the answer.
     ensures ends { result.1.count ≤ 16777216 }
@@ -142,7 +147,8 @@ pub fn load_counted<R: Read>(alloc: Global, input: &mut R) -> (Result<Vec<u8>, L
 /// nothing is given, and what was read is lost. `load_counted` says how much was read, too.
 pub fn load<R: Read>(alloc: Global, input: &mut R) -> Result<Vec<u8>, LoadFault>
     // What is given is all that the reader had.
-    ensures whole { IfOk result (λ bytes. IfSome (R.remaining input.old) (λ known. bytes.items ≡ known)) }
+    ensures whole { IfOk result (λ bytes.
+        IfSome (R.remaining input.old) (λ known. bytes.items ≡ known)) }
 
     // It is within the limit.
     ensures fits { IfOk result (λ bytes. vec_len bytes ≤ 17179869184) }

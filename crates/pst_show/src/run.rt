@@ -117,7 +117,8 @@ pub fn run<R: Read, W: Write, E: Write>(
         Answers (answer_to a.ask bytes) result (W.contents out.old) (W.contents out.new)) }
 
     // Where the words are refused, or ask for help or the version, nothing is read.
-    ensures refused { fault_of show_app (texts words.entry.now) ≢ [] → IsRefused (fault_of show_app (texts words.entry.now)) result }
+    ensures refused { fault_of show_app (texts words.entry.now) ≢ [] →
+        IsRefused (fault_of show_app (texts words.entry.now)) result }
     ensures unread { fault_of show_app (texts words.entry.now) ≢ [] → input.new ≡ input.old }
 
     // The same where they are accepted and ask for nothing that can be done, as for a node that no word names.
