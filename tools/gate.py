@@ -38,7 +38,7 @@ def prove():
 def is_good(words):
     """Whether a command that tries the built program finds nothing wrong."""
     print(f"== {' '.join(words)}", flush=True)
-    return subprocess.run([*words, "--program", PROGRAM], cwd=ROOT, check=False).returncode == 0
+    return subprocess.run([sys.executable, *words, "--program", PROGRAM], cwd=ROOT, check=False).returncode == 0
 
 
 def main():
