@@ -1,4 +1,5 @@
 pub mod AnswerLemmas
+pub mod EightLemmas
 pub mod ExactLaws
 pub mod LostLemmas
 pub mod MapLemmas

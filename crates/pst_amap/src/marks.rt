@@ -1,7 +1,7 @@
 //! Marked units.
 
-ghost use Rattle.std.specs.Prelude.{◌≡◌, ◌+◌, ◌≤◌, ◌<◌, ◌^◌, length};
-ghost use Rattle.pst_bytes.specs.Image.{bytes_of};
+ghost use Rattle.std.specs.Prelude.{◌≡◌, ℕ, ◌+◌, ◌%◌, ◌≤◌, ◌<◌, ◌^◌, length, true, None};
+ghost use Rattle.pst_bytes.specs.Image.{bytes_of, num};
 ghost use Rattle.pst_fault.specs.First.{answer};
 ghost use Rattle.pst_header.specs.Head.{Head};
 ghost use Rattle.pst_space.specs.Claimed.{unit_total};
@@ -24,14 +24,21 @@ impl BitOrder {
     }
 }
 
+/// The byte of a unit in the map of its region.
+pub fn mark_byte(image: Image, unit: u64) -> u8
+    requires { mark_place unit + 1 ≤ length (bytes_of image) }
+    ensures { result ≡ num (bytes_of image.entry) (mark_place unit) 1 }
+{
+    image.number8(17408 + 253952 * (unit / 3968) + unit % 3968 / 8)
+}
+
 /// Whether a unit is marked in the map of its region.
 #[tactic(auto, unfolding(crate::specs::Marks::is_marked))]
 pub fn is_marked(image: Image, order: BitOrder, unit: u64) -> bool
     requires { mark_place unit + 1 ≤ length (bytes_of image) }
     ensures { result ≡ marked order (bytes_of image.entry) unit }
 {
-    let byte = image.number8(17408 + 253952 * (unit / 3968) + unit % 3968 / 8);
-    (byte >> order.mark_bit(unit)) % 2 == 1
+    (mark_byte(image, unit) >> order.mark_bit(unit)) % 2 == 1
 }
 
 // One unit: if it is claimed, it is marked.
@@ -47,15 +54,36 @@ fn check_unit(image: Image, order: BitOrder, claims: &Claims, unit: u64) -> Resu
     Ok(())
 }
 
+// Whether this unit and the seven behind it share a byte of their map, and are seen at once to be without fault: the byte
+// is full, or none of them is claimed. False says nothing.
+#[tactic(auto, using(crate::proofs::EightLemmas::marked_without_fault, crate::proofs::EightLemmas::clear_without_fault))]
+fn are_sound(image: Image, claims: &Claims, unit: u64) -> bool
+    requires inside { mark_place unit + 1 ≤ length (bytes_of image) }
+    requires unit { unit < length claims.now }
+    ensures room { result ≡ true → unit + 8 ≤ length claims.now }
+    ensures sound { result ≡ true → (order : BitOrder) (i : ℕ) → i < 8 →
+        unit_fault order (bytes_of image.entry) claims.now (unit + i) ≡ None }
+{
+    unit.is_multiple_of(8)
+        && claims.units() - unit >= 8
+        && (mark_byte(image, unit) == 0xff || claims.eight(unit) == 0)
+}
+
 // Each claimed unit is marked in one order of bits.
-#[tactic(auto, using(crate::proofs::MapLemmas::mark_inside, pst_fault::proofs::FirstLemmas::first_more))]
+#[tactic(auto, using(crate::proofs::MapLemmas::mark_inside, crate::proofs::EightLemmas::first_more_all))]
 fn check_marks(image: Image, header: &Header, order: BitOrder, claims: &Claims) -> Result<(), Fault>
     requires head { Head (bytes_of image) header.now }
     requires units { length claims.now ≡ unit_total header.now }
     ensures { result ≡ answer (marks_fault order (bytes_of image.entry) claims.now) tt }
 {
-    for unit in 0..claims.units() {
-        check_unit(image, order, claims, unit)?;
+    let mut unit = 0;
+    while unit < claims.units() {
+        if are_sound(image, claims, unit) {
+            unit += 8;
+        } else {
+            check_unit(image, order, claims, unit)?;
+            unit += 1;
+        }
     }
     Ok(())
 }

@@ -120,6 +120,53 @@ fn what_is_missing_is_told(rt: HostRuntime) -> Result<(), Fail> {
     Ok(())
 }
 
+// The blocks take units 32 to 40, so their marks lie in the fifth byte of the map and the first bit of the sixth. A breach
+// is told at its own unit whatever the bytes beside it say, and a run goes on from byte to byte.
+#[test]
+fn bytes_are_seen_as_eight_units(rt: HostRuntime) -> Result<(), Fail> {
+    let spans = [(0x4800, 512), (0x4a00, 512), (0x4c00, 576)];
+    let missing = |at: u64| Err(Fault::at(Kind::MapMissing, at));
+    let rows = [
+        ([0xff, 0x80, 0x00], Ok(None)),
+        ([0xff, 0x00, 0xff], missing(0x4e00)),
+        ([0xfe, 0x80, 0xff], missing(0x4dc0)),
+        ([0x7f, 0xff, 0xff], missing(0x4c00)),
+        (
+            [0xff, 0xff, 0xff],
+            Ok(Some(Span {
+                at: 0x4e40,
+                len: 64 * 15,
+            })),
+        ),
+        (
+            [0xff, 0x81, 0xfe],
+            Ok(Some(Span {
+                at: 0x4fc0,
+                len: 64 * 8,
+            })),
+        ),
+        (
+            [0xff, 0x80, 0x01],
+            Ok(Some(Span {
+                at: 0x51c0,
+                len: 64,
+            })),
+        ),
+    ];
+    for (bytes, wanted) in rows {
+        let mut image = m0(rt.alloc())?;
+        set(&mut image, 0x4404, &bytes)?;
+        seal(&mut image, 0x4400)?;
+        let (report, _) = compared(rt.alloc(), &image, &spans, 0)?;
+        match (report, wanted) {
+            (Ok(report), Ok(lost)) => assert_eq!(rt; report.lost.as_slice(), lost.as_slice()),
+            (Err(fault), Err(other)) => assert!(rt; fault == other, "{bytes:?}"),
+            _ => return Err(Fail::from("another ending")),
+        }
+    }
+    Ok(())
+}
+
 #[test]
 fn a_map_page_has_to_be_good(rt: HostRuntime) -> Result<(), Fail> {
     // The check value, the type twice, the signature, the identifier, and the page's own units.

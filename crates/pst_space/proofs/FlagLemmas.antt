@@ -1,10 +1,11 @@
 -- Flags as bits of words.
 use Rattle.std.proofs.Common.{◌≡◌, ◌≢◌, ℕ, suc, zero, ◌+◌, ◌-◌, ◌*◌, ◌/◌, ◌%◌, ◌^◌, ◌<◌, ◌≤◌, Bool, true, false, List, length, get_or, set, replicate, Some, None, refl, sym, ap, ◌∙◌, arith, ◌⊎◌, inl, inr, get_or-set_other, get_or-set_same, length-set}
-use Rattle.std.specs.Prelude.{bit_or}
+use Rattle.std.specs.Prelude.{bit_or, nat_eq}
 use Rattle.std.specs.Int.{bit_at}
 use Rattle.std.proofs.lemmas.Bool.{cases_eq}
 use Rattle.std.specs.Int.{w64}
-use Rattle.std.proofs.lemmas.Nat.Bits.{bit_at_set_same, bit_at_set_other}
+use Rattle.std.proofs.lemmas.Nat.{shr-shr, shr_split}
+use Rattle.std.proofs.lemmas.Nat.Bits.{bit_at_set_same, bit_at_set_other, bit_at_cat_low}
 use Rattle.pst_space.specs.Flags.{flag_in, flags_from, clear_in, with_flag, with_flags}
 use Rattle.pst_bytes.specs.declared.span.Span.{Span}
 use Rattle.pst_space.specs.Claimed.{Claimed, is_clear, filled, first_unit, unit_count, IsUnits, claim_of, with_span}
@@ -33,6 +34,21 @@ flag_other words unit other inside ne =
           rw (same, get_or-set_same words (unit / 64) word 0 inside, bit_at_set_other w64 (get_or words (unit / 64) 0) (unit % 64) within (other % 64) apart) refl
       | inr differ ↦ rw (get_or-set_other words (unit / 64) (other / 64) word 0 differ) refl
     ]
+
+-- the low bits of a number are those of its rest
+low_bit : (n k i : ℕ) → i < k → bit_at (n % 2 ^ k) i ≡ bit_at n i
+low_bit n k i within = sym (bit_at_cat_low (n / 2 ^ k) k (n % 2 ^ k) i within) ∙ ap (λ x. bit_at x i) (shr_split n k)
+
+-- a byte of a word has its flags
+pub flag_of_eight : (words : List ℕ) (unit i : ℕ) → unit % 8 ≡ 0 → i < 8 → nat_eq (bit_at (get_or words (unit / 64) 0 / 2 ^ (unit % 64) % 256) i) 1 ≡ flag_in words (unit + i)
+unfolding flag_in
+flag_of_eight words unit i whole within =
+    let word : (unit + i) / 64 ≡ unit / 64 = omega arith in
+    let at : (unit + i) % 64 ≡ unit % 64 + i = omega arith in
+    let n = get_or words (unit / 64) 0 in
+    let bit : bit_at (n / 2 ^ (unit % 64) % 2 ^ 8) i ≡ bit_at n (unit % 64 + i) =
+    low_bit (n / 2 ^ (unit % 64)) 8 i within ∙ ap (λ x. x % 2) (shr-shr n (unit % 64) i) in
+    rw (word, at, bit) refl
 
 flags_past : (words : List ℕ) (unit from n : ℕ) → unit / 64 < length words → unit < from → flags_from (with_flag words unit) from n ≡ flags_from words from n
 flags_past words unit from zero inside lt = refl

@@ -1,6 +1,7 @@
 //! Flags as the bits of words of 64.
 
-ghost use Rattle.std.specs.Prelude.{◌≡◌, ◌+◌, ◌*◌, ◌/◌, ◌^◌, ◌<◌, ◌≤◌, length};
+ghost use Rattle.std.specs.Prelude.{◌≡◌, ℕ, ◌+◌, ◌*◌, ◌/◌, ◌%◌, ◌^◌, ◌<◌, ◌≤◌, length, nat_eq};
+ghost use Rattle.std.specs.Int.{bit_at};
 ghost use Rattle.pst_space.specs.Flags.{flag_in, clear_in, with_flag, with_flags};
 
 /// The flag of a unit.
@@ -10,6 +11,16 @@ pub fn is_set(words: &[u64], unit: usize) -> bool
     ensures { result ≡ flag_in words.now unit }
 {
     (words[unit / 64] >> (unit % 64)) % 2 == 1
+}
+
+/// The flags of eight units from a multiple of 8 on, that of the first as the least significant bit.
+#[tactic(auto, using(crate::proofs::FlagLemmas::flag_of_eight))]
+pub fn eight(words: &[u64], unit: usize) -> u8
+    requires whole { unit % 8 ≡ 0 }
+    requires inside { unit / 64 < length words.now }
+    ensures { (i : ℕ) → i < 8 → nat_eq (bit_at result i) 1 ≡ flag_in words.now (unit + i) }
+{
+    ((words[unit / 64] >> (unit % 64)) % 256) as u8
 }
 
 /// Sets the flag of a unit.

@@ -1,6 +1,7 @@
 //! The claims of a file.
 
-ghost use Rattle.std.specs.Prelude.{◌≡◌, ℕ, ◌+◌, ◌-◌, ◌*◌, ◌/◌, ◌%◌, ◌^◌, ◌<◌, ◌≤◌, length, replicate, Bool, true, false, IfOk, Some};
+ghost use Rattle.std.specs.Prelude.{◌≡◌, ℕ, ◌+◌, ◌-◌, ◌*◌, ◌/◌, ◌%◌, ◌^◌, ◌<◌, ◌≤◌, length, replicate, nat_eq, Bool, true, false, IfOk, Some};
+ghost use Rattle.std.specs.Int.{bit_at};
 ghost use Rattle.pst_header.specs.Head.{IsLastMap};
 ghost use Rattle.pst_header.specs.Header.{amap_place};
 ghost use Rattle.pst_space.specs.Flags.{flags_from, with_flags};
@@ -135,5 +136,16 @@ impl Claims {
             return false;
         }
         bits::is_set(&self.words, unit as usize)
+    }
+
+    /// Which of eight units from a multiple of 8 on are claimed, as the bits of a byte: that of the first unit is the
+    /// least significant.
+    #[tactic(auto, using(crate::proofs::FlagLemmas::length_flags, crate::proofs::FlagLemmas::flag_at))]
+    pub fn eight(&self, unit: u64) -> u8
+        requires whole { unit % 8 ≡ 0 }
+        requires inside { unit + 8 ≤ length self.now }
+        ensures { (i : ℕ) → i < 8 → nat_eq (bit_at result i) 1 ≡ flag_of self.now (unit + i) }
+    {
+        bits::eight(&self.words, unit as usize)
     }
 }

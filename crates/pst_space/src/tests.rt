@@ -71,3 +71,27 @@ fn a_span_is_claimed_once(rt: HostRuntime) -> Result<(), Fail> {
     assert!(rt; claims.is_claimed(3967));
     Ok(())
 }
+
+// A byte of flags has the first unit as its least significant bit.
+#[test]
+fn eight_units_are_a_byte(rt: HostRuntime) -> Result<(), Fail> {
+    let mut claims = Claims::new(rt.alloc(), &header_of(1))?;
+    assert_eq!(rt; claim(&mut claims, 17408 + 64 * 17, 64)?, Ok(()));
+    assert_eq!(rt; claim(&mut claims, 17408 + 64 * 60, 64 * 10)?, Ok(()));
+    for (unit, byte) in [
+        (0, 0xff),
+        (8, 0xff),
+        (16, 0x02),
+        (24, 0x00),
+        (56, 0xf0),
+        (64, 0x3f),
+        (3960, 0x00),
+    ] {
+        let room = claims.units() >= unit + 8;
+        assert!(rt; room);
+        if room {
+            assert_eq!(rt; claims.eight(unit), byte, "unit {unit}");
+        }
+    }
+    Ok(())
+}
