@@ -111,27 +111,10 @@ flags_of_zeros words n units e = rw e (flags_of_zeros_from n 0 units)
 
 -- ---- several units
 
-pub clear_in_next : (words : List ℕ) (unit n i : ℕ) → i < n → flag_in words (unit + i) ≡ false → clear_in words (unit + i) (n - i) ≡ clear_in words (unit + (i + 1)) (n - (i + 1))
-clear_in_next words unit n i lt e =
-    let k : n - i ≡ suc (n - (i + 1)) = omega arith in
-    let at : (unit + i) + 1 ≡ unit + (i + 1) = omega arith in
-    rw (k, e, at) refl
-
-pub clear_in_not : (words : List ℕ) (unit n i : ℕ) → i < n → flag_in words (unit + i) ≡ true → clear_in words (unit + i) (n - i) ≡ false
-clear_in_not words unit n i lt e =
-    let k : n - i ≡ suc (n - (i + 1)) = omega arith in
-    rw (k, e) refl
-
 pub clear_in_end : (words : List ℕ) (unit n i : ℕ) → n ≤ i → clear_in words (unit + i) (n - i) ≡ true
 clear_in_end words unit n i le =
     let k : n - i ≡ 0 = omega arith in
     rw k refl
-
-pub with_flags_next : (words : List ℕ) (unit n i : ℕ) → i < n → with_flags words (unit + i) (n - i) ≡ with_flags (with_flag words (unit + i)) (unit + (i + 1)) (n - (i + 1))
-with_flags_next words unit n i lt =
-    let k : n - i ≡ suc (n - (i + 1)) = omega arith in
-    let at : (unit + i) + 1 ≡ unit + (i + 1) = omega arith in
-    rw k (ap (λ (u : ℕ). with_flags (with_flag words (unit + i)) u (n - (i + 1))) at)
 
 pub with_flags_end : (words : List ℕ) (unit n i : ℕ) → n ≤ i → with_flags words (unit + i) (n - i) ≡ words
 with_flags_end words unit n i le =

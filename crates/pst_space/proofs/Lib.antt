@@ -4,3 +4,4 @@ pub mod FlagLemmas
 pub mod MapLemmas
 pub mod MarkLemmas
 pub mod StepLemmas
+pub mod WordLemmas

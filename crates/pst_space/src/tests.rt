@@ -72,6 +72,45 @@ fn a_span_is_claimed_once(rt: HostRuntime) -> Result<(), Fail> {
     Ok(())
 }
 
+// Spans that begin and end at each side of the edges of words: just their units are claimed, and one more unit at either
+// end is refused.
+#[test]
+fn spans_go_from_word_to_word(rt: HostRuntime) -> Result<(), Fail> {
+    for (first, count) in [
+        (64, 64),
+        (65, 63),
+        (100, 28),
+        (100, 29),
+        (127, 2),
+        (128, 128),
+        (100, 300),
+        (127, 130),
+        (3904, 64),
+    ] {
+        let mut claims = Claims::new(rt.alloc(), &header_of(1))?;
+        let (at, len) = (17408 + 64 * first, 64 * count);
+        assert_eq!(rt; claim(&mut claims, at, len)?, Ok(()));
+        for unit in 16..3968 {
+            let within = first <= unit && unit < first + count;
+            assert_eq!(rt;
+                claims.is_claimed(unit),
+                within,
+                "unit {unit} of {first}, {count}"
+            );
+        }
+        let last = at + len - 64;
+        for other in [at, last] {
+            let overlap = Err(Fault::at(Kind::Overlap, other));
+            assert_eq!(rt; claim(&mut claims, other, 64)?, overlap);
+        }
+        let before = at - 64 * 48;
+        let overlap = Err(Fault::at(Kind::Overlap, before));
+        assert_eq!(rt; claim(&mut claims, before, 64 * 49)?, overlap);
+        assert_eq!(rt; claim(&mut claims, before, 64 * 48)?, Ok(()));
+    }
+    Ok(())
+}
+
 // A byte of flags has the first unit as its least significant bit.
 #[test]
 fn eight_units_are_a_byte(rt: HostRuntime) -> Result<(), Fail> {
