@@ -13,10 +13,10 @@ use Rattle.pst_block.specs.Block.{bid_key}
 use Rattle.pst_block.specs.Table.{Table, entry_of, body_of}
 use Rattle.pst_datatree.specs.declared.seen.Seen.{Seen}
 use Rattle.pst_datatree.specs.Bid.{is_internal, is_no_block}
-use Rattle.pst_datatree.specs.List.{btype_in, count_in, bid_in, is_block_list, has_level_two}
+use Rattle.pst_datatree.specs.List.{btype_in, count_in, bid_in, is_block_list}
 use Rattle.pst_datatree.specs.Names.{IsInternal, NamesBlock, IsKeyOf, IsUnder, IsInTree}
-use Rattle.pst_datatree.specs.Data.{bad_tree, block_missing, data_leaf_fault, xblock_fault, xxblock_fault, tree_fault}
-use Rattle.pst_datatree.specs.Seen.{has_tree, holds_tree, NamesKnown, IsKnownTree, AddsTrees}
+use Rattle.pst_datatree.specs.Data.{bad_tree, block_missing, data_leaf_fault, xblock_fault, xxblock_fault}
+use Rattle.pst_datatree.specs.Seen.{has_tree, holds_tree, NamesKnown, IsSoundTree, IsKnownTree, AddsTrees}
 use Rattle.pst_datatree.proofs.DataLemmas.{fault_or_none}
 use Rattle.pst_datatree.proofs.SeenLemmas.{same_key}
 
@@ -134,8 +134,8 @@ key_of_named t bid named e r same is there internal key own =
 pub has_named : (t : Table) (s : Seen) (bid named : ℕ) (e : BlockEntry) (r : Option BlockEntry) → named ≡ bid → r ≡ entry_of t named → r ≡ Some e → has_tree s e.bid ≡ has_tree s bid
 has_named t s bid named e r same is there = has_same s e.bid bid (entry_key t bid e (ap (entry_of t) (sym same) ∙ (sym is ∙ there)))
 
-pub tree_of_named : (t : Table) (bid : ℕ) (e : BlockEntry) → entry_of t bid ≡ Some e → (key : ℕ) → (is_internal e.bid ≡ true) × IsUnder t e key → IsInTree t bid key
-tree_of_named t bid e there key under = (e, (there, sym (internal_same e.bid bid (entry_key t bid e there)) ∙ under.0), under.1)
+pub tree_of_named : (t : Table) (bid : ℕ) (e : BlockEntry) → entry_of t bid ≡ Some e → is_internal e.bid ≡ true → (key : ℕ) → IsUnder t e key → IsInTree t bid key
+tree_of_named t bid e there internal key under = (e, (there, sym (internal_same e.bid bid (entry_key t bid e there)) ∙ internal), under)
 
 pub known_named : (t : Table) (s : Seen) (bid : ℕ) (e : BlockEntry) → entry_of t bid ≡ Some e → (is_internal e.bid ≡ true → has_tree s e.bid ≡ true) → IsKnownTree t s bid
 known_named t s bid e there known x internal =
@@ -181,10 +181,10 @@ unfolding has_tree
 has_stays a b bid stays known = stays (bid_key bid) known
 
 -- a known block is that of an XBLOCK or XXBLOCK
-pub tree_type : (t : Table) (e : BlockEntry) → tree_fault t e ≡ None → btype_in (body_of t e) ≡ 1
-unfolding tree_fault xblock_fault xxblock_fault
-tree_type t e none = by_level (has_level_two (body_of t e)) none
-  where
-    by_level : (v : Bool) → (if v then xxblock_fault t e else xblock_fault t e) ≡ None → btype_in (body_of t e) ≡ 1
-    by_level true h = list_type 2 (body_of t e) (holds_or_none _ _ (none_then (holds_or (is_block_list 2 (body_of t e)) (bad_tree e)) _ h).0)
-    by_level false h = list_type 1 (body_of t e) (holds_or_none _ _ (none_then (holds_or (is_block_list 1 (body_of t e)) (bad_tree e)) _ h).0)
+pub tree_type : (t : Table) (e : BlockEntry) → IsSoundTree t e → btype_in (body_of t e) ≡ 1
+unfolding xblock_fault xxblock_fault
+tree_type t e sound =
+    elim sound [
+      | inl one ↦ list_type 1 (body_of t e) (holds_or_none _ _ (none_then (holds_or (is_block_list 1 (body_of t e)) (bad_tree e)) _ one).0)
+      | inr two ↦ list_type 2 (body_of t e) (holds_or_none _ _ (none_then (holds_or (is_block_list 2 (body_of t e)) (bad_tree e)) _ two).0)
+    ]

@@ -9,8 +9,8 @@ use Rattle.pst_fault.proofs.GeneralLemmas.{number_of_test}
 use Rattle.pst_page.specs.declared.entry.BlockEntry.{BlockEntry}
 use Rattle.pst_block.specs.Table.{Table, entry_of, body_of}
 use Rattle.pst_datatree.specs.Bid.{is_internal}
-use Rattle.pst_datatree.specs.List.{count_in, total_in, bid_in, is_block_list, has_level_two}
-use Rattle.pst_datatree.specs.Data.{size_of, fault_or, block_missing, bad_tree, leaf_spans, data_leaf_fault, xblock_spans, xblock_fault, child_fault, xxblock_spans, xxblock_fault, tree_spans, tree_fault}
+use Rattle.pst_datatree.specs.List.{count_in, total_in, bid_in, is_block_list}
+use Rattle.pst_datatree.specs.Data.{size_of, fault_or, block_missing, bad_tree, leaf_spans, data_leaf_fault, xblock_spans, xblock_fault, child_fault, xxblock_spans, xxblock_fault}
 
 pub list_fits : (level : ℕ) (body : List ℕ) → is_block_list level body ≡ true → 8 + 8 * count_in body ≤ length body
 unfolding is_block_list
@@ -114,7 +114,7 @@ xxblock_head t e h = omega (arith, xxblock_fits t e h)
 pub child_of_xxblock : (t : Table) (e : BlockEntry) → xxblock_fault t e ≡ None → (i : ℕ) → i < count_in (body_of t e) → child_fault t e i ≡ None
 child_of_xxblock t e h i lt = none_below (child_fault t e) (count_in (body_of t e)) i (sound_xxblock t e h).parts lt
 
--- ---- how many bytes an internal block has
+-- ---- how many bytes an XBLOCK or XXBLOCK has
 
 pub total_of_xblock : (t : Table) (e : BlockEntry) → xblock_fault t e ≡ None → size_of (xblock_spans t e) ≡ total_in (body_of t e)
 unfolding xblock_fault
@@ -124,26 +124,10 @@ total_of_xblock t e h =
     let q = none_then (first_below (data_leaf_fault t e) (count_in body)) _ p.1 in
     number_of_test _ _ (holds_or_none _ _ q.1)
 
-total_of_xxblock : (t : Table) (e : BlockEntry) → xxblock_fault t e ≡ None → size_of (xxblock_spans t e) ≡ total_in (body_of t e)
+pub total_of_xxblock : (t : Table) (e : BlockEntry) → xxblock_fault t e ≡ None → size_of (xxblock_spans t e) ≡ total_in (body_of t e)
 unfolding xxblock_fault
 total_of_xxblock t e h =
     let body = body_of t e in
     let p = none_then (holds_or (is_block_list 2 body) (bad_tree e)) _ h in
     let q = none_then (first_below (child_fault t e) (count_in body)) _ p.1 in
     number_of_test _ _ (holds_or_none _ _ q.1)
-
-pub tree_total : (t : Table) (e : BlockEntry) → tree_fault t e ≡ None → size_of (tree_spans t e) ≡ total_in (body_of t e)
-unfolding tree_fault tree_spans
-tree_total t e h = by_level (has_level_two (body_of t e)) h
-  where
-    by_level : (b : Bool) → cond b (xxblock_fault t e) (xblock_fault t e) ≡ None → size_of (cond b (xxblock_spans t e) (xblock_spans t e)) ≡ total_in (body_of t e)
-    by_level true none = total_of_xxblock t e none
-    by_level false none = total_of_xblock t e none
-
-pub tree_head : (t : Table) (e : BlockEntry) → tree_fault t e ≡ None → 8 ≤ length (body_of t e)
-unfolding tree_fault
-tree_head t e h = by_level (has_level_two (body_of t e)) h
-  where
-    by_level : (b : Bool) → cond b (xxblock_fault t e) (xblock_fault t e) ≡ None → 8 ≤ length (body_of t e)
-    by_level true none = xxblock_head t e none
-    by_level false none = xblock_head t e none

@@ -1,17 +1,20 @@
 -- All spans of a data tree lie in the file.
-use Rattle.std.proofs.Common.{◌≡◌, ℕ, zero, suc, ◌+◌, ◌-◌, ◌≤◌, min, Bool, true, false, cond, List, [], ◌∷◌, ◌++◌, length, drop, Option, Some, None, refl, arith, inl, inr}
+use Rattle.std.proofs.Common.{◌≡◌, ℕ, zero, suc, ◌+◌, ◌-◌, ◌≤◌, min, Bool, true, false, List, [], ◌∷◌, ◌++◌, length, drop, Option, Some, None, refl, arith, inl, inr}
 use Rattle.std.proofs.lemmas.Bool.{cases_lt}
 use Rattle.pst_bytes.specs.declared.span.Span.{Span}
 use Rattle.pst_fault.specs.First.{join_below, join_from}
 use Rattle.pst_page.specs.declared.entry.BlockEntry.{BlockEntry}
 use Rattle.pst_block.specs.Table.{Table, entry_of, body_of, AreWithin}
 use Rattle.pst_datatree.specs.declared.position.Position.{Position}
-use Rattle.pst_datatree.specs.Bid.{is_internal, is_no_block}
-use Rattle.pst_datatree.specs.List.{count_in, bid_in, has_level_two}
+use Rattle.pst_datatree.specs.declared.named.Named.{Named}
+use Rattle.pst_datatree.specs.declared.named.Named.TheVariants.{Nothing, Missing, Data, Xblock, Xxblock}
+use Rattle.pst_datatree.specs.List.{count_in, bid_in}
+use Rattle.pst_datatree.specs.Named.{named_by}
 use Rattle.pst_datatree.specs.Data.{spans_at, data_block_spans, leaf_spans, xblock_spans, child_spans, data_spans}
 use Rattle.pst_datatree.specs.Spans.{AreInside}
 use Rattle.pst_datatree.specs.Cut.{cut, shown}
-use Rattle.pst_datatree.specs.Position.{xblock_left, xxblock_left, tree_left, block_left, data_left}
+use Rattle.pst_datatree.specs.Position.{xblock_left, xxblock_left, named_left, data_left}
+use Rattle.pst_datatree.proofs.NamedLemmas.{IsNamed, named_is}
 use Rattle.pst_datatree.proofs.CutLemmas.{cut_with, cut_without, cut_nil}
 use Rattle.pst_datatree.proofs.PositionLemmas.{data_from_start}
 
@@ -65,32 +68,23 @@ child_inside : (t : Table) (body : List ℕ) (i : ℕ) → AreWithin t → AreIn
 unfolding child_spans
 child_inside t body i within = at_inside t (bid_in body i) (xblock_spans t) (entry_of t (bid_in body i)) refl (λ e is. xblock_inside t e within)
 
-tree_inside : (t : Table) (e : BlockEntry) (at : Position) → AreWithin t → AreInside t.image (tree_left t e at)
-unfolding tree_left xblock_left xxblock_left
-tree_inside t e at within = by_level (has_level_two (body_of t e))
-  where
-    part : ℕ → List Span
-    part = child_spans t (body_of t e)
-
-    by_level : (b : Bool) → AreInside t.image (cond b (drop at.leaf (join_from part at.child (count_in (body_of t e) - at.child))) (drop at.leaf (xblock_spans t e)))
-    by_level true = drop_inside t.image at.leaf (join_from part at.child (count_in (body_of t e) - at.child)) (from_inside t.image part at.child (count_in (body_of t e) - at.child) (λ i. child_inside t (body_of t e) i within))
-    by_level false = drop_inside t.image at.leaf (xblock_spans t e) (xblock_inside t e within)
-
-left_inside : (t : Table) (bid : ℕ) (e : BlockEntry) (at : Position) → AreWithin t → entry_of t bid ≡ Some e → AreInside t.image (block_left t e at)
-unfolding block_left
-left_inside t bid e at within is = by_kind (is_internal e.bid)
-  where
-    by_kind : (b : Bool) → AreInside t.image (cond b (tree_left t e at) (drop at.leaf (data_block_spans e)))
-    by_kind true = tree_inside t e at within
-    by_kind false = drop_inside t.image at.leaf (data_block_spans e) (block_inside t bid e within is)
+xxblock_inside : (t : Table) (e : BlockEntry) (at : Position) → AreWithin t → AreInside t.image (xxblock_left t e at)
+unfolding xxblock_left
+xxblock_inside t e at within =
+    let part = child_spans t (body_of t e) in
+    let count = count_in (body_of t e) - at.child in
+    drop_inside t.image at.leaf (join_from part at.child count) (from_inside t.image part at.child count (λ i. child_inside t (body_of t e) i within))
 
 data_inside : (t : Table) (bid : ℕ) (at : Position) → AreWithin t → AreInside t.image (data_left t bid at)
-unfolding data_left
-data_inside t bid at within = by_name (is_no_block bid)
+unfolding data_left xblock_left
+data_inside t bid at within = by_name (named_by t bid) (named_is t bid)
   where
-    by_name : (b : Bool) → AreInside t.image (cond b [] (spans_at (λ e. block_left t e at) (entry_of t bid)))
-    by_name true = tt
-    by_name false = at_inside t bid (λ e. block_left t e at) (entry_of t bid) refl (λ e is. left_inside t bid e at within is)
+    by_name : (n : Named) → IsNamed t bid n → AreInside t.image (named_left t n at)
+    by_name Nothing is = tt
+    by_name Missing is = tt
+    by_name (Data e) is = drop_inside t.image at.leaf (data_block_spans e) (block_inside t bid e within is.0.1)
+    by_name (Xblock e) is = drop_inside t.image at.leaf (xblock_spans t e) (xblock_inside t e within)
+    by_name (Xxblock e) is = xxblock_inside t e at within
 
 -- what is shown of them, too
 pub shown_inside : (t : Table) (bid : ℕ) (at : Position) (whole : Bool) (skip left : ℕ) → AreWithin t → AreInside t.image (shown whole skip left (data_left t bid at))

@@ -1,3 +1,4 @@
+pub mod NamedLemmas
 pub mod DataLemmas
 pub mod RelationLemmas
 pub mod PositionLemmas

@@ -6,9 +6,12 @@ use Rattle.pst_fault.specs.Fault.{at_node}
 use Rattle.pst_fault.specs.First.{◌then◌, holds_or, first_below, IsFirst}
 use Rattle.pst_page.specs.declared.entry.BlockEntry.{BlockEntry}
 use Rattle.pst_block.specs.Table.{Table, entry_of, body_of}
-use Rattle.pst_datatree.specs.Bid.{is_internal, is_no_block}
-use Rattle.pst_datatree.specs.List.{count_in, total_in, bid_in, is_block_list, has_level_two}
-use Rattle.pst_datatree.specs.Data.{size_of, fault_or, block_missing, bad_tree, told_at, data_leaf_fault, xblock_spans, xblock_fault, child_fault, xxblock_spans, xxblock_fault, tree_fault, data_root_fault, data_fault}
+use Rattle.pst_datatree.specs.declared.named.Named.{Named}
+use Rattle.pst_datatree.specs.declared.named.Named.TheVariants.{Nothing, Missing, Data, Xblock, Xxblock}
+use Rattle.pst_datatree.specs.Bid.{is_internal}
+use Rattle.pst_datatree.specs.List.{count_in, total_in, bid_in, is_block_list}
+use Rattle.pst_datatree.specs.Named.{named_by}
+use Rattle.pst_datatree.specs.Data.{size_of, fault_or, block_missing, bad_tree, told_at, data_leaf_fault, xblock_spans, xblock_fault, child_fault, xxblock_spans, xxblock_fault, named_fault, data_fault}
 
 -- a fact of the faults that a data tree can have
 module _ (Is : Option Fault → Type 0) (none : Is None) (missing : (bid : ℕ) → Is (Some (block_missing bid))) (bad : (e : BlockEntry) → Is (Some (bad_tree e))) where
@@ -56,15 +59,16 @@ module _ (Is : Option Fault → Type 0) (none : Is None) (missing : (bid : ℕ) 
       then_is (holds_or (is_block_list 2 body) (bad_tree e)) _ (holds_is (is_block_list 2 body) e)
       (then_is (first_below (child_fault t e) (count_in body)) _ (below_is (child_fault t e) (count_in body) (child_is t e)) (holds_is (nat_eq (size_of (xxblock_spans t e)) (total_in body)) e))
 
-  block_is : (t : Table) (e : BlockEntry) → Is (data_root_fault t e)
-  unfolding data_root_fault tree_fault
-  block_is t e =
-      if_is (is_internal e.bid) (if has_level_two (body_of t e) then xxblock_fault t e else xblock_fault t e) None
-      (if_is (has_level_two (body_of t e)) (xxblock_fault t e) (xblock_fault t e) (xxblock_is t e) (xblock_is t e)) none
+  named_is : (t : Table) (bid : ℕ) (n : Named) → Is (named_fault t bid n)
+  named_is t bid Nothing = none
+  named_is t bid Missing = missing bid
+  named_is t bid (Data e) = none
+  named_is t bid (Xblock e) = xblock_is t e
+  named_is t bid (Xxblock e) = xxblock_is t e
 
   data_is : (t : Table) (bid : ℕ) → Is (data_fault t bid)
   unfolding data_fault
-  data_is t bid = if_is (is_no_block bid) None (fault_or (block_missing bid) (data_root_fault t) (entry_of t bid)) none (or_is bid (data_root_fault t) (entry_of t bid) (block_is t))
+  data_is t bid = named_is t bid (named_by t bid)
 
 pub data_no_node : (t : Table) (bid : ℕ) → option_map (at_node 0) (data_fault t bid) ≡ data_fault t bid
 data_no_node t bid = data_is (λ o. option_map (at_node 0) o ≡ o) refl (λ bid. refl) (λ e. refl) t bid

@@ -1,17 +1,19 @@
 -- What is left of a data tree, from one position to the next.
-use Rattle.std.proofs.Common.{◌≡◌, Bool, true, false, ℕ, zero, suc, ◌+◌, ◌-◌, ◌<◌, ◌≤◌, List, [], ◌∷◌, ◌++◌, length, drop, Option, Some, None, refl, sym, ap, ◌∙◌, arith, add-one}
-use Rattle.std.specs.Prelude.{slice_get, cond}
+use Rattle.std.proofs.Common.{◌≡◌, ℕ, zero, suc, ◌+◌, ◌-◌, ◌<◌, ◌≤◌, List, [], ◌∷◌, ◌++◌, length, drop, Some, None, refl, sym, ap, ◌∙◌, arith, add-one}
+use Rattle.std.specs.Prelude.{slice_get}
 use Rattle.std.proofs.lemmas.List.{drop_all, append-nil, append_assoc}
 use Rattle.pst_bytes.specs.declared.span.Span.{Span}
 use Rattle.pst_fault.specs.First.{join_below, join_from}
 use Rattle.pst_page.specs.declared.entry.BlockEntry.{BlockEntry}
 use Rattle.pst_block.specs.Block.{body_span}
-use Rattle.pst_block.specs.Table.{Table, entry_of, body_of}
+use Rattle.pst_block.specs.Table.{Table, body_of}
 use Rattle.pst_datatree.specs.declared.position.Position.{Position}
-use Rattle.pst_datatree.specs.Bid.{is_internal, is_no_block}
-use Rattle.pst_datatree.specs.List.{count_in, has_level_two}
-use Rattle.pst_datatree.specs.Data.{spans_at, data_block_spans, leaf_spans, xblock_spans, xblock_fault, child_spans, xxblock_spans, tree_spans, data_root_spans, data_spans}
-use Rattle.pst_datatree.specs.Position.{xblock_left, xxblock_left, tree_left, block_left, data_left}
+use Rattle.pst_datatree.specs.declared.named.Named.{Named}
+use Rattle.pst_datatree.specs.declared.named.Named.TheVariants.{Nothing, Missing, Data, Xblock, Xxblock}
+use Rattle.pst_datatree.specs.List.{count_in}
+use Rattle.pst_datatree.specs.Named.{named_by}
+use Rattle.pst_datatree.specs.Data.{data_block_spans, leaf_spans, xblock_spans, xblock_fault, child_spans, xxblock_spans, named_spans, data_spans}
+use Rattle.pst_datatree.specs.Position.{xblock_left, xxblock_left, named_left, data_left}
 use Rattle.pst_datatree.proofs.DataLemmas.{span_of_xblock}
 
 -- ---- lists
@@ -113,42 +115,16 @@ data_block_end e at h = drop_all at.leaf (data_block_spans e) (omega arith)
 
 -- ---- a block identifier, from its first block on
 
-tree_from : (t : Table) (e : BlockEntry) (n : ℕ) → tree_left t e (record { child = 0; leaf = n }) ≡ drop n (tree_spans t e)
-unfolding tree_left tree_spans xblock_left
-tree_from t e n = by_level (has_level_two (body_of t e))
-  where
-    at : Position
-    at = record { child = 0; leaf = n }
-
-    by_level : (b : Bool) → cond b (xxblock_left t e at) (xblock_left t e at) ≡ drop n (cond b (xxblock_spans t e) (xblock_spans t e))
-    by_level true = xxblock_from t e n
-    by_level false = refl
-
-block_from : (t : Table) (e : BlockEntry) (n : ℕ) → block_left t e (record { child = 0; leaf = n }) ≡ drop n (data_root_spans t e)
-unfolding block_left data_root_spans
-block_from t e n = by_kind (is_internal e.bid)
-  where
-    at : Position
-    at = record { child = 0; leaf = n }
-
-    by_kind : (b : Bool) → cond b (tree_left t e at) (drop n (data_block_spans e)) ≡ drop n (cond b (tree_spans t e) (data_block_spans e))
-    by_kind true = tree_from t e n
-    by_kind false = refl
-
 pub data_from : (t : Table) (bid n : ℕ) → data_left t bid (record { child = 0; leaf = n }) ≡ drop n (data_spans t bid)
-unfolding data_left data_spans
-data_from t bid n = by_name (is_no_block bid)
+unfolding data_left data_spans xblock_left
+data_from t bid n = by_name (named_by t bid)
   where
-    at : Position
-    at = record { child = 0; leaf = n }
-
-    by_entry : (o : Option BlockEntry) → spans_at (λ e. block_left t e at) o ≡ drop n (spans_at (data_root_spans t) o)
-    by_entry None = sym (drop_all n [] (omega arith))
-    by_entry (Some e) = block_from t e n
-
-    by_name : (b : Bool) → cond b [] (spans_at (λ e. block_left t e at) (entry_of t bid)) ≡ drop n (cond b [] (spans_at (data_root_spans t) (entry_of t bid)))
-    by_name true = sym (drop_all n [] (omega arith))
-    by_name false = by_entry (entry_of t bid)
+    by_name : (name : Named) → named_left t name (record { child = 0; leaf = n }) ≡ drop n (named_spans t name)
+    by_name Nothing = sym (drop_all n [] (omega arith))
+    by_name Missing = sym (drop_all n [] (omega arith))
+    by_name (Data e) = refl
+    by_name (Xblock e) = refl
+    by_name (Xxblock e) = xxblock_from t e n
 
 -- the first of what is left is the element with that number
 pub get_of_drop : {X : Type 0} (xs : List X) (n : ℕ) → slice_get (drop n xs) 0 ≡ slice_get xs n

@@ -1,5 +1,5 @@
 -- The grammar of data trees, and their first faults and spans, say the same.
-use Rattle.std.proofs.Common.{◌≡◌, ℕ, zero, suc, ◌<◌, Bool, true, false, List, [], ◌++◌, Option, Some, None, refl, sym, ap, ◌∙◌, arith, ◌⊎◌, inl, inr, ◌↔◌}
+use Rattle.std.proofs.Common.{◌≡◌, ℕ, zero, suc, ◌<◌, Bool, true, false, List, ◌++◌, Option, Some, None, refl, sym, ap, ◌∙◌, arith, ◌⊎◌, inl, inr, ◌↔◌}
 use Rattle.std.specs.Prelude.{cond, nat_eq, if◌then◌else◌}
 use Rattle.std.proofs.lemmas.Bool.Decides.{nat_tests}
 use Rattle.pst_bytes.specs.declared.span.Span.{Span}
@@ -9,11 +9,15 @@ use Rattle.pst_fault.proofs.FirstLemmas.{none_then, then_none, none_below, holds
 use Rattle.pst_fault.proofs.GeneralLemmas.{number_of_test, test_of_number}
 use Rattle.pst_page.specs.declared.entry.BlockEntry.{BlockEntry}
 use Rattle.pst_block.specs.Table.{Table, entry_of, body_of}
-use Rattle.pst_datatree.specs.Bid.{is_internal, is_no_block}
+use Rattle.pst_datatree.specs.declared.named.Named.{Named}
+use Rattle.pst_datatree.specs.declared.named.Named.TheVariants.{Nothing, Missing, Data, Xblock, Xxblock}
+use Rattle.pst_datatree.specs.Bid.{is_internal}
+use Rattle.pst_datatree.specs.Named.{named_by}
 use Rattle.pst_datatree.specs.List.{count_in, total_in, bid_in, is_block_list, has_level_two}
-use Rattle.pst_datatree.specs.Data.{size_of, spans_at, fault_or, data_block_spans, block_missing, bad_tree, leaf_spans, data_leaf_fault, xblock_spans, xblock_fault, child_spans, child_fault, xxblock_spans, xxblock_fault, tree_spans, tree_fault, data_root_spans, data_root_fault, data_spans, data_fault}
+use Rattle.pst_datatree.specs.Data.{size_of, spans_at, data_block_spans, block_missing, bad_tree, leaf_spans, data_leaf_fault, xblock_spans, xblock_fault, child_spans, child_fault, xxblock_spans, xxblock_fault, named_spans, data_spans, named_fault, data_fault}
 use Rattle.pst_datatree.specs.Relation.{IsDataLeaf, IsXblock, IsChild, IsXxblock, IsDataBlock, IsDataTree, HasData, DataLaw}
 use Rattle.pst_datatree.proofs.DataLemmas.{fault_or_none}
+use Rattle.pst_datatree.proofs.NamedLemmas.{IsThere, IsNamed, named_is}
 
 -- parts that are as told, each by its function, are as told together
 module _ (IsPart : ℕ → List Span → Type 0) (fault : ℕ → Option Fault) (spans : ℕ → List Span) (law : (i : ℕ) (xs : List Span) → IsPart i xs ↔ ((fault i ≡ None) × (xs ≡ spans i))) where
@@ -106,43 +110,25 @@ level_two : (body : List ℕ) → is_block_list 2 body ≡ true → has_level_tw
 unfolding is_block_list has_level_two
 level_two body h = grind (arith, nat_tests)
 
-tree_law : (t : Table) (e : BlockEntry) (xs : List Span) → (IsXblock t e xs ⊎ IsXxblock t e xs) ↔ ((tree_fault t e ≡ None) × (xs ≡ tree_spans t e))
-unfolding tree_fault tree_spans
-tree_law t e xs = (to, from (has_level_two (body_of t e)) refl)
-  where
-    to : (IsXblock t e xs ⊎ IsXxblock t e xs) → (cond (has_level_two (body_of t e)) (xxblock_fault t e) (xblock_fault t e) ≡ None) × (xs ≡ cond (has_level_two (body_of t e)) (xxblock_spans t e) (xblock_spans t e))
-    to (inl w) = let p = (xblock_law t e xs).0 w in let l = level_one (body_of t e) w.0 in (rw l p.0, rw l p.1)
-    to (inr w) = let p = (xxblock_law t e xs).0 w in let l = level_two (body_of t e) w.0 in (rw l p.0, rw l p.1)
-
-    from : (b : Bool) → has_level_two (body_of t e) ≡ b → (cond (has_level_two (body_of t e)) (xxblock_fault t e) (xblock_fault t e) ≡ None) × (xs ≡ cond (has_level_two (body_of t e)) (xxblock_spans t e) (xblock_spans t e)) → (IsXblock t e xs ⊎ IsXxblock t e xs)
-    from true l w = inr ((xxblock_law t e xs).1 ((rw l at w.0), (rw l at w.1)))
-    from false l w = inl ((xblock_law t e xs).1 ((rw l at w.0), (rw l at w.1)))
-
-block_law : (t : Table) (e : BlockEntry) (xs : List Span) → (IsDataBlock t e xs ⊎ IsDataTree t e xs) ↔ ((data_root_fault t e ≡ None) × (xs ≡ data_root_spans t e))
-unfolding data_root_fault data_root_spans
-block_law t e xs = (to, from (is_internal e.bid) refl)
-  where
-    to : (IsDataBlock t e xs ⊎ IsDataTree t e xs) → (cond (is_internal e.bid) (tree_fault t e) None ≡ None) × (xs ≡ cond (is_internal e.bid) (tree_spans t e) (data_block_spans e))
-    to (inl w) = (rw w.0 refl, rw w.0 w.1)
-    to (inr w) = let p = (tree_law t e xs).0 w.1 in (rw w.0 p.0, rw w.0 p.1)
-
-    from : (b : Bool) → is_internal e.bid ≡ b → (cond (is_internal e.bid) (tree_fault t e) None ≡ None) × (xs ≡ cond (is_internal e.bid) (tree_spans t e) (data_block_spans e)) → (IsDataBlock t e xs ⊎ IsDataTree t e xs)
-    from true l w = inr (l, (tree_law t e xs).1 ((rw l at w.0), (rw l at w.1)))
-    from false l w = inl (l, (rw l at w.1))
+-- what an identifier names
+named_law : (t : Table) (bid : ℕ) (n : Named) (xs : List Span) → IsNamed t bid n → named_fault t bid n ≡ None → xs ≡ named_spans t n → HasData t bid xs
+named_law t bid Nothing xs is none same = inl (is, same)
+named_law t bid Missing xs is none same = cc
+named_law t bid (Data e) xs is none same = inr (is.0.0, (e, is.0.1, inl (is.1, same)))
+named_law t bid (Xblock e) xs is none same = inr (is.0.0, (e, is.0.1, inr (is.1, inl ((xblock_law t e xs).1 (none, same)))))
+named_law t bid (Xxblock e) xs is none same = inr (is.0.0, (e, is.0.1, inr (is.1, inr ((xxblock_law t e xs).1 (none, same)))))
 
 pub data_law : DataLaw
-unfolding data_fault data_spans
-data_law t bid xs = (to, from (is_no_block bid) refl)
+unfolding data_fault data_spans named_by
+data_law t bid xs = (to, λ w. named_law t bid (named_by t bid) xs (named_is t bid) w.0 w.1)
   where
-    to : HasData t bid xs → (cond (is_no_block bid) None (fault_or (block_missing bid) (data_root_fault t) (entry_of t bid)) ≡ None) × (xs ≡ cond (is_no_block bid) [] (spans_at (data_root_spans t) (entry_of t bid)))
-    to (inl w) = (rw w.0 refl, rw w.0 w.1)
-    to (inr w) =
-        let named = w.1 in
-        let p = (block_law t named.0 xs).0 named.2 in
-        (rw (w.0, named.1) p.0, rw (w.0, named.1) p.1)
+    of_block : (e : BlockEntry) → IsThere t bid e → (IsDataBlock t e xs ⊎ IsDataTree t e xs) → (named_fault t bid (named_by t bid) ≡ None) × (xs ≡ named_spans t (named_by t bid))
+    of_block e there (inl w) = (rw (there.0, there.1, w.0) refl, rw (there.0, there.1, w.0) w.1)
+    of_block e there (inr w) = elim w.1 [
+      | inl one ↦ let level = level_one (body_of t e) one.0 in rw (there.0, there.1, w.0, level) ((xblock_law t e xs).0 one)
+      | inr two ↦ let level = level_two (body_of t e) two.0 in rw (there.0, there.1, w.0, level) ((xxblock_law t e xs).0 two)
+    ]
 
-    from : (b : Bool) → is_no_block bid ≡ b → (cond (is_no_block bid) None (fault_or (block_missing bid) (data_root_fault t) (entry_of t bid)) ≡ None) × (xs ≡ cond (is_no_block bid) [] (spans_at (data_root_spans t) (entry_of t bid))) → HasData t bid xs
-    from true l w = inl (l, (rw l at w.1))
-    from false l w =
-        let x = fault_or_none (block_missing bid) (data_root_fault t) (entry_of t bid) (rw l at w.0) in
-        inr (l, (x.0, x.1, (block_law t x.0 xs).1 (x.2, (rw l at w.1) ∙ ap (spans_at (data_root_spans t)) x.1)))
+    to : HasData t bid xs → (named_fault t bid (named_by t bid) ≡ None) × (xs ≡ named_spans t (named_by t bid))
+    to (inl w) = (rw w.0 refl, rw w.0 w.1)
+    to (inr w) = of_block w.1.0 (w.0, w.1.1) w.1.2

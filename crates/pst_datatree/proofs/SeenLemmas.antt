@@ -16,8 +16,8 @@ use Rattle.pst_block.specs.Block.{bid_key}
 use Rattle.pst_block.specs.Table.{Table, entry_of, body_of}
 use Rattle.pst_datatree.specs.declared.seen.Seen.{Seen}
 use Rattle.pst_datatree.specs.List.{is_block_list, has_level_two}
-use Rattle.pst_datatree.specs.Data.{bad_tree, xblock_spans, xblock_fault, xxblock_spans, xxblock_fault, tree_spans, tree_fault}
-use Rattle.pst_datatree.specs.Seen.{has_tree, holds_tree, tree_keys, raised, NoNewTwo, IsSeenTrue}
+use Rattle.pst_datatree.specs.Data.{bad_tree, xblock_fault, xxblock_fault}
+use Rattle.pst_datatree.specs.Seen.{has_tree, holds_tree, tree_keys, raised, NoNewTwo, IsSoundTree, IsSeenTrue}
 
 -- what is in a set after an insertion was there, or is the key
 pub only_new : (old new : BTreeSet ℕ) (k : ℕ) → ((q : ℕ) → contains nat_cmp new q ≡ cond (is_at (nat_cmp k) q) true (contains nat_cmp old q)) → (q : ℕ) → contains nat_cmp new q ≡ true → (contains nat_cmp old q ≡ true) ⊎ (k ≡ q)
@@ -43,44 +43,44 @@ unfolding entry_of
 same_key t a b h = rw h refl
 
 -- one more is known
-pub put_true : (t : Table) (old new : Seen) (bid : ℕ) (e : BlockEntry) → ((other : ℕ) → has_tree new other ≡ true → (has_tree old other ≡ true) ⊎ (bid_key bid ≡ bid_key other)) → entry_of t bid ≡ Some e → tree_fault t e ≡ None → IsSeenTrue t old → IsSeenTrue t new
-put_true t old new bid e only listed none true_of = record { holds = each }
+pub put_true : (t : Table) (old new : Seen) (bid : ℕ) (e : BlockEntry) → ((other : ℕ) → has_tree new other ≡ true → (has_tree old other ≡ true) ⊎ (bid_key bid ≡ bid_key other)) → entry_of t bid ≡ Some e → IsSoundTree t e → IsSeenTrue t old → IsSeenTrue t new
+put_true t old new bid e only listed sound true_of = record { holds = each }
   where
-    each : (other : ℕ) (x : BlockEntry) → entry_of t other ≡ Some x → has_tree new other ≡ true → tree_fault t x ≡ None
+    each : (other : ℕ) (x : BlockEntry) → entry_of t other ≡ Some x → has_tree new other ≡ true → IsSoundTree t x
     each other x there known =
         elim (only other known) [
           | inl was ↦ true_of.holds other x there was
-          | inr key ↦ let same : Some e ≡ Some x = sym listed ∙ same_key t bid other key ∙ there in let is : e ≡ x = cc in rw (← is) none
+          | inr key ↦ let same : Some e ≡ Some x = sym listed ∙ same_key t bid other key ∙ there in let is : e ≡ x = cc in rw (← is) sound
         ]
 
 -- ---- which of the two an internal block is
 
-level_clash : (body : List ℕ) → has_level_two body ≡ true → is_block_list 1 body ≡ false
+level_one : (body : List ℕ) → has_level_two body ≡ true → is_block_list 1 body ≡ false
 unfolding is_block_list has_level_two
-level_clash body h = grind (arith, nat_tests)
+level_one body h = grind (arith, nat_tests)
+
+level_two : (body : List ℕ) → has_level_two body ≡ false → is_block_list 2 body ≡ false
+unfolding is_block_list has_level_two
+level_two body h = grind (arith, nat_tests)
 
 -- an XXBLOCK is no XBLOCK
 pub xblock_of_two : (t : Table) (e : BlockEntry) → has_level_two (body_of t e) ≡ true → xblock_fault t e ≡ Some (bad_tree e)
 unfolding xblock_fault
 xblock_of_two t e h =
-    let first : holds_or (is_block_list 1 (body_of t e)) (bad_tree e) ≡ Some (bad_tree e) = rw (level_clash (body_of t e) h) refl in
+    let first : holds_or (is_block_list 1 (body_of t e)) (bad_tree e) ≡ Some (bad_tree e) = rw (level_one (body_of t e) h) refl in
     then_some (holds_or (is_block_list 1 (body_of t e)) (bad_tree e)) _ (bad_tree e) first
 
-pub tree_of_one : (t : Table) (e : BlockEntry) → has_level_two (body_of t e) ≡ false → tree_fault t e ≡ xblock_fault t e
-unfolding tree_fault
-tree_of_one t e h = rw h refl
+xxblock_of_one : (t : Table) (e : BlockEntry) → has_level_two (body_of t e) ≡ false → xxblock_fault t e ≡ Some (bad_tree e)
+unfolding xxblock_fault
+xxblock_of_one t e h =
+    let first : holds_or (is_block_list 2 (body_of t e)) (bad_tree e) ≡ Some (bad_tree e) = rw (level_two (body_of t e) h) refl in
+    then_some (holds_or (is_block_list 2 (body_of t e)) (bad_tree e)) _ (bad_tree e) first
 
-pub spans_of_one : (t : Table) (e : BlockEntry) → has_level_two (body_of t e) ≡ false → tree_spans t e ≡ xblock_spans t e
-unfolding tree_spans
-spans_of_one t e h = rw h refl
+pub sound_one : (t : Table) (e : BlockEntry) → has_level_two (body_of t e) ≡ false → IsSoundTree t e → xblock_fault t e ≡ None
+sound_one t e level sound = elim sound [ inl one ↦ one | inr two ↦ let bad = sym two ∙ xxblock_of_one t e level in cc ]
 
-pub tree_of_two : (t : Table) (e : BlockEntry) → has_level_two (body_of t e) ≡ true → tree_fault t e ≡ xxblock_fault t e
-unfolding tree_fault
-tree_of_two t e h = rw h refl
-
-pub spans_of_two : (t : Table) (e : BlockEntry) → has_level_two (body_of t e) ≡ true → tree_spans t e ≡ xxblock_spans t e
-unfolding tree_spans
-spans_of_two t e h = rw h refl
+pub sound_two : (t : Table) (e : BlockEntry) → has_level_two (body_of t e) ≡ true → IsSoundTree t e → xxblock_fault t e ≡ None
+sound_two t e level sound = elim sound [ inl one ↦ let bad = sym one ∙ xblock_of_two t e level in cc | inr two ↦ two ]
 
 -- ---- counts
 

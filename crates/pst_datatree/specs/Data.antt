@@ -12,8 +12,11 @@ use Rattle.pst_fault.specs.First.{◌then◌, holds_or, first_below, join_below}
 use Rattle.pst_page.specs.declared.entry.BlockEntry.{BlockEntry}
 use Rattle.pst_block.specs.Block.{body_span}
 use Rattle.pst_block.specs.Table.{Table, entry_of, body_of}
-use Rattle.pst_datatree.specs.Bid.{is_internal, is_no_block}
-use Rattle.pst_datatree.specs.List.{count_in, total_in, bid_in, is_block_list, has_level_two}
+use Rattle.pst_datatree.specs.declared.named.Named.{Named}
+use Rattle.pst_datatree.specs.declared.named.Named.TheVariants.{Nothing, Missing, Data, Xblock, Xxblock}
+use Rattle.pst_datatree.specs.Bid.{is_internal}
+use Rattle.pst_datatree.specs.List.{count_in, total_in, bid_in, is_block_list}
+use Rattle.pst_datatree.specs.Named.{named_by}
 
 -- ---- the spans, where nothing is at fault
 
@@ -46,17 +49,17 @@ child_spans t body i = spans_at (xblock_spans t) (entry_of t (bid_in body i))
 unfoldable pub xxblock_spans : Table → BlockEntry → List Span
 xxblock_spans t e = let body = body_of t e in join_below (child_spans t body) (count_in body)
 
--- of an internal block
-unfoldable pub tree_spans : Table → BlockEntry → List Span
-tree_spans t e = if has_level_two (body_of t e) then xxblock_spans t e else xblock_spans t e
+-- of what an identifier names: none where that is no block
+abbrev pub named_spans : Table → Named → List Span
+named_spans t Nothing = []
+named_spans t Missing = []
+named_spans t (Data e) = data_block_spans e
+named_spans t (Xblock e) = xblock_spans t e
+named_spans t (Xxblock e) = xxblock_spans t e
 
--- of a block
-unfoldable pub data_root_spans : Table → BlockEntry → List Span
-data_root_spans t e = if is_internal e.bid then tree_spans t e else data_block_spans e
-
--- of a block identifier: none where it names no block
+-- of a block identifier
 unfoldable pub data_spans : Table → ℕ → List Span
-data_spans t bid = if is_no_block bid then [] else spans_at (data_root_spans t) (entry_of t bid)
+data_spans t bid = named_spans t (named_by t bid)
 
 -- ---- the first fault
 
@@ -101,17 +104,17 @@ xxblock_fault t e =
     then first_below (child_fault t e) (count_in body)
     then holds_or (nat_eq (size_of (xxblock_spans t e)) (total_in body)) (bad_tree e)
 
--- an internal block
-unfoldable pub tree_fault : Table → BlockEntry → Option Fault
-tree_fault t e = if has_level_two (body_of t e) then xxblock_fault t e else xblock_fault t e
+-- what an identifier names: where it names no block, nothing is at fault
+abbrev pub named_fault : Table → ℕ → Named → Option Fault
+named_fault t bid Nothing = None
+named_fault t bid Missing = Some (block_missing bid)
+named_fault t bid (Data e) = None
+named_fault t bid (Xblock e) = xblock_fault t e
+named_fault t bid (Xxblock e) = xxblock_fault t e
 
--- a block
-unfoldable pub data_root_fault : Table → BlockEntry → Option Fault
-data_root_fault t e = if is_internal e.bid then tree_fault t e else None
-
--- a block identifier: one that names no block has no fault
+-- a block identifier
 unfoldable pub data_fault : Table → ℕ → Option Fault
-data_fault t bid = if is_no_block bid then None else fault_or (block_missing bid) (data_root_fault t) (entry_of t bid)
+data_fault t bid = named_fault t bid (named_by t bid)
 
 -- ---- the same under a node
 

@@ -1,5 +1,6 @@
 pub mod Bid
 pub mod List
+pub mod Named
 pub mod Names
 pub mod Data
 pub mod Seen

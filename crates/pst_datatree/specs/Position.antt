@@ -1,15 +1,17 @@
 -- What is left of a data tree from a position on: of the XBLOCKs that an XXBLOCK names, those from the child's number on,
 -- and of their data blocks (or of an XBLOCK's) all but so many first ones.
-use Rattle.std.specs.Prelude.{◌≡◌, ℕ, ◌+◌, ◌-◌, ◌<◌, ◌≤◌, ⊤, Option, Some, None, List, [], ◌∷◌, drop, length, if◌then◌else◌}
+use Rattle.std.specs.Prelude.{◌≡◌, ℕ, ◌+◌, ◌-◌, ◌<◌, ◌≤◌, ⊤, Option, Some, None, List, [], ◌∷◌, drop, length}
 use Rattle.pst_bytes.specs.declared.span.Span.{Span}
 use Rattle.pst_fault.specs.First.{join_from}
 use Rattle.pst_page.specs.declared.entry.BlockEntry.{BlockEntry}
-use Rattle.pst_block.specs.Table.{Table, entry_of, body_of}
+use Rattle.pst_block.specs.Table.{Table, body_of}
+use Rattle.pst_datatree.specs.declared.named.Named.{Named}
+use Rattle.pst_datatree.specs.declared.named.Named.TheVariants.{Nothing, Missing, Data, Xblock, Xxblock}
 use Rattle.pst_datatree.specs.declared.position.Position.{Position}
-use Rattle.pst_datatree.specs.Bid.{is_internal, is_no_block}
-use Rattle.pst_datatree.specs.List.{count_in, has_level_two}
+use Rattle.pst_datatree.specs.List.{count_in}
+use Rattle.pst_datatree.specs.Named.{named_by}
 use Rattle.pst_datatree.specs.Cut.{cut}
-use Rattle.pst_datatree.specs.Data.{spans_at, data_block_spans, xblock_spans, child_spans}
+use Rattle.pst_datatree.specs.Data.{data_block_spans, xblock_spans, child_spans}
 
 unfoldable pub xblock_left : Table → BlockEntry → Position → List Span
 xblock_left t e at = drop at.leaf (xblock_spans t e)
@@ -17,15 +19,17 @@ xblock_left t e at = drop at.leaf (xblock_spans t e)
 unfoldable pub xxblock_left : Table → BlockEntry → Position → List Span
 xxblock_left t e at = let body = body_of t e in drop at.leaf (join_from (child_spans t body) at.child (count_in body - at.child))
 
-unfoldable pub tree_left : Table → BlockEntry → Position → List Span
-tree_left t e at = if has_level_two (body_of t e) then xxblock_left t e at else xblock_left t e at
-
-unfoldable pub block_left : Table → BlockEntry → Position → List Span
-block_left t e at = if is_internal e.bid then tree_left t e at else drop at.leaf (data_block_spans e)
+-- of what an identifier names
+abbrev pub named_left : Table → Named → Position → List Span
+named_left t Nothing at = []
+named_left t Missing at = []
+named_left t (Data e) at = drop at.leaf (data_block_spans e)
+named_left t (Xblock e) at = xblock_left t e at
+named_left t (Xxblock e) at = xxblock_left t e at
 
 -- of a block identifier
 unfoldable pub data_left : Table → ℕ → Position → List Span
-data_left t bid at = if is_no_block bid then [] else spans_at (λ e. block_left t e at) (entry_of t bid)
+data_left t bid at = named_left t (named_by t bid) at
 
 -- the first span that is left, and the position behind it; none where nothing is left
 abbrev pub Splits : (Position → List Span) → Position → Option (Span × Position) → Type 0

@@ -8,7 +8,7 @@ use Rattle.pst_block.specs.Table.{Table, entry_of, body_of}
 use Rattle.pst_datatree.specs.declared.seen.Seen.{Seen}
 use Rattle.pst_datatree.specs.List.{has_level_two}
 use Rattle.pst_datatree.specs.Names.{IsInternal, NamesBlock}
-use Rattle.pst_datatree.specs.Data.{tree_fault}
+use Rattle.pst_datatree.specs.Data.{xblock_fault, xxblock_fault}
 
 -- how many internal blocks have been expanded
 abbrev pub tree_expansions : Seen → ℕ
@@ -30,9 +30,13 @@ tree_keys s = s.trees.keys
 abbrev pub holds_tree : Seen → ℕ → Bool
 holds_tree s key = contains nat_cmp s.trees key
 
--- What is known is true: an internal block that is known has no fault. So what is passed over hides none.
+-- an XBLOCK or XXBLOCK without fault
+abbrev pub IsSoundTree : Table → BlockEntry → Type 0
+IsSoundTree t e = (xblock_fault t e ≡ None) ⊎ (xxblock_fault t e ≡ None)
+
+-- What is known is true: a block that is known is an XBLOCK or XXBLOCK without fault. So what is passed over hides none.
 pub record IsSeenTrue (t : Table) (s : Seen) : Type 0 where
-  pub holds : (bid : ℕ) (e : BlockEntry) → entry_of t bid ≡ Some e → has_tree s bid ≡ true → tree_fault t e ≡ None
+  pub holds : (bid : ℕ) (e : BlockEntry) → entry_of t bid ≡ Some e → has_tree s bid ≡ true → IsSoundTree t e
 
 -- ---- what is added
 

@@ -5,15 +5,15 @@ ghost use Rattle.pst_fault.specs.First.{answer, Tells, first_below, join_below};
 ghost use Rattle.pst_block.specs.Block.{bid_key};
 ghost use Rattle.pst_block.specs.Table.{Table, body_of, entry_of, IsWithin};
 ghost use Rattle.pst_block.specs.Blocks.{table_of};
-ghost use Rattle.pst_datatree.specs.Data.{size_of, leaf_spans, data_leaf_fault, xblock_spans, xblock_fault, child_spans, child_fault, xxblock_spans, xxblock_fault, tree_spans, tree_fault, data_root_spans, data_root_fault, data_spans, data_fault, block_missing, bad_tree};
+ghost use Rattle.pst_datatree.specs.Data.{size_of, leaf_spans, data_leaf_fault, xblock_spans, xblock_fault, child_spans, child_fault, xxblock_spans, xxblock_fault, data_spans, data_fault, block_missing, bad_tree};
 ghost use Rattle.pst_datatree.specs.List.{has_level_two, bid_in};
-ghost use Rattle.pst_datatree.specs.Bid.{is_internal as is_internal_block};
 ghost use Rattle.pst_datatree.specs.Names.{NamesBlock, IsKeyOf, IsUnder, IsInTree};
 ghost use Rattle.pst_datatree.specs.Seen.{tree_expansions, has_tree, holds_tree, IsSeenTrue, IsKnownTree, NamesKnown, AddsTrees, KeepsCount, RaisesCount, NoNewTwo};
 
-use crate::bid::{is_internal, is_no_block};
+use crate::bid::is_internal;
 use crate::list::{bid_at, body_in, is_list, is_xxblock};
-use crate::look::tree_size;
+use crate::look::{xblock_size, xxblock_size};
+use crate::named::{Named, named_in};
 use crate::seen::Seen;
 use pst_block::{BlockEntry, Blocks};
 use pst_fault::{Fault, Kind};
@@ -92,7 +92,7 @@ fn xblock_len(blocks: &Blocks, entry: BlockEntry, seen: &mut Seen) -> Result<u64
 }
 
 // How many bytes an XBLOCK has, which is expanded unless it is known. An XXBLOCK is none, whether it is known or not.
-#[tactic(auto, using(crate::proofs::SeenLemmas::xblock_of_two, crate::proofs::SeenLemmas::tree_of_one, crate::proofs::SeenLemmas::spans_of_one))]
+#[tactic(auto, using(crate::proofs::SeenLemmas::xblock_of_two, crate::proofs::SeenLemmas::sound_one))]
 fn xblock_once(blocks: &Blocks, entry: BlockEntry, seen: &mut Seen) -> Result<u64, Fault>
     requires within { IsWithin (table_of blocks.now).image entry }
     requires listed { entry_of (table_of blocks.now) entry.bid ≡ Some entry }
@@ -112,7 +112,7 @@ fn xblock_once(blocks: &Blocks, entry: BlockEntry, seen: &mut Seen) -> Result<u6
         return Err(tree_breach(entry));
     }
     if seen.knows(entry.bid) {
-        return Ok(tree_size(blocks, entry));
+        return Ok(xblock_size(blocks, entry));
     }
     let total = xblock_len(blocks, entry, seen)?;
     seen.put(entry.bid)?;
@@ -205,7 +205,7 @@ fn xxblock_len(blocks: &Blocks, entry: BlockEntry, seen: &mut Seen) -> Result<u6
 }
 
 // How many bytes an XXBLOCK has, which is expanded unless it is known.
-#[tactic(auto, using(crate::proofs::SeenLemmas::tree_of_two, crate::proofs::SeenLemmas::spans_of_two))]
+#[tactic(auto, using(crate::proofs::SeenLemmas::sound_two))]
 fn xxblock_once(blocks: &Blocks, entry: BlockEntry, seen: &mut Seen) -> Result<u64, Fault>
     requires within { IsWithin (table_of blocks.now).image entry }
     requires listed { entry_of (table_of blocks.now) entry.bid ≡ Some entry }
@@ -221,56 +221,11 @@ fn xxblock_once(blocks: &Blocks, entry: BlockEntry, seen: &mut Seen) -> Result<u
     ensures grows { tree_expansions seen.old ≤ tree_expansions seen.new }
 {
     if seen.knows(entry.bid) {
-        return Ok(tree_size(blocks, entry));
+        return Ok(xxblock_size(blocks, entry));
     }
     let total = xxblock_len(blocks, entry, seen)?;
     seen.put(entry.bid)?;
     Ok(total)
-}
-
-// How many bytes an internal block has.
-#[tactic(auto, unfolding(crate::specs::Data::tree_spans, crate::specs::Data::tree_fault))]
-fn tree_len(blocks: &Blocks, entry: BlockEntry, seen: &mut Seen) -> Result<u64, Fault>
-    requires within { IsWithin (table_of blocks.now).image entry }
-    requires listed { entry_of (table_of blocks.now) entry.bid ≡ Some entry }
-    requires known { IsSeenTrue (table_of blocks.now) seen.old }
-    ensures value { let t = table_of blocks.now in
-        Tells result (tree_fault t entry) (size_of (tree_spans t entry)) }
-    ensures known { IsSeenTrue (table_of blocks.now) seen.new }
-    ensures counts { OnOk result (KeepsCount seen.old seen.new) }
-    ensures adds { let t = table_of blocks.now in
-        AddsTrees t (IsUnder t entry) seen.old seen.new }
-    ensures there { OnOk result (has_tree seen.new entry.bid ≡ true) }
-    ensures grows { tree_expansions seen.old ≤ tree_expansions seen.new }
-{
-    if is_xxblock(body_in(blocks, entry)) {
-        xxblock_once(blocks, entry, seen)
-    } else {
-        xblock_once(blocks, entry, seen)
-    }
-}
-
-// How many bytes a block has.
-#[tactic(auto, unfolding(crate::specs::Data::data_root_spans, crate::specs::Data::data_root_fault))]
-fn block_len(blocks: &Blocks, entry: BlockEntry, seen: &mut Seen) -> Result<u64, Fault>
-    requires within { IsWithin (table_of blocks.now).image entry }
-    requires listed { entry_of (table_of blocks.now) entry.bid ≡ Some entry }
-    requires known { IsSeenTrue (table_of blocks.now) seen.old }
-    ensures value { let t = table_of blocks.now in
-        Tells result (data_root_fault t entry) (size_of (data_root_spans t entry)) }
-    ensures known { IsSeenTrue (table_of blocks.now) seen.new }
-    ensures counts { OnOk result (KeepsCount seen.old seen.new) }
-    ensures adds { let t = table_of blocks.now in
-        AddsTrees t (λ key. (is_internal_block entry.bid ≡ true) × IsUnder t entry key) seen.old seen.new }
-    ensures there { OnOk result (is_internal_block entry.bid ≡ true →
-        has_tree seen.new entry.bid ≡ true) }
-    ensures grows { tree_expansions seen.old ≤ tree_expansions seen.new }
-{
-    if is_internal(entry.bid) {
-        tree_len(blocks, entry, seen)
-    } else {
-        Ok(u64::from(entry.cb))
-    }
 }
 
 // How many bytes the data tree of a block identifier has.
@@ -286,11 +241,11 @@ pub fn data_len(blocks: &Blocks, bid: u64, seen: &mut Seen) -> Result<u64, Fault
     ensures there { OnOk result (IsKnownTree (table_of blocks.now) seen.new bid) }
     ensures grows { tree_expansions seen.old ≤ tree_expansions seen.new }
 {
-    if is_no_block(bid) {
-        return Ok(0);
+    match named_in(blocks, bid) {
+        Named::Nothing => Ok(0),
+        Named::Missing => Err(missing_block(bid)),
+        Named::Data(entry) => Ok(u64::from(entry.cb)),
+        Named::Xblock(entry) => xblock_once(blocks, entry, seen),
+        Named::Xxblock(entry) => xxblock_once(blocks, entry, seen),
     }
-    let Some(entry) = blocks.entry(bid) else {
-        return Err(missing_block(bid));
-    };
-    block_len(blocks, entry, seen)
 }

@@ -9,6 +9,7 @@ mod lengths;
 mod list;
 mod look;
 mod make;
+mod named;
 mod number;
 mod pass;
 mod pieces;

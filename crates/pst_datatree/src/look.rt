@@ -6,10 +6,10 @@ ghost use Rattle.pst_block.specs.Block.{body_span};
 ghost use Rattle.pst_block.specs.Table.{body_of, IsWithin};
 ghost use Rattle.pst_block.specs.Blocks.{table_of};
 ghost use Rattle.pst_datatree.specs.List.{count_in};
-ghost use Rattle.pst_datatree.specs.Data.{leaf_spans, data_leaf_fault, xblock_spans, xblock_fault, child_spans, child_fault, xxblock_spans, xxblock_fault, tree_spans, tree_fault, data_root_spans, data_root_fault, data_spans, data_fault, size_of};
+ghost use Rattle.pst_datatree.specs.Data.{leaf_spans, data_leaf_fault, xblock_spans, xblock_fault, child_spans, child_fault, xxblock_spans, xxblock_fault, data_spans, data_fault, size_of};
 
-use crate::bid::{is_internal, is_no_block};
-use crate::list::{bid_at, body_in, is_xxblock};
+use crate::list::{bid_at, body_in};
+use crate::named::{Named, named_in};
 use pst_block::{BlockEntry, Blocks};
 use pst_bytes::Span;
 
@@ -56,7 +56,19 @@ pub(crate) fn xblock_count(blocks: &Blocks, entry: BlockEntry) -> u16
 pub(crate) fn xblock_size(blocks: &Blocks, entry: BlockEntry) -> u64
     requires within { IsWithin (table_of blocks.now).image entry }
     requires sound { xblock_fault (table_of blocks.now) entry ≡ None }
-    ensures { result ≡ size_of (xblock_spans (table_of blocks.now) entry) }
+    ensures value { result ≡ size_of (xblock_spans (table_of blocks.now) entry) }
+    ensures small { result < 2 ^ 32 }
+{
+    u64::from(body_in(blocks, entry).number32(4))
+}
+
+// How many bytes an XXBLOCK has: its lcbTotal.
+#[tactic(auto, using(crate::proofs::DataLemmas::xxblock_head, crate::proofs::DataLemmas::total_of_xxblock))]
+pub(crate) fn xxblock_size(blocks: &Blocks, entry: BlockEntry) -> u64
+    requires within { IsWithin (table_of blocks.now).image entry }
+    requires sound { xxblock_fault (table_of blocks.now) entry ≡ None }
+    ensures value { result ≡ size_of (xxblock_spans (table_of blocks.now) entry) }
+    ensures small { result < 2 ^ 32 }
 {
     u64::from(body_in(blocks, entry).number32(4))
 }
@@ -105,72 +117,17 @@ fn xxblock_count(blocks: &Blocks, entry: BlockEntry) -> u64
     total
 }
 
-// How many spans an internal block has.
-#[tactic(auto, unfolding(crate::specs::Data::tree_spans, crate::specs::Data::tree_fault))]
-fn tree_count(blocks: &Blocks, entry: BlockEntry) -> u64
-    requires within { IsWithin (table_of blocks.now).image entry }
-    requires sound { tree_fault (table_of blocks.now) entry ≡ None }
-    ensures { result ≡ length (tree_spans (table_of blocks.now) entry) }
-{
-    if is_xxblock(body_in(blocks, entry)) {
-        xxblock_count(blocks, entry)
-    } else {
-        u64::from(xblock_count(blocks, entry))
-    }
-}
-
-// How many spans a block has.
-#[tactic(auto, unfolding(crate::specs::Data::data_root_spans, crate::specs::Data::data_root_fault))]
-fn block_count(blocks: &Blocks, entry: BlockEntry) -> u64
-    requires within { IsWithin (table_of blocks.now).image entry }
-    requires sound { data_root_fault (table_of blocks.now) entry ≡ None }
-    ensures { result ≡ length (data_root_spans (table_of blocks.now) entry) }
-{
-    if is_internal(entry.bid) {
-        tree_count(blocks, entry)
-    } else {
-        1
-    }
-}
-
 /// How many spans the data tree of a block identifier has: one for each data block, as often as it is named.
 #[tactic(auto, unfolding(crate::specs::Data::data_spans, crate::specs::Data::data_fault))]
 pub fn leaf_count(blocks: &Blocks, bid: u64) -> u64
     requires { data_fault (table_of blocks.now) bid ≡ None }
     ensures { result ≡ length (data_spans (table_of blocks.now) bid) }
 {
-    if is_no_block(bid) {
-        return 0;
-    }
-    let Some(entry) = blocks.entry(bid) else {
-        unreachable!()
-    };
-    block_count(blocks, entry)
-}
-
-// How many bytes an internal block has: its lcbTotal.
-#[tactic(auto, using(crate::proofs::DataLemmas::tree_head, crate::proofs::DataLemmas::tree_total))]
-pub(crate) fn tree_size(blocks: &Blocks, entry: BlockEntry) -> u64
-    requires within { IsWithin (table_of blocks.now).image entry }
-    requires sound { tree_fault (table_of blocks.now) entry ≡ None }
-    ensures value { result ≡ size_of (tree_spans (table_of blocks.now) entry) }
-    ensures small { result < 2 ^ 32 }
-{
-    u64::from(body_in(blocks, entry).number32(4))
-}
-
-// How many bytes a block has.
-#[tactic(auto, unfolding(crate::specs::Data::data_root_spans, crate::specs::Data::data_root_fault))]
-fn block_size(blocks: &Blocks, entry: BlockEntry) -> u64
-    requires within { IsWithin (table_of blocks.now).image entry }
-    requires sound { data_root_fault (table_of blocks.now) entry ≡ None }
-    ensures value { result ≡ size_of (data_root_spans (table_of blocks.now) entry) }
-    ensures small { result < 2 ^ 32 }
-{
-    if is_internal(entry.bid) {
-        tree_size(blocks, entry)
-    } else {
-        u64::from(entry.cb)
+    match named_in(blocks, bid) {
+        Named::Nothing | Named::Missing => 0,
+        Named::Data(_) => 1,
+        Named::Xblock(entry) => u64::from(xblock_count(blocks, entry)),
+        Named::Xxblock(entry) => xxblock_count(blocks, entry),
     }
 }
 
@@ -181,11 +138,10 @@ pub(crate) fn data_size(blocks: &Blocks, bid: u64) -> u64
     ensures value { result ≡ size_of (data_spans (table_of blocks.now) bid) }
     ensures small { result < 2 ^ 32 }
 {
-    if is_no_block(bid) {
-        return 0;
+    match named_in(blocks, bid) {
+        Named::Nothing | Named::Missing => 0,
+        Named::Data(entry) => u64::from(entry.cb),
+        Named::Xblock(entry) => xblock_size(blocks, entry),
+        Named::Xxblock(entry) => xxblock_size(blocks, entry),
     }
-    let Some(entry) = blocks.entry(bid) else {
-        unreachable!()
-    };
-    block_size(blocks, entry)
 }

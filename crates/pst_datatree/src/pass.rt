@@ -4,12 +4,11 @@ ghost use Rattle.std.specs.Prelude.{◌≡◌, ℕ, ◌+◌, ◌≤◌, None, le
 ghost use Rattle.pst_block.specs.Table.{IsWithin};
 ghost use Rattle.pst_block.specs.Blocks.{table_of};
 ghost use Rattle.pst_datatree.specs.Cut.{cut};
-ghost use Rattle.pst_datatree.specs.Data.{xxblock_fault, tree_fault, data_root_fault, data_fault};
-ghost use Rattle.pst_datatree.specs.Position.{Passes, xxblock_left, tree_left, block_left, data_left};
+ghost use Rattle.pst_datatree.specs.Data.{xxblock_fault, data_fault};
+ghost use Rattle.pst_datatree.specs.Position.{Passes, xxblock_left, data_left};
 
-use crate::bid::{is_internal, is_no_block};
-use crate::list::{body_in, is_xxblock};
 use crate::look::{child_count, child_entry, xblock_count, xblock_size};
+use crate::named::{Named, named_in};
 use crate::position::Position;
 use pst_block::{BlockEntry, Blocks};
 
@@ -48,57 +47,16 @@ fn pass_of_xxblock(
     Some((place, skip - size))
 }
 
-// The same of an internal block: an XBLOCK is none of its own.
-#[tactic(auto, unfolding(crate::specs::Position::tree_left, crate::specs::Data::tree_fault))]
-fn pass_of_tree(
-    blocks: &Blocks,
-    entry: BlockEntry,
-    at: Position,
-    skip: u64,
-) -> Option<(Position, u64)>
-    requires within { IsWithin (table_of blocks.now).image entry }
-    requires sound { tree_fault (table_of blocks.now) entry ≡ None }
-    ensures { Passes (tree_left (table_of blocks.now) entry) at skip result }
-{
-    if is_xxblock(body_in(blocks, entry)) {
-        pass_of_xxblock(blocks, entry, at, skip)
-    } else {
-        None
-    }
-}
-
-// The same of a block.
-#[tactic(auto, unfolding(crate::specs::Position::block_left, crate::specs::Data::data_root_fault))]
-fn pass_of_block(
-    blocks: &Blocks,
-    entry: BlockEntry,
-    at: Position,
-    skip: u64,
-) -> Option<(Position, u64)>
-    requires within { IsWithin (table_of blocks.now).image entry }
-    requires sound { data_root_fault (table_of blocks.now) entry ≡ None }
-    ensures { Passes (block_left (table_of blocks.now) entry) at skip result }
-{
-    if is_internal(entry.bid) {
-        pass_of_tree(blocks, entry, at, skip)
-    } else {
-        None
-    }
-}
-
-// The same of a block identifier.
+// The same of a block identifier: only an XXBLOCK has XBLOCKs.
 #[tactic(auto, unfolding(crate::specs::Position::data_left, crate::specs::Data::data_fault))]
 fn pass_of(blocks: &Blocks, bid: u64, at: Position, skip: u64) -> Option<(Position, u64)>
     requires { data_fault (table_of blocks.now) bid ≡ None }
     ensures { Passes (data_left (table_of blocks.now) bid) at skip result }
 {
-    if is_no_block(bid) {
+    let Named::Xxblock(entry) = named_in(blocks, bid) else {
         return None;
-    }
-    let Some(entry) = blocks.entry(bid) else {
-        unreachable!()
     };
-    pass_of_block(blocks, entry, at, skip)
+    pass_of_xxblock(blocks, entry, at, skip)
 }
 
 // The position behind all XBLOCKs that can be passed over, and how many bytes are to be passed over from there.

@@ -17,15 +17,14 @@ pub struct Seen {
 }
 
 impl Seen {
-    ghost use Rattle.std.specs.Prelude.{◌≡◌, ℕ, ◌+◌, true, false, None, Some, ◌⊎◌, IfErr, OnOk};
+    ghost use Rattle.std.specs.Prelude.{◌≡◌, ℕ, ◌+◌, true, false, Some, ◌⊎◌, IfErr, OnOk};
     ghost use Rattle.std.specs.List.Sorted.{IsStrictlySortedBy};
     ghost use Rattle.std.specs.Ordering.{nat_cmp};
     ghost use Rattle.pst_block.specs.Block.{bid_key};
     ghost use Rattle.pst_block.specs.Table.{Table, entry_of};
     ghost use Rattle.pst_page.specs.declared.entry.BlockEntry.{BlockEntry};
-    ghost use Rattle.pst_datatree.specs.Data.{tree_fault};
     ghost use Rattle.pst_fault.specs.Fault.{no_memory};
-    ghost use Rattle.pst_datatree.specs.Seen.{tree_expansions, known_trees, raised, has_tree, holds_tree, tree_keys, IsSeenTrue, IsAhead, RaisesCount};
+    ghost use Rattle.pst_datatree.specs.Seen.{tree_expansions, known_trees, raised, has_tree, holds_tree, tree_keys, IsSoundTree, IsSeenTrue, IsAhead, RaisesCount};
 
     /// Nothing is known, and nothing has been expanded. No memory is taken.
     pub fn new(alloc: Global) -> Seen
@@ -74,7 +73,7 @@ impl Seen {
             (holds_tree self.old key ≡ true) ⊎ (bid_key bid ≡ key) }
         ensures there { OnOk result (has_tree self.new bid ≡ true) }
         ensures known { (t : Table) (e : BlockEntry) → entry_of t bid ≡ Some e →
-            tree_fault t e ≡ None → IsSeenTrue t self.old → IsSeenTrue t self.new }
+            IsSoundTree t e → IsSeenTrue t self.old → IsSeenTrue t self.new }
         ensures counts { tree_expansions self.new ≡ tree_expansions self.old }
         ensures ahead { OnOk result (has_tree self.old bid ≡ false →
             (k : ℕ) → IsAhead (k + 1) self.old → IsAhead k self.new) }

@@ -4,12 +4,11 @@ ghost use Rattle.std.specs.Prelude.{◌≡◌, ◌+◌, ◌<◌, IfSome, None, o
 ghost use Rattle.pst_bytes.specs.Image.{IsInside};
 ghost use Rattle.pst_block.specs.Table.{IsWithin};
 ghost use Rattle.pst_block.specs.Blocks.{table_of};
-ghost use Rattle.pst_datatree.specs.Data.{xblock_fault, xxblock_fault, tree_fault, data_root_fault, data_spans, data_fault};
-ghost use Rattle.pst_datatree.specs.Position.{Splits, xblock_left, xxblock_left, tree_left, block_left, data_left};
+ghost use Rattle.pst_datatree.specs.Data.{xblock_fault, xxblock_fault, data_spans, data_fault};
+ghost use Rattle.pst_datatree.specs.Position.{Splits, xblock_left, xxblock_left, data_left};
 
-use crate::bid::{is_internal, is_no_block};
-use crate::list::{body_in, is_xxblock};
 use crate::look::{child_count, child_entry, leaf_span, span_of, xblock_count};
+use crate::named::{Named, named_in};
 use crate::position::Position;
 use pst_block::{BlockEntry, Blocks};
 use pst_bytes::Span;
@@ -65,52 +64,25 @@ fn next_of_xxblock(blocks: &Blocks, entry: BlockEntry, at: Position) -> Option<(
     None
 }
 
-// The next span of an internal block, and what is behind it.
-#[tactic(auto, unfolding(crate::specs::Position::tree_left, crate::specs::Data::tree_fault))]
-fn next_of_tree(blocks: &Blocks, entry: BlockEntry, at: Position) -> Option<(Span, Position)>
-    requires within { IsWithin (table_of blocks.now).image entry }
-    requires sound { tree_fault (table_of blocks.now) entry ≡ None }
-    ensures next { Splits (tree_left (table_of blocks.now) entry) at result }
-    ensures inside { IfSome result (λ n. IsInside (table_of blocks.now).image n.0) }
-{
-    if is_xxblock(body_in(blocks, entry)) {
-        next_of_xxblock(blocks, entry, at)
-    } else {
-        next_of_xblock(blocks, entry, at)
-    }
-}
-
-// The next span of a block, and what is behind it.
-#[tactic(auto, using(crate::proofs::PositionLemmas::data_block_next, crate::proofs::PositionLemmas::data_block_end), unfolding(crate::specs::Position::block_left, crate::specs::Data::data_root_fault))]
-fn next_of_block(blocks: &Blocks, entry: BlockEntry, at: Position) -> Option<(Span, Position)>
-    requires within { IsWithin (table_of blocks.now).image entry }
-    requires sound { data_root_fault (table_of blocks.now) entry ≡ None }
-    ensures next { Splits (block_left (table_of blocks.now) entry) at result }
-    ensures inside { IfSome result (λ n. IsInside (table_of blocks.now).image n.0) }
-{
-    if is_internal(entry.bid) {
-        next_of_tree(blocks, entry, at)
-    } else if at.leaf == 0 {
-        Some((span_of(entry), behind(at)))
-    } else {
-        None
-    }
-}
-
 // The next span of a block identifier, and what is behind it.
-#[tactic(auto, unfolding(crate::specs::Position::data_left, crate::specs::Data::data_fault))]
+#[tactic(auto, using(crate::proofs::PositionLemmas::data_block_next, crate::proofs::PositionLemmas::data_block_end), unfolding(crate::specs::Position::data_left, crate::specs::Data::data_fault))]
 pub(crate) fn next_of(blocks: &Blocks, bid: u64, at: Position) -> Option<(Span, Position)>
     requires { data_fault (table_of blocks.now) bid ≡ None }
     ensures next { Splits (data_left (table_of blocks.now) bid) at result }
     ensures inside { IfSome result (λ n. IsInside (table_of blocks.now).image n.0) }
 {
-    if is_no_block(bid) {
-        return None;
+    match named_in(blocks, bid) {
+        Named::Nothing | Named::Missing => None,
+        Named::Data(entry) => {
+            if at.leaf == 0 {
+                Some((span_of(entry), behind(at)))
+            } else {
+                None
+            }
+        }
+        Named::Xblock(entry) => next_of_xblock(blocks, entry, at),
+        Named::Xxblock(entry) => next_of_xxblock(blocks, entry, at),
     }
-    let Some(entry) = blocks.entry(bid) else {
-        unreachable!()
-    };
-    next_of_block(blocks, entry, at)
 }
 
 /// The span with a number of a block identifier's data tree, from 0 on; None exactly from `leaf_count` on.

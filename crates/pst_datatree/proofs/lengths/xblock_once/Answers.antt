@@ -1,34 +1,22 @@
-use Rattle.std.proofs.Common.{◌≡◌, None, false, ap, ◌∙◌, sym}
+use Rattle.std.proofs.Common.{◌≡◌, false, ap, ◌∙◌, sym, inl}
 use Rattle.pst_fault.proofs.FirstLemmas.{answer_ok}
 use Rattle.pst_block.specs.Table.{body_of}
 use Rattle.pst_block.specs.Blocks.{table_of}
 use Rattle.pst_datatree.specs.List.{has_level_two}
-use Rattle.pst_datatree.specs.Data.{size_of, tree_fault}
 use Rattle.pst_block.specs.Block.{bid_key}
 use Rattle.pst_datatree.proofs.AddLemmas.{adds_same, adds_then, adds_put, xblock_names}
-use Rattle.pst_datatree.proofs.SeenLemmas.{tree_of_one, spans_of_one, put_level}
+use Rattle.pst_datatree.proofs.SeenLemmas.{put_level}
 use Rattle.pst_datatree.proofs.lengths.xblock_once.Goals as goal
-
-pub returns-then-knows-clause-value : goal.returns-then-knows-clause-value
-returns-then-knows-clause-value c =
-    let t = table_of c.args.blocks.now in
-    let level : has_level_two (body_of t c.args.entry) ≡ false = sym (ap has_level_two c.body_in.ensures) ∙ (sym c.is_xxblock.ensures ∙ c.if-is_xxblock.false) in
-    let none = c.requires.known.holds c.args.entry.bid c.args.entry c.requires.listed (sym c.knows.ensures ∙ c.if-knows.true) in
-    (sym (tree_of_one t c.args.entry level) ∙ none, c.tree_size.ensures.value ∙ ap size_of (spans_of_one t c.args.entry level))
 
 pub returns-in_err-put-clause-known : goal.returns-in_err-put-clause-known
 returns-in_err-put-clause-known c =
     let t = table_of c.args.blocks.now in
-    let level : has_level_two (body_of t c.args.entry) ≡ false = sym (ap has_level_two c.body_in.ensures) ∙ (sym c.is_xxblock.ensures ∙ c.if-is_xxblock.false) in
-    let none : tree_fault t c.args.entry ≡ None = tree_of_one t c.args.entry level ∙ (answer_ok _ _ _ (sym c.in_ok-total.ensures.value)).0 in
-    c.in_err-put.ensures.known t c.args.entry c.requires.listed none (c.xblock_len.ensures.known t c.requires.known)
+    c.in_err-put.ensures.known t c.args.entry c.requires.listed (inl (answer_ok _ _ _ (sym c.in_ok-total.ensures.value)).0) (c.xblock_len.ensures.known t c.requires.known)
 
 pub returns-clause-known : goal.returns-clause-known
 returns-clause-known c =
     let t = table_of c.args.blocks.now in
-    let level : has_level_two (body_of t c.args.entry) ≡ false = sym (ap has_level_two c.body_in.ensures) ∙ (sym c.is_xxblock.ensures ∙ c.if-is_xxblock.false) in
-    let none : tree_fault t c.args.entry ≡ None = tree_of_one t c.args.entry level ∙ (answer_ok _ _ _ (sym c.in_ok-total.ensures.value)).0 in
-    c.in_ok-put.ensures.known t c.args.entry c.requires.listed none (c.xblock_len.ensures.known t c.requires.known)
+    c.in_ok-put.ensures.known t c.args.entry c.requires.listed (inl (answer_ok _ _ _ (sym c.in_ok-total.ensures.value)).0) (c.xblock_len.ensures.known t c.requires.known)
 
 pub returns-in_err-put-clause-levels : goal.returns-in_err-put-clause-levels
 returns-in_err-put-clause-levels c =

@@ -1,27 +1,17 @@
-use Rattle.std.proofs.Common.{◌≡◌, None, ap, ◌∙◌, sym}
+use Rattle.std.proofs.Common.{inr}
 use Rattle.pst_block.specs.Blocks.{table_of}
-use Rattle.pst_datatree.specs.Data.{size_of, tree_fault}
-use Rattle.pst_datatree.proofs.SeenLemmas.{tree_of_two, spans_of_two}
 use Rattle.pst_datatree.proofs.AddLemmas.{adds_xxblock}
 use Rattle.pst_datatree.proofs.lengths.xxblock_once.Goals as goal
-
-pub returns-then-knows-clause-value : goal.returns-then-knows-clause-value
-returns-then-knows-clause-value c =
-    let t = table_of c.args.blocks.now in
-    let none = c.requires.known.holds c.args.entry.bid c.args.entry c.requires.listed (sym c.knows.ensures ∙ c.if-knows.true) in
-    (sym (tree_of_two t c.args.entry c.requires.level) ∙ none, c.tree_size.ensures.value ∙ ap size_of (spans_of_two t c.args.entry c.requires.level))
 
 pub returns-in_err-put-clause-known : goal.returns-in_err-put-clause-known
 returns-in_err-put-clause-known c =
     let t = table_of c.args.blocks.now in
-    let none : tree_fault t c.args.entry ≡ None = tree_of_two t c.args.entry c.requires.level ∙ c.in_ok-total.ensures.value.0 in
-    c.in_err-put.ensures.known t c.args.entry c.requires.listed none c.in_ok-total.ensures.known
+    c.in_err-put.ensures.known t c.args.entry c.requires.listed (inr c.in_ok-total.ensures.value.0) c.in_ok-total.ensures.known
 
 pub returns-clause-known : goal.returns-clause-known
 returns-clause-known c =
     let t = table_of c.args.blocks.now in
-    let none : tree_fault t c.args.entry ≡ None = tree_of_two t c.args.entry c.requires.level ∙ c.in_ok-total.ensures.value.0 in
-    c.in_ok-put.ensures.known t c.args.entry c.requires.listed none c.in_ok-total.ensures.known
+    c.in_ok-put.ensures.known t c.args.entry c.requires.listed (inr c.in_ok-total.ensures.value.0) c.in_ok-total.ensures.known
 
 pub returns-in_err-put-clause-adds : goal.returns-in_err-put-clause-adds
 returns-in_err-put-clause-adds c =

@@ -19,7 +19,7 @@ pub returns : goal.returns
 returns c =
     let t = table_of c.args.blocks.now in
     let x = c.child_entry-holder.result in
-    let size : c.xblock_size-size.result ≡ size_of (xblock_spans t x) = c.xblock_size-size.ensures in
+    let size : c.xblock_size-size.result ≡ size_of (xblock_spans t x) = c.xblock_size-size.ensures.value in
     let here : c.args.at.child < count_in (body_of t c.args.entry) = omega (arith, c.child_count.ensures.value, c.if-at-child_count.false) in
     let small : size_of (xblock_spans t x) ≤ c.args.skip = omega (arith, size, c.if-size-skip.false) in
     rw size (pass_whole t c.args.entry x c.args.at c.args.skip here c.child_entry-holder.ensures.value c.if-at-ne0.false small)

@@ -9,10 +9,10 @@ use Rattle.pst_datatree.proofs.seen.Seen.put.Goals as goal
 
 pub returns-clause-known : goal.returns-clause-known
 unfolding has_tree
-returns-clause-known c t e listed none true_of =
+returns-clause-known c t e listed sound true_of =
     put_true t c.args.self.now _ c.args.bid e
     (λ other h. elim (only_new c.args.self.now.trees c.insert.new.self c.key_of.result c.in_ok-insert.ensures.updates.0 (bid_key other) h) [ inl was ↦ inl was | inr same ↦ inr (sym c.key_of.ensures.value ∙ same) ])
-    listed none true_of
+    listed sound true_of
 
 pub returns-clause-ahead : goal.returns-clause-ahead
 unfolding has_tree
