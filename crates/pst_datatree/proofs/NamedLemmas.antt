@@ -41,5 +41,5 @@ named_is t bid = by_name (is_no_block bid) refl
     by_name true h = h
     by_name false h = by_entry h (entry_of t bid) refl
 
-pub facts_of : (t : Table) (bid : ℕ) (n : Named) → named_by t bid ≡ n → IsNamed t bid n
-facts_of t bid n is = rw (← is) (named_is t bid)
+pub facts_of : (t : Table) (bid : ℕ) (n : Named) → n ≡ named_by t bid → IsNamed t bid n
+facts_of t bid n is = rw is (named_is t bid)

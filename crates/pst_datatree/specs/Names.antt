@@ -18,9 +18,17 @@ NamesBlock body bid = (btype_in body ≡ 1) × ((i : ℕ) × (i < count_in body)
 abbrev pub IsKeyOf : Table → ℕ → ℕ → Type 0
 IsKeyOf t bid key = (e : BlockEntry) × IsInternal t bid e × (key ≡ bid_key bid)
 
+-- a key is that of an internal block that one of the first entries of a list names
+abbrev pub IsOfFirst : Table → BlockEntry → ℕ → ℕ → Type 0
+IsOfFirst t holder n key = (i : ℕ) × (i < n) × IsKeyOf t (bid_in (body_of t holder) i) key
+
+-- a key is that of an internal block that an entry's block names
+abbrev pub IsBelow : Table → BlockEntry → ℕ → Type 0
+IsBelow t e key = (next : ℕ) × NamesBlock (body_of t e) next × IsKeyOf t next key
+
 -- a key is that of an entry's block, or of an internal block that this names
 abbrev pub IsUnder : Table → BlockEntry → ℕ → Type 0
-IsUnder t e key = (bid_key e.bid ≡ key) ⊎ ((next : ℕ) × NamesBlock (body_of t e) next × IsKeyOf t next key)
+IsUnder t e key = (bid_key e.bid ≡ key) ⊎ IsBelow t e key
 
 -- a key is that of an internal block of the data tree of an identifier
 abbrev pub IsInTree : Table → ℕ → ℕ → Type 0

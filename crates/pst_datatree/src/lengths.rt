@@ -7,7 +7,7 @@ ghost use Rattle.pst_block.specs.Table.{Table, body_of, entry_of, IsWithin};
 ghost use Rattle.pst_block.specs.Blocks.{table_of};
 ghost use Rattle.pst_datatree.specs.Data.{size_of, leaf_spans, data_leaf_fault, xblock_spans, xblock_fault, child_spans, child_fault, xxblock_spans, xxblock_fault, data_spans, data_fault, block_missing, bad_tree};
 ghost use Rattle.pst_datatree.specs.List.{has_level_two, bid_in};
-ghost use Rattle.pst_datatree.specs.Names.{NamesBlock, IsKeyOf, IsUnder, IsInTree};
+ghost use Rattle.pst_datatree.specs.Names.{IsKeyOf, IsOfFirst, IsBelow, IsUnder, IsInTree};
 ghost use Rattle.pst_datatree.specs.Seen.{tree_expansions, has_tree, holds_tree, IsSeenTrue, IsKnownTree, NamesKnown, AddsTrees, KeepsCount, RaisesCount, NoNewTwo};
 
 use crate::bid::is_internal;
@@ -56,7 +56,8 @@ fn leaves_len(blocks: &Blocks, holder: BlockEntry, count: u16) -> Result<u64, Fa
     requires within { IsWithin (table_of blocks.now).image holder }
     requires fits { 8 + 8 * count ≤ length (body_of (table_of blocks.now) holder) }
     ensures value { let t = table_of blocks.now in
-        result ≡ answer (first_below (data_leaf_fault t holder) count) (size_of (join_below (leaf_spans t (body_of t holder)) count)) }
+        result ≡ answer (first_below (data_leaf_fault t holder) count)
+        (size_of (join_below (leaf_spans t (body_of t holder)) count)) }
     ensures small { IfOk result (λ n. n ≤ 65536 * count) }
 {
     let mut total = 0u64;
@@ -159,12 +160,13 @@ fn children_len(
     requires fits { 8 + 8 * count ≤ length (body_of (table_of blocks.now) holder) }
     requires known { IsSeenTrue (table_of blocks.now) seen.old }
     ensures value { let t = table_of blocks.now in
-        Tells result (first_below (child_fault t holder) count) (size_of (join_below (child_spans t (body_of t holder)) count)) }
+        Tells result (first_below (child_fault t holder) count)
+        (size_of (join_below (child_spans t (body_of t holder)) count)) }
     ensures known { IsSeenTrue (table_of blocks.now) seen.new }
     ensures counts { OnOk result (KeepsCount seen.old seen.new) }
     ensures levels { NoNewTwo (table_of blocks.now) seen.old seen.new }
     ensures adds { let t = table_of blocks.now in
-        AddsTrees t (λ key. (i : ℕ) × (i < count) × IsKeyOf t (bid_in (body_of t holder) i) key) seen.old seen.new }
+        AddsTrees t (IsOfFirst t holder count) seen.old seen.new }
     ensures there { let t = table_of blocks.now in
         OnOk result ((i : ℕ) → i < count → has_tree seen.new (bid_in (body_of t holder) i) ≡ true) }
     ensures grows { tree_expansions seen.old ≤ tree_expansions seen.new }
@@ -188,7 +190,7 @@ fn xxblock_len(blocks: &Blocks, entry: BlockEntry, seen: &mut Seen) -> Result<u6
     ensures raises { OnOk result (RaisesCount seen.old seen.new) }
     ensures levels { NoNewTwo (table_of blocks.now) seen.old seen.new }
     ensures adds { let t = table_of blocks.now in
-        AddsTrees t (λ key. (next : ℕ) × NamesBlock (body_of t entry) next × IsKeyOf t next key) seen.old seen.new }
+        AddsTrees t (IsBelow t entry) seen.old seen.new }
     ensures there { OnOk result (NamesKnown (table_of blocks.now) seen.new entry) }
     ensures grows { tree_expansions seen.old ≤ tree_expansions seen.new }
 {

@@ -5,7 +5,7 @@ use Rattle.pst_fault.specs.First.{first_below, join_below}
 use Rattle.pst_datatree.specs.Data.{size_of, child_spans, child_fault}
 use Rattle.pst_datatree.specs.List.{bid_in}
 use Rattle.pst_datatree.specs.Seen.{tree_expansions, has_tree, IsSeenTrue, AddsTrees, KeepsCount, NoNewTwo}
-use Rattle.pst_datatree.proofs.AddLemmas.{IsOfFirst}
+use Rattle.pst_datatree.specs.Names.{IsOfFirst}
 use Rattle.pst_datatree.proofs.lengths.children_len.Given as goal
 
 abbrev pub invariant-loop-i : goal.invariant-loop-i
