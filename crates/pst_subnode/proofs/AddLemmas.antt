@@ -20,7 +20,7 @@ use Rattle.pst_subnode.specs.List.{subs_of, list_fault}
 use Rattle.pst_subnode.specs.Heights.{state_at, state_of}
 use Rattle.pst_subnode.specs.Marks.{IsList, IsSiList, rank_of}
 use Rattle.pst_subnode.specs.Reach.{NamesNext, Leads, goes_on}
-use Rattle.pst_subnode.specs.Known.{HasKnownHeight, IsKnownBlock, Adds, IsKnownList, IsKnownEntry, AreLedTo, AreLedEach, AreKnownEach, AreLedBelow}
+use Rattle.pst_subnode.specs.Known.{HasKnownHeight, IsKnownBlock, Adds, IsKnownList, IsKnownEntry, AreLedTo, AreLedEach, AreKnownEach}
 use Rattle.pst_subnode.proofs.MarkLemmas.{IsPut, IsSame, put_at, put_cases}
 use Rattle.pst_subnode.proofs.ReachLemmas.{names_same, tree_reached, list_block, slblock_names, siblock_names, slblock_only, siblock_only}
 
@@ -259,9 +259,6 @@ led_entries t bid xs is rank are from led sub w =
     let names = slblock_names t bid sub is rank (rw are at w) in
     (goes_on bid sub.bid_data led names.0, goes_on bid sub.bid_sub led names.1)
 
-pub list_adds : (t : Table) (bid : ℕ) (xs : List Sub) (s : Seen) (h : Heights) (s' : Seen) (h' : Heights) → IsList t bid → rank_of t bid ≡ 0 → xs ≡ subs_of t bid → Adds t (AreLedEach t xs) s h s' h' → Adds t (λ from. Leads t from bid) s h s' h'
-list_adds t bid xs s h s' h' is rank are adds = adds_of t (AreLedEach t xs) (λ from. Leads t from bid) s h s' h' (led_entries t bid xs is rank are) adds
-
 -- all that it names is known where its entries are
 pub slblock_known : (t : Table) (bid : ℕ) (xs : List Sub) (s : Seen) (h : Heights) → IsList t bid → rank_of t bid ≡ 0 → xs ≡ subs_of t bid → ((sub : Sub) → Contains xs sub → IsKnownEntry t s h sub) → (next : ℕ) (x : BlockEntry) → NamesNext t bid next → IsInternal t next x → IsKnownBlock s h next
 slblock_known t bid xs s h is rank are known next x names internal =
@@ -275,9 +272,6 @@ slblock_known t bid xs s h is rank are known next x names internal =
 pub led_leaves : (t : Table) (bid : ℕ) (e : BlockEntry) (n : ℕ) → IsSiList t bid e → n ≡ count_in (body_of t e) → (from : List ℕ) → Leads t from bid → (i : ℕ) → i < n → Leads t from (leaf_bid_in (body_of t e) i)
 led_leaves t bid e n is count from led i lt = goes_on bid (leaf_bid_in (body_of t e) i) led (siblock_names t bid e i is (omega (arith, lt, count)))
 
-pub leaves_add : (t : Table) (bid : ℕ) (e : BlockEntry) (n : ℕ) (s : Seen) (h : Heights) (s' : Seen) (h' : Heights) → IsSiList t bid e → n ≡ count_in (body_of t e) → Adds t (AreLedBelow t e n) s h s' h' → Adds t (λ from. Leads t from bid) s h s' h'
-leaves_add t bid e n s h s' h' is count adds = adds_of t (AreLedBelow t e n) (λ from. Leads t from bid) s h s' h' (led_leaves t bid e n is count) adds
-
 pub siblock_known : (t : Table) (bid : ℕ) (e : BlockEntry) (n : ℕ) (s : Seen) (h : Heights) → IsSiList t bid e → n ≡ count_in (body_of t e) → ((i : ℕ) → i < n → IsKnownList t h (leaf_bid_in (body_of t e) i)) → (next : ℕ) (x : BlockEntry) → NamesNext t bid next → IsInternal t next x → IsKnownBlock s h next
 siblock_known t bid e n s h is count known next x names internal =
     let w = siblock_only t bid next e is names in
@@ -287,9 +281,6 @@ siblock_known t bid e n s h is count known next x names internal =
 
 pub adds_entry : (t : Table) (xs : List Sub) (sub : Sub) (s : Seen) (h : Heights) (s' : Seen) (h' : Heights) (s'' : Seen) (h'' : Heights) → Contains xs sub → Adds t (AreLedEach t xs) s h s' h' → Adds t (λ from. AreLedTo t from sub) s' h' s'' h'' → Adds t (AreLedEach t xs) s h s'' h''
 adds_entry t xs sub s h s' h' s'' h'' w so_far one = adds_then t (AreLedEach t xs) s h s' h' s'' h'' so_far (adds_of t (λ from. AreLedTo t from sub) (AreLedEach t xs) s' h' s'' h'' (λ from led. led sub w) one)
-
-pub adds_leaf : (t : Table) (e : BlockEntry) (n i : ℕ) (s : Seen) (h : Heights) (s' : Seen) (h' : Heights) (s'' : Seen) (h'' : Heights) → i < n → Adds t (AreLedBelow t e n) s h s' h' → Adds t (λ from. Leads t from (leaf_bid_in (body_of t e) i)) s' h' s'' h'' → Adds t (AreLedBelow t e n) s h s'' h''
-adds_leaf t e n i s h s' h' s'' h'' lt so_far one = adds_then t (AreLedBelow t e n) s h s' h' s'' h'' so_far (adds_of t _ (AreLedBelow t e n) s' h' s'' h'' (λ from led. led i lt) one)
 
 pub leaf_next : (t : Table) (e : BlockEntry) (AreLed : List ℕ → Type 0) (i : ℕ) (s : Seen) (h : Heights) (s' : Seen) (h' : Heights) → ((j : ℕ) → j < i → IsKnownList t h (leaf_bid_in (body_of t e) j)) → Adds t AreLed s h s' h' → IsKnownList t h' (leaf_bid_in (body_of t e) i) → (j : ℕ) → j < i + 1 → IsKnownList t h' (leaf_bid_in (body_of t e) j)
 leaf_next t e AreLed i s h s' h' before adds this j lt x internal =

@@ -15,3 +15,4 @@ pub mod MarkLemmas
 pub mod LeafLemmas
 pub mod ReachLemmas
 pub mod AddLemmas
+pub mod WalkLemmas

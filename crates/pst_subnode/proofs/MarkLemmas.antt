@@ -263,14 +263,6 @@ nothing_known t h empty = record {
 pub first_come : (t : Table) (h : Heights) (place : ℕ → Option Fault) (rank limit : ℕ) → NoMarks h → HaveCome t h place rank limit
 first_come t h place rank limit none = record { from = λ bid marked. absurd (none bid marked) }
 
--- a list that was marked gets its height
-pub settle_marks : (old begun mid new : Heights) (bid height : ℕ) → 0 < height → IsPut old begun bid (Some 0) → NoNewMarks begun mid → IsPut mid new bid (Some height) → NoNewMarks old new
-settle_marks old begun mid new bid height more first marks last q marked = by_test (eq_by_cmp nat_cmp (bid_key bid) (bid_key q)) (last (bid_key q)) (first (bid_key q))
-  where
-    by_test : (v : Bool) → state_of new q ≡ cond v (Some height) (state_of mid q) → state_of begun q ≡ cond v (Some 0) (state_of old q) → state_of old q ≡ Some 0
-    by_test true is was = let same : Some 0 ≡ Some height = sym marked ∙ is in let bad : 0 ≡ height = cc in absurd (omega (arith, bad))
-    by_test false is was = sym was ∙ marks q (sym is ∙ marked)
-
 -- what is known tells what the walk afresh would
 pub known_tells : (t : Table) (h : Heights) (bid height rank limit : ℕ) (r : Result ℕ Fault) → rank_of t bid ≤ rank → AreTrue t h → HaveCome t h (at_list t bid) rank limit → state_of h bid ≡ Some height → (height ≡ 0 → r ≡ Err nesting) → (0 < height → height ≤ limit → r ≡ Ok height) → (limit < height → r ≡ Err nesting) → Tells r (sub_fault t limit bid) (sub_height t limit bid)
 known_tells t h bid height rank limit r low are come known marked fits high =

@@ -7,5 +7,6 @@ pub mod Heights
 pub mod Marks
 pub mod Reach
 pub mod Known
+pub mod Walk
 pub mod Relation
 pub mod Laws

@@ -59,6 +59,11 @@ rank_at t (Some e) = if has_level_one (body_of t e) then 1 else 0
 unfoldable pub rank_of : Table → ℕ → ℕ
 rank_of t bid = rank_at t (entry_of t bid)
 
+-- an identifier names a list of its own blocks without fault that is an SLBLOCK's
+pub record IsSlblockList (t : Table) (bid : ℕ) : Type 0 where
+  pub is_list : IsList t bid
+  pub rank : rank_of t bid ≡ 0
+
 -- Under each limit up to its own the walk of a list nests too deep, or comes to a place that lies further down, whose fault is
 -- then its own. Further down is under a lower limit; or under the same one, from an SIBLOCK to its SLBLOCKs. The rank of a
 -- place is 1 where an SIBLOCK may lie, else 0.

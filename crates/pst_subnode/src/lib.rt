@@ -12,7 +12,9 @@ mod heights;
 mod index;
 mod laws;
 mod scan;
+mod steps;
 mod sub;
+mod walk;
 
 pub use entries::Subs;
 pub use find::{find_sub, subs};

@@ -1,15 +1,14 @@
 use Rattle.std.proofs.Common.{◌≡◌, ◌+◌, ◌*◌, ◌≤◌, max, length, None}
 use Rattle.pst_block.specs.Blocks.{table_of}
-use Rattle.pst_datatree.specs.Seen as seen
-use Rattle.pst_subnode.specs.Heights as heights
 use Rattle.pst_subnode.specs.Marks as way
+use Rattle.pst_subnode.specs.Walk as step
 use Rattle.std.specs.List.{Contains}
 use Rattle.pst_subnode.specs.declared.sub.Sub.{Sub}
 use Rattle.pst_subnode.specs.Known as given
 use Rattle.pst_subnode.proofs.AddLemmas.{AreKnownOr}
 use Rattle.pst_subnode.specs.Left.{subs_left}
 use Rattle.pst_subnode.specs.Tree.{first_among, most_among, entry_fault, entry_height, sub_fault, sub_height}
-use Rattle.pst_subnode.proofs.height.+sub.Given as goal
+use Rattle.pst_subnode.proofs.walk.+sub.Given as goal
 
 abbrev pub decreases-height_of_entries : goal.decreases-height_of_entries
 decreases-height_of_entries l = 8 * l.limit + 7
@@ -40,17 +39,11 @@ invariant-height_of_entries-loop-sub l = record {
   first : first_among (entry_fault (table_of l.blocks) (sub_fault (table_of l.blocks) l.limit)) (subs_left l.rest) ≡ first_among (entry_fault (table_of l.blocks) (sub_fault (table_of l.blocks) l.limit)) (subs_left l.subs);
   most : max l.most (most_among (entry_height (sub_height (table_of l.blocks) l.limit)) (subs_left l.rest)) ≡ most_among (entry_height (sub_height (table_of l.blocks) l.limit)) (subs_left l.subs);
   small : l.most ≤ l.limit;
-  trees : seen.IsSeenTrue (table_of l.blocks) l.seen;
-  known : heights.AreTrue (table_of l.blocks) l.heights;
-  marks : heights.NoNewMarks l.initial.heights l.heights;
   come : way.HaveCome (table_of l.blocks) l.heights (way.at_entries (table_of l.blocks) (subs_left l.rest)) 1 l.limit;
-  adds : given.Adds (table_of l.blocks) (given.AreLedEach (table_of l.blocks) (subs_left l.subs)) l.initial.seen l.initial.heights l.seen l.heights;
+  walked : step.IsWalked (table_of l.blocks) (given.AreLedEach (table_of l.blocks) (subs_left l.subs)) l.initial.seen l.initial.heights l.seen l.heights;
+  counts : step.KeepsCounts l.initial.seen l.initial.heights l.seen l.heights;
   there : AreKnownOr (table_of l.blocks) l.seen l.heights (subs_left l.subs) (subs_left l.rest);
   within : (sub : Sub) → Contains (subs_left l.rest) sub → Contains (subs_left l.subs) sub;
-  seen_grows : seen.tree_expansions l.initial.seen ≤ seen.tree_expansions l.seen;
-  counts : seen.KeepsCount l.initial.seen l.seen;
-  keeps : heights.AreHeightsCounted l.initial.heights → heights.AreHeightsCounted l.heights;
-  heights_grow : heights.list_expansions l.initial.heights ≤ heights.list_expansions l.heights;
 }
 
 abbrev pub decreases-height_of_entries-loop-sub : goal.decreases-height_of_entries-loop-sub
@@ -61,14 +54,8 @@ invariant-height_of_leaves-loop-i l = record {
   first : way.at_leaves (table_of l.blocks) l.holder l.i l.limit ≡ None;
   most : l.most ≡ way.most_below (way.leaf_height (table_of l.blocks) l.holder l.limit) l.i;
   small : l.most ≤ l.limit;
-  trees : seen.IsSeenTrue (table_of l.blocks) l.seen;
-  known : heights.AreTrue (table_of l.blocks) l.heights;
-  marks : heights.NoNewMarks l.initial.heights l.heights;
   come : way.HaveCome (table_of l.blocks) l.heights (way.at_leaves (table_of l.blocks) l.holder l.count) 0 l.limit;
-  adds : given.Adds (table_of l.blocks) (given.AreLedBelow (table_of l.blocks) l.holder l.count) l.initial.seen l.initial.heights l.seen l.heights;
+  walked : step.IsWalked (table_of l.blocks) (given.AreLedBelow (table_of l.blocks) l.holder l.count) l.initial.seen l.initial.heights l.seen l.heights;
+  counts : step.KeepsCounts l.initial.seen l.initial.heights l.seen l.heights;
   there : given.AreKnownBelow (table_of l.blocks) l.heights l.holder l.i;
-  seen_grows : seen.tree_expansions l.initial.seen ≤ seen.tree_expansions l.seen;
-  counts : seen.KeepsCount l.initial.seen l.seen;
-  keeps : heights.AreHeightsCounted l.initial.heights → heights.AreHeightsCounted l.heights;
-  heights_grow : heights.list_expansions l.initial.heights ≤ heights.list_expansions l.heights;
 }

@@ -1,0 +1,69 @@
+//! The steps of the walk of lists that walk no further.
+
+ghost use Rattle.std.specs.Prelude.{◌≡◌, ◌+◌, ◌*◌, ◌<◌, ◌≤◌, length, Ok, Err, OnOk};
+ghost use Rattle.pst_fault.specs.First.{Tells};
+ghost use Rattle.pst_block.specs.Blocks.{table_of};
+ghost use Rattle.pst_block.specs.Table.{body_of, IsWithin};
+ghost use Rattle.pst_datatree.specs.Data.{data_fault};
+ghost use Rattle.pst_datatree.specs.List.{count_in};
+ghost use Rattle.pst_datatree.specs.Names.{IsInTree};
+ghost use Rattle.pst_datatree.specs.Seen.{tree_expansions, IsSeenTrue, IsKnownTree, AddsTrees, KeepsCount};
+ghost use Rattle.pst_subnode.specs.Tree.{nesting};
+ghost use Rattle.pst_subnode.specs.Marks.{IsSiList};
+
+use crate::body::body_in;
+use crate::sub::Sub;
+use pst_block::{BlockEntry, Blocks};
+use pst_datatree::{Seen, check_data};
+use pst_fault::{Fault, Kind};
+use std::alloc::Global;
+
+// The fault of one list too many.
+pub(crate) fn nesting_fault() -> Fault
+    ensures { result ≡ nesting }
+{
+    Fault::at(Kind::Nesting, 0)
+}
+
+// What is known of a list, where so many lists may nest: a list that is being expanded would nest in itself.
+pub(crate) fn height_known(height: u32, limit: u32) -> Result<u32, Fault>
+    ensures marked { height ≡ 0 → result ≡ Err nesting }
+    ensures fits { 0 < height → height ≤ limit → result ≡ Ok height }
+    ensures high { limit < height → result ≡ Err nesting }
+{
+    if height == 0 || height > limit {
+        return Err(nesting_fault());
+    }
+    Ok(height)
+}
+
+// How many SLBLOCKs an SIBLOCK names.
+#[tactic(auto, using(crate::proofs::LeafLemmas::si_fits, crate::proofs::LeafLemmas::si_head))]
+pub(crate) fn leaf_count(blocks: &Blocks, bid: u64, entry: BlockEntry) -> u16
+    requires within { IsWithin (table_of blocks.now).image entry }
+    requires is_list { IsSiList (table_of blocks.now) bid entry }
+    ensures value { result ≡ count_in (body_of (table_of blocks.now) entry) }
+    ensures fits { 8 + 16 * result ≤ length (body_of (table_of blocks.now) entry) }
+{
+    body_in(blocks, entry).number16(2)
+}
+
+// The data of an entry, under no node.
+#[tactic(auto, using(pst_datatree::proofs::NodeLemmas::data_no_node))]
+pub(crate) fn check_entry_data(
+    alloc: Global,
+    blocks: &Blocks,
+    sub: Sub,
+    seen: &mut Seen,
+) -> Result<(), Fault>
+    requires seen { IsSeenTrue (table_of blocks.now) seen.old }
+    ensures first { Tells result (data_fault (table_of blocks.now) sub.bid_data) tt }
+    ensures seen { IsSeenTrue (table_of blocks.now) seen.new }
+    ensures adds { let t = table_of blocks.now in
+        AddsTrees t (IsInTree t sub.bid_data) seen.old seen.new }
+    ensures there { OnOk result (IsKnownTree (table_of blocks.now) seen.new sub.bid_data) }
+    ensures counts { OnOk result (KeepsCount seen.old seen.new) }
+    ensures grows { tree_expansions seen.old ≤ tree_expansions seen.new }
+{
+    check_data(alloc, blocks, sub.bid_data, 0, seen)
+}
