@@ -32,6 +32,30 @@ fn m0_with(alloc: Global, block: usize, changes: &[Change]) -> Result<Vec<u8>, F
     build(alloc, &plan).map_err(|_| Fail::from("not made"))
 }
 
+// A store of these blocks, and of one node, 0x21, with these identifiers of its data and of its subnodes.
+fn store_of(
+    alloc: Global,
+    bodies: &[(u64, &[u8])],
+    bid_data: u64,
+    bid_sub: u64,
+) -> Result<Vec<u8>, Fail> {
+    let mut plan = Plan {
+        blocks: Vec::new(alloc),
+        nodes: Vec::new(alloc),
+    };
+    for (bid, bytes) in bodies {
+        let body = Vec::from_slice(alloc, bytes)?;
+        plan.blocks.push(BlockPlan { bid: *bid, body })?;
+    }
+    plan.nodes.push(NodePlan {
+        nid: 0x21,
+        bid_data,
+        bid_sub,
+        parent: 0,
+    })?;
+    build(alloc, &plan).map_err(|_| Fail::from("not made"))
+}
+
 // The properties that a check answers, each its identifier, type, place and bytes; or the line of the first fault.
 fn line_of(alloc: Global, answer: Result<Pc, Fault>) -> Result<String, Fail> {
     let pc = match answer {
@@ -155,21 +179,7 @@ fn store(alloc: Global, changes: &[Change]) -> Result<Vec<u8>, Fail> {
         (18, &XBLOCK),
         (22, &SUBNODES),
     ];
-    let mut plan = Plan {
-        blocks: Vec::new(alloc),
-        nodes: Vec::new(alloc),
-    };
-    for (bid, bytes) in bodies {
-        let body = Vec::from_slice(alloc, bytes)?;
-        plan.blocks.push(BlockPlan { bid, body })?;
-    }
-    plan.nodes.push(NodePlan {
-        nid: 0x21,
-        bid_data: 5,
-        bid_sub: 23,
-        parent: 0,
-    })?;
-    build(alloc, &plan).map_err(|_| Fail::from("not made"))
+    store_of(alloc, &bodies, 5, 23)
 }
 
 #[test]
@@ -234,21 +244,7 @@ fn falling(alloc: Global, last: u64) -> Result<Vec<u8>, Fail> {
         (26, &first),
         (30, &next),
     ];
-    let mut plan = Plan {
-        blocks: Vec::new(alloc),
-        nodes: Vec::new(alloc),
-    };
-    for (bid, bytes) in bodies {
-        let body = Vec::from_slice(alloc, bytes)?;
-        plan.blocks.push(BlockPlan { bid, body })?;
-    }
-    plan.nodes.push(NodePlan {
-        nid: 0x21,
-        bid_data: 4,
-        bid_sub: 22,
-        parent: 0,
-    })?;
-    build(alloc, &plan).map_err(|_| Fail::from("not made"))
+    store_of(alloc, &bodies, 4, 22)
 }
 
 #[test]
