@@ -147,18 +147,11 @@ pub fn walk_page(
         return push_entries(&page, &mut tally.places);
     }
     for i in 0..page.count() {
+        let (child, first) = (page.child(i), page.key(i));
         let bound = bound_of(&page, i, high);
         let below = level - 1;
         walk_page(
-            image,
-            header,
-            kind,
-            below,
-            page.child(i),
-            page.key(i),
-            bound,
-            claims,
-            tally,
+            image, header, kind, below, child, first, bound, claims, tally,
         )?;
     }
     Ok(())

@@ -1,15 +1,14 @@
 //! The walk of a whole tree.
 
-ghost use Rattle.std.specs.Prelude.{◌≡◌, ◌+◌, ◌<◌, ◌≤◌, length, Some, None, IfOk, All};
+ghost use Rattle.std.specs.Prelude.{◌≡◌, ◌+◌, ◌<◌, ◌≤◌, length, None, IfOk};
 ghost use Rattle.pst_bytes.specs.Image.{bytes_of};
 ghost use Rattle.pst_header.specs.Head.{Head};
 ghost use Rattle.pst_header.specs.Header.{end_of};
 ghost use Rattle.pst_page.specs.Page.{level_at};
-ghost use Rattle.pst_page.specs.Entry.{entry_size};
-ghost use Rattle.pst_space.specs.Claimed.{claim_all, unit_total};
+ghost use Rattle.pst_space.specs.Claimed.{unit_total};
 ghost use Rattle.pst_space.specs.Step.{GivesStepBy, ClaimsSome};
-ghost use Rattle.pst_btree.specs.Tree.{IsTree, page_spans, page_spans_at};
-ghost use Rattle.pst_btree.specs.View.{tree_of, entries};
+ghost use Rattle.pst_btree.specs.Tree.{page_spans_at};
+ghost use Rattle.pst_btree.specs.View.{entries, IsWalkedTree};
 ghost use Rattle.pst_btree.specs.Walk.{tree_walk, found_so_far};
 
 use crate::tree::TreeView;
@@ -31,7 +30,7 @@ fn level_of(image: Image, ib: u64) -> u8
 }
 
 /// Walks the tree under a root, claims its pages, and notes the places of its entries.
-#[tactic(auto, using(pst_header::proofs::Head::head_end, crate::proofs::TreeLaws::walked, crate::proofs::WalkLemmas::walk_no_place, pst_space::proofs::StepLemmas::claims_none, crate::proofs::InsideLemmas::entries_inside), unfolding(crate::specs::Tree::page_spans_at))]
+#[tactic(auto, using(pst_header::proofs::Head::head_end, crate::proofs::TreeLaws::walked, crate::proofs::WalkLemmas::walk_no_place, pst_space::proofs::StepLemmas::claims_none), unfolding(crate::specs::Tree::page_spans_at))]
 pub fn walk<'a>(
     alloc: Global,
     image: Image<'a>,
@@ -45,18 +44,8 @@ pub fn walk<'a>(
     ensures same { length claims.new ≡ length claims.old }
     ensures exact { GivesStepBy (λ x. found_so_far claims.new (entries x.0) x.0.pages) result
         claims.new (tree_walk kind (bytes_of image.entry) (end_of header.now) claims.old root) }
-    ensures image { IfOk result (λ x. x.0.image ≡ image.entry) }
-    ensures end { IfOk result (λ x. x.0.end ≡ end_of header.now) }
-    ensures kind { IfOk result (λ x. x.0.kind ≡ kind) }
-    ensures root { IfOk result (λ x. x.0.root ≡ root) }
-    ensures level { IfOk result (λ x. x.0.level ≡ level_at (bytes_of image.entry) root.ib) }
-    ensures tree { IfOk result (λ x.
-        IsTree kind (bytes_of image.entry) (end_of header.now) root x.0.level (tree_of x.0)) }
-    ensures places { IfOk result (λ x. x.1.items ≡ entries x.0) }
-    ensures inside { IfOk result (λ x.
-        All (λ at. at + entry_size kind 0 ≤ length (bytes_of image.entry)) x.1.items) }
-    ensures claims { IfOk result (λ x.
-        claim_all claims.old (page_spans (tree_of x.0)) ≡ Some claims.new) }
+    ensures walked { IfOk result (λ x. IsWalkedTree image.entry (end_of header.now) kind root
+        claims.old claims.new x.0 x.1.items) }
     ensures some { ClaimsSome claims.old claims.new
         (page_spans_at kind (bytes_of image.entry) (level_at (bytes_of image.entry) root.ib) root) }
 {

@@ -20,8 +20,8 @@ returns-in_err-walk_page-clause-gives t c =
     let I = bytes_of c.args.image in
     let ib = c.in_ok-page.page.bref.ib in
     let count : c.count-i-end.result ≡ count_at I ib = cc (c.count-i-end.ensures, c.in_ok-page.ensures.image) in
-    let child : c.child.result ≡ child_at I (ib + c.loop-i.i * width_at I ib) = cc (c.child.ensures, c.in_ok-page.ensures.image) in
-    let key : c.key.result ≡ key_at c.args.kind I (ib + c.loop-i.i * width_at I ib) = cc (c.key.ensures.value, c.in_ok-page.ensures.image, c.in_ok-page.ensures.kind) in
+    let child : c.child-child.result ≡ child_at I (ib + c.loop-i.i * width_at I ib) = cc (c.child-child.ensures, c.in_ok-page.ensures.image) in
+    let key : c.key-first.result ≡ key_at c.args.kind I (ib + c.loop-i.i * width_at I ib) = cc (c.key-first.ensures.value, c.in_ok-page.ensures.image, c.in_ok-page.ensures.kind) in
     let bound : c.bound_of-bound.result ≡ next_key c.args.kind I (entries_from I ib (c.loop-i.i + 1)) c.args.high = cc (c.bound_of-bound.ensures, c.in_ok-page.ensures.image, c.in_ok-page.ensures.kind) in
     rw (p.1, p.2)
     (child_fails c.args.kind I _ c.args.high _ ib c.loop-i.i _ _ _ _ _ _ (omega arith) child key bound c.in_err-walk_page.ensures.gives c.loop-i.invariant.gives)
@@ -31,7 +31,7 @@ returns-in_err-walk_page-clause-some t c =
     let I = bytes_of c.args.image in
     let ib = c.in_ok-page.page.bref.ib in
     let count : c.count-i-end.result ≡ count_at I ib = cc (c.count-i-end.ensures, c.in_ok-page.ensures.image) in
-    let child : c.child.result ≡ child_at I (ib + c.loop-i.i * width_at I ib) = cc (c.child.ensures, c.in_ok-page.ensures.image) in
+    let child : c.child-child.result ≡ child_at I (ib + c.loop-i.i * width_at I ib) = cc (c.child-child.ensures, c.in_ok-page.ensures.image) in
     left_refused c.args.kind I (c.args.level - 1) ib c.loop-i.i _ _ _ _ (omega arith) c.loop-i.invariant.some (rw child at c.walk_page.ensures.some)
 
 pub returns-clause-some : goal.returns-clause-some
@@ -50,8 +50,8 @@ loop-i-preserved t c =
     let I = bytes_of c.args.image in
     let ib = c.in_ok-page.page.bref.ib in
     let count : c.count-i-end.result ≡ count_at I ib = cc (c.count-i-end.ensures, c.in_ok-page.ensures.image) in
-    let child : c.child.result ≡ child_at I (ib + c.loop-i.i * width_at I ib) = cc (c.child.ensures, c.in_ok-page.ensures.image) in
-    let key : c.key.result ≡ key_at c.args.kind I (ib + c.loop-i.i * width_at I ib) = cc (c.key.ensures.value, c.in_ok-page.ensures.image, c.in_ok-page.ensures.kind) in
+    let child : c.child-child.result ≡ child_at I (ib + c.loop-i.i * width_at I ib) = cc (c.child-child.ensures, c.in_ok-page.ensures.image) in
+    let key : c.key-first.result ≡ key_at c.args.kind I (ib + c.loop-i.i * width_at I ib) = cc (c.key-first.ensures.value, c.in_ok-page.ensures.image, c.in_ok-page.ensures.kind) in
     let bound : c.bound_of-bound.result ≡ next_key c.args.kind I (entries_from I ib (c.loop-i.i + 1)) c.args.high = cc (c.bound_of-bound.ensures, c.in_ok-page.ensures.image, c.in_ok-page.ensures.kind) in
     let lt : c.loop-i.i < count_at I ib = omega arith in
     record {
