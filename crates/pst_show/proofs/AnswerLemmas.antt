@@ -9,7 +9,7 @@ use Rattle.pst_json.specs.pst_verify.declared.report.Report.{Report}
 use Rattle.pst_json.specs.pst_verify.Report.{IsReportOf}
 use Rattle.pst_json.specs.pst_verify.Verified.{IsVerified}
 use Rattle.pst_json.specs.Check.{report_parts, check_line}
-use Rattle.pst_show.specs.declared.ask.Ask.TheVariants.{Check}
+use Rattle.pst_ask.specs.declared.ask.Ask.TheVariants.{Check}
 use Rattle.pst_show.specs.Refusal.{refusal_of}
 use Rattle.pst_show.specs.Answer.{of_store, report_in, report_told, answer_to}
 

@@ -1,10 +1,10 @@
 -- What a run does for words that ask for something.
 use Rattle.std.proofs.Common.{◌≡◌, subst, List}
-use Rattle.clap.specs.Words.{Text}
-use Rattle.pst_show.specs.Ask.{Asked, order_of}
-use Rattle.pst_show.specs.declared.ask.Ask.{Ask}
-use Rattle.pst_show.specs.declared.ask.Order.{Order}
-use Rattle.pst_show.specs.Words.{IsAsked}
+use Rattle.pst_ask.specs.clap.Words.{Text}
+use Rattle.pst_ask.specs.Ask.{Asked, order_of}
+use Rattle.pst_ask.specs.declared.ask.Ask.{Ask}
+use Rattle.pst_ask.specs.declared.ask.Order.{Order}
+use Rattle.pst_ask.specs.Words.{IsAsked}
 
 -- words ask for one thing: what is done for it is done for all that they ask for
 pub done_as_asked : (words : List Text) (done : Ask → Type 0) (order : Order) → IsAsked words (order_of order) → done order.ask

@@ -24,8 +24,8 @@ use Rattle.pst_json.specs.Head.{head_line}
 use Rattle.pst_json.specs.Node.{props_line}
 use Rattle.pst_json.specs.Nodes.{nodes_line}
 use Rattle.pst_show.specs.declared.answer.Shown.{Shown}
-use Rattle.pst_show.specs.declared.ask.Ask.{Ask}
-use Rattle.pst_show.specs.declared.ask.Ask.TheVariants.{Check, Head, Nodes, Folders, Contents, Props}
+use Rattle.pst_ask.specs.declared.ask.Ask.{Ask}
+use Rattle.pst_ask.specs.declared.ask.Ask.TheVariants.{Check, Head, Nodes, Folders, Contents, Props}
 use Rattle.pst_show.specs.declared.refusal.Refusal.{Refusal}
 use Rattle.pst_show.specs.declared.refusal.Refusal.TheVariants as refusal
 use Rattle.pst_show.specs.Refusal.{refusal_of, refusal_for}

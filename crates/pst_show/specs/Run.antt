@@ -2,6 +2,12 @@
 use Rattle.std.specs.Prelude.{◌≡◌, ℕ, Bool, true, false, ◌⊎◌, List, Option, Result, Ok, Err}
 use Rattle.std.specs.Io.KnownBytes.{Appends, Keeps}
 use Rattle.pst_json.specs.Output.{AppendsFront}
+use Rattle.pst_ask.specs.clap.Words.{IsAmong, Kinds}
+use Rattle.pst_ask.specs.clap.declared.error.Error.{Error}
+use Rattle.pst_ask.specs.clap.declared.error.kind.ErrorKind.{ErrorKind}
+use Rattle.pst_ask.specs.clap.declared.error.kind.ErrorKind.TheVariants as kind
+use Rattle.pst_ask.specs.declared.words.NoOrder.{NoOrder}
+use Rattle.pst_ask.specs.declared.words.NoOrder.TheVariants.{Words, Lacks}
 use Rattle.pst_show.specs.declared.refusal.Refusal.{Refusal}
 use Rattle.pst_show.specs.declared.refusal.Refusal.TheVariants as refusal
 use Rattle.pst_show.specs.Answer.{Told}
@@ -40,3 +46,21 @@ Answers answer status old new =
     ⊎ (((status ≡ 3) × Keeps old new)
     ⊎ (((status ≡ 3) × ShowsFront answer old new)
     ⊎ ((status ≡ 4) × Keeps old new))))
+
+-- ---- where nothing is done
+
+-- the status where words are declined with an error of this kind
+abbrev pub IsStatusOf : ErrorKind → ℕ → Type 0
+IsStatusOf kind.OutOfMemory status = status ≡ 4
+IsStatusOf kind.DisplayHelp status = (status ≡ 0) ⊎ (status ≡ 3)
+IsStatusOf kind.DisplayVersion status = (status ≡ 0) ⊎ (status ≡ 3)
+IsStatusOf _ status = status ≡ 2
+
+-- the status where the words are refused, or ask for help: want of memory, or that of a kind that is found
+abbrev pub IsRefused : Kinds → ℕ → Type 0
+IsRefused kinds status = (status ≡ 4) ⊎ ((k : ErrorKind) × IsAmong k kinds × IsStatusOf k status)
+
+-- a fact for the error of the words, and one where there is none
+abbrev pub MatchNone : NoOrder → (Error → Type 0) → Type 0 → Type 0
+MatchNone (Words e) P Q = P e
+MatchNone (Lacks lack) P Q = Q

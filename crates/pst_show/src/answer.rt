@@ -2,8 +2,8 @@
 
 ghost use Rattle.pst_show.specs.Answer.{Gives, answer_to};
 
-use crate::ask::Ask;
 use crate::refusal::Refusal;
+use pst_ask::Ask;
 use pst_bytes::Image;
 use pst_header::read_header;
 use pst_json::{
@@ -88,7 +88,8 @@ fn props_answer(alloc: Global, nid: u32, bytes: &[u8]) -> Result<Shown, Refusal>
     }
 }
 
-/// What a command shows of a file with these bytes, or why it refuses them. The fault NoMemory comes as want of memory, and not as a refusal of the file.
+/// What a command shows of a file with these bytes, or why it refuses them. The fault NoMemory comes as want of memory, and
+/// not as a refusal of the file.
 pub fn answer(alloc: Global, ask: Ask, bytes: &[u8]) -> Result<Shown, Refusal>
     ensures { Gives result (answer_to ask bytes.now) }
 {

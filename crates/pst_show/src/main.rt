@@ -2,26 +2,20 @@
 #![tactic(auto)]
 
 mod answer;
-mod ask;
 mod input;
-mod laws;
-mod nid;
 mod refusal;
 mod run;
 mod source;
 #[cfg(test)]
 mod tests;
-mod verb;
-mod words;
 
-use ask::Order;
+use pst_ask::{Order, parse};
 use refusal::Refusal;
 use run::{carry_out, decline, refuse};
 use source::{Source, Watched, explain};
 use std::io::Write;
 use std::process::ExitCode;
 use std::{env, io};
-use words::parse;
 
 // Shows what is asked for of what the file's name stands for. Where that cannot be read, a line says why.
 fn show(rt: &HostRuntime, order: Order<'_>) -> u8 {

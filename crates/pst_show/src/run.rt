@@ -1,20 +1,18 @@
 //! One run of the program.
 
 ghost use Rattle.std.specs.Prelude.{◌≡◌, ◌≢◌, ◌⊎◌, [], Err, IfSome};
-ghost use Rattle.clap.specs.Words.{fault_of, kind_of};
+ghost use Rattle.pst_ask.specs.Ask.{Asked};
+ghost use Rattle.pst_ask.specs.Words.{IsAsked, asked, show_app, texts};
+ghost use Rattle.pst_ask.specs.clap.Words.{fault_of, kind_of};
 ghost use Rattle.pst_show.specs.Answer.{answer_to};
 ghost use Rattle.pst_show.specs.declared.refusal.Refusal.TheVariants as refused;
 ghost use Rattle.pst_show.specs.Refusal.{status_of};
-ghost use Rattle.pst_show.specs.Run.{Ends, Answers};
-ghost use Rattle.pst_show.specs.Ask.{Asked};
-ghost use Rattle.pst_show.specs.Words.{IsAsked, IsStatusOf, IsRefused, asked, show_app, texts, MatchNone};
+ghost use Rattle.pst_show.specs.Run.{Answers, Ends, IsRefused, IsStatusOf, MatchNone};
 
 use crate::answer::answer;
-use crate::ask::{Ask, Lack};
 use crate::input::load;
 use crate::refusal::Refusal;
-use crate::words::{NoOrder, parse};
-use clap::error::ErrorKind;
+use pst_ask::{Ask, ErrorKind, Lack, NoOrder, parse};
 use pst_json::{EmitFault, emit};
 use std::alloc::Global;
 use std::io::{Read, Write};
@@ -113,7 +111,8 @@ pub fn run<R: Read, W: Write, E: Write>(
 ) -> u8
     // Where the words are accepted and ask for something, the status and what is written are the answer to the
     // bytes of the file.
-    ensures answered { (a : Asked) → IsAsked (texts words.entry.now) a → IfSome (R.remaining input.old) (λ bytes.
+    ensures answered { (a : Asked) → IsAsked (texts words.entry.now) a →
+        IfSome (R.remaining input.old) (λ bytes.
         Answers (answer_to a.ask bytes) result (W.contents out.old) (W.contents out.new)) }
 
     // Where the words are refused, or ask for help or the version, nothing is read.
@@ -122,7 +121,8 @@ pub fn run<R: Read, W: Write, E: Write>(
     ensures unread { fault_of show_app (texts words.entry.now) ≢ [] → input.new ≡ input.old }
 
     // The same where they are accepted and ask for nothing that can be done, as for a node that no word names.
-    ensures lacks { (lack : Lack) → fault_of show_app (texts words.entry.now) ≡ [] → asked (texts words.entry.now) ≡ Err lack
+    ensures lacks { (lack : Lack) → fault_of show_app (texts words.entry.now) ≡ [] →
+        asked (texts words.entry.now) ≡ Err lack
         → ((result ≡ 2) ⊎ (result ≡ 4)) × (input.new ≡ input.old) }
 
     // Nothing is written to the output where the words are refused.

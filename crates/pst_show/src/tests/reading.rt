@@ -1,6 +1,8 @@
 //! Reads and writes that fail, are interrupted or give little, and what is said of them.
 
-use super::{Failing, Fault, Slow, run_of, words_of};
+use super::loading::Failing;
+use super::writing::{Fault, Slow};
+use super::{run_of, words_of};
 use crate::input::{LoadFault, load};
 use crate::run::run;
 use crate::source::{Source, Watched, explain};

@@ -1,7 +1,7 @@
 use Rattle.std.specs.Prelude.{IfSome}
 use Rattle.pst_show.specs.Answer.{answer_to}
 use Rattle.pst_show.specs.Run.{Answers}
-use Rattle.pst_show.specs.Words.{texts}
+use Rattle.pst_ask.specs.Words.{texts}
 use Rattle.pst_show.proofs.RunLemmas.{done_as_asked}
 use Rattle.pst_show.proofs.run.run.Goals as goal
 

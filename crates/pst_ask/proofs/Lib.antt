@@ -1,0 +1,3 @@
+pub mod CommandLaws
+pub mod NidLemmas
+pub mod WordLemmas

@@ -1,0 +1,63 @@
+-- What the matches of the words ask for.
+use Rattle.std.proofs.Common.{◌≡◌, ◌+◌, ◌<◌, true, Bool, List, length, drop, get_or, Option, Some, None, refl, sym, ap, ◌∙◌}
+use Rattle.std.specs.Prelude.{option_map, find, ℕ, false}
+use Rattle.std.proofs.lemmas.List.{at_drop_more}
+use Rattle.clap.specs.Words.{App, Text, Row, first_of, first_value, found_of, rows_of, subcommand_name_of, subcommand_rows_of, is_simple, is_simple_and_free, HasMatchesOf}
+use Rattle.clap.specs.declared.parser.matches.ArgMatches.{ArgMatches}
+use Rattle.clap.specs.declared.parser.matches.ArgMatches.TheViews.{out-ArgMatches}
+use Rattle.clap.proofs.OnLiterals.{clap_on_literals}
+use Rattle.clap.proofs.WalkLemmas.{first_value-rows}
+use Rattle.pst_ask.specs.Ask.{asked_in, asked_with}
+use Rattle.pst_ask.specs.Verbs.{verb_of}
+use Rattle.pst_ask.specs.declared.verb.Verb.{Verb}
+use Rattle.pst_ask.specs.Words.{asked, show_app, with_verb, with_verbs}
+
+abbrev paired : {Z : Type 0} → (Z → Text) → (Z → List Row) → Z → Text × List Row
+paired f g b = (f b, g b)
+
+both_of : {Z : Type 0} (o : Option Z) (f : Z → Text) (g : Z → List Row) (n : Text) (rows : List Row)
+    → Some n ≡ option_map f o → Some rows ≡ option_map (λ (p : Text × List Row). p.1) (option_map (paired f g) o) → option_map (paired f g) o ≡ Some (n, rows)
+both_of None f g n rows p q = absurd cc
+both_of (Some z) f g n rows p q = cc
+
+-- a command that was used is its name and its rows
+pub command_is : (m : ArgMatches) (n : Text) (rows : List Row) → Some n ≡ subcommand_name_of m → Some rows ≡ option_map (λ (p : Text × List Row). p.1) (subcommand_rows_of m)
+    → subcommand_rows_of m ≡ Some (n, rows)
+command_is m n rows p q = both_of (out-ArgMatches m).subcommand _ _ n rows p q
+
+-- the value of an argument
+pub text_is : (m : ArgMatches) (id : Text) → first_value (found_of m) id ≡ first_of id (rows_of (found_of m))
+text_is m id = first_value-rows (found_of m) id
+
+pub is_free_show : is_simple_and_free show_app ≡ true
+unfolding clap_on_literals
+is_free_show = refl
+
+is_simple_show : is_simple show_app ≡ true
+unfolding clap_on_literals
+is_simple_show = refl
+
+-- what the words ask for is what their matches ask for
+pub asked_is : (words : List Text) (m : ArgMatches) → HasMatchesOf show_app words m → asked words ≡ asked_in (subcommand_rows_of m)
+unfolding asked
+asked_is words m h = ap asked_in (sym (h is_simple_show).1)
+
+-- ---- a command by its name
+
+-- it is none of those before
+pub find_next : {X : Type 0} (test : X → Bool) (xs : List X) (i : ℕ) (d : X) (whole : Option X) → i < length xs → test (get_or xs i d) ≡ false
+    → find test (drop i xs) ≡ whole → find test (drop (i + 1) xs) ≡ whole
+find_next test xs i d whole inside other so_far =
+    let next = at_drop_more (find test) xs i d inside in
+    sym (rw other at next) ∙ so_far
+
+-- what is asked for by the command that was used, with its matches
+pub order_is : (m inner : ArgMatches) (n : Text) → Some n ≡ subcommand_name_of m → Some (rows_of (found_of inner)) ≡ option_map (λ (p : Text × List Row). p.1) (subcommand_rows_of m)
+    → asked_in (subcommand_rows_of m) ≡ asked_with (verb_of n) (rows_of (found_of inner))
+order_is m inner n p q = ap asked_in (command_is m n (rows_of (found_of inner)) p q)
+
+-- one command more
+pub verbs_next : (a b : App) (xs : List Verb) (i : ℕ) (d : Verb) (whole : App) → i < length xs → b ≡ with_verb a (get_or xs i d)
+    → with_verbs a (drop i xs) ≡ whole → with_verbs b (drop (i + 1) xs) ≡ whole
+verbs_next a b xs i d whole inside is so_far =
+    ap (λ x. with_verbs x (drop (i + 1) xs)) is ∙ sym (at_drop_more (with_verbs a) xs i d inside) ∙ so_far

@@ -1,0 +1,5 @@
+pub mod Ask
+pub mod Nid
+pub mod Verbs
+pub mod Words
+pub use Rattle.clap.specs as clap

@@ -1,0 +1,32 @@
+//! The command line of the program: what the words after its name ask for.
+//!
+//! Begin with `parse`: it gives what is to be shown and of which file, or why there is nothing to be done. The text of help, of
+//! the version and of a refusal is that of the error:
+//!
+//! ```text
+//! match parse(alloc, &words) {
+//!     Ok(order) => show(order.ask, order.file),
+//!     Err(NoOrder::Words(error)) => say(error),
+//!     Err(NoOrder::Lacks(lack)) => say_lack(lack),
+//! }
+//! ```
+//!
+//! verb.rt lists the commands, a line each: its name, what it is for, and what stands behind its name. The command line and help
+//! are made of that list, and so is the law `commands_are_asked`: the words of each command ask for what it shows.
+#![tactic(auto)]
+
+mod ask;
+mod laws;
+mod nid;
+mod verb;
+mod words;
+
+pub use ask::{Ask, Lack, Order};
+pub use clap::Error;
+pub use clap::error::ErrorKind;
+pub use laws::commands_are_asked;
+pub use nid::read_nid;
+pub use words::{NoOrder, parse};
+
+#[cfg(test)]
+mod tests;

@@ -1,0 +1,199 @@
+//! The texts of help and of the version.
+
+use super::is_answered;
+use std::test::Fail;
+
+const HELP: &str = "Checks and shows Personal Folders Files (.pst)
+
+Usage: pst_show <COMMAND>
+
+Commands:
+  check     Checks whether it is a store
+  head      Shows the fields of the header
+  nodes     Lists the nodes
+  folders   Lists the folders
+  contents  Lists the messages of a folder
+  props     Shows the properties of a node
+  help      Print this message or the help of the given subcommand(s)
+
+Options:
+  -h, --help     Print help
+  -V, --version  Print version
+
+The answer is one line of JSON on standard output. Where there is none, one line on
+standard error says why. FILE is the name of a file, or - for standard input; the
+program only reads it.
+
+Exit status:
+  0    The answer is printed; of check: the file is a store
+  1    The file breaks a rule of the format, or has no such folder or node; or, with
+       check --strict, space is lost
+  2    The words are refused
+  3    The file cannot be read or is too long, or the output cannot be written
+  4    Memory was refused
+  125  The program could not be built, of the script that builds it first
+";
+
+// The help of each command.
+const HELP_OF: [(&str, &str); 6] = [
+    (
+        "check",
+        "Checks whether it is a store
+
+Usage: pst_show check [OPTIONS] <FILE>
+
+Arguments:
+  <FILE>  The file to read, or - for standard input
+
+Options:
+      --strict  Ends with status 1 where space is lost, too
+  -h, --help    Print help
+
+Checks the whole file, and prints how many pages, blocks, nodes, folders and messages
+there are, the order of the bits in the allocation maps, and the lost runs: space that
+is marked as used, and that nothing uses.
+
+Exit status:
+  0  The file is a store
+  1  It breaks a rule of the format: standard error tells the first fault; or, with
+     --strict, there are lost runs
+  2  The words are refused
+  3  The file cannot be read or is too long, or the output cannot be written
+  4  Memory was refused
+",
+    ),
+    (
+        "head",
+        "Shows the fields of the header
+
+Usage: pst_show head <FILE>
+
+Arguments:
+  <FILE>  The file to read, or - for standard input
+
+Options:
+  -h, --help  Print help
+
+Prints the fields of the header, and looks at nothing else.
+
+Exit status:
+  0  The fields are printed
+  1  The header breaks a rule of the format: standard error tells the first fault
+  2  The words are refused
+  3  The file cannot be read or is too long, or the output cannot be written
+  4  Memory was refused
+",
+    ),
+    (
+        "nodes",
+        "Lists the nodes
+
+Usage: pst_show nodes <FILE>
+
+Arguments:
+  <FILE>  The file to read, or - for standard input
+
+Options:
+  -h, --help  Print help
+
+Checks the header and both B-trees, but no block, and prints of each node its
+identifier, that of its parent, and those of the blocks of its data and its subnodes.
+
+Exit status:
+  0  The nodes are printed
+  1  The header or a tree breaks a rule of the format: standard error tells the first fault
+  2  The words are refused
+  3  The file cannot be read or is too long, or the output cannot be written
+  4  Memory was refused
+",
+    ),
+    (
+        "folders",
+        "Lists the folders
+
+Usage: pst_show folders <FILE>
+
+Arguments:
+  <FILE>  The file to read, or - for standard input
+
+Options:
+  -h, --help  Print help
+
+Checks the whole file, and prints of each folder its identifier and its name, the
+identifiers of its subfolders, how many messages are in it, and how many belong to the
+folder itself.
+
+Exit status:
+  0  The folders are printed
+  1  The file breaks a rule of the format: standard error tells the first fault
+  2  The words are refused
+  3  The file cannot be read or is too long, or the output cannot be written
+  4  Memory was refused
+",
+    ),
+    (
+        "contents",
+        "Lists the messages of a folder
+
+Usage: pst_show contents <FILE> <NID>
+
+Arguments:
+  <FILE>  The file to read, or - for standard input
+  <NID>   The identifier of a node, as 0x122
+
+Options:
+  -h, --help  Print help
+
+Checks the whole file, and prints of each message in the folder NID its identifier,
+its class, its sender and its subject.
+
+Exit status:
+  0  The messages are printed
+  1  The file breaks a rule of the format, or has no such folder: standard error tells which
+  2  The words are refused
+  3  The file cannot be read or is too long, or the output cannot be written
+  4  Memory was refused
+",
+    ),
+    (
+        "props",
+        "Shows the properties of a node
+
+Usage: pst_show props <FILE> <NID>
+
+Arguments:
+  <FILE>  The file to read, or - for standard input
+  <NID>   The identifier of a node, as 0x122
+
+Options:
+  -h, --help  Print help
+
+Checks the whole file, and prints of each property of the node NID its identifier, its
+type and its value; of a message also the attachments and the recipients.
+
+Exit status:
+  0  The properties are printed
+  1  The file breaks a rule of the format, or has no such node, or that has no properties:
+     standard error tells which
+  2  The words are refused
+  3  The file cannot be read or is too long, or the output cannot be written
+  4  Memory was refused
+",
+    ),
+];
+
+#[test]
+fn help_and_the_version_are_shown(rt: HostRuntime) -> Result<(), Fail> {
+    for word in ["--help", "-h", "help"] {
+        is_answered(&rt, &[word], false, HELP)?;
+    }
+    for (name, help) in HELP_OF {
+        is_answered(&rt, &[name, "--help"], false, help)?;
+        is_answered(&rt, &[name, "-h"], false, help)?;
+        is_answered(&rt, &["help", name], false, help)?;
+    }
+    for word in ["--version", "-V"] {
+        is_answered(&rt, &[word], false, "pst_show 0.1.0\n")?;
+    }
+    Ok(())
+}

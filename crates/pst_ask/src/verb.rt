@@ -1,0 +1,72 @@
+//! The commands of the program.
+
+ghost use Rattle.std.specs.Prelude.{◌≡◌};
+ghost use Rattle.pst_ask.specs.Verbs.{name_of, takes_of, verb_of};
+
+/// What stands behind the name of a command.
+#[derive(Clone, Copy, Debug, PartialEq, Eq)]
+pub enum Takes {
+    /// A file.
+    File,
+    /// A file, and `--strict` before or behind it or not.
+    Strict,
+    /// A file, and the identifier of a node.
+    Node,
+}
+
+/// A command: it shows something of a file.
+#[derive(Clone, Copy, Debug, PartialEq, Eq)]
+pub enum Verb {
+    /// Whether it is a store.
+    Check,
+    /// The fields of its header.
+    Head,
+    /// The entries of its node B-tree.
+    Nodes,
+    /// Its folders.
+    Folders,
+    /// The messages of a folder.
+    Contents,
+    /// The properties of a node.
+    Props,
+}
+
+impl Verb {
+    /// All commands, in the order in which help shows them.
+    pub const ALL: [Verb; 6] = [
+        Verb::Check,
+        Verb::Head,
+        Verb::Nodes,
+        Verb::Folders,
+        Verb::Contents,
+        Verb::Props,
+    ];
+
+    /// Its name, what it is for, and what stands behind its name.
+    pub fn line<'a>(self) -> (&'a str, &'a str, Takes)
+        ensures name { result.0.now ≡ name_of self }
+        ensures takes { result.2 ≡ takes_of self }
+    {
+        match self {
+            Verb::Check => ("check", "Checks whether it is a store", Takes::Strict),
+            Verb::Head => ("head", "Shows the fields of the header", Takes::File),
+            Verb::Nodes => ("nodes", "Lists the nodes", Takes::File),
+            Verb::Folders => ("folders", "Lists the folders", Takes::File),
+            Verb::Contents => ("contents", "Lists the messages of a folder", Takes::Node),
+            Verb::Props => ("props", "Shows the properties of a node", Takes::Node),
+        }
+    }
+
+    /// The command of a name; None exactly where there is none.
+    #[tactic(auto, using(crate::proofs::WordLemmas::find_next))]
+    pub fn named(name: &str) -> Option<Verb>
+        ensures { result ≡ verb_of name.now }
+    {
+        for verb in Verb::ALL {
+            if verb.line().0 == name {
+                return Some(verb);
+            }
+        }
+        None
+    }
+}

@@ -1,5 +1,0 @@
-use Rattle.pst_show.proofs.CommandLaws.{words_law}
-use Rattle.pst_show.proofs.laws.commands_are_asked.Goals as goal
-
-pub returns : goal.returns
-returns c = words_law
