@@ -4,6 +4,7 @@ pub mod DistinctLemmas
 pub mod SubLemmas
 pub mod TopLemmas
 pub mod ListLaws
+pub mod BlockLemmas
 pub mod TreeLaws
 pub mod MapLaws
 pub mod HeightLaws

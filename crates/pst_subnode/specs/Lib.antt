@@ -1,5 +1,6 @@
 pub mod Body
 pub mod List
+pub mod ListBlock
 pub mod Tree
 pub mod Left
 pub mod Index

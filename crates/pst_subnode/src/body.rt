@@ -1,11 +1,10 @@
 //! The bodies of SLBLOCKs and SIBLOCKs ([MS-PST] 2.2.2.8.3.3).
 
-ghost use Rattle.std.specs.Prelude.{◌≡◌, ◌+◌, ◌*◌, ◌≤◌, IsTrue, length};
+ghost use Rattle.std.specs.Prelude.{◌≡◌, ◌+◌, ◌*◌, ◌≤◌, length};
 ghost use Rattle.pst_bytes.specs.Image.{bytes_of};
 ghost use Rattle.pst_block.specs.Table.{body_of, IsWithin};
 ghost use Rattle.pst_block.specs.Blocks.{table_of};
-ghost use Rattle.pst_datatree.specs.List.{count_in};
-ghost use Rattle.pst_subnode.specs.Body.{sub_in, leaf_bid_in, is_slblock as slblock, is_siblock as siblock, has_level_one as level_one};
+ghost use Rattle.pst_subnode.specs.Body.{sub_in, leaf_bid_in, has_level_one as level_one};
 
 use crate::sub::Sub;
 use pst_block::{BlockEntry, Blocks};
@@ -18,32 +17,6 @@ pub(crate) fn body_in<'a>(blocks: &Blocks<'a>, entry: BlockEntry) -> Image<'a>
     ensures { bytes_of result ≡ body_of (table_of blocks.now) entry }
 {
     Image::new(blocks.body_at(entry))
-}
-
-// Whether a body is an SLBLOCK's, whose entries fit.
-#[tactic(auto, unfolding(crate::specs::Body::is_slblock))]
-pub(crate) fn is_slblock(body: Image) -> bool
-    ensures value { result ≡ slblock (bytes_of body.entry) }
-    ensures fits { IsTrue result →
-        8 + 24 * count_in (bytes_of body.entry) ≤ length (bytes_of body.entry) }
-{
-    body.len() >= 8
-        && body.number8(0) == 2
-        && body.number8(1) == 0
-        && 8 + 24 * u64::from(body.number16(2)) <= body.len()
-}
-
-// Whether a body is an SIBLOCK's, whose entries fit.
-#[tactic(auto, unfolding(crate::specs::Body::is_siblock))]
-pub(crate) fn is_siblock(body: Image) -> bool
-    ensures value { result ≡ siblock (bytes_of body.entry) }
-    ensures fits { IsTrue result →
-        8 + 16 * count_in (bytes_of body.entry) ≤ length (bytes_of body.entry) }
-{
-    body.len() >= 8
-        && body.number8(0) == 2
-        && body.number8(1) == 1
-        && 8 + 16 * u64::from(body.number16(2)) <= body.len()
 }
 
 // Whether the level of a block is 1, an SIBLOCK's.

@@ -5,11 +5,12 @@ ghost use Rattle.pst_fault.specs.Fault.{no_memory};
 ghost use Rattle.pst_fault.specs.First.{answer, Tells, first_below};
 ghost use Rattle.pst_block.specs.Table.{body_of, IsWithin};
 ghost use Rattle.pst_block.specs.Blocks.{table_of};
-ghost use Rattle.pst_subnode.specs.List.{bad_list, slblock_fault, list_leaf_fault, siblock_fault, shape_fault, list_block_fault, list_fault, are_distinct as distinct, sub_nid};
+ghost use Rattle.pst_subnode.specs.List.{bad_list, slblock_fault, list_leaf_fault, shape_fault, list_block_fault, list_fault, are_distinct as distinct, sub_nid};
 ghost use Rattle.pst_subnode.specs.Left.{subs_left};
 
-use crate::body::{bid_at, body_in, has_level_one, is_siblock, is_slblock};
+use crate::body::{bid_at, body_in};
 use crate::entries::Subs;
+use crate::list_block::{ListBlock, list_block};
 use pst_block::{BlockEntry, Blocks};
 use pst_datatree::{is_internal, missing_block};
 use pst_fault::{Fault, Kind};
@@ -23,16 +24,16 @@ fn list_breach(entry: BlockEntry) -> Fault
     Fault::within(Kind::Subnode, entry.ib, entry.bid)
 }
 
-// An SLBLOCK.
+// A block that has to be an SLBLOCK.
 #[tactic(auto, unfolding(crate::specs::List::slblock_fault))]
 fn check_slblock(blocks: &Blocks, entry: BlockEntry) -> Result<(), Fault>
     requires { IsWithin (table_of blocks.now).image entry }
     ensures { result ≡ answer (slblock_fault (table_of blocks.now) entry) tt }
 {
-    if !is_slblock(body_in(blocks, entry)) {
-        return Err(list_breach(entry));
+    match list_block(blocks, entry) {
+        ListBlock::Slblock(_) => Ok(()),
+        _ => Err(list_breach(entry)),
     }
-    Ok(())
 }
 
 // The SLBLOCK that an SIBLOCK names with a number.
@@ -66,29 +67,16 @@ fn check_leaves(blocks: &Blocks, holder: BlockEntry, count: u16) -> Result<(), F
     Ok(())
 }
 
-// An SIBLOCK.
-#[tactic(auto, unfolding(crate::specs::List::siblock_fault))]
-fn check_siblock(blocks: &Blocks, entry: BlockEntry) -> Result<(), Fault>
-    requires { IsWithin (table_of blocks.now).image entry }
-    ensures { result ≡ answer (siblock_fault (table_of blocks.now) entry) tt }
-{
-    let body = body_in(blocks, entry);
-    if !is_siblock(body) {
-        return Err(list_breach(entry));
-    }
-    check_leaves(blocks, entry, body.number16(2))
-}
-
-// The shape of a block.
-#[tactic(auto, unfolding(crate::specs::List::shape_fault))]
+// The shape of a block: an SLBLOCK, or an SIBLOCK with the SLBLOCKs that it names.
+#[tactic(auto, using(crate::proofs::BlockLemmas::slblock_shape, crate::proofs::BlockLemmas::siblock_shape, crate::proofs::BlockLemmas::neither_shape))]
 fn check_shape(blocks: &Blocks, entry: BlockEntry) -> Result<(), Fault>
     requires { IsWithin (table_of blocks.now).image entry }
     ensures { result ≡ answer (shape_fault (table_of blocks.now) entry) tt }
 {
-    if has_level_one(body_in(blocks, entry)) {
-        check_siblock(blocks, entry)
-    } else {
-        check_slblock(blocks, entry)
+    match list_block(blocks, entry) {
+        ListBlock::Slblock(_) => Ok(()),
+        ListBlock::Siblock(body) => check_leaves(blocks, entry, body.number16(2)),
+        ListBlock::Neither => Err(list_breach(entry)),
     }
 }
 

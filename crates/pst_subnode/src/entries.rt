@@ -4,7 +4,8 @@ ghost use Rattle.std.specs.Prelude.{◌≡◌, ◌+◌, ◌*◌, ◌<◌, ◌≤
 ghost use Rattle.pst_bytes.specs.Image.{bytes_of};
 ghost use Rattle.pst_datatree.specs.List.{count_in};
 
-use crate::body::{bid_at, body_in, has_level_one, is_siblock, is_slblock, sub_at};
+use crate::body::{bid_at, sub_at};
+use crate::list_block::{ListBlock, list_block};
 use crate::sub::Sub;
 use pst_block::{BlockEntry, Blocks};
 use pst_bytes::Image;
@@ -79,8 +80,9 @@ impl<'a> Subs<'a> {
     ghost use Rattle.std.specs.Prelude.{◌≡◌, ◌+◌, ◌<◌, [], ◌∷◌};
     ghost use Rattle.pst_block.specs.Table.{IsWithin, entry_of};
     ghost use Rattle.pst_block.specs.Blocks.{table_of};
-    ghost use Rattle.pst_subnode.specs.List.{subs_at, slblock_subs, siblock_subs, block_subs, subs_of};
-    ghost use Rattle.pst_subnode.specs.Body.{sub_in};
+    ghost use Rattle.pst_fault.specs.First.{join_below};
+    ghost use Rattle.pst_subnode.specs.List.{subs_at, slblock_subs, leaf_subs, block_subs, subs_of};
+    ghost use Rattle.pst_subnode.specs.Body.{sub_in, subs_in};
     ghost use Rattle.pst_subnode.specs.Left.{subs_left};
 
     // No entries.
@@ -97,18 +99,14 @@ impl<'a> Subs<'a> {
         }
     }
 
-    // The entries of an SLBLOCK, and none of another block.
-    #[tactic(auto, using(crate::proofs::LeftLemmas::first_left), unfolding(crate::specs::List::slblock_subs, crate::specs::Body::subs_in))]
-    fn of_slblock(blocks: &Blocks<'a>, entry: BlockEntry) -> Subs<'a>
-        requires { IsWithin (table_of blocks.now).image entry }
-        ensures left { subs_left result ≡ slblock_subs (table_of blocks.now) entry }
+    // The entries of an SLBLOCK's body.
+    #[tactic(auto, using(crate::proofs::LeftLemmas::first_left), unfolding(crate::specs::Body::subs_in))]
+    fn of_entries(blocks: &Blocks<'a>, body: Image<'a>) -> Subs<'a>
+        requires { 8 + 24 * count_in (bytes_of body) ≤ length (bytes_of body) }
+        ensures left { subs_left result ≡ subs_in (bytes_of body.entry) }
         ensures blocks { result.blocks ≡ blocks.now }
         ensures leaves { result.leaves.left ≡ 0 }
     {
-        let body = body_in(blocks, entry);
-        if !is_slblock(body) {
-            return Subs::none(blocks);
-        }
         Subs {
             blocks: *blocks,
             entries: Rest::all(body),
@@ -116,16 +114,13 @@ impl<'a> Subs<'a> {
         }
     }
 
-    // The entries of the SLBLOCKs of an SIBLOCK, and none of another block.
-    #[tactic(auto, using(crate::proofs::LeftLemmas::second_left), unfolding(crate::specs::List::siblock_subs))]
-    fn of_siblock(blocks: &Blocks<'a>, entry: BlockEntry) -> Subs<'a>
-        requires { IsWithin (table_of blocks.now).image entry }
-        ensures { subs_left result ≡ siblock_subs (table_of blocks.now) entry }
+    // The entries of the SLBLOCKs that an SIBLOCK's body names.
+    #[tactic(auto, using(crate::proofs::LeftLemmas::second_left))]
+    fn of_leaves(blocks: &Blocks<'a>, body: Image<'a>) -> Subs<'a>
+        requires { 8 + 16 * count_in (bytes_of body) ≤ length (bytes_of body) }
+        ensures { subs_left result ≡ join_below
+            (leaf_subs (table_of blocks.now) (bytes_of body.entry)) (count_in (bytes_of body.entry)) }
     {
-        let body = body_in(blocks, entry);
-        if !is_siblock(body) {
-            return Subs::none(blocks);
-        }
         Subs {
             blocks: *blocks,
             entries: Rest::none(),
@@ -134,15 +129,15 @@ impl<'a> Subs<'a> {
     }
 
     // The entries of a block.
-    #[tactic(auto, unfolding(crate::specs::List::block_subs))]
+    #[tactic(auto, using(crate::proofs::BlockLemmas::slblock_all, crate::proofs::BlockLemmas::siblock_all, crate::proofs::BlockLemmas::neither_all))]
     pub(crate) fn of_block(blocks: &Blocks<'a>, entry: BlockEntry) -> Subs<'a>
         requires { IsWithin (table_of blocks.now).image entry }
         ensures { subs_left result ≡ block_subs (table_of blocks.now) entry }
     {
-        if has_level_one(body_in(blocks, entry)) {
-            Subs::of_siblock(blocks, entry)
-        } else {
-            Subs::of_slblock(blocks, entry)
+        match list_block(blocks, entry) {
+            ListBlock::Slblock(body) => Subs::of_entries(blocks, body),
+            ListBlock::Siblock(body) => Subs::of_leaves(blocks, body),
+            ListBlock::Neither => Subs::none(blocks),
         }
     }
 
@@ -160,16 +155,20 @@ impl<'a> Subs<'a> {
         }
     }
 
-    // The entries of an SLBLOCK, by its identifier.
+    // The entries of an SLBLOCK, by its identifier; another block has none.
+    #[tactic(auto, unfolding(crate::specs::List::slblock_subs))]
     fn of_leaf(blocks: &Blocks<'a>, bid: u64) -> Subs<'a>
         ensures left { subs_left result ≡
             subs_at (slblock_subs (table_of blocks.now)) (entry_of (table_of blocks.now) bid) }
         ensures blocks { result.blocks ≡ blocks.now }
         ensures leaves { result.leaves.left ≡ 0 }
     {
-        match blocks.entry(bid) {
-            Some(entry) => Subs::of_slblock(blocks, entry),
-            None => Subs::none(blocks),
+        let Some(entry) = blocks.entry(bid) else {
+            return Subs::none(blocks);
+        };
+        match list_block(blocks, entry) {
+            ListBlock::Slblock(body) => Subs::of_entries(blocks, body),
+            _ => Subs::none(blocks),
         }
     }
 

@@ -5,15 +5,16 @@ ghost use Rattle.std.specs.Prelude.{◌≡◌, ◌+◌, ◌*◌, ◌≤◌, leng
 ghost use Rattle.std.specs.List.{Contains};
 ghost use Rattle.pst_bytes.specs.Image.{bytes_of};
 ghost use Rattle.pst_fault.specs.First.{join_below};
-ghost use Rattle.pst_block.specs.Table.{IsWithin, entry_of};
+ghost use Rattle.pst_block.specs.Table.{entry_of};
 ghost use Rattle.pst_block.specs.Blocks.{table_of};
 ghost use Rattle.pst_datatree.specs.List.{count_in};
 ghost use Rattle.pst_subnode.specs.Body.{subs_in};
-ghost use Rattle.pst_subnode.specs.List.{subs_at, slblock_subs, leaf_subs, siblock_subs, block_subs, subs_of};
+ghost use Rattle.pst_subnode.specs.List.{subs_at, slblock_subs, leaf_subs, subs_of};
 
-use crate::body::{bid_at, body_in, has_level_one, is_siblock, is_slblock, sub_at};
+use crate::body::{bid_at, body_in, sub_at};
+use crate::list_block::{ListBlock, list_block};
 use crate::sub::Sub;
-use pst_block::{BlockEntry, Blocks};
+use pst_block::Blocks;
 use pst_bytes::Image;
 use pst_datatree::is_no_block;
 
@@ -40,28 +41,17 @@ fn guess_of_entries(body: Image, nid: u32) -> Option<Sub>
     None
 }
 
-// Among the entries of an SLBLOCK.
+// Among the entries of an SLBLOCK, by its identifier; another block has none.
 #[tactic(auto, unfolding(crate::specs::List::slblock_subs))]
-fn guess_of_slblock(blocks: &Blocks, entry: BlockEntry, nid: u32) -> Option<Sub>
-    requires { IsWithin (table_of blocks.now).image entry }
-    ensures there { IfSome result (Contains (slblock_subs (table_of blocks.now) entry)) }
-    ensures nid { IfSome result (λ s. s.nid ≡ nid) }
-{
-    let body = body_in(blocks, entry);
-    if !is_slblock(body) {
-        return None;
-    }
-    guess_of_entries(body, nid)
-}
-
-// The same, by the SLBLOCK's identifier.
 fn guess_of_leaf(blocks: &Blocks, bid: u64, nid: u32) -> Option<Sub>
     ensures there { IfSome result (Contains
         (subs_at (slblock_subs (table_of blocks.now)) (entry_of (table_of blocks.now) bid))) }
     ensures nid { IfSome result (λ s. s.nid ≡ nid) }
 {
-    let entry = blocks.entry(bid)?;
-    guess_of_slblock(blocks, entry, nid)
+    match list_block(blocks, blocks.entry(bid)?) {
+        ListBlock::Slblock(body) => guess_of_entries(body, nid),
+        _ => None,
+    }
 }
 
 // Whether the first entry of an SLBLOCK is behind an identifier, or it has none.
@@ -96,36 +86,8 @@ fn guess_of_leaves(blocks: &Blocks, body: Image, nid: u32) -> Option<Sub>
     guess_of_leaf(blocks, bid_at(body, low - 1), nid)
 }
 
-// Among the entries of an SIBLOCK.
-#[tactic(auto, unfolding(crate::specs::List::siblock_subs))]
-fn guess_of_siblock(blocks: &Blocks, entry: BlockEntry, nid: u32) -> Option<Sub>
-    requires { IsWithin (table_of blocks.now).image entry }
-    ensures there { IfSome result (Contains (siblock_subs (table_of blocks.now) entry)) }
-    ensures nid { IfSome result (λ s. s.nid ≡ nid) }
-{
-    let body = body_in(blocks, entry);
-    if !is_siblock(body) {
-        return None;
-    }
-    guess_of_leaves(blocks, body, nid)
-}
-
-// Among the entries of a block.
-#[tactic(auto, unfolding(crate::specs::List::block_subs))]
-fn guess_of_block(blocks: &Blocks, entry: BlockEntry, nid: u32) -> Option<Sub>
-    requires { IsWithin (table_of blocks.now).image entry }
-    ensures there { IfSome result (Contains (block_subs (table_of blocks.now) entry)) }
-    ensures nid { IfSome result (λ s. s.nid ≡ nid) }
-{
-    if has_level_one(body_in(blocks, entry)) {
-        guess_of_siblock(blocks, entry, nid)
-    } else {
-        guess_of_slblock(blocks, entry, nid)
-    }
-}
-
 // Among the entries of a block identifier.
-#[tactic(auto, unfolding(crate::specs::List::subs_of))]
+#[tactic(auto, using(crate::proofs::BlockLemmas::slblock_all, crate::proofs::BlockLemmas::siblock_all), unfolding(crate::specs::List::subs_of))]
 pub(crate) fn guess(blocks: &Blocks, bid: u64, nid: u32) -> Option<Sub>
     ensures there { IfSome result (Contains (subs_of (table_of blocks.now) bid)) }
     ensures nid { IfSome result (λ s. s.nid ≡ nid) }
@@ -133,6 +95,9 @@ pub(crate) fn guess(blocks: &Blocks, bid: u64, nid: u32) -> Option<Sub>
     if is_no_block(bid) {
         return None;
     }
-    let entry = blocks.entry(bid)?;
-    guess_of_block(blocks, entry, nid)
+    match list_block(blocks, blocks.entry(bid)?) {
+        ListBlock::Slblock(body) => guess_of_entries(body, nid),
+        ListBlock::Siblock(body) => guess_of_leaves(blocks, body, nid),
+        ListBlock::Neither => None,
+    }
 }

@@ -11,6 +11,7 @@ mod height;
 mod heights;
 mod index;
 mod laws;
+mod list_block;
 mod scan;
 mod steps;
 mod sub;

@@ -3,16 +3,17 @@
 ghost use Rattle.std.specs.Prelude.{◌≡◌, ◌+◌, ◌*◌, ◌≤◌, length};
 ghost use Rattle.pst_bytes.specs.Image.{bytes_of};
 ghost use Rattle.pst_fault.specs.First.{join_below};
-ghost use Rattle.pst_block.specs.Table.{IsWithin, entry_of};
+ghost use Rattle.pst_block.specs.Table.{entry_of};
 ghost use Rattle.pst_block.specs.Blocks.{table_of};
 ghost use Rattle.pst_btree.specs.Entries.{first_with};
 ghost use Rattle.pst_datatree.specs.List.{count_in};
 ghost use Rattle.pst_subnode.specs.Body.{subs_in};
-ghost use Rattle.pst_subnode.specs.List.{sub_nid, subs_at, slblock_subs, leaf_subs, siblock_subs, block_subs, subs_of};
+ghost use Rattle.pst_subnode.specs.List.{sub_nid, subs_at, slblock_subs, leaf_subs, subs_of};
 
-use crate::body::{bid_at, body_in, has_level_one, is_siblock, is_slblock, nid_at, sub_at};
+use crate::body::{bid_at, nid_at, sub_at};
+use crate::list_block::{ListBlock, list_block};
 use crate::sub::Sub;
-use pst_block::{BlockEntry, Blocks};
+use pst_block::Blocks;
 use pst_bytes::Image;
 use pst_datatree::is_no_block;
 
@@ -30,27 +31,16 @@ fn scan_entries(body: Image, nid: u32) -> Option<Sub>
     None
 }
 
-// Among the entries of an SLBLOCK.
+// Among the entries of an SLBLOCK, by its identifier; another block has none.
 #[tactic(auto, unfolding(crate::specs::List::slblock_subs, pst_btree::specs::Entries::first_with))]
-fn scan_slblock(blocks: &Blocks, entry: BlockEntry, nid: u32) -> Option<Sub>
-    requires { IsWithin (table_of blocks.now).image entry }
-    ensures { result ≡ first_with sub_nid nid (slblock_subs (table_of blocks.now) entry) }
-{
-    let body = body_in(blocks, entry);
-    if !is_slblock(body) {
-        return None;
-    }
-    scan_entries(body, nid)
-}
-
-// The same, by the SLBLOCK's identifier.
-#[tactic(auto, unfolding(pst_btree::specs::Entries::first_with))]
 fn scan_leaf(blocks: &Blocks, bid: u64, nid: u32) -> Option<Sub>
     ensures { result ≡ first_with sub_nid nid
         (subs_at (slblock_subs (table_of blocks.now)) (entry_of (table_of blocks.now) bid)) }
 {
-    let entry = blocks.entry(bid)?;
-    scan_slblock(blocks, entry, nid)
+    match list_block(blocks, blocks.entry(bid)?) {
+        ListBlock::Slblock(body) => scan_entries(body, nid),
+        _ => None,
+    }
 }
 
 // Among the entries of the SLBLOCKs that an SIBLOCK's body names.
@@ -68,40 +58,17 @@ fn scan_leaves(blocks: &Blocks, body: Image, nid: u32) -> Option<Sub>
     None
 }
 
-// Among the entries of an SIBLOCK.
-#[tactic(auto, unfolding(crate::specs::List::siblock_subs, pst_btree::specs::Entries::first_with))]
-fn scan_siblock(blocks: &Blocks, entry: BlockEntry, nid: u32) -> Option<Sub>
-    requires { IsWithin (table_of blocks.now).image entry }
-    ensures { result ≡ first_with sub_nid nid (siblock_subs (table_of blocks.now) entry) }
-{
-    let body = body_in(blocks, entry);
-    if !is_siblock(body) {
-        return None;
-    }
-    scan_leaves(blocks, body, nid)
-}
-
-// Among the entries of a block.
-#[tactic(auto, unfolding(crate::specs::List::block_subs))]
-fn scan_block(blocks: &Blocks, entry: BlockEntry, nid: u32) -> Option<Sub>
-    requires { IsWithin (table_of blocks.now).image entry }
-    ensures { result ≡ first_with sub_nid nid (block_subs (table_of blocks.now) entry) }
-{
-    if has_level_one(body_in(blocks, entry)) {
-        scan_siblock(blocks, entry, nid)
-    } else {
-        scan_slblock(blocks, entry, nid)
-    }
-}
-
 // Among the entries of a block identifier.
-#[tactic(auto, unfolding(crate::specs::List::subs_of, pst_btree::specs::Entries::first_with))]
+#[tactic(auto, using(crate::proofs::BlockLemmas::slblock_all, crate::proofs::BlockLemmas::siblock_all, crate::proofs::BlockLemmas::neither_all), unfolding(crate::specs::List::subs_of, pst_btree::specs::Entries::first_with))]
 pub(crate) fn scan(blocks: &Blocks, bid: u64, nid: u32) -> Option<Sub>
     ensures { result ≡ first_with sub_nid nid (subs_of (table_of blocks.now) bid) }
 {
     if is_no_block(bid) {
         return None;
     }
-    let entry = blocks.entry(bid)?;
-    scan_block(blocks, entry, nid)
+    match list_block(blocks, blocks.entry(bid)?) {
+        ListBlock::Slblock(body) => scan_entries(body, nid),
+        ListBlock::Siblock(body) => scan_leaves(blocks, body, nid),
+        ListBlock::Neither => None,
+    }
 }
