@@ -14,7 +14,7 @@ use Rattle.pst_block.specs.Table.{Table, entry_of, body_of}
 use Rattle.pst_datatree.specs.declared.seen.Seen.{Seen}
 use Rattle.pst_datatree.specs.Bid.{is_internal, is_no_block}
 use Rattle.pst_datatree.specs.List.{btype_in, count_in, bid_in, is_block_list}
-use Rattle.pst_datatree.specs.Names.{IsInternal, IsKeyOf, IsOfFirst, IsBelow, IsUnder, IsInTree}
+use Rattle.pst_datatree.specs.Names.{IsInternal, IsKeyOf, IsOfFirst, IsChildKey, IsUnder, IsInTree}
 use Rattle.pst_datatree.specs.Data.{bad_tree, block_missing, data_leaf_fault, xblock_fault, xxblock_fault}
 use Rattle.pst_datatree.specs.Seen.{has_tree, holds_tree, NamesKnown, IsSoundTree, IsKnownTree, AddsTrees}
 use Rattle.pst_datatree.proofs.DataLemmas.{fault_or_none}
@@ -162,12 +162,12 @@ there_next t holder IsNew i b c before adds this j lt =
 
 -- ---- an XXBLOCK
 
-pub adds_children : (t : Table) (e : BlockEntry) (n : ℕ) (body : List ℕ) (a b c : Seen) → body ≡ body_of t e → is_block_list 2 body ≡ true → n ≡ count_in body → ((key : ℕ) → holds_tree b key ≡ holds_tree a key) → AddsTrees t (IsOfFirst t e n) b c → AddsTrees t (IsBelow t e) a c
+pub adds_children : (t : Table) (e : BlockEntry) (n : ℕ) (body : List ℕ) (a b c : Seen) → body ≡ body_of t e → is_block_list 2 body ≡ true → n ≡ count_in body → ((key : ℕ) → holds_tree b key ≡ holds_tree a key) → AddsTrees t (IsOfFirst t e n) b c → AddsTrees t (IsChildKey t e) a c
 adds_children t e n body a b c is listed count same adds =
     adds_then t _ a b c (adds_same t _ a b same)
     (adds_of t (IsOfFirst t e n) _ b c (λ key w. (bid_in (body_of t e) w.0, (list_type 2 (body_of t e) (rw is at listed), (w.0, omega (arith, w.1, count ∙ ap count_in is), refl)), w.2)) adds)
 
-pub adds_xxblock : (t : Table) (a b c : Seen) (e : BlockEntry) → entry_of t e.bid ≡ Some e → ((key : ℕ) → holds_tree b key ≡ true → holds_tree c key ≡ true) → ((key : ℕ) → holds_tree c key ≡ true → (holds_tree b key ≡ true) ⊎ (bid_key e.bid ≡ key)) → NamesKnown t b e → AddsTrees t (IsBelow t e) a b → AddsTrees t (IsUnder t e) a c
+pub adds_xxblock : (t : Table) (a b c : Seen) (e : BlockEntry) → entry_of t e.bid ≡ Some e → ((key : ℕ) → holds_tree b key ≡ true → holds_tree c key ≡ true) → ((key : ℕ) → holds_tree c key ≡ true → (holds_tree b key ≡ true) ⊎ (bid_key e.bid ≡ key)) → NamesKnown t b e → AddsTrees t (IsChildKey t e) a b → AddsTrees t (IsUnder t e) a c
 adds_xxblock t a b c e listed stays only names adds =
     adds_then t (IsUnder t e) a b c (adds_of t _ (IsUnder t e) a b (λ key below. inr below) adds) (adds_put t (IsUnder t e) b c e listed stays only names (λ key own. inl own))
 

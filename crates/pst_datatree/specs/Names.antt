@@ -23,12 +23,12 @@ abbrev pub IsOfFirst : Table → BlockEntry → ℕ → ℕ → Type 0
 IsOfFirst t holder n key = (i : ℕ) × (i < n) × IsKeyOf t (bid_in (body_of t holder) i) key
 
 -- a key is that of an internal block that an entry's block names
-abbrev pub IsBelow : Table → BlockEntry → ℕ → Type 0
-IsBelow t e key = (next : ℕ) × NamesBlock (body_of t e) next × IsKeyOf t next key
+abbrev pub IsChildKey : Table → BlockEntry → ℕ → Type 0
+IsChildKey t e key = (next : ℕ) × NamesBlock (body_of t e) next × IsKeyOf t next key
 
 -- a key is that of an entry's block, or of an internal block that this names
 abbrev pub IsUnder : Table → BlockEntry → ℕ → Type 0
-IsUnder t e key = (bid_key e.bid ≡ key) ⊎ IsBelow t e key
+IsUnder t e key = (bid_key e.bid ≡ key) ⊎ IsChildKey t e key
 
 -- a key is that of an internal block of the data tree of an identifier
 abbrev pub IsInTree : Table → ℕ → ℕ → Type 0

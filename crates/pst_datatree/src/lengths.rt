@@ -7,7 +7,7 @@ ghost use Rattle.pst_block.specs.Table.{Table, body_of, entry_of, IsWithin};
 ghost use Rattle.pst_block.specs.Blocks.{table_of};
 ghost use Rattle.pst_datatree.specs.Data.{size_of, leaf_spans, data_leaf_fault, xblock_spans, xblock_fault, child_spans, child_fault, xxblock_spans, xxblock_fault, data_spans, data_fault, block_missing, bad_tree};
 ghost use Rattle.pst_datatree.specs.List.{has_level_two, bid_in};
-ghost use Rattle.pst_datatree.specs.Names.{IsKeyOf, IsOfFirst, IsBelow, IsUnder, IsInTree};
+ghost use Rattle.pst_datatree.specs.Names.{IsKeyOf, IsOfFirst, IsChildKey, IsUnder, IsInTree};
 ghost use Rattle.pst_datatree.specs.Seen.{tree_expansions, has_tree, holds_tree, IsSeenTrue, IsKnownTree, NamesKnown, AddsTrees, KeepsCount, RaisesCount, NoNewTwo};
 
 use crate::bid::is_internal;
@@ -190,7 +190,7 @@ fn xxblock_len(blocks: &Blocks, entry: BlockEntry, seen: &mut Seen) -> Result<u6
     ensures raises { OnOk result (RaisesCount seen.old seen.new) }
     ensures levels { NoNewTwo (table_of blocks.now) seen.old seen.new }
     ensures adds { let t = table_of blocks.now in
-        AddsTrees t (IsBelow t entry) seen.old seen.new }
+        AddsTrees t (IsChildKey t entry) seen.old seen.new }
     ensures there { OnOk result (NamesKnown (table_of blocks.now) seen.new entry) }
     ensures grows { tree_expansions seen.old ≤ tree_expansions seen.new }
 {

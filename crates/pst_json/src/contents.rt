@@ -53,7 +53,8 @@ fn listed_doc(alloc: Global, store: &Store, row: Row) -> Result<Doc, AllocError>
 // The contents table of a folder, where it is there, or that there is no such folder.
 #[tactic(auto, unfolding(crate::specs::Contents::node_of_kind, crate::specs::Contents::contents_of))]
 fn contents_table<'a>(store: &Store<'a>, nid: u32) -> Result<Option<Tc<'a>>, DocFault>
-    ensures found { let ndb = ndb_of_store store.now in let t = table_of_ndb ndb in let nodes = nodes_of ndb in
+    ensures found { let ndb = ndb_of_store store.now in
+        let t = table_of_ndb ndb in let nodes = nodes_of ndb in
         IfOk result (λ table. contents_of t nodes nid ≡ Ok (contents_data t nodes nid)) }
     ensures none { let ndb = ndb_of_store store.now in
         IfErr result (λ f. (f ≡ NoFolder) × (contents_of (table_of_ndb ndb) (nodes_of ndb) nid ≡ Err NoFolder)) }
