@@ -1,6 +1,6 @@
 -- What a check tells is a function of the bytes.
 use Rattle.std.proofs.Common.{◌≡◌, ℕ, List, Ok, Err, refl, sym, ap, ◌∙◌}
-use Rattle.std.specs.Prelude.{Bool, ◌&&◌, ◌==◌, not, length, Some, None}
+use Rattle.std.specs.Prelude.{Bool, Some, None}
 use Rattle.pst_fault.specs.declared.fault.Fault.{Fault}
 use Rattle.pst_json.specs.pst_store.Fault.{store_fault}
 use Rattle.pst_json.specs.pst_store.Values.{store_in}
@@ -8,7 +8,7 @@ use Rattle.pst_json.specs.pst_verify.declared.check.Verified.{Verified}
 use Rattle.pst_json.specs.pst_verify.declared.report.Report.{Report}
 use Rattle.pst_json.specs.pst_verify.Report.{IsReportOf}
 use Rattle.pst_json.specs.pst_verify.Verified.{IsVerified}
-use Rattle.pst_json.specs.Check.{report_parts, check_line}
+use Rattle.pst_json.specs.Check.{report_parts}
 use Rattle.pst_ask.specs.declared.ask.Ask.TheVariants.{Check}
 use Rattle.pst_show.specs.Refusal.{refusal_of}
 use Rattle.pst_show.specs.Answer.{of_store, report_in, report_told, answer_to}

@@ -1,5 +1,5 @@
 -- What each command answers to the bytes of a file.
-use Rattle.std.specs.Prelude.{◌≡◌, ℕ, ◌+◌, Bool, true, false, ◌&&◌, ◌==◌, not, List, length, Option, Some, None, Result, Ok, Err}
+use Rattle.std.specs.Prelude.{◌≡◌, ℕ, ◌+◌, Bool, false, ◌&&◌, ◌==◌, not, List, length, Option, Some, None, Result, Ok, Err}
 use Rattle.pst_fault.specs.declared.fault.Fault.{Fault}
 use Rattle.pst_fault.specs.First.{answer}
 use Rattle.pst_header.specs.Header.{header_fault, fields}
