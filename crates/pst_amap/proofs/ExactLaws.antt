@@ -1,6 +1,6 @@
 -- The maps mark exactly what is claimed, and the lost runs.
-use Rattle.std.proofs.Common.{◌≡◌, ℕ, suc, zero, ◌+◌, ◌-◌, ◌*◌, ◌/◌, ◌<◌, ◌≤◌, Bool, true, false, not, ◌&&◌, cond, List, [], ◌∷◌, length, Option, Some, None, refl, sym, ap, subst, ◌∙◌, arith, inl, inr}
-use Rattle.std.proofs.lemmas.Bool.{cases_lt, cases_Bool}
+use Rattle.std.proofs.Common.{◌≡◌, ℕ, suc, zero, ◌+◌, ◌-◌, ◌*◌, ◌/◌, ◌<◌, ◌≤◌, Bool, true, false, not, cond, List, [], ◌∷◌, length, Option, Some, None, refl, sym, ap, subst, ◌∙◌, arith, inl, inr}
+use Rattle.std.proofs.lemmas.Bool.{cases_lt, cases_Bool, and_parts}
 use Rattle.std.proofs.lemmas.Option.{cond_some}
 use Rattle.pst_bytes.specs.declared.span.Span.{Span}
 use Rattle.pst_header.specs.Header.{end_of, amap_place, amap_count_of}
@@ -18,14 +18,10 @@ use Rattle.pst_amap.specs.Exact.{MarkExactly, ExactLaw}
 
 -- ---- old map pages
 
-and_both : (a b : Bool) → (a && b) ≡ true → (a ≡ true) × (b ≡ true)
-and_both true b e = (refl, e)
-and_both false b e = absurd cc
-
 all_marked : (order : BitOrder) (I : List ℕ) (unit n k : ℕ) → are_marked order I unit n ≡ true → unit ≤ k → k < unit + n → is_marked order I k ≡ true
 all_marked order I unit zero k e le lt = absurd (omega arith)
 all_marked order I unit (suc n) k e le lt =
-    let both = and_both (is_marked order I unit) (are_marked order I (unit + 1) n) e in
+    let both = and_parts (is_marked order I unit) (are_marked order I (unit + 1) n) e in
     elim (cases_lt unit k) [
       | inl below ↦ all_marked order I (unit + 1) n k both.1 (omega arith) (omega arith)
       | inr above ↦ let same : unit ≡ k = omega arith in ap (is_marked order I) (sym same) ∙ both.0
@@ -34,7 +30,7 @@ all_marked order I unit (suc n) k e le lt =
 -- what looks old has its units marked
 old_are_marked : (order : BitOrder) (I : List ℕ) (end at : ℕ) → looks_old order I end at ≡ true → are_marked order I ((at - 17408) / 64) 8 ≡ true
 unfolding looks_old
-old_are_marked order I end at e = (and_both _ _ e).1
+old_are_marked order I end at e = (and_parts _ _ e).1
 
 -- a page more is claimed, all of whose units are marked
 page_marked : (order : BitOrder) (I : List ℕ) (old more : Claimed) (at : ℕ) → are_marked order I ((at - 17408) / 64) 8 ≡ true → claim_of old (page_at at) ≡ Some more → IsMarked order I old → IsMarked order I more
@@ -88,7 +84,7 @@ runs_picked picked n from unit (s ∷ spans) runs (inr later) = runs_picked pick
 
 lost_is_marked : (order : BitOrder) (I : List ℕ) (claimed : Claimed) (unit : ℕ) → is_lost order I claimed unit ≡ true → is_marked order I unit ≡ true
 unfolding is_lost
-lost_is_marked order I claimed unit e = (and_both (is_marked order I unit) (not (flag_of claimed unit)) e).0
+lost_is_marked order I claimed unit e = (and_parts (is_marked order I unit) (not (flag_of claimed unit)) e).0
 
 unclaimed_is_lost : (order : BitOrder) (I : List ℕ) (claimed : Claimed) (unit : ℕ) → is_marked order I unit ≡ true → flag_of claimed unit ≡ false → is_lost order I claimed unit ≡ true
 unfolding is_lost

@@ -6,6 +6,7 @@ use Rattle.pst_header.specs.declared.header.Bref.{Bref}
 use Rattle.pst_page.specs.declared.kind.PageKind.{PageKind}
 use Rattle.pst_page.specs.Page.{entries_at, places, count_at, width_at}
 use Rattle.pst_page.specs.Entry.{key_at, child_at}
+use Rattle.pst_page.proofs.EntryLemmas.{entries_count}
 use Rattle.pst_btree.specs.Find.{first_at, IsUpTo}
 use Rattle.pst_btree.specs.Order.{Rises}
 use Rattle.pst_btree.specs.Tree.{Forest, entries_of, forest_entries, forest_keys, SpellsEach, BoundedEach, tree_at, forest_at, IsTreeAt, IsPage}
@@ -116,18 +117,10 @@ none_in_forest kind I below key low high (p ∷ ps) b r h =
 
 -- ---- the entries of a page by their number
 
-length_places : (at width n : ℕ) → length (places at width n) ≡ n
-length_places at width zero = refl
-length_places at width (suc n) = ap suc (length_places (at + width) width n)
-
 place_at : (at width n i : ℕ) → i < n → get_or (places at width n) i 0 ≡ at + i * width
 place_at at width zero i lt = absurd (omega arith)
 place_at at width (suc n) zero lt = omega arith
 place_at at width (suc n) (suc i) lt = place_at (at + width) width n i (omega arith) ∙ omega arith
-
-pub length_entries : (I : List ℕ) (ib : ℕ) → length (entries_at I ib) ≡ count_at I ib
-unfolding entries_at
-length_entries I ib = length_places ib (width_at I ib) (count_at I ib)
 
 pub entry_at : (I : List ℕ) (ib i : ℕ) → i < count_at I ib → get_or (entries_at I ib) i 0 ≡ ib + i * width_at I ib
 unfolding entries_at
@@ -157,7 +150,7 @@ path_down kind I end (suc level) below page key all n p e u some =
     let same : level ≡ below = omega arith in
     let ps = entries_at I page.ib in
     let here : get_or ps (n - 1) 0 ≡ page.ib + (n - 1) * width_at I page.ib = entry_at I page.ib (n - 1) (omega (arith, u.within)) in
-    let long = length_entries I page.ib in
+    let long = entries_count I page.ib in
     let d = steps_down kind I end level key ps (n - 1) p.low p.high p.tree.spells.1 p.tree.bounded.1 p.tree.bounded.0 (omega (arith, u.within, long)) (rw here (u.before some)) (λ h.
     let next : suc (n - 1) ≡ n = omega arith in
     let lt : n < count_at I page.ib = omega (arith, long) in
@@ -170,13 +163,13 @@ pub path_none : (kind : PageKind) (I : List ℕ) (end level : ℕ) (page : Bref)
 unfolding tree_at
 path_none kind I end zero page key all p u =
     let ps = entries_at I page.ib in
-    let long = length_entries I page.ib in
+    let long = entries_count I page.ib in
     sym p.same ∙ none_before kind I key p.low p.high ps p.tree.bounded (λ h.
     let lt : 0 < count_at I page.ib = omega (arith, long) in
     rw (entry_at I page.ib 0 lt) (u.after lt))
 path_none kind I end (suc level) page key all p u =
     let ps = entries_at I page.ib in
-    let long = length_entries I page.ib in
+    let long = entries_count I page.ib in
     sym p.same ∙ none_in_forest kind I level key p.low p.high ps p.tree.bounded.1 p.tree.bounded.0 (λ h.
     let lt : 0 < count_at I page.ib = omega (arith, long) in
     rw (entry_at I page.ib 0 lt) (u.after lt))
@@ -187,7 +180,7 @@ unfolding tree_at
 path_leaf_some kind I end page key all n p u some e =
     let ps = entries_at I page.ib in
     let here : get_or ps (n - 1) 0 ≡ page.ib + (n - 1) * width_at I page.ib = entry_at I page.ib (n - 1) (omega (arith, u.within)) in
-    let long = length_entries I page.ib in
+    let long = entries_count I page.ib in
     sym p.same ∙ leaf_some kind I key p.low p.high ps (n - 1) p.tree.bounded (omega (arith, u.within, long)) (rw here e) ∙ ap Some here
 
 pub path_leaf_none : (kind : PageKind) (I : List ℕ) (end : ℕ) (page : Bref) (key : ℕ) (all : List ℕ) (n : ℕ) → IsPath kind I end 0 page key all → IsUpTo kind I page.ib key n → 0 < n
@@ -196,7 +189,7 @@ unfolding tree_at
 path_leaf_none kind I end page key all n p u some ne =
     let ps = entries_at I page.ib in
     let here : get_or ps (n - 1) 0 ≡ page.ib + (n - 1) * width_at I page.ib = entry_at I page.ib (n - 1) (omega (arith, u.within)) in
-    let long = length_entries I page.ib in
+    let long = entries_count I page.ib in
     let le = u.before some in
     let less : key_at kind I (page.ib + (n - 1) * width_at I page.ib) < key = omega (arith, le, ne) in
     sym p.same ∙ leaf_none kind I key p.low p.high ps (n - 1) p.tree.bounded (omega (arith, u.within, long)) (rw here less) (λ h.

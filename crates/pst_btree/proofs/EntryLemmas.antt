@@ -41,7 +41,8 @@ node_with_first I nid (at ∷ rest) = by_test (eqb (key_at Nbt I at) nid) (node_
 
 -- ---- a list whose keys rise is a finite map
 
-with_contains : {X : Type 0} (key_in : X → ℕ) (entries : List X) (key : ℕ) (e : X) → first_with key_in key entries ≡ Some e → Contains entries e × (key_in e ≡ key)
+-- what is found is one of the entries, and has the key
+pub with_contains : {X : Type 0} (key_in : X → ℕ) (entries : List X) (key : ℕ) (e : X) → first_with key_in key entries ≡ Some e → Contains entries e × (key_in e ≡ key)
 unfolding first_with
 with_contains key_in [] key e h = absurd cc
 with_contains key_in (x ∷ xs) key e h = by_test (eqb (key_in x) key) (λ t. eqb-true _ _ t) (with_contains key_in xs key e) h
@@ -52,6 +53,7 @@ with_contains key_in (x ∷ xs) key e h = by_test (eqb (key_in x) key) (λ t. eq
         ((zero, omega arith, s), ap key_in (sym s) ∙ is refl)
     by_test false is ih same = let c = ih same in (contains_later x e xs c.0, c.1)
 
+-- no key is less than the least
 pub at_least : {X : Type 0} (key_in : X → ℕ) (low : ℕ) (high : Option ℕ) (entries : List X) (i : ℕ) (d : X) → i < length entries → Rises low high (map key_in entries) → low ≤ key_in (get_or entries i d)
 at_least key_in low high [] i d lt r = absurd (omega arith)
 at_least key_in low high (x ∷ xs) zero d lt r = r.0
@@ -59,7 +61,8 @@ at_least key_in low high (x ∷ xs) (suc i) d lt r =
     let rest = at_least key_in (key_in x + 1) high xs i d (omega arith) r.2 in
     omega (arith, rest, r.0)
 
-contains_with : {X : Type 0} (key_in : X → ℕ) (entries : List X) (low : ℕ) (high : Option ℕ) (key : ℕ) (e : X) (i : ℕ) → Rises low high (map key_in entries) → i < length entries → get_or entries i e ≡ e → key_in e ≡ key → first_with key_in key entries ≡ Some e
+-- an entry that has the key is found
+pub contains_with : {X : Type 0} (key_in : X → ℕ) (entries : List X) (low : ℕ) (high : Option ℕ) (key : ℕ) (e : X) (i : ℕ) → Rises low high (map key_in entries) → i < length entries → get_or entries i e ≡ e → key_in e ≡ key → first_with key_in key entries ≡ Some e
 unfolding first_with
 contains_with key_in [] low high key e i r lt is same = absurd (omega arith)
 contains_with key_in (x ∷ xs) low high key e zero r lt is same =

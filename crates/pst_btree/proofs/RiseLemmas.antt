@@ -18,11 +18,11 @@ below_less k m None lt b = refl
 below_less k m (Some h) lt b = lt-ltb _ _ (omega (arith, ltb-true m h b))
 
 -- keys below m, and then keys from m on
-join : (low m : ℕ) (high : Option ℕ) (xs ys : List ℕ) → low ≤ m → IsBelow m high → Rises low (Some m) xs → Rises m high ys → Rises low high (xs ++ ys)
-join low m high [] ys le b r s = lower m low high ys le s
-join low m high (x ∷ xs) ys le b r s =
+pub rises_join : (low m : ℕ) (high : Option ℕ) (xs ys : List ℕ) → low ≤ m → IsBelow m high → Rises low (Some m) xs → Rises m high ys → Rises low high (xs ++ ys)
+rises_join low m high [] ys le b r s = lower m low high ys le s
+rises_join low m high (x ∷ xs) ys le b r s =
     let lt : x < m = ltb-true _ _ r.1 in
-    (r.0, below_less x m high lt b, join (x + 1) m high xs ys (omega arith) b r.2 s)
+    (r.0, below_less x m high lt b, rises_join (x + 1) m high xs ys (omega arith) b r.2 s)
 
 mutual
   pub tree_rises : (kind : PageKind) (I : List ℕ) (tree : Tree) (low : ℕ) (high : Option ℕ) → Bounded kind I tree low high → Rises low high (map (key_at kind I) (entries_of tree))
@@ -36,7 +36,7 @@ mutual
   forest_rises kind I (more key tree (more next other rest)) low high r b =
       rw (map-append (key_at kind I) (entries_of tree) (forest_entries (more next other rest)))
       (lower key low high _ r.0
-      (join key next high _ _ (omega (arith, r.2.0)) r.2.1 (tree_rises kind I tree key (Some next) b.0) (forest_rises kind I (more next other rest) next high (le_refl next, r.2.1, r.2.2) b.1)))
+      (rises_join key next high _ _ (omega (arith, r.2.0)) r.2.1 (tree_rises kind I tree key (Some next) b.0) (forest_rises kind I (more next other rest) next high (le_refl next, r.2.1, r.2.2) b.1)))
 
 -- ---- the first entry from a key on, and the rest
 

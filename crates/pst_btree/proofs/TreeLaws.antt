@@ -1,11 +1,11 @@
 -- What a walk that finds no fault says of the image, and back.
-use Rattle.std.proofs.Common.{◌≡◌, ℕ, suc, zero, ◌+◌, ◌≤◌, Bool, true, false, ◌&&◌, cond, List, [], ◌∷◌, ◌++◌, length, map, Option, Some, None, Result, Ok, Err, refl, sym, ap, subst, ◌∙◌, append_assoc, inl, inr, arith}
+use Rattle.std.proofs.Common.{◌≡◌, ℕ, suc, zero, ◌+◌, ◌≤◌, List, [], ◌∷◌, ◌++◌, length, map, Option, Some, None, Result, Ok, Err, refl, sym, ap, subst, ◌∙◌, append_assoc, inl, inr, arith}
 use Rattle.std.specs.Prelude.{option_and_then, IfErr, ◌↔◌}
-use Rattle.std.proofs.lemmas.Bool.{leb-true, le-leb}
+use Rattle.std.proofs.lemmas.Bool.{leb-true, le-leb, and_parts}
 use Rattle.std.proofs.lemmas.List.{append-nil, map-append, length-append}
 use Rattle.pst_fault.specs.declared.fault.Fault.{Fault}
 use Rattle.pst_fault.specs.Fault.{no_memory}
-use Rattle.pst_fault.proofs.FirstLemmas.{none_then, both_none}
+use Rattle.pst_fault.proofs.FirstLemmas.{none_then, both_none, guard_then}
 use Rattle.pst_fault.proofs.GeneralLemmas.{some_is}
 use Rattle.pst_header.specs.declared.header.Bref.{Bref}
 use Rattle.pst_page.specs.declared.kind.PageKind.{PageKind}
@@ -31,20 +31,12 @@ claimed_ok : (page : Bref) (c : Claimed) (o : Option Claimed) (d : Claimed) → 
 claimed_ok page c None d e = absurd cc
 claimed_ok page c (Some x) d e = cc
 
-and_true : (a b : Bool) → (a && b) ≡ true → (a ≡ true) × (b ≡ true)
-and_true true b e = (refl, e)
-and_true false b e = absurd cc
-
-guard_then : (b : Bool) (o : Option Fault) (f : Fault) → cond b o (Some f) ≡ None → (b ≡ true) × (o ≡ None)
-guard_then true o f e = (refl, e)
-guard_then false o f e = absurd cc
-
 order_none : (kind : PageKind) (I : List ℕ) (bid low : ℕ) (high : Option ℕ) (places : List ℕ) → order_fault kind I bid low high places ≡ None → Rises low high (map (key_at kind I) places)
 unfolding order_fault
 order_none kind I bid low high [] e = tt
 order_none kind I bid low high (at ∷ rest) e =
     let g = guard_then _ _ _ e in
-    let both = and_true _ _ g.0 in
+    let both = and_parts _ _ g.0 in
     (leb-true _ _ both.0, both.1, order_none kind I bid (key_at kind I at + 1) high rest g.1)
 
 done_is : {A : Type 0} (x y : A) → (let a : Step A = Ok x in a ≡ Ok y) → x ≡ y

@@ -1,5 +1,5 @@
 -- Laws of the first fault of parts, and of joined lists.
-use Rattle.std.proofs.Common.{◌≡◌, ℕ, zero, suc, ◌+◌, ◌<◌, ◌≤◌, Bool, true, false, List, [], ◌∷◌, ◌++◌, length, Option, Some, None, Result, Ok, Err, refl, sym, ◌∙◌, arith, length-append, add-one, zero-add, suc-add, ◌⊎◌, inl, inr}
+use Rattle.std.proofs.Common.{◌≡◌, ℕ, zero, suc, ◌+◌, ◌<◌, ◌≤◌, Bool, true, false, cond, List, [], ◌∷◌, ◌++◌, length, Option, Some, None, Result, Ok, Err, refl, sym, ◌∙◌, arith, length-append, add-one, zero-add, suc-add, ◌⊎◌, inl, inr}
 use Rattle.std.specs.Prelude.{slice_get}
 use Rattle.pst_fault.specs.declared.fault.Fault.{Fault}
 use Rattle.pst_fault.specs.Fault.{no_memory}
@@ -40,9 +40,14 @@ pub holds_or_some : (b : Bool) (f g : Fault) → holds_or b f ≡ Some g → (b 
 holds_or_some true f g e = cc
 holds_or_some false f g e = (refl, cc)
 
+-- a fault under a condition, or else another: none of both
+pub guard_then : (b : Bool) (o : Option Fault) (f : Fault) → cond b o (Some f) ≡ None → (b ≡ true) × (o ≡ None)
+guard_then true o f e = (refl, e)
+guard_then false o f e = cc
+
 -- ---- parts by their numbers
 
-below_or_last : (a b : ℕ) → a < suc b → (a < b) ⊎ (a ≡ b)
+pub below_or_last : (a b : ℕ) → a < suc b → (a < b) ⊎ (a ≡ b)
 below_or_last a b h = grind arith
 
 -- where the parts below n have no fault, part i has none

@@ -1,5 +1,5 @@
 -- What every layer needs of options, flags, numbers and lists.
-use Rattle.std.proofs.Common.{◌≡◌, ℕ, Bool, true, false, List, [], ◌∷◌, map, Option, Some, None, refl, arith}
+use Rattle.std.proofs.Common.{◌≡◌, ℕ, Bool, true, false, List, [], ◌∷◌, map, Option, Some, None, refl, sym, arith}
 use Rattle.std.specs.Prelude.{nat_eq}
 use Rattle.std.proofs.lemmas.Bool.Decides.{nat_tests}
 
@@ -11,6 +11,12 @@ none_is y e = cc
 
 pub true_false : (b : Bool) → b ≡ true → b ≡ false → ⊥
 true_false b e f = cc
+
+-- two tests, each true where the other is
+pub same_test : (a b : Bool) → (a ≡ true → b ≡ true) → (b ≡ true → a ≡ true) → a ≡ b
+same_test true b f g = sym (f refl)
+same_test false true f g = g refl
+same_test false false f g = refl
 
 pub number_of_test : (a b : ℕ) → nat_eq a b ≡ true → a ≡ b
 number_of_test a b h = grind (arith, nat_tests)

@@ -3,7 +3,7 @@ use Rattle.std.proofs.Common.{◌≡◌, ℕ, suc, zero, ◌+◌, ◌-◌, ◌*�
 use Rattle.std.specs.Prelude.{bit_and, bit_or, nat_eq, not, ◌&&◌}
 use Rattle.std.specs.Int.{bit_at}
 use Rattle.std.proofs.Math.Pow.{high_ones, pow_mono}
-use Rattle.std.proofs.lemmas.Bool.{cases_lt}
+use Rattle.std.proofs.lemmas.Bool.{cases_lt, and_parts}
 use Rattle.std.proofs.lemmas.Bool.Decides.{eqb_tells}
 use Rattle.std.proofs.lemmas.List.{set-set}
 use Rattle.std.proofs.lemmas.Nat.{one_shl, pow_pos}
@@ -56,10 +56,6 @@ flag_is words unit n i fits lt =
     let at : (unit + i) % 64 ≡ unit % 64 + i = omega arith in
     rw (word, at) refl
 
-and_true : (x y : Bool) → (x && y) ≡ true → (x ≡ true) × (y ≡ true)
-and_true true y e = (refl, e)
-and_true false y e = cc
-
 not_true : (x : Bool) → not x ≡ true → x ≡ false
 not_true true e = cc
 not_true false e = refl
@@ -68,19 +64,19 @@ each_clear : (words : List ℕ) (unit n i : ℕ) → clear_in words unit n ≡ t
 each_clear words unit zero i e lt = absurd (omega arith)
 each_clear words unit (suc n) zero e lt =
     let at : unit + 0 ≡ unit = omega arith in
-    rw at (not_true (flag_in words unit) (and_true (not (flag_in words unit)) (clear_in words (unit + 1) n) e).0)
+    rw at (not_true (flag_in words unit) (and_parts (not (flag_in words unit)) (clear_in words (unit + 1) n) e).0)
 each_clear words unit (suc n) (suc i) e lt =
     let at : unit + suc i ≡ (unit + 1) + i = omega arith in
-    rw at (each_clear words (unit + 1) n i (and_true (not (flag_in words unit)) (clear_in words (unit + 1) n) e).1 (omega arith))
+    rw at (each_clear words (unit + 1) n i (and_parts (not (flag_in words unit)) (clear_in words (unit + 1) n) e).1 (omega arith))
 
-all_clear : (words : List ℕ) (unit n : ℕ) → ((i : ℕ) → i < n → flag_in words (unit + i) ≡ false) → clear_in words unit n ≡ true
-all_clear words unit zero none = refl
-all_clear words unit (suc n) none =
+all_flags_clear : (words : List ℕ) (unit n : ℕ) → ((i : ℕ) → i < n → flag_in words (unit + i) ≡ false) → clear_in words unit n ≡ true
+all_flags_clear words unit zero none = refl
+all_flags_clear words unit (suc n) none =
     let at : unit + 0 ≡ unit = omega arith in
     let here : flag_in words unit ≡ false = (rw at at (none 0 (omega arith))) in
     let rest : (i : ℕ) → i < n → flag_in words ((unit + 1) + i) ≡ false =
     λ i lt. let e : (unit + 1) + i ≡ unit + suc i = omega arith in rw e (none (suc i) (omega arith)) in
-    rw (here, all_clear words (unit + 1) n rest) refl
+    rw (here, all_flags_clear words (unit + 1) n rest) refl
 
 -- so many units of one word are clear exactly where the mask has no bit in common with it
 pub clear_in_word : (words : List ℕ) (unit n : ℕ) → unit % 64 + n ≤ 64 → nat_eq (bit_and (get_or words (unit / 64) 0) (2 ^ (unit % 64 + n) - 2 ^ (unit % 64))) 0 ≡ clear_in words unit n
@@ -105,7 +101,7 @@ clear_in_word words unit n fits = by_flag (clear_in words unit n) refl
     by_flag true clear = rw (none_masked (get_or words (unit / 64) 0) (unit % 64) (unit % 64 + n) (bit_clear clear)) refl
     by_flag false clash =
         elim (eqb_tells masked 0) [
-          | inl none ↦ let impossible : true ≡ false = sym (all_clear words unit n (flag_clear none.1)) ∙ clash in cc
+          | inl none ↦ let impossible : true ≡ false = sym (all_flags_clear words unit n (flag_clear none.1)) ∙ clash in cc
           | inr some ↦ some.0
         ]
 
