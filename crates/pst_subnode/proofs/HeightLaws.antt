@@ -94,7 +94,8 @@ pub subs_same : (t : Table) (a b : ℕ) → bid_key a ≡ bid_key b → subs_of 
 unfolding subs_of
 subs_same t a b e = rw (none_same a b e, entry_same t a b e) refl
 
-list_none_same : (t : Table) (a b : ℕ) → bid_key a ≡ bid_key b → list_fault t a ≡ None → list_fault t b ≡ None
+-- a list without fault is told of by no identifier
+pub list_none_same : (t : Table) (a b : ℕ) → bid_key a ≡ bid_key b → list_fault t a ≡ None → list_fault t b ≡ None
 unfolding list_fault
 list_none_same t a b e h =
     let part : Bool → BlockEntry → Option Fault = λ v x. cond v (list_block_fault t x) (Some (bad_list x)) in

@@ -1,11 +1,11 @@
 -- The SLBLOCKs of an SIBLOCK are lists of their own: what is known of one of them is known wherever it is named.
 use Rattle.std.proofs.Common.{◌≡◌, ℕ, zero, suc, ◌+◌, ◌-◌, ◌*◌, ◌<◌, ◌≤◌, max, Bool, true, false, List, [], ◌∷◌, ◌++◌, length, Option, Some, None, refl, sym, ap, ◌∙◌, arith}
-use Rattle.std.specs.Prelude.{cond, not, ◌&&◌, ◌||◌, map, nat_eq, if◌then◌else◌}
+use Rattle.std.specs.Prelude.{not, ◌&&◌, ◌||◌, map, nat_eq, if◌then◌else◌}
 use Rattle.std.specs.List.{list_any}
 use Rattle.std.proofs.lemmas.Bool.Decides.{nat_tests}
 use Rattle.pst_fault.specs.declared.fault.Fault.{Fault}
 use Rattle.pst_fault.specs.First.{◌then◌, holds_or, first_below, join_below}
-use Rattle.pst_fault.proofs.FirstLemmas.{then_none, none_then, none_below, holds_or_none, holds_or_true}
+use Rattle.pst_fault.proofs.FirstLemmas.{then_none, none_then, none_below, holds_or_none, holds_or_true, guard_then}
 use Rattle.pst_page.specs.declared.entry.BlockEntry.{BlockEntry}
 use Rattle.pst_block.specs.Table.{Table, entry_of, body_of}
 use Rattle.pst_datatree.specs.Bid.{is_internal, is_no_block}
@@ -22,13 +22,9 @@ use Rattle.pst_subnode.proofs.SubLemmas.{sub_fault_list, sub_height_list}
 
 -- ---- what a list without fault is made of
 
-internal_of : (b : Bool) (o : Option Fault) (f : Fault) → cond b o (Some f) ≡ None → (b ≡ true) × (o ≡ None)
-internal_of true o f h = (refl, h)
-internal_of false o f h = cc
-
 block_of_list : (t : Table) (bid : ℕ) (e : BlockEntry) → entry_of t bid ≡ Some e → list_fault t bid ≡ None → list_block_fault t e ≡ None
 unfolding list_fault
-block_of_list t bid e there none = (internal_of (is_internal bid) (list_block_fault t e) (bad_list e) (rw there at none)).1
+block_of_list t bid e there none = (guard_then (is_internal bid) (list_block_fault t e) (bad_list e) (rw there at none)).1
 
 -- what an SIBLOCK without fault has
 pub record IsSi (t : Table) (e : BlockEntry) : Type 0 where
@@ -122,7 +118,7 @@ unfolding list_leaf_fault
 leaf_is t e i none distinct =
     let bid = leaf_bid_in (body_of t e) i in
     let w = fault_or_none (block_missing bid) (λ x. if is_internal bid then slblock_fault t x else Some (bad_list e)) (entry_of t bid) none in
-    let p = internal_of (is_internal bid) (slblock_fault t w.0) (bad_list e) w.2 in
+    let p = guard_then (is_internal bid) (slblock_fault t w.0) (bad_list e) w.2 in
     leaf_with t (body_of t e) i w.0 w.1 p.0 p.1 distinct
 
 pub leaf_list : (t : Table) (bid : ℕ) (e : BlockEntry) (i : ℕ) → IsSiList t bid e → i < count_in (body_of t e) → IsLeafList t (body_of t e) i

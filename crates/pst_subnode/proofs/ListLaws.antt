@@ -6,7 +6,7 @@ use Rattle.std.proofs.lemmas.Bool.Decides.{nat_tests}
 use Rattle.std.proofs.lemmas.Bool.{or_parts}
 use Rattle.pst_fault.specs.declared.fault.Fault.{Fault}
 use Rattle.pst_fault.specs.First.{◌then◌, holds_or, first_below, join_below, AreJoined}
-use Rattle.pst_fault.proofs.FirstLemmas.{none_then, then_none, none_below, holds_or_none, holds_or_true}
+use Rattle.pst_fault.proofs.FirstLemmas.{none_then, then_none, none_below, holds_or_none, holds_or_true, guard_then}
 use Rattle.pst_page.specs.declared.entry.BlockEntry.{BlockEntry}
 use Rattle.pst_block.specs.Table.{Table, entry_of, body_of}
 use Rattle.pst_datatree.specs.Bid.{is_internal}
@@ -40,10 +40,6 @@ there : (missing : Fault) (part : BlockEntry → Option Fault) (o : Option Block
 there missing part None h = cc
 there missing part (Some e) h = (e, refl, h)
 
-internal : (b : Bool) (o : Option Fault) (f : Fault) → cond b o (Some f) ≡ None → (b ≡ true) × (o ≡ None)
-internal true o f h = (refl, h)
-internal false o f h = cc
-
 -- ---- the blocks
 
 slblock_law : (t : Table) (e : BlockEntry) (xs : List Sub) → IsSlblock t e xs ↔ ((slblock_fault t e ≡ None) × (xs ≡ slblock_subs t e))
@@ -62,7 +58,7 @@ leaf_law t e i xs =
           (rw (w.1, w.2) b.0, b.1 ∙ sym (ap (subs_at (slblock_subs t)) w.1))),
       (λ w.
           let x = there (block_missing bid) (λ e'. if is_internal bid then slblock_fault t e' else Some (bad_list e)) (entry_of t bid) w.0 in
-          let s = internal (is_internal bid) (slblock_fault t x.0) (bad_list e) x.2 in
+          let s = guard_then (is_internal bid) (slblock_fault t x.0) (bad_list e) x.2 in
           (x.0, x.1, s.0, (slblock_law t x.0 xs).1 (s.1, w.1 ∙ ap (subs_at (slblock_subs t)) x.1))),
     )
 
@@ -132,7 +128,7 @@ names_law t bid xs = (
       (rw (w.1, w.2) (then_none _ _ p.0 ∙ holds_or_true _ _ apart), p.1 ∙ sym (ap (subs_at (block_subs t)) w.1))),
   (λ w.
       let x = there (block_missing bid) (λ e. if is_internal bid then (shape_fault t e then holds_or (are_distinct (map sub_nid (block_subs t e))) (bad_list e)) else Some (bad_list e)) (entry_of t bid) w.0 in
-      let s = internal (is_internal bid) _ (bad_list x.0) x.2 in
+      let s = guard_then (is_internal bid) _ (bad_list x.0) x.2 in
       let p = none_then (shape_fault t x.0) _ s.1 in
       let is : xs ≡ block_subs t x.0 = w.1 ∙ ap (subs_at (block_subs t)) x.1 in
       let apart : are_distinct (map sub_nid xs) ≡ true = rw is (holds_or_none _ _ p.1) in

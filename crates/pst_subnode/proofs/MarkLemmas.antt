@@ -13,28 +13,26 @@ use Rattle.pst_fault.specs.declared.fault.Fault.{Fault}
 use Rattle.std.proofs.lemmas.Bool.{cases_lt}
 use Rattle.pst_fault.specs.First.{◌then◌, Tells}
 use Rattle.pst_fault.proofs.FirstLemmas.{then_none, then_some, none_then, first_at, first_front}
-use Rattle.std.proofs.lemmas.Bool.Decides.{nat_tests}
-use Rattle.pst_page.specs.Entry.{key_of}
 use Rattle.pst_page.specs.declared.entry.BlockEntry.{BlockEntry}
 use Rattle.pst_block.specs.Block.{bid_key}
 use Rattle.pst_block.specs.Table.{Table, entry_of, body_of}
-use Rattle.pst_datatree.specs.Bid.{is_internal, is_no_block}
+use Rattle.pst_datatree.specs.Bid.{is_no_block}
 use Rattle.pst_datatree.specs.Seen.{raised}
-use Rattle.pst_datatree.specs.Data.{data_fault, fault_or, block_missing}
+use Rattle.pst_datatree.specs.Data.{data_fault}
 use Rattle.pst_datatree.proofs.SeenLemmas.{same_key}
-use Rattle.pst_datatree.proofs.AddLemmas.{internal_same}
 use Rattle.pst_subnode.specs.declared.sub.Sub.{Sub}
 use Rattle.pst_subnode.specs.declared.heights.Heights.{Heights}
-use Rattle.pst_subnode.specs.List.{subs_of, list_fault, list_block_fault, bad_list}
+use Rattle.pst_subnode.specs.List.{subs_of, list_fault}
 use Rattle.pst_subnode.specs.Tree.{first_among, entry_fault, nesting, sub_fault, sub_height}
 use Rattle.pst_subnode.specs.Heights.{list_keys, state_at, state_of, AreTrue, NoMarks, NoNewMarks, AreHeightsTrue}
 use Rattle.pst_subnode.specs.Marks.{at_list, at_entries, at_entry, at_leaf, at_leaves, IsSiList, rank_at, rank_of, LeadsTo, HaveCome}
 use Rattle.pst_datatree.specs.List.{count_in}
+use Rattle.pst_datatree.proofs.KeyLemmas.{none_same}
 use Rattle.pst_subnode.specs.Body.{leaf_bid_in, has_level_one}
 use Rattle.pst_subnode.proofs.LeafLemmas.{si_fault}
 use Rattle.pst_subnode.proofs.SubLemmas.{sub_fault_below, sub_fault_list}
 use Rattle.pst_subnode.proofs.HeightLemmas.{list_or_deep, depth_law, height_same, fits_yes, fits_no, entry_or_deep}
-use Rattle.pst_subnode.proofs.HeightLaws.{subs_same}
+use Rattle.pst_subnode.proofs.HeightLaws.{subs_same, list_none_same}
 
 -- ---- one state is changed
 
@@ -57,28 +55,15 @@ put_cases old new bid state q put = put_at old new bid state (bid_key q) put
 
 -- ---- bit 0 of an identifier says nothing
 
-small_same : (a b : ℕ) → bid_key a ≡ bid_key b → is_no_block a ≡ is_no_block b
-unfolding key_of is_no_block
-small_same a b e = grind (arith, nat_tests)
-
--- a list without fault is told of by no identifier
-list_same : (t : Table) (a b : ℕ) → bid_key a ≡ bid_key b → list_fault t a ≡ None → list_fault t b ≡ None
-unfolding list_fault
-list_same t a b e none = by_entry (entry_of t b) (rw (same_key t a b e, internal_same a b e) at none)
-  where
-    by_entry : (o : Option BlockEntry) → fault_or (block_missing a) (λ x. if is_internal b then list_block_fault t x else Some (bad_list x)) o ≡ None → fault_or (block_missing b) (λ x. if is_internal b then list_block_fault t x else Some (bad_list x)) o ≡ None
-    by_entry None h = cc
-    by_entry (Some x) h = h
-
 pub fault_same : (t : Table) (k a b : ℕ) → bid_key a ≡ bid_key b → list_fault t a ≡ None → sub_fault t k a ≡ sub_fault t k b
 unfolding sub_fault
-fault_same t zero a b e none = rw (small_same a b e) refl
-fault_same t (suc k) a b e none = rw (small_same a b e, none, list_same t a b e none, subs_same t a b e) refl
+fault_same t zero a b e none = rw (none_same a b e) refl
+fault_same t (suc k) a b e none = rw (none_same a b e, none, list_none_same t a b e none, subs_same t a b e) refl
 
 pub height_of_same : (t : Table) (k a b : ℕ) → bid_key a ≡ bid_key b → sub_height t k a ≡ sub_height t k b
 unfolding sub_height
 height_of_same t zero a b e = refl
-height_of_same t (suc k) a b e = rw (small_same a b e, subs_same t a b e) refl
+height_of_same t (suc k) a b e = rw (none_same a b e, subs_same t a b e) refl
 
 -- ---- ranks
 

@@ -1,12 +1,11 @@
 -- What the blocks of subnode lists name.
-use Rattle.std.proofs.Common.{◌≡◌, ℕ, zero, suc, ◌<◌, Bool, true, false, List, [], ◌∷◌, length, Option, Some, None, refl, sym, ap, ◌∙◌, arith, ◌⊎◌, inl, inr}
-use Rattle.std.specs.Prelude.{cond, if◌then◌else◌, slice_index_or}
+use Rattle.std.proofs.Common.{◌≡◌, ℕ, zero, suc, ◌<◌, Bool, true, false, List, [], ◌∷◌, length, Some, None, refl, sym, ap, ◌∙◌, arith, ◌⊎◌, inl, inr}
+use Rattle.std.specs.Prelude.{if◌then◌else◌, slice_index_or}
 use Rattle.std.specs.List.{Contains}
 use Rattle.std.proofs.lemmas.Bool.Decides.{nat_tests}
 use Rattle.std.proofs.lemmas.List.Elements.{Contains-append_cases}
-use Rattle.pst_fault.specs.declared.fault.Fault.{Fault}
 use Rattle.pst_fault.specs.First.{◌then◌, holds_or, join_below}
-use Rattle.pst_fault.proofs.FirstLemmas.{none_then, holds_or_none}
+use Rattle.pst_fault.proofs.FirstLemmas.{none_then, holds_or_none, guard_then}
 use Rattle.pst_page.specs.declared.entry.BlockEntry.{BlockEntry}
 use Rattle.pst_block.specs.Block.{bid_key}
 use Rattle.pst_block.specs.Table.{Table, entry_of, body_of}
@@ -45,10 +44,6 @@ tree_reached t from bid key led w =
 
 -- ---- a list without fault
 
-internal_list : (b : Bool) (o : Option Fault) (f : Fault) → cond b o (Some f) ≡ None → (b ≡ true) × (o ≡ None)
-internal_list true o f h = (refl, h)
-internal_list false o f h = cc
-
 -- it has a block, whose parts have none
 pub record IsListBlock (t : Table) (bid : ℕ) (e : BlockEntry) : Type 0 where
   pub internal : IsInternal t bid e
@@ -58,7 +53,7 @@ pub list_block : (t : Table) (bid : ℕ) → list_fault t bid ≡ None → (e : 
 unfolding list_fault list_block_fault
 list_block t bid none =
     let w = fault_or_none (block_missing bid) (λ e. if is_internal bid then list_block_fault t e else Some (bad_list e)) (entry_of t bid) none in
-    let p = internal_list (is_internal bid) (list_block_fault t w.0) (bad_list w.0) w.2 in
+    let p = guard_then (is_internal bid) (list_block_fault t w.0) (bad_list w.0) w.2 in
     (w.0, record { internal = (w.1, p.0); shape = (none_then (shape_fault t w.0) _ p.1).0 })
 
 rank_zero : (t : Table) (bid : ℕ) (e : BlockEntry) → entry_of t bid ≡ Some e → rank_of t bid ≡ 0 → has_level_one (body_of t e) ≡ false
