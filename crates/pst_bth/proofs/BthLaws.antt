@@ -11,6 +11,7 @@ use Rattle.pst_bth.specs.Values.{levels_in, root_place, root_in, header_rows, re
 use Rattle.pst_bth.specs.Fault.{bth_root_fault, bth_header_fault, bth_fault}
 use Rattle.pst_bth.specs.Grammar.{IsBthRoot}
 use Rattle.pst_bth.specs.Laws.{BthLaw, BthNameLaw, BthRiseLaw}
+use Rattle.pst_bth.proofs.BthLemmas.{header_root}
 use Rattle.pst_bth.proofs.TreeLaws.{item_there, bth_tree_law, tree_rises}
 
 bth_root_law : (h : HeapData) (z : Sizes) (s : Span) (rows : List ℕ) → IsBthRoot h z s rows ↔ ((bth_root_fault h z s ≡ None) × (rows ≡ header_rows h z s))
@@ -52,10 +53,6 @@ name_law h z named other hid e =
 keys_are : (I : List ℕ) (z : Sizes) (rows : List ℕ) → map record_key (map (record_at I z) rows) ≡ map (row_key I z.key) rows
 keys_are I z [] = refl
 keys_are I z (at ∷ rest) = ap (λ (ks : List ℕ). row_key I z.key at ∷ ks) (keys_are I z rest)
-
-header_root : (h : HeapData) (z : Sizes) (s : Span) → bth_header_fault h z s ≡ None → bth_root_fault h z s ≡ None
-unfolding bth_header_fault
-header_root h z s e = (none_then _ _ e).1
 
 pub header_rises : (h : HeapData) (z : Sizes) (s : Span) → bth_header_fault h z s ≡ None → Rises 0 None (map (row_key h.image z.key) (header_rows h z s))
 unfolding bth_root_fault header_rows

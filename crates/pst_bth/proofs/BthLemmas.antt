@@ -30,14 +30,14 @@ sound_header h z s e = holds_or_none _ _ (none_then _ _ e).0
 pub sound_long : (h : HeapData) (z : Sizes) (s : Span) → bth_header_fault h z s ≡ None → 8 ≤ s.len
 sound_long h z s e = header_long h.image z s (sound_header h z s e)
 
-root_is : (h : HeapData) (z : Sizes) (s : Span) → bth_header_fault h z s ≡ None → bth_root_fault h z s ≡ None
+pub header_root : (h : HeapData) (z : Sizes) (s : Span) → bth_header_fault h z s ≡ None → bth_root_fault h z s ≡ None
 unfolding bth_header_fault
-root_is h z s e = (none_then _ _ e).1
+header_root h z s e = (none_then _ _ e).1
 
 pub has_root : (h : HeapData) (z : Sizes) (s : Span) (named levels : ℕ) → bth_header_fault h z s ≡ None → root_in h.image s ≢ 0 → named ≡ root_place s → levels ≡ levels_in h.image s → HasBthTree h z levels named
 unfolding bth_root_fault
 has_root h z s named levels e n a b =
-    let root : bth_root_fault h z s ≡ None = root_is h z s e in
+    let root : bth_root_fault h z s ≡ None = header_root h z s e in
     rw (a, b) (record { low = 0; high = None; none = (rw (ne_eqb _ _ n) at root) })
 
 pub rows_none : (h : HeapData) (z : Sizes) (s : Span) → root_in h.image s ≡ 0 → header_rows h z s ≡ []

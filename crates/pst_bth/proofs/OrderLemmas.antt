@@ -1,10 +1,10 @@
 -- The order of keys, as a loop looks at them.
-use Rattle.std.proofs.Common.{◌≡◌, ℕ, ◌+◌, ◌<◌, ◌≤◌, Bool, true, false, cond, List, [], ◌∷◌, map, Option, Some, None, refl, ◌↔◌}
+use Rattle.std.proofs.Common.{◌≡◌, ℕ, ◌+◌, ◌<◌, ◌≤◌, true, false, List, [], ◌∷◌, map, Option, Some, None, refl, ◌↔◌}
 use Rattle.std.specs.Prelude.{◌&&◌, nat_le}
 use Rattle.std.proofs.lemmas.Bool.{le-leb, lt-leb, leb-true, and_parts, and_from}
-use Rattle.pst_fault.specs.declared.fault.Fault.{Fault}
 use Rattle.pst_fault.specs.declared.kind.Kind.TheVariants.{Bth}
 use Rattle.pst_fault.specs.Fault.{fault_at}
+use Rattle.pst_fault.proofs.FirstLemmas.{guard_then}
 use Rattle.pst_btree.specs.Order.{is_below, Rises}
 use Rattle.pst_bth.specs.Rows.{row_key}
 use Rattle.pst_bth.specs.Fault.{bth_order_fault}
@@ -29,17 +29,13 @@ rows_order_done I cb low high = refl
 
 -- ---- the grammar
 
-tested : (b : Bool) (o : Option Fault) (f : Fault) → cond b o (Some f) ≡ None → (b ≡ true) × (o ≡ None)
-tested true o f h = (refl, h)
-tested false o f h = cc
-
 pub order_law : (I : List ℕ) (cb low : ℕ) (high : Option ℕ) (rows : List ℕ) → Rises low high (map (row_key I cb) rows) ↔ (bth_order_fault I cb low high rows ≡ None)
 unfolding bth_order_fault
 order_law I cb low high [] = ((λ r. refl), (λ e. tt))
 order_law I cb low high (at ∷ rest) = (
   (λ r. let good : (nat_le low (row_key I cb at) && is_below (row_key I cb at) high) ≡ true = and_from _ _ (le-leb _ _ r.0) r.1 in rw good ((order_law I cb (row_key I cb at + 1) high rest).0 r.2)),
   (λ e.
-      let t = tested _ _ _ e in
+      let t = guard_then _ _ _ e in
       let both = and_parts _ _ t.0 in
       (leb-true _ _ both.0, both.1, (order_law I cb (row_key I cb at + 1) high rest).1 t.1)),
 )

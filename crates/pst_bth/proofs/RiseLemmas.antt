@@ -1,24 +1,12 @@
 -- The keys of all records rise.
-use Rattle.std.proofs.Common.{◌≡◌, ℕ, ◌+◌, ◌<◌, ◌≤◌, List, [], ◌∷◌, ◌++◌, map, Option, Some, None, refl, arith, le_refl}
-use Rattle.std.proofs.lemmas.Bool.{ltb-true, lt-ltb}
+use Rattle.std.proofs.Common.{◌≡◌, ℕ, ◌+◌, List, [], ◌∷◌, map, Option, Some, None, arith, le_refl}
 use Rattle.std.proofs.lemmas.List.{map-append, append-nil}
-use Rattle.pst_btree.specs.Order.{Rises, IsBelow}
-use Rattle.pst_btree.proofs.RiseLemmas.{lower}
+use Rattle.pst_btree.specs.Order.{Rises}
+use Rattle.pst_btree.proofs.RiseLemmas.{lower, rises_join}
 use Rattle.pst_fault.proofs.FirstLemmas.{none_then}
 use Rattle.pst_bth.specs.Rows.{row_key}
 use Rattle.pst_bth.specs.Fault.{BthVisit, bth_children_fault}
 use Rattle.pst_bth.specs.Values.{rows_below}
-
-below_too : (k m : ℕ) (high : Option ℕ) → k < m → IsBelow m high → IsBelow k high
-below_too k m None lt b = refl
-below_too k m (Some h) lt b = lt-ltb _ _ (omega (arith, ltb-true m h b))
-
--- keys below m, and then keys from m on
-pub rises_join : (low m : ℕ) (high : Option ℕ) (xs ys : List ℕ) → low ≤ m → IsBelow m high → Rises low (Some m) xs → Rises m high ys → Rises low high (xs ++ ys)
-rises_join low m high [] ys le b r s = lower m low high ys le s
-rises_join low m high (x ∷ xs) ys le b r s =
-    let lt : x < m = ltb-true _ _ r.1 in
-    (r.0, below_too x m high lt b, rises_join (x + 1) m high xs ys (omega arith) b r.2 s)
 
 module _ (I : List ℕ) (cb : ℕ) (visit : BthVisit) (below : ℕ → List ℕ) (rises : (named low : ℕ) (high : Option ℕ) → visit named low high ≡ None → Rises low high (map (row_key I cb) (below named))) where
   pub rows_rise : (low : ℕ) (high : Option ℕ) (ats : List ℕ) → Rises low high (map (row_key I cb) ats) → bth_children_fault I cb visit high ats ≡ None → Rises low high (map (row_key I cb) (rows_below below cb ats))

@@ -1,8 +1,9 @@
 -- Page maps, step by step.
-use Rattle.std.proofs.Common.{◌≡◌, ℕ, zero, suc, ◌+◌, ◌-◌, ◌<◌, ◌≤◌, true, false, List, refl, arith, ◌⊎◌, inl, inr, le_refl}
+use Rattle.std.proofs.Common.{◌≡◌, ℕ, zero, suc, ◌+◌, ◌-◌, ◌<◌, ◌≤◌, true, false, List, refl, arith, inl, inr, le_refl}
 use Rattle.std.specs.Prelude.{nat_le}
 use Rattle.std.proofs.lemmas.Bool.{le-leb, lt-leb, leb-true, and_parts, and_from, and_right}
 use Rattle.pst_bytes.specs.declared.span.Span.{Span}
+use Rattle.pst_fault.proofs.FirstLemmas.{below_or_last}
 use Rattle.pst_heap.specs.PageMap.{item_count, offset_in, has_room, never_falls, has_page_map}
 
 -- ---- numbers that never fall
@@ -15,14 +16,11 @@ pub rises_on : (f : ℕ → ℕ) (i : ℕ) → never_falls f i ≡ true → f i 
 unfolding never_falls
 rises_on f i h le = let same : i + 1 ≡ suc i = omega arith in rw same (and_from _ _ (le-leb _ _ (rw same at le)) h)
 
-less_or_same : (a b : ℕ) → a < suc b → (a < b) ⊎ (a ≡ b)
-less_or_same a b h = grind arith
-
 pub falls_at : (f : ℕ → ℕ) (n i : ℕ) → i < n → f (i + 1) < f i → never_falls f n ≡ false
 unfolding never_falls
 falls_at f zero i lt h = absurd (omega arith)
 falls_at f (suc n) i lt h =
-    elim (less_or_same i n lt) [
+    elim (below_or_last i n lt) [
       | inl less ↦ and_right _ _ (falls_at f n i less h)
       | inr e ↦
           let same : i + 1 ≡ suc n = omega arith in
@@ -36,7 +34,7 @@ unfolding never_falls
 rise_at f zero i h lt = absurd (omega arith)
 rise_at f (suc n) i h lt =
     let both : (nat_le (f n) (f (suc n)) ≡ true) × (never_falls f n ≡ true) = and_parts _ _ h in
-    elim (less_or_same i n lt) [
+    elim (below_or_last i n lt) [
       | inl less ↦ rise_at f n i both.1 less
       | inr e ↦ let same : i + 1 ≡ suc n = omega arith in rw (same, e) (leb-true _ _ both.0)
     ]
@@ -54,7 +52,7 @@ unfolding never_falls
 rise_to f zero i h le = let same : i ≡ 0 = omega arith in rw same (le_refl (f 0))
 rise_to f (suc n) i h le =
     let both : (nat_le (f n) (f (suc n)) ≡ true) × (never_falls f n ≡ true) = and_parts _ _ h in
-    elim (less_or_same i (suc n) (omega arith)) [
+    elim (below_or_last i (suc n) (omega arith)) [
       | inl less ↦ omega (arith, rise_to f n i both.1 (omega arith), leb-true _ _ both.0)
       | inr e ↦ rw e (le_refl (f (suc n)))
     ]

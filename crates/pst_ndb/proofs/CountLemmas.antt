@@ -11,6 +11,7 @@ use Rattle.std.proofs.lemmas.Map.Keys.{IsDistinct-from_sorted}
 use Rattle.std.proofs.lemmas.Map.Made.{length-from_same_keys}
 use Rattle.std.proofs.lemmas.Map.Views.{Contains-from_any, list_any-from_Contains}
 use Rattle.std.proofs.lemmas.List.Elements.{Contains-append_left, Contains-append_right, Contains-append_cases}
+use Rattle.pst_fault.proofs.GeneralLemmas.{same_test}
 use Rattle.pst_fault.proofs.EachLemmas.{contains_here, contains_later}
 use Rattle.pst_page.specs.declared.entry.BlockEntry.{BlockEntry}
 use Rattle.pst_page.specs.declared.entry.NodeEntry.{NodeEntry}
@@ -71,17 +72,12 @@ distinct_append (x ∷ rest) ys a b none =
 
 -- ---- one count
 
-bool_same : (a b : Bool) → (a ≡ true → b ≡ true) → (b ≡ true → a ≡ true) → a ≡ b
-bool_same true b f g = sym (f refl)
-bool_same false true f g = g refl
-bool_same false false f g = refl
-
 member_goes : (xs ys : List ℕ) (q : ℕ) → (Contains xs q → Contains ys q) → list_any (nat_eq q) xs ≡ true → list_any (nat_eq q) ys ≡ true
 member_goes xs ys q goes is = list_any-from_Contains nat_eq_equiv q ys (goes (Contains-from_any (λ x y h. eqb-true x y h) q xs is))
 
 pub count_law : ExpansionLaw
 count_law t nodes a b this other =
-    let one = length-from_same_keys nat_eq_equiv this.0 other.0 this.1 other.1 (λ q. bool_same _ _ (member_goes this.0 other.0 q (λ w. (other.2 q).1 ((this.2 q).0 w))) (member_goes other.0 this.0 q (λ w. (this.2 q).1 ((other.2 q).0 w)))) in
+    let one = length-from_same_keys nat_eq_equiv this.0 other.0 this.1 other.1 (λ q. same_test _ _ (member_goes this.0 other.0 q (λ w. (other.2 q).1 ((this.2 q).0 w))) (member_goes other.0 this.0 q (λ w. (this.2 q).1 ((other.2 q).0 w)))) in
     this.3 ∙ ap capped one ∙ sym other.3
 
 -- ---- where chains begin
