@@ -1,17 +1,13 @@
 -- The grammar of property contexts, and their first fault, say the same.
-use Rattle.std.proofs.Common.{◌≡◌, ℕ, List, [], ◌∷◌, map, Option, None, refl, ap, ◌↔◌}
-use Rattle.std.specs.Prelude.{option_map}
-use Rattle.std.proofs.lemmas.Bool.{eqb-true, eq-eqb}
+use Rattle.std.proofs.Common.{◌≡◌, ℕ, List, [], ◌∷◌, map, None, refl, ap, ◌↔◌}
 use Rattle.pst_bytes.specs.declared.span.Span.{Span}
-use Rattle.pst_fault.specs.declared.fault.Fault.{Fault}
-use Rattle.pst_fault.proofs.FirstLemmas.{both_none, holds_or_none, holds_or_true}
+use Rattle.pst_fault.proofs.FirstLemmas.{both_none}
 use Rattle.pst_block.specs.Table.{Table}
 use Rattle.pst_ndb.specs.Roots.{Roots}
 use Rattle.pst_fault.specs.Each.{first_of}
 use Rattle.pst_fault.proofs.EachLemmas.{of_none, none_of}
-use Rattle.pst_heap.specs.Values.{HeapData, client_of, user_root_of, user_root_place, heap_at}
-use Rattle.pst_heap.specs.Fault.{client_fault, told_under}
-use Rattle.pst_heap.proofs.HeapLaws.{none_heap, heap_none}
+use Rattle.pst_heap.specs.Values.{user_root_of, user_root_place, heap_at}
+use Rattle.pst_heap.proofs.HeapLaws.{none_heap, heap_none, client_law, none_told}
 use Rattle.pst_bth.specs.Values.{bth_records, record_key}
 use Rattle.pst_bth.specs.Fault.{bth_fault}
 use Rattle.pst_bth.specs.Grammar.{IsBth}
@@ -33,10 +29,6 @@ property_law t r x = (
       (spans, (value_law t r (kind_in t.image x.1) (record_place x.1) (raw_in x.1) spans).1 (e, refl))),
 )
 
-client_law : (h : HeapData) (client : ℕ) → (client_of h ≡ client) ↔ (client_fault client h ≡ None)
-unfolding client_fault
-client_law h client = ((λ e. holds_or_true _ _ (eq-eqb _ _ e)), (λ e. eqb-true _ _ (holds_or_none _ _ e)))
-
 pub records_law : PcRecordsLaw
 unfolding pc_records
 records_law t r records pc = ((bth_law (heap_at t r) pc_sizes 0 (user_root_of (heap_at t r)) records).0 pc.bth).1
@@ -44,9 +36,6 @@ records_law t r records pc = ((bth_law (heap_at t r) pc_sizes 0 (user_root_of (h
 has_bth : (t : Table) (r : Roots) → bth_fault (heap_at t r) pc_sizes (user_root_place (heap_at t r)) (user_root_of (heap_at t r)) ≡ None → IsBth (heap_at t r) pc_sizes (user_root_of (heap_at t r)) (pc_records t r)
 unfolding pc_records
 has_bth t r e = (bth_law (heap_at t r) pc_sizes (user_root_place (heap_at t r)) (user_root_of (heap_at t r)) (pc_records t r)).1 (e, refl)
-
-told : (r : Roots) (o : Option Fault) → o ≡ None → option_map (told_under r) o ≡ None
-told r o e = rw e refl
 
 pub pc_law : PcLaw
 unfolding pc_fault untold_pc_fault
@@ -56,7 +45,7 @@ pc_law t r = (
       let h = heap_at t r in
       let is = records_law t r w.0 pc in
       let values : first_of (property_fault t r) (pc_records t r) ≡ None = rw (← is) (of_none (property_fault t r) w.0 (λ x c. (property_law t r x).0 (pc.values x c))) in
-      told r _ (both_none _ _ (heap_none h pc.heap) (both_none _ _ ((client_law h pc_client).0 pc.client) (both_none _ _ ((bth_law h pc_sizes (user_root_place h) (user_root_of h) w.0).0 pc.bth).0 values)))),
+      none_told r _ (both_none _ _ (heap_none h pc.heap) (both_none _ _ ((client_law h pc_client).0 pc.client) (both_none _ _ ((bth_law h pc_sizes (user_root_place h) (user_root_of h) w.0).0 pc.bth).0 values)))),
   (λ none.
       let f = facts t r none in (
         pc_records t r,

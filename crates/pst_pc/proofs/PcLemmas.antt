@@ -9,30 +9,18 @@ use Rattle.pst_block.specs.Table.{Table}
 use Rattle.pst_ndb.specs.Roots.{Roots}
 use Rattle.pst_fault.specs.Each.{first_of}
 use Rattle.pst_btree.specs.Entries.{first_with}
-use Rattle.pst_ndb.proofs.NodeLemmas.{first_keyed}
-use Rattle.pst_fault.proofs.EachLemmas.{each_next, each_done, each_first, each_rest}
+use Rattle.pst_fault.proofs.EachLemmas.{each_first, each_rest}
 use Rattle.pst_fault.proofs.ToldLemmas.{told_none, told_first, told_next}
 use Rattle.pst_heap.specs.Values.{user_root_of, user_root_place, heap_at}
 use Rattle.pst_heap.specs.Fault.{heap_fault, client_fault, told_under}
 use Rattle.pst_bth.specs.Values.{bth_records, record_key, record_span}
 use Rattle.pst_bth.specs.Fault.{bth_fault}
 use Rattle.pst_bth.proofs.BthLaws.{name_law}
+use Rattle.pst_bth.proofs.RecordLemmas.{found_span}
 use Rattle.pst_value.specs.Fault.{value_fault}
 use Rattle.pst_value.proofs.ValueLaws.{place_law}
 use Rattle.pst_pc.specs.Fault.{property_fault, untold_pc_fault, pc_fault}
 use Rattle.pst_pc.specs.Values.{pc_client, pc_sizes, pc_records, property_at, props_of, id_of}
-
--- ---- the records
-
-pub record_next : (part : ℕ × Span → Option Fault) (g : Fault → Fault) (xs rest : List (ℕ × Span)) (x : ℕ × Span) (total : Option Fault) → xs ≡ x ∷ rest → option_map g (part x) ≡ None → first_of part xs ≡ total → first_of part rest ≡ total
-record_next part g xs rest x total is passed so_far = each_next part xs rest x total is (told_none g (part x) passed) so_far
-
-pub record_fails : (part : ℕ × Span → Option Fault) (g : Fault → Fault) (xs rest : List (ℕ × Span)) (x : ℕ × Span) (total : Option Fault) (f : Fault) → xs ≡ x ∷ rest → option_map g (part x) ≡ Some f → first_of part xs ≡ total → option_map g total ≡ Some f
-unfolding first_of
-record_fails part g xs rest x total f is failed so_far = rw (← (rw is at so_far)) (told_first g (part x) (first_of part rest) f failed)
-
-pub records_done : (part : ℕ × Span → Option Fault) (g : Fault → Fault) (xs : List (ℕ × Span)) (total : Option Fault) → xs ≡ [] → first_of part xs ≡ total → option_map g total ≡ None
-records_done part g xs total is so_far = ap (option_map g) (each_done part xs total is so_far)
 
 -- ---- the context
 
@@ -118,27 +106,16 @@ first_mapped t r key (x ∷ rest) = by_test (eqb (record_key x) key) (first_mapp
     by_test true ih = refl
     by_test false ih = ih
 
--- what is found under a key, by the span of its data
-pub found_record : (key : ℕ) (s : Span) (records : List (ℕ × Span)) → Some s ≡ option_map record_span (first_with record_key key records) → first_with record_key key records ≡ Some (key, s)
-found_record key s records is = by_span (first_with record_key key records) (λ x. first_keyed record_key key records x) is
-  where
-    by_span : (found : Option (ℕ × Span)) → ((x : ℕ × Span) → found ≡ Some x → x.0 ≡ key) → Some s ≡ option_map record_span found → found ≡ Some (key, s)
-    by_span None keyed e = absurd cc
-    by_span (Some x) keyed e =
-        let k : x.0 ≡ key = keyed x refl in
-        let v : x.1 ≡ s = cc in
-        rw (← k, ← v) refl
-
 pub found_sound : (t : Table) (r : Roots) (key : ℕ) (s : Span) → pc_fault t r ≡ None → Some s ≡ option_map record_span (first_with record_key key (pc_records t r)) → property_fault t r (key, s) ≡ None
 found_sound t r key s none is =
     let xs = pc_records t r in
-    found_part t r xs key (key, s) (has_records t r none) (found_record key s xs is)
+    found_part t r xs key (key, s) (has_records t r none) (found_span key s xs is)
 
 pub found_property : (t : Table) (r : Roots) (key : ℕ) (s : Span) → Some s ≡ option_map record_span (first_with record_key key (pc_records t r)) → first_with id_of key (props_of t r) ≡ Some (property_at t r (key, s))
 unfolding props_of
 found_property t r key s is =
     let xs = pc_records t r in
-    first_mapped t r key xs ∙ ap (option_map (property_at t r)) (found_record key s xs is)
+    first_mapped t r key xs ∙ ap (option_map (property_at t r)) (found_span key s xs is)
 
 nothing_mapped : (found : Option (ℕ × Span)) (t : Table) (r : Roots) → None ≡ option_map record_span found → option_map (property_at t r) found ≡ None
 nothing_mapped None t r e = refl

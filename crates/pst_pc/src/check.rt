@@ -41,7 +41,7 @@ fn check_property(heap: &Heap, index: &SubIndex, id: u32, content: Span) -> Resu
 }
 
 // The values of all records, in order.
-#[tactic(auto, using(crate::proofs::PcLemmas::record_next, crate::proofs::PcLemmas::record_fails, crate::proofs::PcLemmas::records_done))]
+#[tactic(auto, using(pst_bth::proofs::RecordLemmas::record_next, pst_bth::proofs::RecordLemmas::record_fails, pst_bth::proofs::RecordLemmas::records_done))]
 fn check_properties(heap: &Heap, index: &SubIndex, bth: &Bth) -> Result<(), Fault>
     requires index { IsIndexedBy (node_of heap.now) index.now }
     requires heap { node_of (heap_of bth.now) ≡ node_of heap.now }

@@ -68,7 +68,7 @@ parts_alike t r s e x =
     let there = ap (λ (i : Span). row_of_record t r i x) (info_alike t r s e) ∙ row_alike t r s (info_of t s) x e in
     ap (λ (o : Option Span). record { id = x.0; at = row_record_place x.1; place = span_or_empty o }) there
 
-rows_alike : (t : Table) (r s : Roots) → Alike r s → tc_rows t r ≡ tc_rows t s
+pub rows_alike : (t : Table) (r s : Roots) → Alike r s → tc_rows t r ≡ tc_rows t s
 unfolding tc_rows
 rows_alike t r s e =
     let records = ap (λ (i : Span). tc_records t r i) (info_alike t r s e) ∙ records_alike t r s (info_of t s) e in

@@ -8,11 +8,11 @@ use Rattle.pst_fault.proofs.FirstLemmas.{none_then, none_below}
 use Rattle.pst_block.specs.Table.{Table}
 use Rattle.pst_btree.specs.Entries.{first_with}
 use Rattle.pst_ndb.specs.Roots.{Roots}
-use Rattle.pst_ndb.proofs.NodeLemmas.{first_keyed}
 use Rattle.pst_heap.specs.Values.{heap_at}
 use Rattle.pst_bth.specs.Values.{record_key, record_span}
 use Rattle.pst_bth.specs.Fault.{bth_fault}
 use Rattle.pst_bth.proofs.BthLaws.{name_law}
+use Rattle.pst_bth.proofs.RecordLemmas.{found_span}
 use Rattle.pst_value.specs.Values.{hnid_spans}
 use Rattle.pst_value.specs.Fault.{value_fault}
 use Rattle.pst_value.proofs.ValueLaws.{place_law}
@@ -105,27 +105,16 @@ first_mapped t r key (x ∷ rest) = by_test (eqb (record_key x) key) (first_mapp
     by_test true ih = refl
     by_test false ih = ih
 
--- what is found under a key, by the span of its data
-found_record : (key : ℕ) (s : Span) (records : List (ℕ × Span)) → Some s ≡ option_map record_span (first_with record_key key records) → first_with record_key key records ≡ Some (key, s)
-found_record key s records is = by_span (first_with record_key key records) (λ x. first_keyed record_key key records x) is
-  where
-    by_span : (found : Option (ℕ × Span)) → ((x : ℕ × Span) → found ≡ Some x → x.0 ≡ key) → Some s ≡ option_map record_span found → found ≡ Some (key, s)
-    by_span None keyed e = absurd cc
-    by_span (Some x) keyed e =
-        let k : x.0 ≡ key = keyed x refl in
-        let v : x.1 ≡ s = cc in
-        rw (← k, ← v) refl
-
 pub found_sound : (t : Table) (r : Roots) (s : Span) (key : ℕ) (number : Span) → tc_body_fault t r s ≡ None → Some number ≡ option_map record_span (first_with record_key key (tc_records t r s)) → row_record_fault t r s (key, number) ≡ None
 found_sound t r s key number none is =
     let xs = tc_records t r s in
-    found_part (row_record_fault t r s) xs key (key, number) (body_rows t r s none) (found_record key number xs is)
+    found_part (row_record_fault t r s) xs key (key, number) (body_rows t r s none) (found_span key number xs is)
 
 pub found_row : (t : Table) (r : Roots) (key : ℕ) (number : Span) → Some number ≡ option_map record_span (first_with record_key key (tc_records t r (info_of t r))) → first_with row_id_of key (tc_rows t r) ≡ Some (row_parts_at t r (key, number))
 unfolding tc_rows
 found_row t r key number is =
     let xs = tc_records t r (info_of t r) in
-    first_mapped t r key xs ∙ ap (option_map (row_parts_at t r)) (found_record key number xs is)
+    first_mapped t r key xs ∙ ap (option_map (row_parts_at t r)) (found_span key number xs is)
 
 nothing_mapped : (found : Option (ℕ × Span)) (t : Table) (r : Roots) → None ≡ option_map record_span found → option_map (row_parts_at t r) found ≡ None
 nothing_mapped None t r e = refl

@@ -1,6 +1,5 @@
 -- The grammar of table contexts, and their first fault, say the same.
 use Rattle.std.proofs.Common.{◌≡◌, ℕ, ◌<◌, Bool, true, false, cond, List, [], ◌∷◌, map, Option, Some, None, refl, ap, ◌∙◌, ◌↔◌}
-use Rattle.std.specs.Prelude.{option_map}
 use Rattle.std.proofs.lemmas.Bool.{eqb-true, eq-eqb}
 use Rattle.pst_bytes.specs.declared.span.Span.{Span}
 use Rattle.pst_fault.specs.declared.fault.Fault.{Fault}
@@ -8,13 +7,12 @@ use Rattle.pst_fault.proofs.FirstLemmas.{none_then, both_none, holds_or_none, ho
 use Rattle.pst_block.specs.Table.{Table}
 use Rattle.pst_ndb.specs.Roots.{Roots}
 use Rattle.pst_fault.specs.Each.{first_of, there_or}
-use Rattle.pst_heap.specs.Values.{HeapData, item_of}
+use Rattle.pst_heap.specs.Values.{item_of}
 use Rattle.pst_heap.specs.Fault.{item_or}
-use Rattle.pst_heap.specs.Fault.{client_fault}
-use Rattle.pst_heap.specs.Values.{client_of, user_root_of, user_root_place}
+use Rattle.pst_heap.specs.Values.{user_root_of, user_root_place}
 use Rattle.pst_heap.specs.Values.{heap_at}
 use Rattle.pst_heap.specs.Fault.{told_under}
-use Rattle.pst_heap.proofs.HeapLaws.{none_heap, heap_none}
+use Rattle.pst_heap.proofs.HeapLaws.{none_heap, heap_none, client_law, none_told}
 use Rattle.pst_bth.specs.Values.{bth_records, record_key}
 use Rattle.pst_bth.specs.Fault.{bth_fault}
 use Rattle.pst_bth.specs.Grammar.{IsBth}
@@ -32,10 +30,6 @@ use Rattle.pst_tc.specs.Grammar.{HasRows}
 use Rattle.pst_tc.specs.Laws.{TcLaw, TcRecordsLaw, TcRiseLaw}
 use Rattle.pst_fault.proofs.EachLemmas.{of_none, none_of}
 use Rattle.pst_fault.proofs.ToldLemmas.{told_none}
-
-client_law : (h : HeapData) (client : ℕ) → (client_of h ≡ client) ↔ (client_fault client h ≡ None)
-unfolding client_fault
-client_law h client = ((λ e. holds_or_true _ _ (eq-eqb _ _ e)), (λ e. eqb-true _ _ (holds_or_none _ _ e)))
 
 cell_law : (t : Table) (r : Roots) (s : Span) (row c : ℕ) → HasCell t r s row c ↔ (cell_fault t r s row c ≡ None)
 unfolding cell_fault
@@ -126,9 +120,6 @@ item_there : (named : ℕ) (part : Span → Option Fault) (o : Option Span) → 
 item_there named part None e = absurd cc
 item_there named part (Some x) e = (x, refl, e)
 
-told : (r : Roots) (o : Option Fault) → o ≡ None → option_map (told_under r) o ≡ None
-told r o e = rw e refl
-
 pub tc_law : TcLaw
 unfolding tc_fault untold_tc_fault
 tc_law t r = (
@@ -136,7 +127,7 @@ tc_law t r = (
       let h = heap_at t r in
       let tc = w.2 in
       let item : item_or (user_root_place h) (tc_body_fault t r) (item_of h (user_root_of h)) ≡ None = rw tc.item (table_none t r w.0 w.1 tc.body) in
-      told r _ (both_none _ _ (heap_none h tc.heap) (both_none _ _ ((client_law h 0x7C).0 tc.client) item))),
+      none_told r _ (both_none _ _ (heap_none h tc.heap) (both_none _ _ ((client_law h 0x7C).0 tc.client) item))),
   (λ none.
       let h = heap_at t r in
       let a = none_then _ _ (told_none (told_under r) _ none) in

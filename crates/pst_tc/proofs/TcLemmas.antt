@@ -1,5 +1,5 @@
 -- A table context, step by step.
-use Rattle.std.proofs.Common.{◌≡◌, ℕ, ◌+◌, ◌<◌, true, false, List, [], ◌∷◌, Option, Some, None, refl, sym, ap, ◌∙◌}
+use Rattle.std.proofs.Common.{◌≡◌, ℕ, ◌+◌, ◌<◌, true, false, List, Option, Some, None, refl, sym, ap, ◌∙◌}
 use Rattle.std.specs.Prelude.{option_map, is_some}
 use Rattle.pst_bytes.specs.declared.span.Span.{Span}
 use Rattle.pst_fault.specs.declared.fault.Fault.{Fault}
@@ -17,7 +17,6 @@ use Rattle.pst_heap.specs.Values.{heap_at}
 use Rattle.pst_heap.specs.Fault.{told_under}
 use Rattle.pst_tc.specs.Info.{column_count, column_place, index_place, index_hid, matrix_place, matrix_hnid}
 use Rattle.pst_fault.specs.Each.{there_or}
-use Rattle.pst_fault.proofs.EachLemmas.{each_next, each_done}
 use Rattle.pst_bth.specs.Fault.{bth_fault}
 use Rattle.pst_bth.specs.Values.{bth_records}
 use Rattle.pst_value.specs.Values.{hnid_spans}
@@ -42,18 +41,6 @@ cells_fail t r s row i c f lt before is failed =
 pub cells_done : (t : Table) (r : Roots) (s : Span) (row : ℕ) → first_below (λ k. cell_fault t r s row (column_place s k)) (column_count t.image s) ≡ None → option_map (told_under r) (cells_fault t r s row) ≡ None
 unfolding cells_fault
 cells_done t r s row e = rw e refl
-
--- ---- the records
-
-pub record_next : (part : ℕ × Span → Option Fault) (g : Fault → Fault) (xs rest : List (ℕ × Span)) (x : ℕ × Span) (total : Option Fault) → xs ≡ x ∷ rest → option_map g (part x) ≡ None → first_of part xs ≡ total → first_of part rest ≡ total
-record_next part g xs rest x total is passed so_far = each_next part xs rest x total is (told_none g (part x) passed) so_far
-
-pub record_fails : (part : ℕ × Span → Option Fault) (g : Fault → Fault) (xs rest : List (ℕ × Span)) (x : ℕ × Span) (total : Option Fault) (f : Fault) → xs ≡ x ∷ rest → option_map g (part x) ≡ Some f → first_of part xs ≡ total → option_map g total ≡ Some f
-unfolding first_of
-record_fails part g xs rest x total f is failed so_far = rw (← (rw is at so_far)) (told_first g (part x) (first_of part rest) f failed)
-
-pub records_done : (part : ℕ × Span → Option Fault) (g : Fault → Fault) (xs : List (ℕ × Span)) (total : Option Fault) → xs ≡ [] → first_of part xs ≡ total → option_map g total ≡ None
-records_done part g xs total is so_far = ap (option_map g) (each_done part xs total is so_far)
 
 -- ---- the matrix
 

@@ -123,7 +123,7 @@ fn check_row<'a>(
 }
 
 // The rows of all records of the row index, in order.
-#[tactic(auto, using(crate::proofs::TcLemmas::record_next, crate::proofs::TcLemmas::records_done))]
+#[tactic(auto, using(pst_bth::proofs::RecordLemmas::record_next, pst_bth::proofs::RecordLemmas::records_done))]
 fn check_rows<'a>(
     heap: &Heap<'a>,
     index: &SubIndex,

@@ -89,7 +89,7 @@ impl<'a> Iterator for Columns<'a> {
 }
 
 /// The place of the first column with a tag; None exactly where there is none.
-#[tactic(auto, using(crate::proofs::InfoLemmas::sound_room, crate::proofs::ColumnLemmas::find_here, crate::proofs::ColumnLemmas::find_later, crate::proofs::ColumnLemmas::find_end, crate::proofs::ColumnLemmas::found_good))]
+#[tactic(auto, using(crate::proofs::InfoLemmas::sound_room, crate::proofs::ColumnLemmas::find_here, crate::proofs::ColumnLemmas::find_later, crate::proofs::ColumnLemmas::find_end, crate::proofs::InfoLemmas::sound_column))]
 pub(crate) fn find_column(image: Image, item: Span, tag: u32) -> Option<u64>
     requires inside { IsInside (bytes_of image) item }
     requires sound { info_fault (bytes_of image) item ≡ None }

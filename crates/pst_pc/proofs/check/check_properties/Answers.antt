@@ -3,7 +3,7 @@ use Rattle.pst_ndb.specs.Views.{table_of_node, roots_of}
 use Rattle.pst_heap.specs.Fault.{told_under}
 use Rattle.pst_heap.specs.View.{node_of}
 use Rattle.pst_pc.specs.Fault.{property_fault}
-use Rattle.pst_pc.proofs.PcLemmas.{record_fails}
+use Rattle.pst_bth.proofs.RecordLemmas.{record_fails}
 use Rattle.pst_pc.proofs.check.check_properties.Goals as goal
 
 pub returns-in_err-check_property : goal.returns-in_err-check_property

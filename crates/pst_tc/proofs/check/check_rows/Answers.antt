@@ -4,7 +4,7 @@ use Rattle.pst_ndb.specs.Views.{roots_of}
 use Rattle.pst_heap.specs.Fault.{told_under}
 use Rattle.pst_heap.specs.View.{node_of}
 use Rattle.pst_tc.specs.Fault.{row_record_fault}
-use Rattle.pst_tc.proofs.TcLemmas.{record_fails}
+use Rattle.pst_bth.proofs.RecordLemmas.{record_fails}
 use Rattle.pst_tc.proofs.check.check_rows.Goals as goal
 
 pub returns-in_err-matrix : goal.returns-in_err-matrix
