@@ -17,8 +17,8 @@ use Rattle.pst_pc.proofs.AlikeLaws.{alike_pc_law}
 use Rattle.pst_pc.proofs.PcLaws.{none_pc, pc_none}
 use Rattle.pst_tc.specs.Fault.{tc_fault}
 use Rattle.pst_tc.specs.Grammar.{IsTc}
-use Rattle.pst_tc.specs.Values.{RowParts, tc_rows}
-use Rattle.pst_tc.proofs.AlikeLaws.{alike_tc_law}
+use Rattle.pst_tc.specs.Values.{RowParts}
+use Rattle.pst_tc.proofs.AlikeLaws.{alike_tc_law, rows_alike}
 use Rattle.pst_tc.proofs.TcLaws.{none_tc, tc_none}
 use Rattle.pst_msg.specs.declared.nid.TheConstants.{ATTACHMENTS, RECIPIENTS}
 use Rattle.pst_msg.specs.Values.{embedded_of}
@@ -44,9 +44,6 @@ is_tc_alike t r s e is = none_tc t s (tc_alike t r s e (tc_none t r is))
 pub embedded_alike : (t : Table) (r s : Roots) → Alike r s → embedded_of t r ≡ embedded_of t s
 unfolding embedded_of
 embedded_alike t r s e = rw ((alike_pc_law t r s e).0) refl
-
-pub rows_alike : (t : Table) (r s : Roots) → Alike r s → tc_rows t r ≡ tc_rows t s
-rows_alike t r s e = (alike_tc_law t r s e).1
 
 -- ---- subnodes: where two name the same list
 

@@ -7,6 +7,7 @@ use Rattle.pst_block.specs.Table.{Table}
 use Rattle.pst_ndb.specs.Roots.{Roots}
 use Rattle.pst_ndb.specs.Alike.{Alike}
 use Rattle.pst_tc.specs.Values.{tc_rows}
+use Rattle.pst_tc.proofs.AlikeLaws.{rows_alike}
 use Rattle.pst_msg.specs.declared.items.Items.{Items}
 use Rattle.pst_msg.specs.declared.items.Items.TheVariants.{Subfolders}
 use Rattle.pst_msg.specs.declared.keys.Keys.{Keys}
@@ -16,7 +17,6 @@ use Rattle.pst_msg.specs.Fault.{listed_item_fault}
 use Rattle.pst_msg.specs.Keys.{Key, key, holds}
 use Rattle.pst_msg.specs.Known.{ListingsAreTrue}
 use Rattle.pst_msg.specs.Roles.{role_number}
-use Rattle.pst_msg.proofs.AlikeLemmas.{rows_alike}
 use Rattle.pst_msg.proofs.ContentsLaws.{item_none, none_item}
 use Rattle.pst_msg.proofs.KeyLemmas.{alike_of_key}
 use Rattle.pst_msg.proofs.KnownLemmas.{OneMore, same_role}

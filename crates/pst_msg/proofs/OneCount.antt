@@ -1,5 +1,5 @@
 -- A store names one number of contexts.
-use Rattle.std.proofs.Common.{◌≡◌, ℕ, BTreeSet, Bool, true, false, List, length, refl, sym, ap, ◌∙◌}
+use Rattle.std.proofs.Common.{◌≡◌, ℕ, BTreeSet, List, length, sym, ap, ◌∙◌}
 use Rattle.std.specs.Prelude.{◌+◌}
 use Rattle.std.specs.Cmp.{IsTotalOrder, then_total, on_total, nat_cmp_total}
 use Rattle.std.specs.List.{Contains}
@@ -7,6 +7,7 @@ use Rattle.std.specs.List.Sorted.{IsStrictlySortedBy}
 use Rattle.std.specs.BTreeSet.{contains}
 use Rattle.std.proofs.lemmas.Map.Lookups.{btree_set_from_contains}
 use Rattle.std.proofs.lemmas.Map.Views.{btree_set_contains_iff}
+use Rattle.pst_fault.proofs.GeneralLemmas.{same_test}
 use Rattle.pst_msg.specs.Keys.{Key, pair_cmp, key_cmp}
 use Rattle.pst_ndb.specs.Counts.{capped}
 use Rattle.pst_msg.specs.Laws.{CountLaw}
@@ -20,11 +21,6 @@ pairs_total = then_total (on_total (λ (x : ℕ × ℕ). x.0) nat_cmp_total) (on
 
 keys_total : IsTotalOrder key_cmp
 keys_total = then_total (on_total (λ (x : Key). x.0) pairs_total) (on_total (λ (x : Key). x.1) nat_cmp_total)
-
-same_test : (a b : Bool) → (a ≡ true → b ≡ true) → (b ≡ true → a ≡ true) → a ≡ b
-same_test true b f g = sym (f refl)
-same_test false true f g = g refl
-same_test false false f g = refl
 
 same_keys : (ks ls : List Key) → IsStrictlySortedBy key_cmp ks → IsStrictlySortedBy key_cmp ls → ((q : Key) → Contains ks q → Contains ls q) → ((q : Key) → Contains ls q → Contains ks q) → ks ≡ ls
 same_keys ks ls a b to from =
