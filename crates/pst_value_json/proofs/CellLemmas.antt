@@ -1,6 +1,6 @@
 -- The cells of a row, column by column.
-use Rattle.std.proofs.Common.{◌≡◌, ℕ, ◌+◌, ◌<◌, ◌≤◌, Bool, true, false, length, drop, get_or, List, [], ◌∷◌, ◌++◌, map, Option, Some, None, refl, sym, ap, ◌∙◌, append_assoc, append-nil}
-use Rattle.std.specs.Prelude.{option_map, if◌then◌else◌}
+use Rattle.std.proofs.Common.{◌≡◌, ℕ, ◌+◌, ◌<◌, ◌≤◌, false, length, drop, get_or, List, [], ◌∷◌, ◌++◌, map, Option, Some, None, refl, sym, ap, ◌∙◌, append_assoc, append-nil}
+use Rattle.std.specs.Prelude.{option_map}
 use Rattle.std.proofs.lemmas.List.{map-append, drop_more, drop_all}
 use Rattle.serde_json.specs.Data.{Data}
 use Rattle.serde_json.specs.Written.{has_float}
@@ -22,7 +22,7 @@ use Rattle.pst_value_json.specs.Cells.{Cell, tag_kind, cell_data, cell_in, cell_
 use Rattle.pst_value_json.specs.Plain.{IsPlain}
 use Rattle.pst_value_json.specs.Value.{value_data, hex_data}
 use Rattle.pst_value_json.proofs.PlainLemmas.{list_is_plain}
-use Rattle.pst_value_json.proofs.ValueLemmas.{value_is_plain}
+use Rattle.pst_value_json.proofs.ValueLemmas.{value_is_plain, either_is_plain}
 
 -- a value that is there has the bytes of its spans
 pub value_bytes : (file : Image) (spans : Option (List Span)) (value : Option Value) → IsValueOf file spans value
@@ -66,10 +66,6 @@ cells_past t r row columns i docs whole past so_far =
     cells_end t r row (map column_of (drop i columns)) docs whole (ap (map column_of) (drop_all i columns past)) so_far
 
 -- ---- no floating-point number
-
-either_is_plain : (b : Bool) (x y : Data) → IsPlain x → IsPlain y → IsPlain (if b then x else y)
-either_is_plain true x y p q = p
-either_is_plain false x y p q = q
 
 cell_is_plain : (c : Cell) → IsPlain (cell_data c)
 unfolding cell_data

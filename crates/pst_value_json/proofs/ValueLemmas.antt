@@ -12,7 +12,8 @@ use Rattle.pst_value_json.specs.Plain.{IsPlain}
 use Rattle.pst_value_json.specs.Value.{hex_data, guid_data, object_data, or_hex, null_or_hex, form_data, single_data, values_data, value_data}
 use Rattle.pst_value_json.proofs.PlainLemmas.{list_is_plain}
 
-either_is_plain : (b : Bool) (x y : Data) → IsPlain x → IsPlain y → IsPlain (if b then x else y)
+-- one of two that have none
+pub either_is_plain : (b : Bool) (x y : Data) → IsPlain x → IsPlain y → IsPlain (if b then x else y)
 either_is_plain true x y p q = p
 either_is_plain false x y p q = q
 
