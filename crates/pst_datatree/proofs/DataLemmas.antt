@@ -8,9 +8,12 @@ use Rattle.pst_fault.proofs.FirstLemmas.{none_then, none_below, first_below_fron
 use Rattle.pst_fault.proofs.GeneralLemmas.{number_of_test}
 use Rattle.pst_page.specs.declared.entry.BlockEntry.{BlockEntry}
 use Rattle.pst_block.specs.Table.{Table, entry_of, body_of}
+use Rattle.pst_datatree.specs.declared.named.Named.{Named}
+use Rattle.pst_datatree.specs.declared.named.Named.TheVariants.{Nothing, Missing, Data, Xblock, Xxblock}
 use Rattle.pst_datatree.specs.Bid.{is_internal}
 use Rattle.pst_datatree.specs.List.{count_in, total_in, bid_in, is_block_list}
-use Rattle.pst_datatree.specs.Data.{size_of, fault_or, block_missing, bad_tree, leaf_spans, data_leaf_fault, xblock_spans, xblock_fault, child_fault, xxblock_spans, xxblock_fault}
+use Rattle.pst_datatree.specs.Named.{named_by}
+use Rattle.pst_datatree.specs.Data.{size_of, fault_or, block_missing, bad_tree, leaf_spans, data_leaf_fault, xblock_spans, xblock_fault, child_fault, xxblock_spans, xxblock_fault, named_fault, tree_fault, data_fault}
 
 pub list_fits : (level : ℕ) (body : List ℕ) → is_block_list level body ≡ true → 8 + 8 * count_in body ≤ length body
 unfolding is_block_list
@@ -131,3 +134,16 @@ total_of_xxblock t e h =
     let p = none_then (holds_or (is_block_list 2 body) (bad_tree e)) _ h in
     let q = none_then (first_below (child_fault t e) (count_in body)) _ p.1 in
     number_of_test _ _ (holds_or_none _ _ q.1)
+
+-- ---- within the block that an identifier names
+
+pub tree_none : (t : Table) (bid : ℕ) (named : Named) → named ≡ named_by t bid → data_fault t bid ≡ None → tree_fault t named ≡ None
+unfolding data_fault
+tree_none t bid named is h = by_name named (rw is h)
+  where
+    by_name : (n : Named) → named_fault t bid n ≡ None → tree_fault t n ≡ None
+    by_name Nothing h = refl
+    by_name Missing h = refl
+    by_name (Data e) h = refl
+    by_name (Xblock e) h = h
+    by_name (Xxblock e) h = h

@@ -4,19 +4,19 @@ use Rattle.std.proofs.lemmas.Bool.{cases_lt}
 use Rattle.pst_bytes.specs.declared.span.Span.{Span}
 use Rattle.pst_fault.specs.First.{join_below, join_from}
 use Rattle.pst_page.specs.declared.entry.BlockEntry.{BlockEntry}
-use Rattle.pst_block.specs.Table.{Table, entry_of, body_of, AreWithin}
+use Rattle.pst_block.specs.Table.{Table, entry_of, body_of, IsWithin, AreWithin}
 use Rattle.pst_datatree.specs.declared.position.Position.{Position}
 use Rattle.pst_datatree.specs.declared.named.Named.{Named}
 use Rattle.pst_datatree.specs.declared.named.Named.TheVariants.{Nothing, Missing, Data, Xblock, Xxblock}
 use Rattle.pst_datatree.specs.List.{count_in, bid_in}
-use Rattle.pst_datatree.specs.Named.{named_by}
+use Rattle.pst_datatree.specs.Named.{named_by, IfBlock}
 use Rattle.pst_datatree.specs.Data.{spans_at, data_block_spans, leaf_spans, xblock_spans, child_spans, data_spans}
 use Rattle.pst_datatree.specs.Spans.{AreInside}
 use Rattle.pst_datatree.specs.Cut.{cut, shown}
-use Rattle.pst_datatree.specs.Position.{xblock_left, xxblock_left, named_left, data_left}
+use Rattle.pst_datatree.specs.Position.{xblock_left, xxblock_left, named_left}
 use Rattle.pst_datatree.proofs.NamedLemmas.{IsNamed, named_is}
 use Rattle.pst_datatree.proofs.CutLemmas.{cut_with, cut_without, cut_nil}
-use Rattle.pst_datatree.proofs.PositionLemmas.{data_from_start}
+use Rattle.pst_datatree.proofs.PositionLemmas.{named_from_start}
 
 both_inside : (I : List ℕ) (xs ys : List Span) → AreInside I xs → AreInside I ys → AreInside I (xs ++ ys)
 both_inside I [] ys h k = k
@@ -75,22 +75,30 @@ xxblock_inside t e at within =
     let count = count_in (body_of t e) - at.child in
     drop_inside t.image at.leaf (join_from part at.child count) (from_inside t.image part at.child count (λ i. child_inside t (body_of t e) i within))
 
-data_inside : (t : Table) (bid : ℕ) (at : Position) → AreWithin t → AreInside t.image (data_left t bid at)
-unfolding data_left xblock_left
-data_inside t bid at within = by_name (named_by t bid) (named_is t bid)
-  where
-    by_name : (n : Named) → IsNamed t bid n → AreInside t.image (named_left t n at)
-    by_name Nothing is = tt
-    by_name Missing is = tt
-    by_name (Data e) is = drop_inside t.image at.leaf (data_block_spans e) (block_inside t bid e within is.0.1)
-    by_name (Xblock e) is = drop_inside t.image at.leaf (xblock_spans t e) (xblock_inside t e within)
-    by_name (Xxblock e) is = xxblock_inside t e at within
+named_inside : (t : Table) (named : Named) (at : Position) → AreWithin t → IfBlock named (IsWithin t.image) → AreInside t.image (named_left t named at)
+unfolding xblock_left
+named_inside t Nothing at within there = tt
+named_inside t Missing at within there = tt
+named_inside t (Data e) at within there = drop_inside t.image at.leaf (data_block_spans e) (there, tt)
+named_inside t (Xblock e) at within there = drop_inside t.image at.leaf (xblock_spans t e) (xblock_inside t e within)
+named_inside t (Xxblock e) at within there = xxblock_inside t e at within
 
 -- what is shown of them, too
-pub shown_inside : (t : Table) (bid : ℕ) (at : Position) (whole : Bool) (skip left : ℕ) → AreWithin t → AreInside t.image (shown whole skip left (data_left t bid at))
-shown_inside t bid at true skip left within = data_inside t bid at within
-shown_inside t bid at false skip left within = cut_inside t.image skip (skip + left) (data_left t bid at) (data_inside t bid at within)
+pub shown_inside : (t : Table) (named : Named) (at : Position) (whole : Bool) (skip left : ℕ) → AreWithin t → IfBlock named (IsWithin t.image) → AreInside t.image (shown whole skip left (named_left t named at))
+shown_inside t named at true skip left within there = named_inside t named at within there
+shown_inside t named at false skip left within there = cut_inside t.image skip (skip + left) (named_left t named at) (named_inside t named at within there)
+
+-- the block that an identifier names, if it names one
+block_there : (t : Table) (bid : ℕ) (named : Named) → AreWithin t → IsNamed t bid named → IfBlock named (IsWithin t.image)
+block_there t bid Nothing within is = tt
+block_there t bid Missing within is = tt
+block_there t bid (Data e) within is = within bid e is.0.1
+block_there t bid (Xblock e) within is = within bid e is.0.1
+block_there t bid (Xxblock e) within is = within bid e is.0.1
 
 -- all spans of a data tree
 pub data_spans_inside : (t : Table) (bid : ℕ) → AreWithin t → AreInside t.image (data_spans t bid)
-data_spans_inside t bid within = rw (← data_from_start t bid) (data_inside t bid (record { child = 0; leaf = 0 }) within)
+unfolding data_spans
+data_spans_inside t bid within =
+    let named = named_by t bid in
+    rw (← named_from_start t named) (named_inside t named (record { child = 0; leaf = 0 }) within (block_there t bid named within (named_is t bid)))

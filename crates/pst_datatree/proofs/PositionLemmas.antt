@@ -11,9 +11,8 @@ use Rattle.pst_datatree.specs.declared.position.Position.{Position}
 use Rattle.pst_datatree.specs.declared.named.Named.{Named}
 use Rattle.pst_datatree.specs.declared.named.Named.TheVariants.{Nothing, Missing, Data, Xblock, Xxblock}
 use Rattle.pst_datatree.specs.List.{count_in}
-use Rattle.pst_datatree.specs.Named.{named_by}
-use Rattle.pst_datatree.specs.Data.{data_block_spans, leaf_spans, xblock_spans, xblock_fault, child_spans, xxblock_spans, named_spans, data_spans}
-use Rattle.pst_datatree.specs.Position.{xblock_left, xxblock_left, named_left, data_left}
+use Rattle.pst_datatree.specs.Data.{data_block_spans, leaf_spans, xblock_spans, xblock_fault, child_spans, xxblock_spans, named_spans}
+use Rattle.pst_datatree.specs.Position.{xblock_left, xxblock_left, named_left}
 use Rattle.pst_datatree.proofs.DataLemmas.{span_of_xblock}
 
 -- ---- lists
@@ -113,18 +112,15 @@ data_block_next t e at h = rw h refl
 pub data_block_end : (e : BlockEntry) (at : Position) → 0 < at.leaf → drop at.leaf (data_block_spans e) ≡ []
 data_block_end e at h = drop_all at.leaf (data_block_spans e) (omega arith)
 
--- ---- a block identifier, from its first block on
+-- ---- what an identifier names, from its first block on
 
-pub data_from : (t : Table) (bid n : ℕ) → data_left t bid (record { child = 0; leaf = n }) ≡ drop n (data_spans t bid)
-unfolding data_left data_spans xblock_left
-data_from t bid n = by_name (named_by t bid)
-  where
-    by_name : (name : Named) → named_left t name (record { child = 0; leaf = n }) ≡ drop n (named_spans t name)
-    by_name Nothing = sym (drop_all n [] (omega arith))
-    by_name Missing = sym (drop_all n [] (omega arith))
-    by_name (Data e) = refl
-    by_name (Xblock e) = refl
-    by_name (Xxblock e) = xxblock_from t e n
+named_from : (t : Table) (named : Named) (n : ℕ) → named_left t named (record { child = 0; leaf = n }) ≡ drop n (named_spans t named)
+unfolding xblock_left
+named_from t Nothing n = sym (drop_all n [] (omega arith))
+named_from t Missing n = sym (drop_all n [] (omega arith))
+named_from t (Data e) n = refl
+named_from t (Xblock e) n = refl
+named_from t (Xxblock e) n = xxblock_from t e n
 
 -- the first of what is left is the element with that number
 pub get_of_drop : {X : Type 0} (xs : List X) (n : ℕ) → slice_get (drop n xs) 0 ≡ slice_get xs n
@@ -133,12 +129,15 @@ get_of_drop [] (suc n) = refl
 get_of_drop (x ∷ xs) zero = refl
 get_of_drop (x ∷ xs) (suc n) = get_of_drop xs n
 
-pub leaf_some : (t : Table) (bid n : ℕ) (s : Span) (rest : List Span) → data_left t bid (record { child = 0; leaf = n }) ≡ s ∷ rest → slice_get (data_spans t bid) n ≡ Some s
-leaf_some t bid n s rest h = sym (get_of_drop (data_spans t bid) n) ∙ ap (λ xs. slice_get xs 0) (sym (data_from t bid n) ∙ h)
+first_left : (t : Table) (named : Named) (n : ℕ) → slice_get (named_left t named (record { child = 0; leaf = n })) 0 ≡ slice_get (named_spans t named) n
+first_left t named n = ap (λ xs. slice_get xs 0) (named_from t named n) ∙ get_of_drop (named_spans t named) n
 
-pub leaf_none : (t : Table) (bid n : ℕ) → data_left t bid (record { child = 0; leaf = n }) ≡ [] → slice_get (data_spans t bid) n ≡ None
-leaf_none t bid n h = sym (get_of_drop (data_spans t bid) n) ∙ ap (λ xs. slice_get xs 0) (sym (data_from t bid n) ∙ h)
+pub leaf_some : (t : Table) (named : Named) (n : ℕ) (s : Span) (rest : List Span) → named_left t named (record { child = 0; leaf = n }) ≡ s ∷ rest → slice_get (named_spans t named) n ≡ Some s
+leaf_some t named n s rest h = sym (first_left t named n) ∙ ap (λ xs. slice_get xs 0) h
+
+pub leaf_none : (t : Table) (named : Named) (n : ℕ) → named_left t named (record { child = 0; leaf = n }) ≡ [] → slice_get (named_spans t named) n ≡ None
+leaf_none t named n h = sym (first_left t named n) ∙ ap (λ xs. slice_get xs 0) h
 
 -- nothing is passed over
-pub data_from_start : (t : Table) (bid : ℕ) → data_left t bid (record { child = 0; leaf = 0 }) ≡ data_spans t bid
-data_from_start t bid = data_from t bid 0
+pub named_from_start : (t : Table) (named : Named) → named_left t named (record { child = 0; leaf = 0 }) ≡ named_spans t named
+named_from_start t named = named_from t named 0

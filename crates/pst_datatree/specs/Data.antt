@@ -112,6 +112,14 @@ named_fault t bid (Data e) = None
 named_fault t bid (Xblock e) = xblock_fault t e
 named_fault t bid (Xxblock e) = xxblock_fault t e
 
+-- the same within the block that is named, if one is
+abbrev pub tree_fault : Table → Named → Option Fault
+tree_fault t Nothing = None
+tree_fault t Missing = None
+tree_fault t (Data e) = None
+tree_fault t (Xblock e) = xblock_fault t e
+tree_fault t (Xxblock e) = xxblock_fault t e
+
 -- a block identifier
 unfoldable pub data_fault : Table → ℕ → Option Fault
 data_fault t bid = named_fault t bid (named_by t bid)

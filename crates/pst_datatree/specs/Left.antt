@@ -8,8 +8,9 @@ use Rattle.pst_bytes.specs.Image.{bytes_of, bytes_at, IsPartOf}
 use Rattle.pst_block.specs.Table.{Table}
 use Rattle.pst_block.specs.Blocks.{table_of, image_of}
 use Rattle.pst_datatree.specs.declared.pieces.Pieces.{Pieces}
+use Rattle.pst_datatree.specs.declared.named.Named.{Named}
 use Rattle.pst_datatree.specs.declared.position.Position.{Position}
-use Rattle.pst_datatree.specs.Position.{data_left}
+use Rattle.pst_datatree.specs.Position.{named_left}
 use Rattle.pst_datatree.specs.Cut.{shown}
 use Rattle.pst_datatree.specs.Spans.{slices_of, first_span}
 
@@ -17,19 +18,19 @@ use Rattle.pst_datatree.specs.Spans.{slices_of, first_span}
 abbrev pub file_of : Pieces → Image
 file_of p = image_of p.blocks
 
--- the table of blocks, the block identifier of the data tree, and the position in it
+-- the table of blocks, what the data tree's block identifier names there, and the position in the tree
 abbrev pub pieces_table : Pieces → Table
 pieces_table p = table_of p.blocks
 
-abbrev pub bid_left : Pieces → ℕ
-bid_left p = p.bid
+abbrev pub pieces_named : Pieces → Named
+pieces_named p = p.named
 
 abbrev pub position_left : Pieces → Position
 position_left p = p.at
 
 -- all spans of the data tree from a position on
 abbrev pub spans_from : Pieces → Position → List Span
-spans_from p at = data_left (pieces_table p) (bid_left p) at
+spans_from p at = named_left (pieces_table p) (pieces_named p) at
 
 -- the spans that are left
 abbrev pub spans_left : Pieces → List Span

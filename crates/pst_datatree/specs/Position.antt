@@ -9,7 +9,6 @@ use Rattle.pst_datatree.specs.declared.named.Named.{Named}
 use Rattle.pst_datatree.specs.declared.named.Named.TheVariants.{Nothing, Missing, Data, Xblock, Xxblock}
 use Rattle.pst_datatree.specs.declared.position.Position.{Position}
 use Rattle.pst_datatree.specs.List.{count_in}
-use Rattle.pst_datatree.specs.Named.{named_by}
 use Rattle.pst_datatree.specs.Cut.{cut}
 use Rattle.pst_datatree.specs.Data.{data_block_spans, xblock_spans, child_spans}
 
@@ -26,10 +25,6 @@ named_left t Missing at = []
 named_left t (Data e) at = drop at.leaf (data_block_spans e)
 named_left t (Xblock e) at = xblock_left t e at
 named_left t (Xxblock e) at = xxblock_left t e at
-
--- of a block identifier
-unfoldable pub data_left : Table → ℕ → Position → List Span
-data_left t bid at = named_left t (named_by t bid) at
 
 -- the first span that is left, and the position behind it; none where nothing is left
 abbrev pub Splits : (Position → List Span) → Position → Option (Span × Position) → Type 0

@@ -6,7 +6,8 @@ ghost use Rattle.pst_block.specs.Block.{body_span};
 ghost use Rattle.pst_block.specs.Table.{body_of, IsWithin};
 ghost use Rattle.pst_block.specs.Blocks.{table_of};
 ghost use Rattle.pst_datatree.specs.List.{count_in};
-ghost use Rattle.pst_datatree.specs.Data.{leaf_spans, data_leaf_fault, xblock_spans, xblock_fault, child_spans, child_fault, xxblock_spans, xxblock_fault, data_spans, data_fault, size_of};
+ghost use Rattle.pst_datatree.specs.Named.{IfBlock};
+ghost use Rattle.pst_datatree.specs.Data.{leaf_spans, data_leaf_fault, xblock_spans, xblock_fault, child_spans, child_fault, xxblock_spans, xxblock_fault, named_spans, tree_fault, data_spans, data_fault, size_of};
 
 use crate::list::{bid_at, body_in};
 use crate::named::{Named, named_in};
@@ -131,14 +132,14 @@ pub fn leaf_count(blocks: &Blocks, bid: u64) -> u64
     }
 }
 
-// How many bytes the data tree of a block identifier has.
-#[tactic(auto, unfolding(crate::specs::Data::data_spans, crate::specs::Data::data_fault))]
-pub(crate) fn data_size(blocks: &Blocks, bid: u64) -> u64
-    requires { data_fault (table_of blocks.now) bid ≡ None }
-    ensures value { result ≡ size_of (data_spans (table_of blocks.now) bid) }
+// How many bytes what an identifier names has.
+pub(crate) fn data_size(blocks: &Blocks, named: Named) -> u64
+    requires within { IfBlock named (IsWithin (table_of blocks.now).image) }
+    requires sound { tree_fault (table_of blocks.now) named ≡ None }
+    ensures value { result ≡ size_of (named_spans (table_of blocks.now) named) }
     ensures small { result < 2 ^ 32 }
 {
-    match named_in(blocks, bid) {
+    match named {
         Named::Nothing | Named::Missing => 0,
         Named::Data(entry) => u64::from(entry.cb),
         Named::Xblock(entry) => xblock_size(blocks, entry),

@@ -1,9 +1,10 @@
 //! What a block identifier names.
 
-ghost use Rattle.std.specs.Prelude.{◌≡◌, Some};
+ghost use Rattle.std.specs.Prelude.{◌≡◌, Some, None};
 ghost use Rattle.pst_block.specs.Table.{IsWithin, entry_of};
 ghost use Rattle.pst_block.specs.Blocks.{table_of};
 ghost use Rattle.pst_datatree.specs.Named.{named_by, IfBlock};
+ghost use Rattle.pst_datatree.specs.Data.{tree_fault, data_fault};
 
 use crate::bid::{is_internal, is_no_block};
 use crate::list::{body_in, is_xxblock};
@@ -39,4 +40,15 @@ pub(crate) fn named_in(blocks: &Blocks, bid: u64) -> Named
     } else {
         Named::Xblock(entry)
     }
+}
+
+// The same of a block identifier whose data tree has no fault.
+#[tactic(auto, using(crate::proofs::DataLemmas::tree_none))]
+pub(crate) fn sound_in(blocks: &Blocks, bid: u64) -> Named
+    requires { data_fault (table_of blocks.now) bid ≡ None }
+    ensures value { result ≡ named_by (table_of blocks.now) bid }
+    ensures within { IfBlock result (IsWithin (table_of blocks.now).image) }
+    ensures sound { tree_fault (table_of blocks.now) result ≡ None }
+{
+    named_in(blocks, bid)
 }

@@ -4,11 +4,12 @@ ghost use Rattle.std.specs.Prelude.{◌≡◌, ℕ, ◌+◌, ◌≤◌, None, le
 ghost use Rattle.pst_block.specs.Table.{IsWithin};
 ghost use Rattle.pst_block.specs.Blocks.{table_of};
 ghost use Rattle.pst_datatree.specs.Cut.{cut};
-ghost use Rattle.pst_datatree.specs.Data.{xxblock_fault, data_fault};
-ghost use Rattle.pst_datatree.specs.Position.{Passes, xxblock_left, data_left};
+ghost use Rattle.pst_datatree.specs.Named.{IfBlock};
+ghost use Rattle.pst_datatree.specs.Data.{xxblock_fault, tree_fault};
+ghost use Rattle.pst_datatree.specs.Position.{Passes, xxblock_left, named_left};
 
 use crate::look::{child_count, child_entry, xblock_count, xblock_size};
-use crate::named::{Named, named_in};
+use crate::named::Named;
 use crate::position::Position;
 use pst_block::{BlockEntry, Blocks};
 
@@ -47,30 +48,31 @@ fn pass_of_xxblock(
     Some((place, skip - size))
 }
 
-// The same of a block identifier: only an XXBLOCK has XBLOCKs.
-#[tactic(auto, unfolding(crate::specs::Position::data_left, crate::specs::Data::data_fault))]
-fn pass_of(blocks: &Blocks, bid: u64, at: Position, skip: u64) -> Option<(Position, u64)>
-    requires { data_fault (table_of blocks.now) bid ≡ None }
-    ensures { Passes (data_left (table_of blocks.now) bid) at skip result }
+// The same of what an identifier names: only an XXBLOCK has XBLOCKs.
+fn pass_of(blocks: &Blocks, named: Named, at: Position, skip: u64) -> Option<(Position, u64)>
+    requires within { IfBlock named (IsWithin (table_of blocks.now).image) }
+    requires sound { tree_fault (table_of blocks.now) named ≡ None }
+    ensures { Passes (named_left (table_of blocks.now) named) at skip result }
 {
-    let Named::Xxblock(entry) = named_in(blocks, bid) else {
+    let Named::Xxblock(entry) = named else {
         return None;
     };
     pass_of_xxblock(blocks, entry, at, skip)
 }
 
 // The position behind all XBLOCKs that can be passed over, and how many bytes are to be passed over from there.
-pub(crate) fn pass_all(blocks: &Blocks, bid: u64, at: Position, skip: u64) -> (Position, u64)
-    requires { data_fault (table_of blocks.now) bid ≡ None }
-    ensures same { (more : ℕ) → cut skip (skip + more) (data_left (table_of blocks.now) bid at) ≡
-        cut result.1 (result.1 + more) (data_left (table_of blocks.now) bid result.0) }
+pub(crate) fn pass_all(blocks: &Blocks, named: Named, at: Position, skip: u64) -> (Position, u64)
+    requires within { IfBlock named (IsWithin (table_of blocks.now).image) }
+    requires sound { tree_fault (table_of blocks.now) named ≡ None }
+    ensures same { (more : ℕ) → cut skip (skip + more) (named_left (table_of blocks.now) named at) ≡
+        cut result.1 (result.1 + more) (named_left (table_of blocks.now) named result.0) }
     ensures small { result.1 ≤ skip }
-    ensures fewer { length (data_left (table_of blocks.now) bid result.0) ≤ length
-        (data_left (table_of blocks.now) bid at) }
+    ensures fewer { length (named_left (table_of blocks.now) named result.0) ≤ length
+        (named_left (table_of blocks.now) named at) }
 {
     let mut place = at;
     let mut left = skip;
-    while let Some((next, rest)) = pass_of(blocks, bid, place, left) {
+    while let Some((next, rest)) = pass_of(blocks, named, place, left) {
         place = next;
         left = rest;
     }

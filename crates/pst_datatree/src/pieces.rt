@@ -1,13 +1,15 @@
 //! The slices of a data tree, one for each span.
 
 ghost use Rattle.std.specs.Prelude.{◌≡◌, ◌+◌, ◌^◌, ◌<◌, None};
-ghost use Rattle.pst_block.specs.Table.{AreWithin};
+ghost use Rattle.pst_block.specs.Table.{IsWithin, AreWithin};
 ghost use Rattle.pst_block.specs.Blocks.{table_of};
-ghost use Rattle.pst_datatree.specs.Data.{size_of, data_fault};
-ghost use Rattle.pst_datatree.specs.Position.{data_left};
+ghost use Rattle.pst_datatree.specs.Named.{IfBlock, IfWithin-prop};
+ghost use Rattle.pst_datatree.specs.Data.{size_of, tree_fault};
+ghost use Rattle.pst_datatree.specs.Position.{named_left};
 ghost use Rattle.pst_datatree.specs.Cut.{shown};
 
 use crate::look::data_size;
+use crate::named::{Named, sound_in};
 use crate::pass::pass_all;
 use crate::position::Position;
 use crate::step::next_of;
@@ -20,7 +22,8 @@ use pst_bytes::Span;
 #[derive(Clone, Copy)]
 pub struct Pieces<'a> {
     pub(crate) blocks: Blocks<'a>,
-    pub(crate) bid: u64,
+    // What the tree's block identifier names.
+    pub(crate) named: Named,
     pub(crate) at: Position,
     // Whether all spans from here on are shown, or a part of their bytes.
     pub(crate) whole: bool,
@@ -28,9 +31,11 @@ pub struct Pieces<'a> {
     pub(crate) skip: u64,
     // How many bytes are shown.
     pub(crate) left: u64,
-    ghost sound: { data_fault (table_of blocks) bid ≡ None },
+    ghost sound: { tree_fault (table_of blocks) named ≡ None },
+    ghost there: { IfBlock named (IsWithin (table_of blocks).image) } by { IfWithin-prop (table_of blocks).image named },
     ghost within: { AreWithin (table_of blocks) },
-    ghost counted: { left ≡ size_of (shown whole skip left (data_left (table_of blocks) bid at)) },
+    ghost counted: { left ≡
+        size_of (shown whole skip left (named_left (table_of blocks) named at)) },
     ghost small: { skip + left < 2 ^ 64 },
 }
 
@@ -40,24 +45,25 @@ impl<'a> Pieces<'a> {
     ghost use Rattle.std.specs.List.{concat};
     ghost use Rattle.pst_bytes.specs.Image.{bytes_of, bytes_at, IsInside, IsPartOf};
     ghost use Rattle.pst_block.specs.Blocks.{image_of};
-    ghost use Rattle.pst_datatree.specs.Data.{data_spans};
+    ghost use Rattle.pst_datatree.specs.Data.{data_spans, data_fault};
     ghost use Rattle.pst_datatree.specs.Cut.{cut};
     ghost use Rattle.pst_datatree.specs.Spans.{joined_bytes, nonempty, AreInside};
     ghost use Rattle.pst_datatree.specs.Left.{spans_left, slices_left, file_of};
     ghost use Rattle.pst_datatree.specs.After.{IsAfter};
 
     // All slices of a data tree.
-    #[tactic(auto, using(crate::proofs::PositionLemmas::data_from_start))]
+    #[tactic(auto, using(crate::proofs::PositionLemmas::named_from_start), unfolding(crate::specs::Data::data_spans))]
     pub(crate) fn new(blocks: &Blocks<'a>, bid: u64) -> Pieces<'a>
         requires { data_fault (table_of blocks.now) bid ≡ None }
         ensures spans { spans_left result ≡ data_spans (table_of blocks.now) bid }
         ensures file { file_of result ≡ image_of blocks.now }
     {
         blocks.lie_within();
-        let left = data_size(blocks, bid);
+        let named = sound_in(blocks, bid);
+        let left = data_size(blocks, named);
         Pieces {
             blocks: *blocks,
-            bid,
+            named,
             at: Position { child: 0, leaf: 0 },
             whole: true,
             skip: 0,
@@ -72,12 +78,12 @@ impl<'a> Pieces<'a> {
         ensures after { IsAfter (spans_left self.entry) (file_of self.entry) result }
         ensures inside { IfSome result (λ n. IsInside (bytes_of (file_of self.entry)) n.0) }
     {
-        let (span, at) = next_of(&self.blocks, self.bid, self.at)?;
+        let (span, at) = next_of(&self.blocks, self.named, self.at)?;
         Some((
             span,
             Pieces {
                 blocks: self.blocks,
-                bid: self.bid,
+                named: self.named,
                 at,
                 whole: true,
                 skip: self.skip,
@@ -96,8 +102,8 @@ impl<'a> Pieces<'a> {
         if self.left == 0 {
             return None;
         }
-        let (mut place, mut skip) = pass_all(&self.blocks, self.bid, self.at, self.skip);
-        while let Some((span, behind)) = next_of(&self.blocks, self.bid, place) {
+        let (mut place, mut skip) = pass_all(&self.blocks, self.named, self.at, self.skip);
+        while let Some((span, behind)) = next_of(&self.blocks, self.named, place) {
             if skip < span.len {
                 let len = self.left.min(span.len - skip);
                 let part = Span {
@@ -106,7 +112,7 @@ impl<'a> Pieces<'a> {
                 };
                 return Some((part, self.part_from(behind, 0, self.left - len)));
             }
-            let (next, rest) = pass_all(&self.blocks, self.bid, behind, skip - span.len);
+            let (next, rest) = pass_all(&self.blocks, self.named, behind, skip - span.len);
             place = next;
             skip = rest;
         }
@@ -116,15 +122,15 @@ impl<'a> Pieces<'a> {
     // So many bytes from a position on, behind some that are passed over.
     fn part_from(self, at: Position, skip: u64, left: u64) -> Pieces<'a>
         requires counted { left ≡
-            size_of (cut skip (skip + left) (data_left (table_of self.blocks) self.bid at)) }
+            size_of (cut skip (skip + left) (named_left (table_of self.blocks) self.named at)) }
         requires small { skip + left < 2 ^ 64 }
         ensures spans { spans_left result ≡
-            cut skip (skip + left) (data_left (table_of self.entry.blocks) self.entry.bid at) }
+            cut skip (skip + left) (named_left (table_of self.entry.blocks) self.entry.named at) }
         ensures file { file_of result ≡ file_of self.entry }
     {
         Pieces {
             blocks: self.blocks,
-            bid: self.bid,
+            named: self.named,
             at,
             whole: false,
             skip,

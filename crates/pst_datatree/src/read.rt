@@ -11,7 +11,7 @@ use crate::pieces::Pieces;
 use crate::slices::Slices;
 
 // The byte with a number among those that are left.
-#[tactic(auto, using(crate::proofs::ByteLemmas::byte_of_part, crate::proofs::ByteLemmas::no_byte))]
+#[tactic(auto, using(crate::proofs::ByteLemmas::no_byte))]
 fn byte_in(pieces: Pieces, i: u64) -> Option<u8>
     ensures { result ≡ slice_get (concat (slices_left pieces.entry)) i }
 {

@@ -4,11 +4,12 @@ ghost use Rattle.std.specs.Prelude.{◌≡◌, ◌+◌, ◌<◌, IfSome, None, o
 ghost use Rattle.pst_bytes.specs.Image.{IsInside};
 ghost use Rattle.pst_block.specs.Table.{IsWithin};
 ghost use Rattle.pst_block.specs.Blocks.{table_of};
-ghost use Rattle.pst_datatree.specs.Data.{xblock_fault, xxblock_fault, data_spans, data_fault};
-ghost use Rattle.pst_datatree.specs.Position.{Splits, xblock_left, xxblock_left, data_left};
+ghost use Rattle.pst_datatree.specs.Named.{IfBlock};
+ghost use Rattle.pst_datatree.specs.Data.{xblock_fault, xxblock_fault, tree_fault, data_spans, data_fault};
+ghost use Rattle.pst_datatree.specs.Position.{Splits, xblock_left, xxblock_left, named_left};
 
 use crate::look::{child_count, child_entry, leaf_span, span_of, xblock_count};
-use crate::named::{Named, named_in};
+use crate::named::{Named, sound_in};
 use crate::position::Position;
 use pst_block::{BlockEntry, Blocks};
 use pst_bytes::Span;
@@ -64,14 +65,15 @@ fn next_of_xxblock(blocks: &Blocks, entry: BlockEntry, at: Position) -> Option<(
     None
 }
 
-// The next span of a block identifier, and what is behind it.
-#[tactic(auto, using(crate::proofs::PositionLemmas::data_block_next, crate::proofs::PositionLemmas::data_block_end), unfolding(crate::specs::Position::data_left, crate::specs::Data::data_fault))]
-pub(crate) fn next_of(blocks: &Blocks, bid: u64, at: Position) -> Option<(Span, Position)>
-    requires { data_fault (table_of blocks.now) bid ≡ None }
-    ensures next { Splits (data_left (table_of blocks.now) bid) at result }
+// The next span of what an identifier names, and what is behind it.
+#[tactic(auto, using(crate::proofs::PositionLemmas::data_block_next, crate::proofs::PositionLemmas::data_block_end))]
+pub(crate) fn next_of(blocks: &Blocks, named: Named, at: Position) -> Option<(Span, Position)>
+    requires within { IfBlock named (IsWithin (table_of blocks.now).image) }
+    requires sound { tree_fault (table_of blocks.now) named ≡ None }
+    ensures next { Splits (named_left (table_of blocks.now) named) at result }
     ensures inside { IfSome result (λ n. IsInside (table_of blocks.now).image n.0) }
 {
-    match named_in(blocks, bid) {
+    match named {
         Named::Nothing | Named::Missing => None,
         Named::Data(entry) => {
             if at.leaf == 0 {
@@ -86,12 +88,13 @@ pub(crate) fn next_of(blocks: &Blocks, bid: u64, at: Position) -> Option<(Span, 
 }
 
 /// The span with a number of a block identifier's data tree, from 0 on; None exactly from `leaf_count` on.
-#[tactic(auto, using(crate::proofs::PositionLemmas::leaf_some, crate::proofs::PositionLemmas::leaf_none))]
+#[tactic(auto, using(crate::proofs::PositionLemmas::leaf_some, crate::proofs::PositionLemmas::leaf_none), unfolding(crate::specs::Data::data_spans))]
 pub fn leaf(blocks: &Blocks, bid: u64, n: u64) -> Option<Span>
     requires { data_fault (table_of blocks.now) bid ≡ None }
     ensures value { result ≡ slice_get (data_spans (table_of blocks.now) bid) n }
     ensures inside { IfSome result (IsInside (table_of blocks.now).image) }
 {
-    let (span, _) = next_of(blocks, bid, Position { child: 0, leaf: n })?;
+    let named = sound_in(blocks, bid);
+    let (span, _) = next_of(blocks, named, Position { child: 0, leaf: n })?;
     Some(span)
 }
