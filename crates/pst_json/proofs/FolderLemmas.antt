@@ -1,6 +1,6 @@
 -- The texts of folders and of their messages.
-use Rattle.std.proofs.Common.{◌≡◌, ℕ, Bool, true, false, List, [], ◌∷◌, ◌++◌, map, refl, sym, ap, codes, append_assoc}
-use Rattle.std.specs.Prelude.{Option, Some, None, option_map, nat_eq, if◌then◌else◌}
+use Rattle.std.proofs.Common.{◌≡◌, ℕ, false, List, [], ◌∷◌, ◌++◌, map, refl, sym, ap, codes, append_assoc}
+use Rattle.std.specs.Prelude.{Option, Some, None, option_map, nat_eq}
 use Rattle.serde_json.specs.Data.{Data, Items, null, array, object, member, no_members}
 use Rattle.serde_json.specs.View.{items_of}
 use Rattle.serde_json.specs.Written.{compact_text, items_text, has_float}
@@ -25,12 +25,9 @@ use Rattle.pst_json.specs.Node.{nid_of_object}
 use Rattle.pst_value_json.specs.Plain.{IsPlain}
 use Rattle.pst_value_json.specs.Value.{text_data}
 use Rattle.pst_value_json.proofs.PlainLemmas.{list_is_plain}
+use Rattle.pst_value_json.proofs.ValueLemmas.{either_is_plain}
 
 -- ---- no floating-point number
-
-either_is_plain : (b : Bool) (x y : Data) → IsPlain x → IsPlain y → IsPlain (if b then x else y)
-either_is_plain true x y p q = p
-either_is_plain false x y p q = q
 
 text_is_plain : (p : Option Property) → IsPlain (text_or_null p)
 text_is_plain None = record { no_float = refl }
