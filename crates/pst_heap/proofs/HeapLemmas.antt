@@ -31,6 +31,10 @@ unfolding front_fault
 front_bad I [] s e h = absurd cc
 front_bad I (x ∷ rest) s e h = let same : x ≡ s = cc in rw (same, h) refl
 
+pub first_got : (spans : List Span) (s : Span) → slice_get spans 0 ≡ Some s → first_span spans ≡ s
+first_got [] s e = absurd cc
+first_got (x ∷ rest) s e = cc
+
 -- ---- page maps
 
 pub map_there : (I : List ℕ) (s : Span) → page_map_fault I s ≡ None → has_page_map I s ≡ true

@@ -4,6 +4,7 @@ ghost use Rattle.std.specs.Prelude.{◌≡◌, IfOk, OnOk, IsOk, None, option_ma
 ghost use Rattle.pst_bytes.specs.Image.{bytes_of, IsInside};
 ghost use Rattle.pst_fault.specs.First.{answer, Checks};
 ghost use Rattle.pst_fault.specs.Each.{first_of};
+ghost use Rattle.pst_datatree.specs.Spans.{first_span};
 ghost use Rattle.pst_heap.specs.PageMap.{has_front as front};
 ghost use Rattle.pst_heap.specs.Values.{data_of_node};
 ghost use Rattle.pst_heap.specs.Grammar.{IsHeap};
@@ -47,11 +48,12 @@ fn check_few(node: &Node) -> Result<(), Fault>
     }
 }
 
-// The first span, and its header.
-#[tactic(auto, using(crate::proofs::HeapLemmas::front_none, crate::proofs::HeapLemmas::front_good, crate::proofs::HeapLemmas::front_bad))]
-fn check_front(node: &Node) -> Result<(), Fault>
+// The first span, by its header.
+#[tactic(auto, using(crate::proofs::HeapLemmas::front_none, crate::proofs::HeapLemmas::front_good, crate::proofs::HeapLemmas::front_bad, crate::proofs::HeapLemmas::first_got))]
+fn check_front(node: &Node) -> Result<Span, Fault>
     ensures exact { let h = data_of_node node.now in
-        result ≡ answer (front_fault h.image h.spans) tt }
+        result ≡ answer (front_fault h.image h.spans) (first_span h.spans) }
+    ensures inside { IfOk result (IsInside (data_of_node node.now).image) }
 {
     let Some(first) = node.leaf(0) else {
         return Err(Fault::at(Kind::Heap, 0));
@@ -59,7 +61,7 @@ fn check_front(node: &Node) -> Result<(), Fault>
     if !has_front(node.image(), first) {
         return Err(bad_span(first));
     }
-    Ok(())
+    Ok(first)
 }
 
 // The page map of a span.
@@ -88,14 +90,17 @@ fn check_maps(node: &Node) -> Result<(), Fault>
     Ok(())
 }
 
-// All of a heap, with no context told.
+// All of a heap, with no context told; its first span.
 #[tactic(auto, unfolding(crate::specs::Fault::heap_fault))]
-fn check_all(node: &Node) -> Result<(), Fault>
-    ensures exact { result ≡ answer (heap_fault (data_of_node node.now)) tt }
+fn check_all(node: &Node) -> Result<Span, Fault>
+    ensures exact { let h = data_of_node node.now in
+        result ≡ answer (heap_fault h) (first_span h.spans) }
+    ensures inside { IfOk result (IsInside (data_of_node node.now).image) }
 {
     check_few(node)?;
-    check_front(node)?;
-    check_maps(node)
+    let first = check_front(node)?;
+    check_maps(node)?;
+    Ok(first)
 }
 
 /// The heap that the data of a node is, where it is known to have no fault.
@@ -126,7 +131,7 @@ pub fn check_heap(node: Node<'_>) -> Result<Heap<'_>, Fault>
     ensures only { IsHeap (data_of_node node.entry) → IsOk result }
 {
     match check_all(&node) {
-        Ok(()) => Ok(known_heap(node)),
+        Ok(first) => Ok(Heap::with_first(node, first)),
         Err(fault) => Err(told_of(&node, fault)),
     }
 }

@@ -43,6 +43,16 @@ impl<'a> Heap<'a> {
         ensures { node_of result ≡ node.entry }
     {
         let first = node.leaf(0).unwrap();
+        Heap::with_first(node, first)
+    }
+
+    // The same, where its first span is known.
+    pub(crate) fn with_first(node: Node<'a>, first: Span) -> Heap<'a>
+        requires sound { heap_fault (data_of_node node) ≡ None }
+        requires same { first ≡ first_span (data_of_node node).spans }
+        requires inside { IsInside (data_of_node node).image first }
+        ensures { node_of result ≡ node.entry }
+    {
         Heap { node, first }
     }
 
