@@ -1,6 +1,7 @@
 -- Lost runs: units that are marked and not claimed, in runs as long as can be.
 use Rattle.std.specs.Prelude.{◌≡◌, ℕ, zero, suc, ◌+◌, ◌-◌, ◌*◌, ◌<◌, ◌≤◌, ◌⊎◌, ⊤, Bool, true, false, not, ◌&&◌, List, [], ◌∷◌, ◌++◌, length, if◌then◌else◌}
 use Rattle.pst_bytes.specs.declared.span.Span.{Span}
+use Rattle.pst_header.specs.declared.header.TheConstants.{FIRST_AMAP, UNIT}
 use Rattle.pst_space.specs.Claimed.{Claimed, flag_of}
 use Rattle.pst_amap.specs.declared.report.BitOrder.{BitOrder}
 use Rattle.pst_amap.specs.Marks.{is_marked}
@@ -11,7 +12,7 @@ is_lost order I claimed unit = is_marked order I unit && not (flag_of claimed un
 
 -- the span of so many units from one on
 abbrev pub units_at : ℕ → ℕ → Span
-units_at unit count = record { at = 17408 + 64 * unit; len = 64 * count }
+units_at unit count = record { at = FIRST_AMAP + UNIT * unit; len = UNIT * count }
 
 -- a run of so many units that ends before a unit, if it has any
 abbrev pub run_before : ℕ → ℕ → List Span
@@ -49,7 +50,7 @@ AreRuns picked n from (s ∷ ss) = (from ≤ s.at) × IsRun picked n s × AreRun
 -- a unit lies in one of the spans
 abbrev pub LiesInSome : ℕ → List Span → Type 0
 LiesInSome unit [] = ⊥
-LiesInSome unit (s ∷ ss) = ((s.at ≤ 17408 + 64 * unit) × (17408 + 64 * unit < s.at + s.len)) ⊎ LiesInSome unit ss
+LiesInSome unit (s ∷ ss) = ((s.at ≤ FIRST_AMAP + UNIT * unit) × (FIRST_AMAP + UNIT * unit < s.at + s.len)) ⊎ LiesInSome unit ss
 
 -- The runs are the runs of the picked units, in order, and each picked unit lies in one.
 abbrev pub RunsLaw : Type 0

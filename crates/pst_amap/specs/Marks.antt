@@ -8,6 +8,7 @@ use Rattle.pst_fault.specs.declared.kind.Kind.TheVariants.{MapMissing}
 use Rattle.pst_fault.specs.Fault.{fault_at}
 use Rattle.pst_fault.specs.First.{holds_or, first_below}
 use Rattle.pst_header.specs.Header.{amap_place}
+use Rattle.pst_header.specs.declared.header.TheConstants.{FIRST_AMAP, UNIT}
 use Rattle.pst_space.specs.Claimed.{Claimed, flag_of}
 use Rattle.pst_amap.specs.declared.report.BitOrder.{BitOrder}
 use Rattle.pst_amap.specs.declared.report.BitOrder.TheVariants.{High, Low}
@@ -26,7 +27,7 @@ is_marked order I unit = nat_eq (bit_at (num I (mark_place unit) 1) (mark_bit or
 
 -- a unit that is claimed is marked
 unfoldable pub unit_fault : BitOrder → List ℕ → Claimed → ℕ → Option Fault
-unit_fault order I claimed unit = holds_or (not (flag_of claimed unit) || is_marked order I unit) (fault_at MapMissing (17408 + 64 * unit))
+unit_fault order I claimed unit = holds_or (not (flag_of claimed unit) || is_marked order I unit) (fault_at MapMissing (FIRST_AMAP + UNIT * unit))
 
 -- the lowest unit that is claimed and not marked
 abbrev pub marks_fault : BitOrder → List ℕ → Claimed → Option Fault

@@ -3,6 +3,7 @@
 use Rattle.std.specs.Prelude.{ℕ, zero, suc, ◌+◌, ◌-◌, ◌/◌, Bool, true, ◌&&◌, ◌||◌, nat_eq, nat_le, List, Option, Some, None, if◌then◌else◌}
 use Rattle.pst_bytes.specs.Image.{num}
 use Rattle.pst_header.specs.Header.{amap_place}
+use Rattle.pst_header.specs.declared.header.TheConstants.{FIRST_AMAP, UNIT}
 use Rattle.pst_space.specs.Claimed.{Claimed, claim_of, page_at}
 use Rattle.pst_amap.specs.declared.report.BitOrder.{BitOrder}
 use Rattle.pst_amap.specs.Map.{has_map_trailer}
@@ -22,7 +23,7 @@ are_marked order I unit (suc n) = is_marked order I unit && are_marked order I (
 unfoldable pub looks_old : BitOrder → List ℕ → ℕ → ℕ → Bool
 looks_old order I end at =
     nat_le (at + 512) end && is_old_type (num I (at + 496) 1) (num I (at + 497) 1) && has_map_trailer I at
-    && are_marked order I ((at - 17408) / 64) 8
+    && are_marked order I ((at - FIRST_AMAP) / UNIT) 8
 
 -- it is claimed, where it is on nothing that is
 abbrev pub old_claim : BitOrder → List ℕ → ℕ → Claimed → ℕ → Option Claimed

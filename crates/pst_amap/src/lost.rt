@@ -10,7 +10,7 @@ ghost use Rattle.pst_amap.specs.Lost.{is_lost as lost, lost_runs, run_before};
 use crate::marks::{is_marked, mark_byte};
 use crate::report::BitOrder;
 use pst_bytes::{Image, Span};
-use pst_header::Header;
+use pst_header::{FIRST_AMAP, Header, UNIT};
 use pst_space::Claims;
 use std::alloc::{AllocError, Global};
 
@@ -45,8 +45,8 @@ fn push_run(runs: &mut Vec<Span>, unit: u64, run: u64) -> Result<(), AllocError>
 {
     if run > 0 {
         runs.push(Span {
-            at: 17408 + 64 * (unit - run),
-            len: 64 * run,
+            at: FIRST_AMAP + UNIT * (unit - run),
+            len: UNIT * run,
         })?;
     }
     Ok(())

@@ -9,7 +9,7 @@ ghost use Rattle.pst_amap.specs.Map.{has_map_trailer as map_trailer, is_amap as 
 
 use pst_bytes::{Image, Span};
 use pst_fault::{Fault, Kind};
-use pst_header::Header;
+use pst_header::{FIRST_AMAP, Header, REGION};
 
 /// Whether the page at an offset has the trailer of a map page, its type aside.
 #[tactic(auto, unfolding(crate::specs::Map::has_map_trailer))]
@@ -40,7 +40,7 @@ fn check_amap(image: Image, region: u64) -> Result<(), Fault>
     requires fits { amap_place region + 512 < 2 ^ 64 }
     ensures { result ≡ answer (amap_fault (bytes_of image.entry) region) tt }
 {
-    let at = 17408 + 253952 * region;
+    let at = FIRST_AMAP + REGION * region;
     if !is_amap(image, at) {
         return Err(Fault::at(Kind::MapPage, at));
     }

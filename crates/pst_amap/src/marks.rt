@@ -10,8 +10,11 @@ ghost use Rattle.pst_amap.specs.Marks.{is_marked as marked, mark_place, mark_bit
 use crate::report::BitOrder;
 use pst_bytes::Image;
 use pst_fault::{Fault, Kind};
-use pst_header::Header;
+use pst_header::{FIRST_AMAP, Header, REGION, UNIT};
 use pst_space::Claims;
+
+// How many units a region has: an allocation map has a bit for each.
+const UNITS: u64 = REGION / UNIT;
 
 impl BitOrder {
     fn mark_bit(self, unit: u64) -> u64
@@ -29,7 +32,7 @@ pub fn mark_byte(image: Image, unit: u64) -> u8
     requires { mark_place unit + 1 ≤ length (bytes_of image) }
     ensures { result ≡ num (bytes_of image.entry) (mark_place unit) 1 }
 {
-    image.number8(17408 + 253952 * (unit / 3968) + unit % 3968 / 8)
+    image.number8(FIRST_AMAP + REGION * (unit / UNITS) + unit % UNITS / 8)
 }
 
 /// Whether a unit is marked in the map of its region.
@@ -49,7 +52,7 @@ fn check_unit(image: Image, order: BitOrder, claims: &Claims, unit: u64) -> Resu
     ensures { result ≡ answer (unit_fault order (bytes_of image.entry) claims.now unit) tt }
 {
     if claims.is_claimed(unit) && !is_marked(image, order, unit) {
-        return Err(Fault::at(Kind::MapMissing, 17408 + 64 * unit));
+        return Err(Fault::at(Kind::MapMissing, FIRST_AMAP + UNIT * unit));
     }
     Ok(())
 }

@@ -4,6 +4,7 @@ ghost use Rattle.std.specs.Prelude.{◌≡◌, ℕ, ◌+◌, ◌-◌, ◌/◌, �
 ghost use Rattle.pst_bytes.specs.Image.{bytes_of};
 ghost use Rattle.pst_header.specs.Head.{Head};
 ghost use Rattle.pst_header.specs.Header.{amap_place, amap_count_of, end_of};
+ghost use Rattle.pst_header.specs.declared.header.TheConstants.{FIRST_AMAP, UNIT};
 ghost use Rattle.pst_space.specs.Claimed.{unit_total};
 ghost use Rattle.pst_amap.specs.Old.{is_old_type as old_type, are_marked as marked, looks_old as old, old_step, old_below};
 
@@ -11,7 +12,7 @@ use crate::map::has_map_trailer;
 use crate::marks::is_marked;
 use crate::report::BitOrder;
 use pst_bytes::{Image, Span};
-use pst_header::Header;
+use pst_header::{FIRST_AMAP, Header, REGION, UNIT};
 use pst_space::Claims;
 
 // Whether the two type bytes of a page are those of an old map page.
@@ -41,21 +42,21 @@ fn are_marked(image: Image, header: &Header, order: BitOrder, unit: u64, count: 
 #[tactic(auto, using(crate::proofs::OldLemmas::page_inside, crate::proofs::OldLemmas::page_units), unfolding(crate::specs::Old::looks_old))]
 fn looks_old(image: Image, header: &Header, order: BitOrder, at: u64) -> bool
     requires head { Head (bytes_of image) header.now }
-    requires place { (17408 ≤ at) × (at % 64 ≡ 0) }
+    requires place { (FIRST_AMAP ≤ at) × (at % UNIT ≡ 0) }
     requires fits { at + 512 < 2 ^ 64 }
     ensures { result ≡ old order (bytes_of image.entry) (end_of header.now) at }
 {
     at + 512 <= header.end()
         && is_old_type(image.number8(at + 496), image.number8(at + 497))
         && has_map_trailer(image, at)
-        && are_marked(image, header, order, (at - 17408) / 64, 8)
+        && are_marked(image, header, order, (at - FIRST_AMAP) / UNIT, 8)
 }
 
 // Claims the page at an offset if it is an old map page, and on nothing that is claimed: how many were found, 0 or 1.
 #[tactic(auto, using(crate::proofs::OldLemmas::old_no, crate::proofs::OldLemmas::old_yes, crate::proofs::OldLemmas::old_on_another, crate::proofs::OldLemmas::page_whole))]
 fn claim_old(image: Image, header: &Header, order: BitOrder, at: u64, claims: &mut Claims) -> u64
     requires head { Head (bytes_of image) header.now }
-    requires place { (17408 ≤ at) × (at % 64 ≡ 0) }
+    requires place { (FIRST_AMAP ≤ at) × (at % UNIT ≡ 0) }
     requires fits { at + 512 < 2 ^ 64 }
     requires units { length claims.old ≡ unit_total header.now }
     ensures found { (n : ℕ) → old_step order (bytes_of image.entry)
@@ -85,7 +86,7 @@ pub fn claim_old_maps(image: Image, header: &Header, order: BitOrder, claims: &m
 {
     let mut count = 0;
     for region in 0..header.amap_count() {
-        let amap = 17408 + 253952 * region;
+        let amap = FIRST_AMAP + REGION * region;
         count += claim_old(image, header, order, amap + 1024, claims);
         count += claim_old(image, header, order, amap + 1536, claims);
     }

@@ -6,13 +6,14 @@ use Rattle.pst_fault.specs.declared.fault.Fault.{Fault}
 use Rattle.pst_fault.specs.declared.kind.Kind.TheVariants.{BlockPlace, BlockTrailer}
 use Rattle.pst_fault.specs.Fault.{fault_in}
 use Rattle.pst_fault.specs.First.{◌then◌, holds_or}
+use Rattle.pst_header.specs.declared.header.TheConstants.{FIRST_AMAP, UNIT}
 use Rattle.pst_page.specs.declared.entry.BlockEntry.{BlockEntry}
 use Rattle.pst_block.specs.Block.{block_size, body_span, trailer_at, bid_key}
 
--- A body has at most 8,176 bytes, and the block lies in the mapped part, which begins at 0x4400 and ends at `end`, on a
--- multiple of 64.
+-- A body has at most 8,176 bytes, and the block lies in the mapped part, which begins at the first allocation map and ends at
+-- `end`, in whole units.
 unfoldable pub is_block_place : ℕ → BlockEntry → Bool
-is_block_place end e = nat_le e.cb 8176 && nat_eq (e.ib % 64) 0 && nat_le 17408 e.ib && nat_le (e.ib + block_size e.cb) end
+is_block_place end e = nat_le e.cb 8176 && nat_eq (e.ib % UNIT) 0 && nat_le FIRST_AMAP e.ib && nat_le (e.ib + block_size e.cb) end
 
 -- The trailer that begins at an offset: cb is the entry's, bid the entry's apart from its bit 0, wSig the signature of
 -- the block's place and the bid that stands here, and dwCRC the check value of the body.

@@ -2,6 +2,7 @@
 use Rattle.std.specs.Prelude.{◌≡◌, ℕ, ◌+◌, ◌%◌, ◌≤◌, ◌↔◌, List, None}
 use Rattle.pst_bytes.specs.Image.{num, bytes_at}
 use Rattle.pst_crc.specs.Crc.{crc, signature_of}
+use Rattle.pst_header.specs.declared.header.TheConstants.{FIRST_AMAP, UNIT}
 use Rattle.pst_page.specs.declared.entry.BlockEntry.{BlockEntry}
 use Rattle.pst_block.specs.Block.{block_size, body_span, trailer_at, bid_key}
 use Rattle.pst_block.specs.Fault.{block_fault}
@@ -9,8 +10,8 @@ use Rattle.pst_block.specs.Fault.{block_fault}
 -- a block's place in the mapped part, which ends at `end` ([MS-PST] 2.2.2.8)
 pub record IsBlockPlace (end : ℕ) (e : BlockEntry) : Type 0 where
   pub small : e.cb ≤ 8176
-  pub whole_units : e.ib % 64 ≡ 0
-  pub mapped : 17408 ≤ e.ib
+  pub whole_units : e.ib % UNIT ≡ 0
+  pub mapped : FIRST_AMAP ≤ e.ib
   pub inside : e.ib + block_size e.cb ≤ end
 
 -- its trailer (2.2.2.8.1): cb, wSig, dwCRC, bid

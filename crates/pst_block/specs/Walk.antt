@@ -4,6 +4,7 @@ use Rattle.std.specs.Prelude.{◌≡◌, ⊤, ℕ, ◌-◌, ◌/◌, ◌↔◌, 
 use Rattle.pst_bytes.specs.declared.span.Span.{Span}
 use Rattle.pst_fault.specs.declared.fault.Fault.{Fault}
 use Rattle.pst_fault.specs.First.{◌then◌}
+use Rattle.pst_header.specs.declared.header.TheConstants.{FIRST_AMAP, UNIT}
 use Rattle.pst_page.specs.declared.entry.BlockEntry.{BlockEntry}
 use Rattle.pst_space.specs.Claimed.{Claimed, with_spans}
 use Rattle.pst_space.specs.Apart.{AreFree, AreApart}
@@ -49,4 +50,4 @@ pub record AreClaimed (old new : Claimed) (entries : List BlockEntry) : Type 0 w
 -- Where each unit of the mapped part has its flag, there is no fault exactly where all blocks are good, and lie on nothing
 -- that is claimed and not on each other.
 abbrev pub BlocksLaw : Type 0
-BlocksLaw = (I : List ℕ) (end : ℕ) (old new : Claimed) (entries : List BlockEntry) → length old ≡ (end - 17408) / 64 → (AreGood I end entries × AreClaimed old new entries) ↔ (blocks_walk end I old entries ≡ Ok new)
+BlocksLaw = (I : List ℕ) (end : ℕ) (old new : Claimed) (entries : List BlockEntry) → length old ≡ (end - FIRST_AMAP) / UNIT → (AreGood I end entries × AreClaimed old new entries) ↔ (blocks_walk end I old entries ≡ Ok new)

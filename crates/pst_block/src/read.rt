@@ -6,6 +6,7 @@ ghost use Rattle.pst_crc.specs.Crc.{crc};
 ghost use Rattle.pst_fault.specs.First.{answer, Checks};
 ghost use Rattle.pst_header.specs.Head.{Head};
 ghost use Rattle.pst_header.specs.Header.{end_of};
+ghost use Rattle.pst_header.specs.declared.header.TheConstants.{FIRST_AMAP, UNIT};
 ghost use Rattle.pst_block.specs.Block.{block_span, body_span, block_size as size_of};
 ghost use Rattle.pst_block.specs.Fault.{is_trailer, block_place_fault, block_trailer_fault, block_fault};
 ghost use Rattle.pst_block.specs.Good.{GoodBlock};
@@ -13,11 +14,8 @@ ghost use Rattle.pst_block.specs.Good.{GoodBlock};
 use crate::size::{block_size, body_span};
 use pst_bytes::{Image, Span};
 use pst_fault::{Fault, Kind};
-use pst_header::Header;
+use pst_header::{FIRST_AMAP, Header, UNIT};
 use pst_page::{BlockEntry, PageKind};
-
-// Where the mapped part begins.
-const MAPPED: u64 = 0x4400;
 
 // How many bytes a body has at most.
 const MOST: u16 = 8176;
@@ -36,14 +34,15 @@ pub struct Block<'a> {
 pub(crate) fn block_place(header: &Header, entry: BlockEntry) -> Result<Span, Fault>
     ensures exact { result ≡ answer (block_place_fault (end_of header.now) entry)
         (block_span entry) }
-    ensures whole_units { OnOk result (entry.ib % 64 ≡ 0) }
-    ensures mapped { OnOk result (17408 ≤ entry.ib) }
+    ensures whole_units { OnOk result (entry.ib % UNIT ≡ 0) }
+    ensures mapped { OnOk result (FIRST_AMAP ≤ entry.ib) }
     ensures inside { OnOk result (entry.ib + size_of entry.cb ≤ end_of header.now) }
 {
     let end = header.end();
     let ib = entry.ib;
     let size = block_size(entry.cb);
-    if entry.cb <= MOST && ib.is_multiple_of(64) && ib >= MAPPED && ib <= end && end - ib >= size {
+    let is_mapped = ib.is_multiple_of(UNIT) && ib >= FIRST_AMAP && ib <= end && end - ib >= size;
+    if entry.cb <= MOST && is_mapped {
         Ok(Span { at: ib, len: size })
     } else {
         Err(Fault::within(Kind::BlockPlace, ib, entry.bid))
@@ -120,7 +119,7 @@ fn checked<'a>(image: Image<'a>, header: &Header, entry: BlockEntry) -> Result<B
 
 /// The block of an entry of the block B-tree of a file whose header is this one, or its first fault, at the block's place
 /// `entry.ib` and with the entry's identifier: BlockPlace, where its body has over 8,176 bytes, or it does not lie in the
-/// mapped part of the file, which begins at 0x4400 and ends at `header.end()`, on a multiple of 64 ([MS-PST] 2.2.2.8);
+/// mapped part of the file, which begins at `FIRST_AMAP` and ends at `header.end()`, on a multiple of `UNIT` ([MS-PST] 2.2.2.8);
 /// BlockTrailer, where the length, the identifier, the signature or the check value of its trailer is wrong (2.2.2.8.1).
 /// Bit 0 of identifiers says nothing; the signature is of the identifier as the trailer has it. Padding is free.
 pub fn read_block<'a>(

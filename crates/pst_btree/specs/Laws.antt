@@ -1,5 +1,6 @@
 -- What a walk without fault says of the image.
 use Rattle.std.specs.Prelude.{◌≡◌, ℕ, ◌-◌, ◌/◌, ◌↔◌, List, length, Ok}
+use Rattle.pst_header.specs.declared.header.TheConstants.{FIRST_AMAP, UNIT}
 use Rattle.pst_header.specs.declared.header.Bref.{Bref}
 use Rattle.pst_page.specs.declared.kind.PageKind.{PageKind}
 use Rattle.pst_space.specs.Claimed.{Claimed, with_spans}
@@ -21,7 +22,7 @@ pub record IsFoundOf (claimed : Claimed) (found : Found) (tree : Tree) : Type 0 
 -- whose keys keep their bounds and whose pages lie on nothing that is claimed and not on each other; and what is found is
 -- that tree's.
 abbrev pub WalkLaw : Type 0
-WalkLaw = (kind : PageKind) (I : List ℕ) (end : ℕ) (claimed : Claimed) (root : Bref) (found : Found) → length claimed ≡ (end - 17408) / 64 →
+WalkLaw = (kind : PageKind) (I : List ℕ) (end : ℕ) (claimed : Claimed) (root : Bref) (found : Found) → length claimed ≡ (end - FIRST_AMAP) / UNIT →
     (tree_walk kind I end claimed root ≡ Ok found) ↔ ((level : ℕ) × (tree : Tree) × IsTree kind I end root level tree × IsFoundOf claimed found tree)
 
 -- An image spells at most one tree under a root.

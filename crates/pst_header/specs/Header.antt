@@ -6,6 +6,7 @@ use Rattle.pst_fault.specs.declared.fault.Fault.{Fault}
 use Rattle.pst_fault.specs.declared.kind.Kind.TheVariants.{Short, Magic, Version, Encoded, HeaderCheck, Root, MapsInvalid}
 use Rattle.pst_fault.specs.Fault.{fault_at}
 use Rattle.pst_fault.specs.First.{◌then◌, holds_or}
+use Rattle.pst_header.specs.declared.header.TheConstants.{FIRST_AMAP, REGION}
 use Rattle.pst_header.specs.declared.header.Header.{Header}
 use Rattle.pst_header.specs.declared.header.Bref.{Bref}
 
@@ -29,16 +30,16 @@ fields I = record {
 
 -- Allocation map j stands at 17,408 + 253,952 * j: it maps itself and what follows, up to the next one (2.2.2.7.2).
 abbrev pub amap_place : ℕ → ℕ
-amap_place j = 17408 + 253952 * j
+amap_place j = FIRST_AMAP + REGION * j
 
 -- the place of some allocation map
 abbrev pub is_amap_place : ℕ → Bool
-is_amap_place at = nat_le 17408 at && nat_eq ((at - 17408) % 253952) 0
+is_amap_place at = nat_le FIRST_AMAP at && nat_eq ((at - FIRST_AMAP) % REGION) 0
 
 -- The last allocation map lies before the end of the file, and so does the page map behind it, which the first
 -- and each eighth one has (2.2.2.7.3).
 abbrev pub is_last_amap : ℕ → ℕ → Bool
-is_last_amap last eof = nat_le (last + (if nat_eq ((last - 17408) / 253952 % 8) 0 then 1024 else 512)) eof
+is_last_amap last eof = nat_le (last + (if nat_eq ((last - FIRST_AMAP) / REGION % 8) 0 then 1024 else 512)) eof
 
 -- ---- the first fault, in the order of the rules
 
@@ -69,8 +70,8 @@ header_fault I =
 
 -- the end of the mapped part: of the file, or of what the last allocation map maps
 abbrev pub end_of : Header → ℕ
-end_of h = min h.eof (h.last_amap + 253952)
+end_of h = min h.eof (h.last_amap + REGION)
 
 -- how many allocation maps there are
 abbrev pub amap_count_of : Header → ℕ
-amap_count_of h = (h.last_amap - 17408) / 253952 + 1
+amap_count_of h = (h.last_amap - FIRST_AMAP) / REGION + 1

@@ -3,6 +3,15 @@
 ghost use Rattle.std.specs.Prelude.{◌≡◌};
 ghost use Rattle.pst_header.specs.Header.{end_of, amap_count_of};
 
+/// Where the mapped part of a file begins, and with it the first allocation map ([MS-PST] 2.2.2.7.2).
+pub const FIRST_AMAP: u64 = 0x4400;
+
+/// How many bytes an allocation map maps, itself with them: so many lie between two maps ([MS-PST] 2.2.2.7.2).
+pub const REGION: u64 = 253_952;
+
+/// How many bytes each bit of an allocation map stands for ([MS-PST] 2.2.2.7.2). Pages and blocks begin at a multiple of it.
+pub const UNIT: u64 = 64;
+
 /// A reference to a page, a BREF ([MS-PST] 2.2.2.4).
 #[derive(Clone, Copy, Debug, PartialEq, Eq)]
 pub struct Bref {
@@ -37,17 +46,17 @@ pub struct Header {
 
 impl Header {
     /// The end of the mapped part, as an offset in the file: of the file itself, or of what the last allocation map
-    /// maps ([MS-PST] 2.2.2.7.2). The mapped part begins at 0x4400.
+    /// maps ([MS-PST] 2.2.2.7.2). The mapped part begins at `FIRST_AMAP`.
     pub fn end(&self) -> u64
         ensures { result ≡ end_of self.now }
     {
-        self.eof.min(self.last_amap.saturating_add(253952))
+        self.eof.min(self.last_amap.saturating_add(REGION))
     }
 
     /// How many allocation maps there are ([MS-PST] 2.2.2.7.2).
     pub fn amap_count(&self) -> u64
         ensures { result ≡ amap_count_of self.now }
     {
-        self.last_amap.saturating_sub(17408) / 253952 + 1
+        self.last_amap.saturating_sub(FIRST_AMAP) / REGION + 1
     }
 }

@@ -5,7 +5,7 @@ mod header;
 mod laws;
 mod read;
 
-pub use header::{Bref, Header};
+pub use header::{Bref, FIRST_AMAP, Header, REGION, UNIT};
 pub use laws::{header_decides, header_ends_inside};
 pub use read::read_header;
 

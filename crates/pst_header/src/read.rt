@@ -8,7 +8,7 @@ ghost use Rattle.pst_header.specs.Head.{Head};
 ghost use Rattle.pst_header.specs.declared.header.Header.{Header};
 ghost use Rattle.pst_header.specs.Header.{bref_at, fields, header_fault, check_fault, root_fault, is_amap_place, is_last_amap};
 
-use crate::header::{Bref, Header};
+use crate::header::{Bref, FIRST_AMAP, Header, REGION};
 use pst_bytes::{Image, Span};
 use pst_fault::{Fault, Kind};
 
@@ -71,13 +71,13 @@ fn check_values(image: Image) -> Result<(), Fault>
 fn is_amap_place(at: u64) -> bool
     ensures { result ≡ is_amap_place at }
 {
-    at >= 17408 && (at - 17408).is_multiple_of(253952)
+    at >= FIRST_AMAP && (at - FIRST_AMAP).is_multiple_of(REGION)
 }
 
 fn is_last_amap(last: u64, eof: u64) -> bool
     ensures { result ≡ is_last_amap last eof }
 {
-    let has_pmap = last.saturating_sub(17408) / 253952 % 8 == 0;
+    let has_pmap = last.saturating_sub(FIRST_AMAP) / REGION % 8 == 0;
     let pages = if has_pmap { 1024 } else { 512 };
     last <= eof && eof - last >= pages
 }

@@ -6,14 +6,15 @@ use Rattle.pst_fault.specs.declared.fault.Fault.{Fault}
 use Rattle.pst_fault.specs.declared.kind.Kind.TheVariants.{PagePlace, PageTrailer, PageShape}
 use Rattle.pst_fault.specs.Fault.{fault_in}
 use Rattle.pst_fault.specs.First.{◌then◌, holds_or}
+use Rattle.pst_header.specs.declared.header.TheConstants.{FIRST_AMAP, UNIT}
 use Rattle.pst_header.specs.declared.header.Bref.{Bref}
 use Rattle.pst_page.specs.declared.kind.PageKind.{PageKind}
 use Rattle.pst_page.specs.Entry.{entry_size}
 use Rattle.pst_page.specs.Page.{page_type, checked_span, count_at, width_at, level_at}
 
--- A page lies in the mapped part, which begins at 0x4400 and ends at `end`, on a multiple of 64.
+-- A page lies in the mapped part, which begins at the first allocation map and ends at `end`, in whole units.
 unfoldable pub is_page_place : ℕ → ℕ → Bool
-is_page_place end ib = nat_eq (ib % 64) 0 && nat_le 17408 ib && nat_le (ib + 512) end
+is_page_place end ib = nat_eq (ib % UNIT) 0 && nat_le FIRST_AMAP ib && nat_le (ib + 512) end
 
 -- The trailer (2.2.2.7.1): the type twice, the identifier, the signature and the check value.
 unfoldable pub has_page_trailer : PageKind → List ℕ → Bref → Bool

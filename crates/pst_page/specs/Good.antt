@@ -2,6 +2,7 @@
 use Rattle.std.specs.Prelude.{◌≡◌, ℕ, ◌+◌, ◌*◌, ◌%◌, ◌<◌, ◌≤◌, ◌↔◌, List, None}
 use Rattle.pst_bytes.specs.Image.{num, bytes_at}
 use Rattle.pst_crc.specs.Crc.{crc, signature_of}
+use Rattle.pst_header.specs.declared.header.TheConstants.{FIRST_AMAP, UNIT}
 use Rattle.pst_header.specs.declared.header.Bref.{Bref}
 use Rattle.pst_page.specs.declared.kind.PageKind.{PageKind}
 use Rattle.pst_page.specs.Entry.{entry_size}
@@ -10,8 +11,8 @@ use Rattle.pst_page.specs.Fault.{page_fault}
 
 -- a page's place in the mapped part, which ends at `end` ([MS-PST] 2.2.2.7)
 pub record IsPagePlace (end : ℕ) (ib : ℕ) : Type 0 where
-  pub whole_units : ib % 64 ≡ 0
-  pub mapped : 17408 ≤ ib
+  pub whole_units : ib % UNIT ≡ 0
+  pub mapped : FIRST_AMAP ≤ ib
   pub inside : ib + 512 ≤ end
 
 -- its trailer (2.2.2.7.1): ptype, ptypeRepeat, wSig, dwCRC, bid

@@ -5,6 +5,7 @@ ghost use Rattle.pst_bytes.specs.Image.{bytes_of};
 ghost use Rattle.pst_fault.specs.First.{answer};
 ghost use Rattle.pst_header.specs.Head.{Head};
 ghost use Rattle.pst_header.specs.Header.{end_of};
+ghost use Rattle.pst_header.specs.declared.header.TheConstants.{FIRST_AMAP, UNIT};
 ghost use Rattle.pst_fault.specs.First.{Checks};
 ghost use Rattle.pst_page.specs.Page.{page_span};
 ghost use Rattle.pst_page.specs.Fault.{has_shape, page_place_fault, page_trailer_fault, page_shape_fault, open_fault, page_fault};
@@ -14,18 +15,15 @@ use crate::kind::PageKind;
 use crate::page::Page;
 use pst_bytes::{Image, Span};
 use pst_fault::{Fault, Kind};
-use pst_header::{Bref, Header};
+use pst_header::{Bref, FIRST_AMAP, Header, UNIT};
 
 // How many bytes a page has, and how many of them stand before its trailer.
 const PAGE: u64 = 512;
 
 const CHECKED: u64 = 496;
 
-// Where the mapped part begins.
-const MAPPED: u64 = 0x4400;
-
 /// The span of the page that a reference names, or PagePlace at the page: it lies in the mapped part of the file, which
-/// begins at 0x4400 and ends at `header.end()`, on a multiple of 64 ([MS-PST] 2.2.2.7). The page is not read.
+/// begins at `FIRST_AMAP` and ends at `header.end()`, on a multiple of `UNIT` ([MS-PST] 2.2.2.7). The page is not read.
 #[tactic(auto, unfolding(crate::specs::Fault::page_place_fault, crate::specs::Fault::is_page_place))]
 pub fn page_place(header: &Header, bref: Bref) -> Result<Span, Fault>
     // Where it lies, or which fault it is.
@@ -33,13 +31,13 @@ pub fn page_place(header: &Header, bref: Bref) -> Result<Span, Fault>
         (page_span bref.ib) }
 
     // Whole units of 64 bytes of the mapped part.
-    ensures whole_units { OnOk result (bref.ib % 64 ≡ 0) }
-    ensures mapped { OnOk result (17408 ≤ bref.ib) }
+    ensures whole_units { OnOk result (bref.ib % UNIT ≡ 0) }
+    ensures mapped { OnOk result (FIRST_AMAP ≤ bref.ib) }
     ensures inside { OnOk result (bref.ib + 512 ≤ end_of header.now) }
 {
     let end = header.end();
     let ib = bref.ib;
-    if ib.is_multiple_of(64) && ib >= MAPPED && ib <= end && end - ib >= PAGE {
+    if ib.is_multiple_of(UNIT) && ib >= FIRST_AMAP && ib <= end && end - ib >= PAGE {
         Ok(Span { at: ib, len: PAGE })
     } else {
         Err(Fault::within(Kind::PagePlace, ib, bref.bid))

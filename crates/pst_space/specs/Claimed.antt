@@ -5,6 +5,7 @@ use Rattle.pst_bytes.specs.declared.span.Span.{Span}
 use Rattle.pst_fault.specs.declared.fault.Fault.{Fault}
 use Rattle.pst_fault.specs.declared.kind.Kind.TheVariants.{Overlap}
 use Rattle.pst_fault.specs.Fault.{fault_at}
+use Rattle.pst_header.specs.declared.header.TheConstants.{FIRST_AMAP, UNIT}
 use Rattle.pst_header.specs.declared.header.Header.{Header}
 use Rattle.pst_header.specs.Header.{end_of, amap_place, amap_count_of}
 
@@ -14,23 +15,23 @@ Claimed = List Bool
 
 -- how many whole units the mapped part has
 abbrev pub unit_total : Header → ℕ
-unit_total h = (end_of h - 17408) / 64
+unit_total h = (end_of h - FIRST_AMAP) / UNIT
 
 -- the flag of a unit; past the mapped part nothing is claimed
 abbrev pub flag_of : Claimed → ℕ → Bool
 flag_of claimed unit = slice_index_or claimed unit false
 
 abbrev pub first_unit : Span → ℕ
-first_unit span = (span.at - 17408) / 64
+first_unit span = (span.at - FIRST_AMAP) / UNIT
 
 abbrev pub unit_count : Span → ℕ
-unit_count span = span.len / 64
+unit_count span = span.len / UNIT
 
 -- the span is one or more whole units of the mapped part
 pub record IsUnits (claimed : Claimed) (span : Span) : Type 0 where
-  pub mapped : 17408 ≤ span.at
-  pub whole : span.at % 64 ≡ 0
-  pub whole_len : span.len % 64 ≡ 0
+  pub mapped : FIRST_AMAP ≤ span.at
+  pub whole : span.at % UNIT ≡ 0
+  pub whole_len : span.len % UNIT ≡ 0
   pub some : 0 < span.len
   pub inside : first_unit span + unit_count span ≤ length claimed
 

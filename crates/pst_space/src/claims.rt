@@ -10,12 +10,12 @@ ghost use Rattle.pst_space.specs.Claimed.{claim_of, claim_all, flag_of, is_clear
 use crate::bits;
 use pst_bytes::Span;
 use pst_fault::{Fault, Kind};
-use pst_header::Header;
+use pst_header::{FIRST_AMAP, Header, REGION, UNIT};
 use std::alloc::{AllocError, Global};
 use std::marker::Model;
 
-/// The units of the mapped part of a file that a page or a block has claimed. Unit u is the 64 bytes at the offset
-/// `17408 + 64 * u`. A contract sees a flag for each unit; the memory is a bit for each, taken by `new`.
+/// The units of the mapped part of a file that a page or a block has claimed. Unit u is the `UNIT` bytes at the
+/// offset `FIRST_AMAP + UNIT * u`. A contract sees a flag for each unit; the memory is a bit for each, taken by `new`.
 #[derive(Drop)]
 pub struct Claims {
     words: Vec<u64>,
@@ -66,7 +66,7 @@ impl Claims {
         requires { IsUnits self.old (page_at at) }
         ensures { self.new ≡ with_span self.old (page_at at) }
     {
-        let first = ((at - 17408) / 64) as usize;
+        let first = ((at - FIRST_AMAP) / UNIT) as usize;
         fill(&mut self.words, first, 8);
     }
 
@@ -77,7 +77,7 @@ impl Claims {
         requires place { amap_place region + 512 < 2 ^ 64 }
         ensures { self.new ≡ with_spans self.old (map_pages_at region) }
     {
-        let amap = 17408 + 253952 * region;
+        let amap = FIRST_AMAP + REGION * region;
         self.fill_page(amap);
         if region.is_multiple_of(8) {
             self.fill_page(amap + 512);
@@ -94,7 +94,7 @@ impl Claims {
         ensures maps { IfOk result (λ c. c ≡ maps_claimed header.now) }
         ensures units { IfOk result (λ c. length c ≡ unit_total header.now) }
     {
-        let units = (header.end().saturating_sub(17408) / 64) as usize;
+        let units = (header.end().saturating_sub(FIRST_AMAP) / UNIT) as usize;
         let mut claims = Claims::none(alloc, units)?;
         for region in 0..header.amap_count() {
             claims.fill_maps(region);
@@ -110,8 +110,8 @@ impl Claims {
         ensures answers { ClaimAnswers self.old span self.new result }
         ensures same_units { length self.new ≡ length self.old }
     {
-        let first = ((span.at - 17408) / 64) as usize;
-        let count = (span.len / 64) as usize;
+        let first = ((span.at - FIRST_AMAP) / UNIT) as usize;
+        let count = (span.len / UNIT) as usize;
         if !bits::is_clear(&self.words, first, count) {
             return Err(Fault::at(Kind::Overlap, span.at));
         }
