@@ -48,7 +48,7 @@ pub fn compare(
     requires units { length claims.old ≡ unit_total header.now }
 
     // Which fault it is, and that there is none where a report is given.
-    ensures first { IfErr result
+    ensures exact { IfErr result
         (IsFirst (maps_fault (bytes_of image.entry) header.now claims.old)) }
     ensures none { OnOk result (maps_fault (bytes_of image.entry) header.now claims.old ≡ None) }
 

@@ -30,7 +30,7 @@ fn fault_at(fault: Fault, nid: u32) -> Fault
 #[tactic(auto, using(crate::proofs::NodeLemmas::data_first_told))]
 fn checked(blocks: &Blocks, bid: u64, nid: u32, seen: &mut Seen) -> Result<(), Fault>
     requires known { IsSeenTrue (table_of blocks.now) seen.old }
-    ensures first { Tells result (option_map (at_node nid) (data_fault (table_of blocks.now) bid))
+    ensures exact { Tells result (option_map (at_node nid) (data_fault (table_of blocks.now) bid))
         tt }
     ensures sound { OnOk result (data_fault (table_of blocks.now) bid ≡ None) }
     ensures known { IsSeenTrue (table_of blocks.now) seen.new }
@@ -69,7 +69,7 @@ pub fn check_data(
     ensures known { IsSeenTrue (table_of blocks.now) seen.new }
 
     // No fault, or the first one; or that memory ran out.
-    ensures first { Tells result (option_map (at_node nid) (data_fault (table_of blocks.now) bid))
+    ensures exact { Tells result (option_map (at_node nid) (data_fault (table_of blocks.now) bid))
         tt }
 
     // Where there is none, the identifier has a data tree, with the spans that look-ups give.

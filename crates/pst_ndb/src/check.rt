@@ -56,7 +56,7 @@ pub struct Checked<'a> {
 #[tactic(auto, unfolding(crate::specs::Fault::file_fault))]
 fn check_file<'a>(alloc: Global, image: Image<'a>, header: &Header) -> Result<Checked<'a>, Fault>
     requires { Head (bytes_of image) header.now }
-    ensures first { IfErr result (IsFirst (file_fault (bytes_of image.entry) header.now)) }
+    ensures exact { IfErr result (IsFirst (file_fault (bytes_of image.entry) header.now)) }
     ensures none { OnOk result (file_fault (bytes_of image.entry) header.now ≡ None) }
     ensures image { IfOk result (λ c. image_of_ndb c.ndb ≡ image.entry) }
     ensures header { IfOk result (λ c. header_of c.ndb ≡ header.now) }
@@ -89,7 +89,7 @@ fn check_file<'a>(alloc: Global, image: Image<'a>, header: &Header) -> Result<Ch
 // The check, with the fault that it gives.
 #[tactic(auto, unfolding(crate::specs::Fault::ndb_fault))]
 fn check_exactly<'a>(alloc: Global, image: Image<'a>) -> Result<Checked<'a>, Fault>
-    ensures first { IfErr result (IsFirst (ndb_fault (bytes_of image.entry))) }
+    ensures exact { IfErr result (IsFirst (ndb_fault (bytes_of image.entry))) }
     ensures none { OnOk result (ndb_fault (bytes_of image.entry) ≡ None) }
     ensures image { IfOk result (λ c. image_of_ndb c.ndb ≡ image.entry) }
     ensures header { IfOk result (λ c. header_of c.ndb ≡ fields (bytes_of image.entry)) }
@@ -127,7 +127,7 @@ fn check_exactly<'a>(alloc: Global, image: Image<'a>) -> Result<Checked<'a>, Fau
 /// NoMemory where memory is refused.
 pub fn check_ndb<'a>(alloc: Global, image: Image<'a>) -> Result<Checked<'a>, Fault>
     // Which fault it is, and that there is none where a node database is given.
-    ensures first { IfErr result (IsFirst (ndb_fault (bytes_of image.entry))) }
+    ensures exact { IfErr result (IsFirst (ndb_fault (bytes_of image.entry))) }
     ensures none { OnOk result (ndb_fault (bytes_of image.entry) ≡ None) }
 
     // What is given is what the bytes spell; and what they spell is given, unless memory ran out.

@@ -72,7 +72,7 @@ fn check_subs(
 ) -> Result<(), Fault>
     requires { IsKnownTrue (table_of blocks.now) known.old }
     ensures known { IsKnownTrue (table_of blocks.now) known.new }
-    ensures first { Tells result (option_map (at_top entry.bid_sub entry.nid)
+    ensures exact { Tells result (option_map (at_top entry.bid_sub entry.nid)
         (sub_fault (table_of blocks.now) LISTS entry.bid_sub)) tt }
     ensures adds { let t = table_of blocks.now in
         AddsKnown t (λ from. Leads t from entry.bid_sub) known.old known.new }
@@ -101,7 +101,7 @@ fn check_node(
 ) -> Result<(), Fault>
     requires { IsKnownTrue (table_of blocks.now) known.old }
     ensures known { IsKnownTrue (table_of blocks.now) known.new }
-    ensures first { Tells result (node_fault (table_of blocks.now) entry) tt }
+    ensures exact { Tells result (node_fault (table_of blocks.now) entry) tt }
     ensures adds { let t = table_of blocks.now in
         AddsKnown t (λ from. AreLedTo t from (entry_of_node entry)) known.old known.new }
     ensures there { let t = table_of blocks.now in
@@ -122,7 +122,7 @@ fn check_each(
 ) -> Result<(), Fault>
     requires { IsKnownTrue (table_of blocks.now) known.old }
     ensures known { IsKnownTrue (table_of blocks.now) known.new }
-    ensures first { Tells result (nodes_fault (table_of blocks.now) (node_entries tree.now)) tt }
+    ensures exact { Tells result (nodes_fault (table_of blocks.now) (node_entries tree.now)) tt }
     ensures adds { let t = table_of blocks.now in
         AddsKnown t (AreLedEach t (map entry_of_node (node_entries tree.now))) known.old known.new }
     ensures there { let t = table_of blocks.now in
@@ -138,7 +138,7 @@ fn check_each(
 /// Checks the trees of each node's blocks, in order of the nodes' identifiers, and answers how many internal blocks were
 /// expanded for that, each once; or the first fault.
 pub(crate) fn check_nodes(alloc: Global, blocks: &Blocks, tree: &NodeTree) -> Result<u64, Fault>
-    ensures first { IfErr result
+    ensures exact { IfErr result
         (IsFirst (nodes_fault (table_of blocks.now) (node_entries tree.now))) }
     ensures none { OnOk result (nodes_fault (table_of blocks.now) (node_entries tree.now) ≡ None) }
     ensures expansions { IfOk result (AreExpanded (table_of blocks.now) (node_entries tree.now)) }

@@ -78,7 +78,7 @@ pub(crate) fn check_maps<'a>(
     header: &Header,
 ) -> Result<(Space<'a>, MapReport), Fault>
     requires { Head (bytes_of image) header.now }
-    ensures first { IfErr result (IsFirst (space_fault (bytes_of image.entry) header.now)) }
+    ensures exact { IfErr result (IsFirst (space_fault (bytes_of image.entry) header.now)) }
     ensures none { OnOk result (space_fault (bytes_of image.entry) header.now ≡ None) }
     ensures report { IfOk result (λ x. IsReport (bytes_of image.entry) header.now
         (space_claimed (bytes_of image.entry) header.now) x.1) }

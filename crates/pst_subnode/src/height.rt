@@ -70,7 +70,7 @@ pub fn check_sub(
     ensures known { AreHeightsTrue (table_of blocks.now) heights.new }
 
     // The height, or the first fault; or that memory ran out.
-    ensures first { Tells result (option_map (at_top bid nid)
+    ensures exact { Tells result (option_map (at_top bid nid)
         (sub_fault (table_of blocks.now) LISTS bid)) (sub_height (table_of blocks.now) LISTS bid) }
     ensures small { IfOk result (λ h. h ≤ LISTS) }
 

@@ -57,7 +57,7 @@ pub(crate) fn check_entry_data(
     seen: &mut Seen,
 ) -> Result<(), Fault>
     requires seen { IsSeenTrue (table_of blocks.now) seen.old }
-    ensures first { Tells result (data_fault (table_of blocks.now) sub.bid_data) tt }
+    ensures exact { Tells result (data_fault (table_of blocks.now) sub.bid_data) tt }
     ensures seen { IsSeenTrue (table_of blocks.now) seen.new }
     ensures adds { let t = table_of blocks.now in
         AddsTrees t (IsInTree t sub.bid_data) seen.old seen.new }

@@ -39,7 +39,7 @@ fn height_of_entry(
 ) -> Result<u32, Fault>
     requires begun { let t = table_of blocks.now in
         IsBegun t seen.old heights.old (at_entry t sub) 1 limit }
-    ensures first { let t = table_of blocks.now in
+    ensures exact { let t = table_of blocks.now in
         Tells result (entry_fault t (sub_fault t limit) sub) (entry_height (sub_height t limit) sub) }
     ensures small { IfOk result (λ h. h ≤ limit) }
     ensures walked { let t = table_of blocks.now in
@@ -64,7 +64,7 @@ fn height_of_entries(
 ) -> Result<u32, Fault>
     requires begun { let t = table_of blocks.now in
         IsBegun t seen.old heights.old (at_entries t (subs_left subs)) 1 limit }
-    ensures first { let t = table_of blocks.now in
+    ensures exact { let t = table_of blocks.now in
         Tells result (first_among (entry_fault t (sub_fault t limit)) (subs_left subs.entry))
         (most_among (entry_height (sub_height t limit)) (subs_left subs.entry)) }
     ensures small { IfOk result (λ h. h ≤ limit) }
@@ -97,7 +97,7 @@ fn height_of_slblock(
     requires begun { let t = table_of blocks.now in
         IsBegun t seen.old heights.old (at_list t bid) 0 limit }
     requires fresh { state_of heights.old bid ≡ None }
-    ensures first { let t = table_of blocks.now in
+    ensures exact { let t = table_of blocks.now in
         Tells result (sub_fault t limit bid) (sub_height t limit bid) }
     ensures small { IfOk result (λ h. h ≤ limit) }
     ensures walked { let t = table_of blocks.now in
@@ -138,7 +138,7 @@ fn height_of_leaf(
         IsSlblockList t (leaf_bid_in (body_of t holder) i) }
     requires begun { let t = table_of blocks.now in
         IsBegun t seen.old heights.old (at_list t (leaf_bid_in (body_of t holder) i)) 0 limit }
-    ensures first { let t = table_of blocks.now in
+    ensures exact { let t = table_of blocks.now in
         Tells result (at_leaf t holder limit i) (leaf_height t holder limit i) }
     ensures small { IfOk result (λ h. h ≤ limit) }
     ensures walked { let t = table_of blocks.now in
@@ -172,7 +172,7 @@ fn height_of_leaves(
         (i : ℕ) → i < count → IsSlblockList t (leaf_bid_in (body_of t holder) i) }
     requires begun { let t = table_of blocks.now in
         IsBegun t seen.old heights.old (at_leaves t holder count) 0 limit }
-    ensures first { let t = table_of blocks.now in
+    ensures exact { let t = table_of blocks.now in
         Tells result (at_leaves t holder count limit) (most_below (leaf_height t holder limit) count) }
     ensures small { IfOk result (λ h. h ≤ limit) }
     ensures walked { let t = table_of blocks.now in
@@ -205,7 +205,7 @@ fn height_of_siblock(
     requires begun { let t = table_of blocks.now in
         IsBegun t seen.old heights.old (at_list t bid) 1 limit }
     requires fresh { state_of heights.old bid ≡ None }
-    ensures first { let t = table_of blocks.now in
+    ensures exact { let t = table_of blocks.now in
         Tells result (sub_fault t limit bid) (sub_height t limit bid) }
     ensures small { IfOk result (λ h. h ≤ limit) }
     ensures walked { let t = table_of blocks.now in
@@ -244,7 +244,7 @@ fn height_of_list(
     requires begun { let t = table_of blocks.now in
         IsBegun t seen.old heights.old (at_list t bid) 1 limit }
     requires fresh { state_of heights.old bid ≡ None }
-    ensures first { let t = table_of blocks.now in
+    ensures exact { let t = table_of blocks.now in
         Tells result (sub_fault t limit bid) (sub_height t limit bid) }
     ensures small { IfOk result (λ h. h ≤ limit) }
     ensures walked { let t = table_of blocks.now in
@@ -277,7 +277,7 @@ pub(crate) fn height_of(
 ) -> Result<u32, Fault>
     requires begun { let t = table_of blocks.now in
         IsBegun t seen.old heights.old (at_list t bid) 1 limit }
-    ensures first { let t = table_of blocks.now in
+    ensures exact { let t = table_of blocks.now in
         Tells result (sub_fault t limit bid) (sub_height t limit bid) }
     ensures small { IfOk result (λ h. h ≤ limit) }
     ensures walked { let t = table_of blocks.now in

@@ -67,7 +67,7 @@ fn report_of(ndb: &Ndb, map: MapReport, work: Work) -> Report
 
 // The check, with the fault that it gives.
 fn check_exactly<'a>(alloc: Global, bytes: &'a [u8]) -> Result<Verified<'a>, Fault>
-    ensures first { IfErr result (IsFirst (store_fault bytes.now)) }
+    ensures exact { IfErr result (IsFirst (store_fault bytes.now)) }
     ensures none { OnOk result (store_fault bytes.now ≡ None) }
     ensures view { IfOk result (λ v. bytes_of_store v.store ≡ bytes.now) }
     ensures report { IfOk result (λ v. IsReportOf bytes.now (store_in bytes.now) v.report) }

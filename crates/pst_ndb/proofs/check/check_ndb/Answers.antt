@@ -6,4 +6,4 @@ pub returns-clause-found : goal.returns-clause-found
 returns-clause-found c = found_database (bytes_of c.args.image) c.check_exactly.result c.check_exactly.ensures.none c.check_exactly.ensures.header c.check_exactly.ensures.report
 
 pub returns-clause-only : goal.returns-clause-only
-returns-clause-only c h blocks nodes order d = not_refused (bytes_of c.args.image) h blocks nodes order c.check_exactly.result c.check_exactly.ensures.first d
+returns-clause-only c h blocks nodes order d = not_refused (bytes_of c.args.image) h blocks nodes order c.check_exactly.result c.check_exactly.ensures.exact d

@@ -9,10 +9,10 @@ use Rattle.pst_ndb.specs.Known.{entry_of_node}
 use Rattle.pst_ndb.proofs.NodeLemmas.{nodes_next, nodes_refused}
 use Rattle.pst_ndb.proofs.nodes.check_each.Goals as goal
 
-pub returns-in_err-check_node-clause-first : goal.returns-in_err-check_node-clause-first
-returns-in_err-check_node-clause-first c =
+pub returns-in_err-check_node-clause-exact : goal.returns-in_err-check_node-clause-exact
+returns-in_err-check_node-clause-exact c =
     let p = err_from_is_err_and c.from_residual.result c.from_residual.ensures.1 in
-    rw (p.1, p.2) (nodes_refused (table_of c.args.blocks.now) _ _ _ _ _ c.in-Some.ensures.steps c.in_err-check_node.ensures.first c.loop-entry.invariant.first)
+    rw (p.1, p.2) (nodes_refused (table_of c.args.blocks.now) _ _ _ _ _ c.in-Some.ensures.steps c.in_err-check_node.ensures.exact c.loop-entry.invariant.first)
 
 pub returns-in_err-check_node-clause-adds : goal.returns-in_err-check_node-clause-adds
 returns-in_err-check_node-clause-adds c =

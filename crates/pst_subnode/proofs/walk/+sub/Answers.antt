@@ -20,14 +20,14 @@ use Rattle.pst_subnode.proofs.walk.+sub.Goals as goal
 
 -- ---- a block identifier
 
-pub height_of-returns-then-limit-eq0-clause-first : goal.height_of-returns-then-limit-eq0-clause-first
-height_of-returns-then-limit-eq0-clause-first t c =
+pub height_of-returns-then-limit-eq0-clause-exact : goal.height_of-returns-then-limit-eq0-clause-exact
+height_of-returns-then-limit-eq0-clause-exact t c =
     let table = table_of c.args.blocks.now in
     let named = sym c.is_no_block.ensures ∙ c.if-is_no_block.false in
     inr (rw c.nesting_fault.ensures (sub_fault_below table c.args.limit c.args.bid c.if-limit-eq0.true named))
 
-pub height_of-returns-in-Some-clause-first : goal.height_of-returns-in-Some-clause-first
-height_of-returns-in-Some-clause-first t c =
+pub height_of-returns-in-Some-clause-exact : goal.height_of-returns-in-Some-clause-exact
+height_of-returns-in-Some-clause-exact t c =
     let known = c.height_known.ensures in
     known_tells (table_of c.args.blocks.now) c.args.heights.now c.args.bid c.in-Some.height 1 c.args.limit c.height_known.result (rank_small (table_of c.args.blocks.now) c.args.bid) c.requires.begun.lists c.requires.begun.come (sym c.state.ensures ∙ c.in-Some.is) known.marked known.fits known.high
 
@@ -38,8 +38,8 @@ height_of-returns-then-is_no_block-clause-there t c = λ e is.
 
 -- ---- a list
 
-pub height_of_list-returns-in_err-check_list-clause-first : goal.height_of_list-returns-in_err-check_list-clause-first
-height_of_list-returns-in_err-check_list-clause-first t c =
+pub height_of_list-returns-in_err-check_list-clause-exact : goal.height_of_list-returns-in_err-check_list-clause-exact
+height_of_list-returns-in_err-check_list-clause-exact t c =
     let p = err_from_is_err_and c.from_residual.result c.from_residual.ensures.1 in
     let table = table_of c.args.blocks.now in
     rw (p.1, p.2, sub_fault_list table c.args.limit (c.args.limit - 1) c.args.bid (omega (arith, c.requires.room)) c.requires.named) (is_first_then (list_fault table c.args.bid) _ _ c.in_err-check_list.ensures)
@@ -69,16 +69,16 @@ height_of_slblock-height_of_entries-requires t c =
       },
     )
 
-pub height_of_slblock-returns-in-Err-clause-first : goal.height_of_slblock-returns-in-Err-clause-first
-height_of_slblock-returns-in-Err-clause-first t c =
+pub height_of_slblock-returns-in-Err-clause-exact : goal.height_of_slblock-returns-in-Err-clause-exact
+height_of_slblock-returns-in-Err-clause-exact t c =
     let table = table_of c.args.blocks.now in
     let is = c.requires.is_list.is_list in
     rw (sub_fault_list table c.args.limit (c.args.limit - 1) c.args.bid (omega (arith, c.requires.room)) is.named)
-    (is_first_after (list_fault table c.args.bid) _ _ is.list (rw c.subs-list.ensures at c.in-Err.ensures.first))
+    (is_first_after (list_fault table c.args.bid) _ _ is.list (rw c.subs-list.ensures at c.in-Err.ensures.exact))
 
-pub height_of_slblock-returns-in_ok-settle-in-Ok-clause-first : goal.height_of_slblock-returns-in_ok-settle-in-Ok-clause-first
-height_of_slblock-returns-in_ok-settle-in-Ok-clause-first t c =
-    list_tells (table_of c.args.blocks.now) c.args.bid c.args.limit (c.args.limit - 1) c.in-Ok.most _ (omega (arith, c.requires.room)) c.requires.is_list.is_list c.subs-list.ensures c.in-Ok.ensures.first
+pub height_of_slblock-returns-in_ok-settle-in-Ok-clause-exact : goal.height_of_slblock-returns-in_ok-settle-in-Ok-clause-exact
+height_of_slblock-returns-in_ok-settle-in-Ok-clause-exact t c =
+    list_tells (table_of c.args.blocks.now) c.args.bid c.args.limit (c.args.limit - 1) c.in-Ok.most _ (omega (arith, c.requires.room)) c.requires.is_list.is_list c.subs-list.ensures c.in-Ok.ensures.exact
 
 pub height_of_slblock-returns-in_err-begin-clause-walked : goal.height_of_slblock-returns-in_err-begin-clause-walked
 height_of_slblock-returns-in_err-begin-clause-walked t c =
@@ -108,7 +108,7 @@ height_of_slblock-returns-in_ok-settle-in-Ok-clause-walked t c =
     let is = c.requires.is_list in
     let begun : IsMarking table c.args.bid c.args.heights.now c.begin.new.self = record { list = is.is_list.list; fresh = c.requires.fresh; put = c.in_ok-begin.ensures.put; grows = c.begin.ensures.grows } in
     let walked = walked_list table c.args.bid list c.args.seen.now c.begin.new.self c.height_of_entries.new.seen mid is c.subs-list.ensures c.in-Ok.ensures.walked in
-    let tells = list_tells table c.args.bid c.args.limit (c.args.limit - 1) c.in-Ok.most _ (omega (arith, c.requires.room)) is.is_list c.subs-list.ensures c.in-Ok.ensures.first in
+    let tells = list_tells table c.args.bid c.args.limit (c.args.limit - 1) c.in-Ok.most _ (omega (arith, c.requires.room)) is.is_list c.subs-list.ensures c.in-Ok.ensures.exact in
     let known = slblock_known table c.args.bid list c.height_of_entries.new.seen mid is.is_list is.rank c.subs-list.ensures c.in-Ok.ensures.there in
     walked_settle table c.args.bid c.args.limit (c.in-Ok.most + 1) c.args.seen.now c.height_of_entries.new.seen c.args.heights.now c.begin.new.self mid c.settle.new.self (omega arith) begun walked tells known c.in_ok-settle-in-Ok.ensures.put c.in_ok-settle-in-Ok.ensures.grows
 
@@ -118,8 +118,8 @@ height_of_slblock-returns-in_ok-settle-in-Ok-clause-there t c =
 
 -- ---- the SLBLOCKs of an SIBLOCK
 
-pub height_of_leaf-returns-in-Some-clause-first : goal.height_of_leaf-returns-in-Some-clause-first
-height_of_leaf-returns-in-Some-clause-first t c =
+pub height_of_leaf-returns-in-Some-clause-exact : goal.height_of_leaf-returns-in-Some-clause-exact
+height_of_leaf-returns-in-Some-clause-exact t c =
     let table = table_of c.args.blocks.now in
     let known = c.height_known.ensures in
     let same : c.bid_at-bid.result ≡ leaf_bid_in (body_of table c.args.holder) c.args.i = c.bid_at-bid.ensures ∙ ap (λ b. leaf_bid_in b c.args.i) c.body_in.ensures in
@@ -152,11 +152,11 @@ height_of_leaves-height_of_leaf-requires t c =
     let come = to_leaf table c.loop-i.heights c.args.limit c.args.count c.loop-i.i c.args.holder inv.first c.loop-i-test.true inv.come in
     (omega arith, (c.requires.room, (c.requires.within, (omega (arith, c.requires.fits, c.loop-i-test.true), (c.requires.are_lists c.loop-i.i c.loop-i-test.true, record { trees = inv.walked.trees; lists = inv.walked.lists; come = come })))))
 
-pub height_of_leaves-returns-in_err-height_of_leaf-clause-first : goal.height_of_leaves-returns-in_err-height_of_leaf-clause-first
-height_of_leaves-returns-in_err-height_of_leaf-clause-first t c =
+pub height_of_leaves-returns-in_err-height_of_leaf-clause-exact : goal.height_of_leaves-returns-in_err-height_of_leaf-clause-exact
+height_of_leaves-returns-in_err-height_of_leaf-clause-exact t c =
     let p = err_from_is_err_and c.from_residual.result c.from_residual.ensures.1 in
     let part = at_leaf (table_of c.args.blocks.now) c.args.holder c.args.limit in
-    rw (p.1, p.2) (is_first_at part c.args.count c.loop-i.i _ c.in_err-height_of_leaf.ensures.first c.loop-i.invariant.first c.loop-i-test.true)
+    rw (p.1, p.2) (is_first_at part c.args.count c.loop-i.i _ c.in_err-height_of_leaf.ensures.exact c.loop-i.invariant.first c.loop-i-test.true)
 
 pub height_of_leaves-returns-in_err-height_of_leaf-clause-walked : goal.height_of_leaves-returns-in_err-height_of_leaf-clause-walked
 height_of_leaves-returns-in_err-height_of_leaf-clause-walked t c =
@@ -191,15 +191,15 @@ height_of_siblock-height_of_leaves-requires t c =
     let known = begin_true table c.args.heights.now c.begin.new.self c.args.bid c.in_ok-begin.ensures.put c.requires.begun.lists in
     (omega arith, (c.requires.room, (c.requires.within, (c.leaf_count-count.ensures.fits, ((λ i lt. record { is_list = (leaf i lt).is_list; rank = (leaf i lt).rank }), record { trees = c.requires.begun.trees; lists = known; come = come })))))
 
-pub height_of_siblock-returns-in-Err-clause-first : goal.height_of_siblock-returns-in-Err-clause-first
-height_of_siblock-returns-in-Err-clause-first t c =
+pub height_of_siblock-returns-in-Err-clause-exact : goal.height_of_siblock-returns-in-Err-clause-exact
+height_of_siblock-returns-in-Err-clause-exact t c =
     let table = table_of c.args.blocks.now in
-    rw (si_fault table c.args.bid c.args.entry c.args.limit (c.args.limit - 1) c.requires.is_list (omega (arith, c.requires.room))) (rw c.leaf_count-count.ensures.value at c.in-Err.ensures.first)
+    rw (si_fault table c.args.bid c.args.entry c.args.limit (c.args.limit - 1) c.requires.is_list (omega (arith, c.requires.room))) (rw c.leaf_count-count.ensures.value at c.in-Err.ensures.exact)
 
-pub height_of_siblock-returns-in_ok-settle-in-Ok-clause-first : goal.height_of_siblock-returns-in_ok-settle-in-Ok-clause-first
-height_of_siblock-returns-in_ok-settle-in-Ok-clause-first t c =
+pub height_of_siblock-returns-in_ok-settle-in-Ok-clause-exact : goal.height_of_siblock-returns-in_ok-settle-in-Ok-clause-exact
+height_of_siblock-returns-in_ok-settle-in-Ok-clause-exact t c =
     let table = table_of c.args.blocks.now in
-    si_tells table c.args.bid c.args.entry c.args.limit c.leaf_count-count.result c.in-Ok.most c.requires.room c.requires.is_list c.leaf_count-count.ensures.value c.in-Ok.ensures.first
+    si_tells table c.args.bid c.args.entry c.args.limit c.leaf_count-count.result c.in-Ok.most c.requires.room c.requires.is_list c.leaf_count-count.ensures.value c.in-Ok.ensures.exact
 
 pub height_of_siblock-returns-in_err-begin-clause-walked : goal.height_of_siblock-returns-in_err-begin-clause-walked
 height_of_siblock-returns-in_err-begin-clause-walked t c =
@@ -230,15 +230,15 @@ height_of_siblock-returns-in_ok-settle-in-Ok-clause-walked t c =
     let least = most_least (leaf_height table c.args.entry c.args.limit) c.leaf_count-count.result in
     let begun : IsMarking table c.args.bid c.args.heights.now c.begin.new.self = record { list = is.is_list.list; fresh = c.requires.fresh; put = c.in_ok-begin.ensures.put; grows = c.begin.ensures.grows } in
     let walked = walked_leaves table c.args.bid c.args.entry c.leaf_count-count.result c.args.seen.now c.begin.new.self c.height_of_leaves.new.seen mid is count c.in-Ok.ensures.walked in
-    let tells = si_tells table c.args.bid c.args.entry c.args.limit c.leaf_count-count.result c.in-Ok.most c.requires.room is count c.in-Ok.ensures.first in
+    let tells = si_tells table c.args.bid c.args.entry c.args.limit c.leaf_count-count.result c.in-Ok.most c.requires.room is count c.in-Ok.ensures.exact in
     let known = siblock_known table c.args.bid c.args.entry c.leaf_count-count.result c.height_of_leaves.new.seen mid is count c.in-Ok.ensures.there in
-    walked_settle table c.args.bid c.args.limit c.in-Ok.most c.args.seen.now c.height_of_leaves.new.seen c.args.heights.now c.begin.new.self mid c.settle.new.self (omega (arith, least, c.in-Ok.ensures.first.1)) begun walked tells known c.in_ok-settle-in-Ok.ensures.put c.in_ok-settle-in-Ok.ensures.grows
+    walked_settle table c.args.bid c.args.limit c.in-Ok.most c.args.seen.now c.height_of_leaves.new.seen c.args.heights.now c.begin.new.self mid c.settle.new.self (omega (arith, least, c.in-Ok.ensures.exact.1)) begun walked tells known c.in_ok-settle-in-Ok.ensures.put c.in_ok-settle-in-Ok.ensures.grows
 
 pub height_of_siblock-returns-in_ok-settle-in-Ok-clause-there : goal.height_of_siblock-returns-in_ok-settle-in-Ok-clause-there
 height_of_siblock-returns-in_ok-settle-in-Ok-clause-there t c =
     let table = table_of c.args.blocks.now in
     let least = most_least (leaf_height table c.args.entry c.args.limit) c.leaf_count-count.result in
-    put_known table c.height_of_leaves.new.heights c.settle.new.self c.args.bid c.in-Ok.most (omega (arith, least, c.in-Ok.ensures.first.1)) c.in_ok-settle-in-Ok.ensures.put
+    put_known table c.height_of_leaves.new.heights c.settle.new.self c.args.bid c.in-Ok.most (omega (arith, least, c.in-Ok.ensures.exact.1)) c.in_ok-settle-in-Ok.ensures.put
 
 -- ---- entries
 
@@ -269,12 +269,12 @@ height_of_entries-height_of_entry-requires t c =
     let come = to_entry table c.loop-sub.heights c.args.limit c.in-Some.sub (subs_left c.loop-sub.rest) (subs_left c.next.new.self) c.in-Some.ensures.steps inv.come in
     (omega (arith), record { trees = inv.walked.trees; lists = inv.walked.lists; come = come })
 
-pub height_of_entries-returns-in_err-height_of_entry-clause-first : goal.height_of_entries-returns-in_err-height_of_entry-clause-first
-height_of_entries-returns-in_err-height_of_entry-clause-first t c =
+pub height_of_entries-returns-in_err-height_of_entry-clause-exact : goal.height_of_entries-returns-in_err-height_of_entry-clause-exact
+height_of_entries-returns-in_err-height_of_entry-clause-exact t c =
     let p = err_from_is_err_and c.from_residual.result c.from_residual.ensures.1 in
     let table = table_of c.args.blocks.now in
     let part = entry_fault table (sub_fault table c.args.limit) in
-    rw (p.1, p.2, ← c.loop-sub.invariant.first) (among_at part (subs_left c.loop-sub.rest) (subs_left c.next.new.self) c.in-Some.sub _ c.in-Some.ensures.steps c.in_err-height_of_entry.ensures.first)
+    rw (p.1, p.2, ← c.loop-sub.invariant.first) (among_at part (subs_left c.loop-sub.rest) (subs_left c.next.new.self) c.in-Some.sub _ c.in-Some.ensures.steps c.in_err-height_of_entry.ensures.exact)
 
 pub height_of_entries-returns-in_err-height_of_entry-clause-walked : goal.height_of_entries-returns-in_err-height_of_entry-clause-walked
 height_of_entries-returns-in_err-height_of_entry-clause-walked t c =
@@ -301,8 +301,8 @@ height_of_entries-loop-sub-preserved t c =
       within = λ sub w. inv.within sub (rw c.in-Some.ensures.steps (contains_later c.in-Some.sub sub (subs_left c.next.new.self) w));
     }
 
-pub height_of_entries-returns-clause-first : goal.height_of_entries-returns-clause-first
-height_of_entries-returns-clause-first t c =
+pub height_of_entries-returns-clause-exact : goal.height_of_entries-returns-clause-exact
+height_of_entries-returns-clause-exact t c =
     let table = table_of c.args.blocks.now in
     let part = entry_fault table (sub_fault table c.args.limit) in
     let height = entry_height (sub_height table c.args.limit) in

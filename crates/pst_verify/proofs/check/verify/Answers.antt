@@ -6,7 +6,7 @@ pub returns-clause-yes : goal.returns-clause-yes
 returns-clause-yes c = answered c.args.bytes.now c.check_exactly.result c.check_exactly.ensures.none c.check_exactly.ensures.view c.check_exactly.ensures.report
 
 pub returns-clause-no : goal.returns-clause-no
-returns-clause-no c s is = not_refused c.args.bytes.now s c.check_exactly.result c.check_exactly.ensures.first is
+returns-clause-no c s is = not_refused c.args.bytes.now s c.check_exactly.result c.check_exactly.ensures.exact is
 
 pub returns-clause-exact : goal.returns-clause-exact
-returns-clause-exact c = tells (store_fault c.args.bytes.now) c.check_exactly.result c.check_exactly.ensures.first c.check_exactly.ensures.none
+returns-clause-exact c = tells (store_fault c.args.bytes.now) c.check_exactly.result c.check_exactly.ensures.exact c.check_exactly.ensures.none
