@@ -1,6 +1,7 @@
 pub mod DescendLemmas
 pub mod EntryLemmas
 pub mod FindLemmas
+pub mod FoundLemmas
 pub mod FromLemmas
 pub mod InsideLemmas
 pub mod MarkedLemmas

@@ -18,7 +18,7 @@ use Rattle.pst_datatree.specs.Names.{IsInternal, IsKeyOf, IsOfFirst, IsChildKey,
 use Rattle.pst_datatree.specs.Data.{bad_tree, block_missing, data_leaf_fault, xblock_fault, xxblock_fault}
 use Rattle.pst_datatree.specs.Seen.{has_tree, holds_tree, NamesKnown, IsSoundTree, IsKnownTree, AddsTrees}
 use Rattle.pst_datatree.proofs.DataLemmas.{fault_or_none}
-use Rattle.pst_datatree.proofs.SeenLemmas.{same_key}
+use Rattle.pst_datatree.proofs.KeyLemmas.{entry_same}
 
 -- ---- bit 0 of an identifier says nothing
 
@@ -27,7 +27,7 @@ unfolding key_of is_internal
 internal_same a b e = let half : a / 2 ≡ b / 2 = omega arith in rw half refl
 
 pub is_internal_same : (t : Table) (a b : ℕ) (e : BlockEntry) → bid_key a ≡ bid_key b → IsInternal t b e → IsInternal t a e
-is_internal_same t a b e same is = (same_key t a b same ∙ is.0, internal_same a b same ∙ is.1)
+is_internal_same t a b e same is = (entry_same t a b same ∙ is.0, internal_same a b same ∙ is.1)
 
 pub has_same : (s : Seen) (a b : ℕ) → bid_key a ≡ bid_key b → has_tree s a ≡ has_tree s b
 unfolding has_tree
@@ -85,7 +85,7 @@ adds_put t IsNew old new e listed stays only names is_new = record {
       elim (only (bid_key bid) known) [
         | inl had ↦ stays (bid_key next) (was bid x had internal next y named also)
         | inr same ↦
-            let both : Some e ≡ Some x = sym listed ∙ same_key t e.bid bid same ∙ internal.0 in
+            let both : Some e ≡ Some x = sym listed ∙ entry_same t e.bid bid same ∙ internal.0 in
             let one : e ≡ x = cc in
             stays (bid_key next) (names next y (rw one named) also)
       ];

@@ -18,6 +18,7 @@ use Rattle.pst_datatree.specs.declared.seen.Seen.{Seen}
 use Rattle.pst_datatree.specs.List.{is_block_list, has_level_two}
 use Rattle.pst_datatree.specs.Data.{bad_tree, xblock_fault, xxblock_fault}
 use Rattle.pst_datatree.specs.Seen.{has_tree, holds_tree, tree_keys, raised, NoNewTwo, IsSoundTree, IsSeenTrue}
+use Rattle.pst_datatree.proofs.KeyLemmas.{entry_same}
 
 -- what is in a set after an insertion was there, or is the key
 pub only_new : (old new : BTreeSet ℕ) (k : ℕ) → ((q : ℕ) → contains nat_cmp new q ≡ cond (is_at (nat_cmp k) q) true (contains nat_cmp old q)) → (q : ℕ) → contains nat_cmp new q ≡ true → (contains nat_cmp old q ≡ true) ⊎ (k ≡ q)
@@ -37,11 +38,6 @@ pub same_true : (t : Table) (old new : Seen) → new.trees ≡ old.trees → IsS
 unfolding has_tree
 same_true t old new same true_of = record { holds = λ bid e there known. true_of.holds bid e there (rw same at known) }
 
--- identifiers of the same key have the same entry
-pub same_key : (t : Table) (a b : ℕ) → bid_key a ≡ bid_key b → entry_of t a ≡ entry_of t b
-unfolding entry_of
-same_key t a b h = rw h refl
-
 -- one more is known
 pub put_true : (t : Table) (old new : Seen) (bid : ℕ) (e : BlockEntry) → ((other : ℕ) → has_tree new other ≡ true → (has_tree old other ≡ true) ⊎ (bid_key bid ≡ bid_key other)) → entry_of t bid ≡ Some e → IsSoundTree t e → IsSeenTrue t old → IsSeenTrue t new
 put_true t old new bid e only listed sound true_of = record { holds = each }
@@ -50,7 +46,7 @@ put_true t old new bid e only listed sound true_of = record { holds = each }
     each other x there known =
         elim (only other known) [
           | inl was ↦ true_of.holds other x there was
-          | inr key ↦ let same : Some e ≡ Some x = sym listed ∙ same_key t bid other key ∙ there in let is : e ≡ x = cc in rw (← is) sound
+          | inr key ↦ let same : Some e ≡ Some x = sym listed ∙ entry_same t bid other key ∙ there in let is : e ≡ x = cc in rw (← is) sound
         ]
 
 -- ---- which of the two an internal block is
@@ -97,7 +93,7 @@ put_level t old mid new e listed level same only bid x there two known =
     elim (only bid known) [
       | inl was ↦ sym (same bid) ∙ was
       | inr key ↦
-          let both : Some e ≡ Some x = sym listed ∙ same_key t e.bid bid key ∙ there in
+          let both : Some e ≡ Some x = sym listed ∙ entry_same t e.bid bid key ∙ there in
           let is : e ≡ x = cc in
           let bad : true ≡ false = sym two ∙ (ap (λ y. has_level_two (body_of t y)) (sym is) ∙ level) in cc
     ]

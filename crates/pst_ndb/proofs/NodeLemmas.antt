@@ -7,6 +7,7 @@ use Rattle.pst_header.specs.Header.{header_fault, fields}
 use Rattle.pst_header.specs.Head.{Head}
 use Rattle.pst_header.proofs.Head.{header_law}
 use Rattle.pst_btree.specs.Entries.{first_with, node_with}
+use Rattle.pst_btree.proofs.EntryLemmas.{with_contains}
 use Rattle.pst_fault.specs.Fault.{at_node}
 use Rattle.pst_datatree.specs.Data.{data_fault}
 use Rattle.pst_subnode.specs.declared.height.TheConstants.{LISTS}
@@ -97,13 +98,7 @@ file_trees I h t entries none table is = rw (table, is) (none_then (space_fault 
 -- ---- what is found has the key
 
 pub first_keyed : {X : Type 0} (key_in : X → ℕ) (key : ℕ) (xs : List X) (x : X) → first_with key_in key xs ≡ Some x → key_in x ≡ key
-unfolding first_with
-first_keyed key_in key [] x found = absurd cc
-first_keyed key_in key (y ∷ rest) x found = by_test (eqb (key_in y) key) (λ e. eqb-true (key_in y) key e) (λ h. first_keyed key_in key rest x h) found
-  where
-    by_test : (here : Bool) → (here ≡ true → key_in y ≡ key) → (first_with key_in key rest ≡ Some x → key_in x ≡ key) → cond here (Some y) (first_with key_in key rest) ≡ Some x → key_in x ≡ key
-    by_test true this later h = let same : y ≡ x = cc in ap key_in (sym same) ∙ this refl
-    by_test false this later h = later h
+first_keyed key_in key xs x found = (with_contains key_in xs key x found).1
 
 -- ---- the header of a file without fault
 

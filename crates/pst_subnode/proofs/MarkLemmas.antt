@@ -19,7 +19,7 @@ use Rattle.pst_block.specs.Table.{Table, entry_of, body_of}
 use Rattle.pst_datatree.specs.Bid.{is_no_block}
 use Rattle.pst_datatree.specs.Seen.{raised}
 use Rattle.pst_datatree.specs.Data.{data_fault}
-use Rattle.pst_datatree.proofs.SeenLemmas.{same_key}
+use Rattle.pst_datatree.proofs.KeyLemmas.{entry_same}
 use Rattle.pst_subnode.specs.declared.sub.Sub.{Sub}
 use Rattle.pst_subnode.specs.declared.heights.Heights.{Heights}
 use Rattle.pst_subnode.specs.List.{subs_of, list_fault}
@@ -81,7 +81,7 @@ rank_small t bid = by_entry (entry_of t bid)
 
 rank_same : (t : Table) (a b : ℕ) → bid_key a ≡ bid_key b → rank_of t a ≡ rank_of t b
 unfolding rank_of
-rank_same t a b e = rw (same_key t a b e) refl
+rank_same t a b e = rw (entry_same t a b e) refl
 
 pub rank_none : (t : Table) (bid : ℕ) (e : BlockEntry) → entry_of t bid ≡ Some e → has_level_one (body_of t e) ≡ false → rank_of t bid ≡ 0
 unfolding rank_of
