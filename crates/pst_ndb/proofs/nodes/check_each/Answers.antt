@@ -31,7 +31,7 @@ loop-entry-preserved c =
     let inv = c.loop-entry.invariant in
     let node = c.in_ok-check_node.ensures in
     record {
-      first = nodes_next (table_of c.args.blocks.now) c.in-Some.entry _ _ _ c.in-Some.ensures.steps node.first.0 inv.first;
+      first = nodes_next (table_of c.args.blocks.now) c.in-Some.entry _ _ _ c.in-Some.ensures.steps node.exact.0 inv.first;
       known = node.known;
       adds = adds_entry (table_of c.args.blocks.now) all sub c.args.known.now.seen c.args.known.now.heights c.loop-entry.known.seen c.loop-entry.known.heights c.check_node.new.known.seen c.check_node.new.known.heights (inv.within sub (rw steps (contains_here sub rest))) inv.adds node.adds;
       there = entry_next (table_of c.args.blocks.now) _ all xs rest sub c.loop-entry.known.seen c.loop-entry.known.heights c.check_node.new.known.seen c.check_node.new.known.heights steps inv.there node.adds node.there;

@@ -170,8 +170,8 @@ height_of_leaves-loop-i-preserved t c =
     let leaf = c.in_ok-height_of_leaf.ensures in
     let greater : c.max-most.result ≡ max c.loop-i.most c.in_ok-height_of_leaf.field-0 = search rules in
     record {
-      first = first_more (at_leaf table c.args.holder c.args.limit) c.loop-i.i inv.first leaf.first.0;
-      most = greater ∙ (ap (max c.loop-i.most) leaf.first.1 ∙ (ap (λ m. max m (height c.loop-i.i)) inv.most ∙ sym (most_next height c.loop-i.i)));
+      first = first_more (at_leaf table c.args.holder c.args.limit) c.loop-i.i inv.first leaf.exact.0;
+      most = greater ∙ (ap (max c.loop-i.most) leaf.exact.1 ∙ (ap (λ m. max m (height c.loop-i.i)) inv.most ∙ sym (most_next height c.loop-i.i)));
       small = omega (arith, greater, leaf.small, inv.small);
       come = same_place table c.loop-i.heights c.height_of_leaf.new.heights _ 0 c.args.limit leaf.walked.marks inv.come;
       walked = walked_leaf table c.args.holder c.args.count c.loop-i.i c.args.seen.now c.args.heights.now c.loop-i.seen c.loop-i.heights c.height_of_leaf.new.seen c.height_of_leaf.new.heights c.loop-i-test.true inv.walked leaf.walked;
@@ -289,12 +289,12 @@ height_of_entries-loop-sub-preserved t c =
     let height = entry_height (sub_height table c.args.limit) in
     let entry = c.in_ok-height_of_entry.ensures in
     let greater : c.max-most.result ≡ max c.loop-sub.most c.in_ok-height_of_entry.field-0 = search rules in
-    let this : c.max-most.result ≡ max c.loop-sub.most (height c.in-Some.sub) = greater ∙ ap (max c.loop-sub.most) entry.first.1 in
+    let this : c.max-most.result ≡ max c.loop-sub.most (height c.in-Some.sub) = greater ∙ ap (max c.loop-sub.most) entry.exact.1 in
     record {
-      first = sym (among_more part (subs_left c.loop-sub.rest) (subs_left c.next.new.self) c.in-Some.sub c.in-Some.ensures.steps entry.first.0) ∙ inv.first;
+      first = sym (among_more part (subs_left c.loop-sub.rest) (subs_left c.next.new.self) c.in-Some.sub c.in-Some.ensures.steps entry.exact.0) ∙ inv.first;
       most = most_more height c.loop-sub.most c.max-most.result (subs_left c.loop-sub.rest) (subs_left c.next.new.self) c.in-Some.sub c.in-Some.ensures.steps this ∙ inv.most;
       small = omega (arith, greater, entry.small);
-      come = past_entry table c.loop-sub.heights c.height_of_entry.new.heights c.args.limit c.in-Some.sub (subs_left c.loop-sub.rest) (subs_left c.next.new.self) c.in-Some.ensures.steps entry.walked.marks entry.first.0 inv.come;
+      come = past_entry table c.loop-sub.heights c.height_of_entry.new.heights c.args.limit c.in-Some.sub (subs_left c.loop-sub.rest) (subs_left c.next.new.self) c.in-Some.ensures.steps entry.walked.marks entry.exact.0 inv.come;
       walked = walked_entry table (subs_left c.args.subs) c.in-Some.sub c.args.seen.now c.args.heights.now c.loop-sub.seen c.loop-sub.heights c.height_of_entry.new.seen c.height_of_entry.new.heights (inv.within c.in-Some.sub (rw c.in-Some.ensures.steps (contains_here c.in-Some.sub (subs_left c.next.new.self)))) inv.walked entry.walked;
       counts = counts_then c.args.seen.now c.args.heights.now c.loop-sub.seen c.loop-sub.heights c.height_of_entry.new.seen c.height_of_entry.new.heights inv.counts entry.counts;
       there = entry_next table _ (subs_left c.args.subs) (subs_left c.loop-sub.rest) (subs_left c.next.new.self) c.in-Some.sub c.loop-sub.seen c.loop-sub.heights c.height_of_entry.new.seen c.height_of_entry.new.heights c.in-Some.ensures.steps inv.there entry.walked.adds entry.there;
