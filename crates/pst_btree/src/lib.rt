@@ -19,7 +19,7 @@ pub use laws::{block_keys_rise, entries_are_maps, node_keys_rise, walk_decides};
 pub use node_tree::NodeTree;
 pub use nodes::Nodes;
 pub use pst_page::{BlockEntry, NodeEntry};
-pub use walks::{walk_blocks, walk_nodes};
+pub use walks::{walk_blocks, walk_node_tree, walk_nodes};
 
 #[cfg(test)]
 mod tests;

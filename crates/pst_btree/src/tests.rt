@@ -258,3 +258,35 @@ fn the_trees_of_a_small_store(rt: HostRuntime) -> Result<(), Fail> {
     assert_eq!(rt; again, Some(Fault::within(Kind::Overlap, 0x4800, 4)));
     Ok(())
 }
+
+#[test]
+fn the_node_tree_without_a_list(rt: HostRuntime) -> Result<(), Fail> {
+    let bytes = small_store(rt.alloc())?;
+    let image = Image::new(&bytes);
+    let Ok(header) = read_header(image) else {
+        panic!(rt; "no header");
+    };
+    let mut claims = Claims::new(rt.alloc(), &header)?;
+    let Ok(nodes) = walk_node_tree(rt.alloc(), image, &header, &mut claims) else {
+        panic!(rt; "no nodes");
+    };
+    assert_eq!(rt; nodes.pages(), 1);
+    assert!(rt; nodes.find(0x22).is_none());
+    let mut all = nodes.nodes();
+    assert_eq!(rt;
+        all.next().map(|node| (node.nid, node.bid_data)),
+        Some((0x21, 4))
+    );
+    assert_eq!(rt;
+        all.next().map(|node| (node.nid, node.bid_data)),
+        Some((0x122, 8))
+    );
+    assert_eq!(rt; all.next(), None);
+    // The page from 0x4800 to 0x49FF is claimed, and lies on itself.
+    for (unit, claimed) in [(16, true), (23, true), (24, false)] {
+        assert_eq!(rt; claims.is_claimed(unit), claimed, "unit {unit}");
+    }
+    let again = walk_node_tree(rt.alloc(), image, &header, &mut claims).err();
+    assert_eq!(rt; again, Some(Fault::within(Kind::Overlap, 0x4800, 4)));
+    Ok(())
+}

@@ -118,7 +118,7 @@ fn check_exactly<'a>(alloc: Global, image: Image<'a>) -> Result<Checked<'a>, Fau
 ///
 /// 1. of the header, as `read_header` says;
 /// 2. the block B-tree, as `walk_blocks` says, once all allocation map and page map pages are claimed;
-/// 3. the node B-tree, as `walk_nodes` says;
+/// 3. the node B-tree, as `walk_node_tree` says;
 /// 4. the blocks in order of their keys, as `check_blocks` says;
 /// 5. the allocation maps, as `compare` says;
 /// 6. node by node, their identifiers rising: the data tree, as `check_data` says, and then the subnodes, as `check_sub`

@@ -11,7 +11,7 @@ ghost use Rattle.pst_btree.specs.View.{tree_of, found_in};
 ghost use Rattle.pst_ndb.specs.Entries.{page_total, block_list, node_list};
 ghost use Rattle.pst_ndb.specs.Trees.{trees_walk, trees_spans, listed, listed_nodes, ListsNodes};
 
-use pst_btree::{BlockEntry, BlockTree, NodeTree, walk_blocks, walk_nodes};
+use pst_btree::{BlockEntry, BlockTree, NodeTree, walk_blocks, walk_node_tree};
 use pst_bytes::Image;
 use pst_fault::Fault;
 use pst_header::{Header, read_header};
@@ -65,7 +65,7 @@ pub(crate) fn walk_trees<'a>(
     ensures pages { IfOk result (λ t. t.pages ≡ page_total (bytes_of image.entry) header.now) }
 {
     let (blocks, entries) = walk_blocks(alloc, image, header, claims)?;
-    let (nodes, _) = walk_nodes(alloc, image, header, claims)?;
+    let nodes = walk_node_tree(alloc, image, header, claims)?;
     let pages = page_total(&blocks, &nodes, header.eof);
     Ok(Trees {
         blocks,
