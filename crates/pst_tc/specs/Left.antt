@@ -1,5 +1,5 @@
 -- What an iterator over the columns or the rows of a table context has left.
-use Rattle.std.specs.Prelude.{◌≡◌, ℕ, ⊤, List, [], ◌∷◌, Option, Some, None, map}
+use Rattle.std.specs.Prelude.{◌≡◌, ℕ, ⊤, List, Option, Some, None, map}
 use Rattle.std.specs.Iterator.{YieldsFirstBy}
 use Rattle.pst_bytes.specs.declared.span.Span.{Span}
 use Rattle.pst_bytes.specs.Image.{bytes_of}
@@ -36,14 +36,6 @@ row_records_left rows = records_left rows.rest
 
 abbrev pub tc_rows_left : Rows → List RowParts
 tc_rows_left rows = let node = node_of_tc (tc_left rows) in map (row_parts_at (table_of_node node) (roots_of node)) (row_records_left rows)
-
--- the row of the first record that is left, and what is left behind it; none exactly where none is left
-abbrev pub IsRowSplit : Rows → Option (Row × Rows) → Type 0
-IsRowSplit old None = row_records_left old ≡ []
-IsRowSplit old (Some p) =
-    let node = node_of_tc (tc_left old) in
-    (x : ℕ × Span) × (row_records_left old ≡ x ∷ row_records_left p.1)
-    × (row_parts p.0 ≡ row_parts_at (table_of_node node) (roots_of node) x) × (tc_of_row p.0 ≡ tc_left old) × (tc_left p.1 ≡ tc_left old)
 
 -- a row of a table context
 abbrev pub MayBeRowOf : Tc → Option Row → Type 0

@@ -45,51 +45,37 @@ impl<'a> Blocks<'a> {
         }
     }
 
-    // The first block that was not come to.
-    fn step(self) -> (Option<Span>, Blocks<'a>)
-        requires { self.next < 2 ^ 32 }
-        ensures value { result.0 ≡ slice_get (matrix_spans self.entry) self.entry.next }
-        ensures same { blocks_node result.1 ≡ blocks_node self.entry }
+    // The first block that was not come to; it is then the one that was asked for last.
+    fn step(&mut self) -> Option<Span>
+        requires { self.old.next < 2 ^ 32 }
+        ensures value { result ≡ slice_get (matrix_spans self.old) self.old.next }
+        ensures same { blocks_node self.new ≡ blocks_node self.old }
     {
-        let mut rest = self.rest;
-        let block = rest.next_span();
-        (
-            block,
-            Blocks {
-                node: self.node,
-                number: self.next,
-                block,
-                next: self.next + 1,
-                rest,
-            },
-        )
+        let block = self.rest.next_span();
+        self.number = self.next;
+        self.block = block;
+        self.next += 1;
+        block
     }
 
-    /// The block with a number; None exactly where there is none. And the same blocks, that one asked for last.
+    /// The block with a number, which is then the one that was asked for last; None exactly where there is none.
     #[tactic(auto, using(crate::proofs::BlockLemmas::got_inside))]
-    pub(crate) fn block(self, number: u64) -> (Option<Span>, Blocks<'a>)
+    pub(crate) fn block(&mut self, number: u64) -> Option<Span>
         requires { number < 2 ^ 32 }
-        ensures value { result.0 ≡ slice_get (matrix_spans self.entry) number }
-        ensures inside { IfSome result.0 (IsInside (table_of_node (blocks_node self.entry)).image) }
-        ensures same { blocks_node result.1 ≡ blocks_node self.entry }
+        ensures value { result ≡ slice_get (matrix_spans self.old) number }
+        ensures inside { IfSome result (IsInside (table_of_node (blocks_node self.old)).image) }
+        ensures same { blocks_node self.new ≡ blocks_node self.old }
     {
         self.node.is_sound();
         if number == self.number {
-            return (self.block, self);
+            return self.block;
         }
         if number == self.next {
             return self.step();
         }
         let block = self.node.leaf(number);
-        (
-            block,
-            Blocks {
-                node: self.node,
-                number,
-                block,
-                next: self.next,
-                rest: self.rest,
-            },
-        )
+        self.number = number;
+        self.block = block;
+        block
     }
 }

@@ -81,45 +81,42 @@ fn check_cells(heap: &Heap, index: &SubIndex, info: Span, row: Span) -> Result<(
     Ok(())
 }
 
-// The row of a record of the row index, and its cells. It answers the same matrix, that row asked for last.
+// The row of a record of the row index, and its cells.
 #[tactic(auto, unfolding(crate::specs::Fault::row_record_fault, crate::specs::Values::row_of_record))]
 fn check_row<'a>(
     heap: &Heap<'a>,
     index: &SubIndex,
     info: Span,
-    matrix: Matrix<'a>,
+    matrix: &mut Matrix<'a>,
     id: u32,
     content: Span,
-) -> Result<Matrix<'a>, Fault>
+) -> Result<(), Fault>
     requires index { IsIndexedBy (node_of heap.now) index.now }
     requires info { IsInside (data_of heap.now).image info }
     requires sound { info_fault (data_of heap.now).image info ≡ None }
-    requires matrix { LiesIn (data_of heap.now).image matrix }
+    requires matrix { LiesIn (data_of heap.now).image matrix.old }
     requires rows { let node = node_of heap.now in let t = table_of_node node in
         let hnid = matrix_hnid t.image info in (size n : ℕ) →
-        matrix_row matrix size n ≡ row_of_matrix t (roots_of node) hnid size n }
+        matrix_row matrix.old size n ≡ row_of_matrix t (roots_of node) hnid size n }
     requires inside { IsInside (data_of heap.now).image content }
     requires behind { 4 ≤ content.at }
     requires four { content.len ≡ 4 }
     ensures exact { let node = node_of heap.now in let r = roots_of node in
         let first = row_record_fault (table_of_node node) r info (id, content) in
         Checks result (option_map (told_under r) first) }
-    ensures lies { IfOk result (LiesIn (data_of heap.now).image) }
-    ensures same { (size n : ℕ) →
-        IfOk result (λ m. matrix_row m size n ≡ matrix_row matrix.entry size n) }
+    ensures lies { LiesIn (data_of heap.now).image matrix.new }
+    ensures same { (size n : ℕ) → matrix_row matrix.new size n ≡ matrix_row matrix.old size n }
 {
     let image = heap.image();
     let size = size_of(image, info);
     let bad = Fault::at(Kind::Table, content.at - 4);
-    let (found, matrix) = row_of(image, matrix, size, image.number32(content.at));
-    let Some(row) = found else {
+    let Some(row) = row_of(image, matrix, size, image.number32(content.at)) else {
         return Err(told_of(&heap.node(), bad));
     };
     if image.number32(row.at) != id {
         return Err(told_of(&heap.node(), bad));
     }
-    check_cells(heap, index, info, row)?;
-    Ok(matrix)
+    check_cells(heap, index, info, row)
 }
 
 // The rows of all records of the row index, in order.
@@ -147,7 +144,7 @@ fn check_rows<'a>(
     let mut matrix = matrix;
     let mut rest = bth.records();
     while let Some(taken) = rest.next() {
-        matrix = check_row(heap, index, info, matrix, taken.0, taken.1)?;
+        check_row(heap, index, info, &mut matrix, taken.0, taken.1)?;
     }
     Ok(())
 }

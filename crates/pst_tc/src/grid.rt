@@ -41,31 +41,25 @@ impl<'a> Grid<'a> {
         }
     }
 
-    /// The row of a record of the row index; and the same table, that row asked for last.
+    /// The row of a record of the row index.
     #[tactic(auto, unfolding(crate::specs::Values::row_of_record), using(crate::proofs::RowLemmas::body_info, crate::proofs::RowLemmas::row_there, crate::proofs::RowLemmas::row_sound))]
-    pub(crate) fn row(self, id: u32, number: Span) -> (Row<'a>, Grid<'a>)
-        requires inside { IsInside (table_of_node (node_of_tc (grid_tc self))).image number }
+    pub(crate) fn row(&mut self, id: u32, number: Span) -> Row<'a>
+        requires inside { IsInside (table_of_node (node_of_tc (grid_tc self.old))).image number }
         requires behind { 4 ≤ number.at }
         requires four { number.len ≡ 4 }
-        requires sound { let node = node_of_tc (grid_tc self) in
-            row_record_fault (table_of_node node) (roots_of node) (grid_item self) (id, number) ≡ None }
-        ensures row { let node = node_of_tc (grid_tc self.entry) in
-            row_parts result.0 ≡ row_parts_at (table_of_node node) (roots_of node) (id, number) }
-        ensures tc { tc_of_row result.0 ≡ grid_tc self.entry }
-        ensures same { grid_front result.1 ≡ grid_front self.entry }
+        requires sound { let node = node_of_tc (grid_tc self.old) in
+            row_record_fault (table_of_node node) (roots_of node) (grid_item self.old) (id, number)
+            ≡ None }
+        ensures row { let node = node_of_tc (grid_tc self.old) in
+            row_parts result ≡ row_parts_at (table_of_node node) (roots_of node) (id, number) }
+        ensures tc { tc_of_row result ≡ grid_tc self.old }
+        ensures same { grid_front self.new ≡ grid_front self.old }
     {
         self.front.is_sound();
         let image = self.front.image();
         let size = size_of(image, self.front.item());
-        let (found, matrix) = row_of(image, self.matrix, size, image.number32(number.at));
+        let found = row_of(image, &mut self.matrix, size, image.number32(number.at));
         let Some(place) = found else { unreachable!() };
-        let row = Row::of(self.front, id, number.at - 4, place);
-        (
-            row,
-            Grid {
-                front: self.front,
-                matrix,
-            },
-        )
+        Row::of(self.front, id, number.at - 4, place)
     }
 }

@@ -66,33 +66,26 @@ pub(crate) fn open_matrix<'a>(heap: &Heap<'a>, index: &SubIndex, hnid: u32) -> O
     Some(Matrix::Blocks(Blocks::of(sub)))
 }
 
-/// The row with a number; and the same matrix, that row asked for last.
-pub(crate) fn row_of<'a>(
-    image: Image<'a>,
-    matrix: Matrix<'a>,
-    size: u16,
-    n: u32,
-) -> (Option<Span>, Matrix<'a>)
-    requires lies { LiesIn (bytes_of image) matrix }
+/// The row with a number, of rows of so many bytes.
+pub(crate) fn row_of(image: Image, matrix: &mut Matrix, size: u16, n: u32) -> Option<Span>
+    requires lies { LiesIn (bytes_of image) matrix.old }
     requires least { 4 ≤ size }
     requires most { size ≤ 8176 }
-    ensures value { result.0 ≡ matrix_row matrix.entry size n }
-    ensures inside { IfSome result.0 (IsInside (bytes_of image.entry)) }
-    ensures size { IfSome result.0 (λ s. s.len ≡ size) }
-    ensures lies { LiesIn (bytes_of image.entry) result.1 }
-    ensures same { (k m : ℕ) → matrix_row result.1 k m ≡ matrix_row matrix.entry k m }
+    ensures value { result ≡ matrix_row matrix.old size n }
+    ensures inside { IfSome result (IsInside (bytes_of image.entry)) }
+    ensures size { IfSome result (λ s. s.len ≡ size) }
+    ensures lies { LiesIn (bytes_of image.entry) matrix.new }
+    ensures same { (k m : ℕ) → matrix_row matrix.new k m ≡ matrix_row matrix.old k m }
 {
     match matrix {
-        Matrix::Nothing => (None, matrix),
-        Matrix::Item(item) => (row_of_span(image, item, size, n), matrix),
+        Matrix::Nothing => None,
+        Matrix::Item(item) => row_of_span(image, *item, size, n),
         Matrix::Blocks(blocks) => {
             let per = u32::from(8176 / size);
-            let (block, blocks) = blocks.block(u64::from(n / per));
-            let row = match block {
-                Some(block) => row_of_span(image, block, size, n % per),
-                None => None,
+            let Some(block) = blocks.block(u64::from(n / per)) else {
+                return None;
             };
-            (row, Matrix::Blocks(blocks))
+            row_of_span(image, block, size, n % per)
         }
     }
 }

@@ -33,7 +33,7 @@ impl<'a> Rows<'a> {
     ghost use Rattle.pst_tc.specs.Values.{info_of, tc_records};
     ghost use Rattle.pst_tc.specs.Tc.{node_of_tc};
     ghost use Rattle.pst_tc.specs.Front.{front_tc};
-    ghost use Rattle.pst_tc.specs.Left.{tc_left, row_records_left, IsRowSplit};
+    ghost use Rattle.pst_tc.specs.Left.{tc_left, row_records_left};
 
     // All rows.
     #[tactic(auto, using(crate::proofs::RowLemmas::body_rows))]
@@ -50,19 +50,6 @@ impl<'a> Rows<'a> {
             rest: front.index().records(),
         }
     }
-
-    // The first row, and what is left behind it.
-    #[tactic(auto, using(pst_fault::proofs::EachLemmas::each_first, pst_fault::proofs::EachLemmas::each_rest))]
-    fn split(self) -> Option<(Row<'a>, Rows<'a>)>
-        ensures { IsRowSplit self.entry result }
-    {
-        let mut rest = self.rest;
-        let Some((id, number)) = rest.next() else {
-            return None;
-        };
-        let (row, grid) = self.grid.row(id, number);
-        Some((row, Rows { grid, rest }))
-    }
 }
 
 impl<'a> Iterator for Rows<'a> {
@@ -75,9 +62,9 @@ impl<'a> Iterator for Rows<'a> {
 
     ghost remaining = { item_count tc_rows_left };
 
+    #[tactic(auto, using(pst_fault::proofs::EachLemmas::each_first, pst_fault::proofs::EachLemmas::each_rest))]
     fn next(&mut self) -> Option<Row<'a>> {
-        let (row, rest) = self.split()?;
-        *self = rest;
-        Some(row)
+        let (id, number) = self.rest.next()?;
+        Some(self.grid.row(id, number))
     }
 }

@@ -106,6 +106,7 @@ impl<'a> Tc<'a> {
         let Some(number) = front.index().find(id) else {
             return None;
         };
-        Some(front.grid().row(id, number).0)
+        let mut grid = front.grid();
+        Some(grid.row(id, number))
     }
 }

@@ -21,12 +21,12 @@ row-requires-clause-sound c =
     let r = roots_of c.args.self.now.node in
     let s = c.of-front.result.item in
     let found : Some c.in-Some.number ≡ option_map record_span (first_with record_key c.args.id (tc_records t r s)) = rw (c.index.ensures.records, c.of-front.ensures) at c.in-Some.ensures.value in
-    rw (c.grid.ensures, c.of-front.ensures) (found_sound t r s c.args.id c.in-Some.number (rw c.of-front.ensures at c.is_sound.ensures.sound) found)
+    rw (c.grid-grid.ensures, c.of-front.ensures) (found_sound t r s c.args.id c.in-Some.number (rw c.of-front.ensures at c.is_sound.ensures.sound) found)
 
 pub returns-clause-value : goal.returns-clause-value
 returns-clause-value c =
     let t = table_of_node c.args.self.now.node in
     let r = roots_of c.args.self.now.node in
     let found : Some c.in-Some.number ≡ option_map record_span (first_with record_key c.args.id (tc_records t r (info_of t r))) = rw (c.index.ensures.records, c.is_sound.ensures.is, c.of-front.ensures) at c.in-Some.ensures.value in
-    let row : row_parts c.row.result.0 ≡ row_parts_at t r (c.args.id, c.in-Some.number) = rw (c.grid.ensures, c.of-front.ensures) at c.row.ensures.row in
+    let row : row_parts c.row.result ≡ row_parts_at t r (c.args.id, c.in-Some.number) = rw (c.grid-grid.ensures, c.of-front.ensures) at c.row.ensures.row in
     ap Some row ∙ sym (found_row t r c.args.id c.in-Some.number found)
