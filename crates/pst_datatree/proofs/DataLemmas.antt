@@ -13,7 +13,8 @@ use Rattle.pst_datatree.specs.declared.named.Named.TheVariants.{Nothing, Missing
 use Rattle.pst_datatree.specs.Bid.{is_internal}
 use Rattle.pst_datatree.specs.List.{count_in, total_in, bid_in, is_block_list}
 use Rattle.pst_datatree.specs.Named.{named_by}
-use Rattle.pst_datatree.specs.Data.{size_of, fault_or, block_missing, bad_tree, leaf_spans, data_leaf_fault, xblock_spans, xblock_fault, child_fault, xxblock_spans, xxblock_fault, named_fault, tree_fault, data_fault}
+use Rattle.pst_datatree.specs.Data.{size_of, block_missing, bad_tree, leaf_spans, data_leaf_fault, xblock_spans, xblock_fault, child_fault, xxblock_spans, xxblock_fault, named_fault, tree_fault, data_fault}
+use Rattle.pst_fault.specs.Each.{there_or}
 
 pub list_fits : (level : ℕ) (body : List ℕ) → is_block_list level body ≡ true → 8 + 8 * count_in body ≤ length body
 unfolding is_block_list
@@ -42,7 +43,7 @@ sound_xxblock t e h =
     record { fits = list_fits 2 body (holds_or_none _ _ p.0); parts = q.0 }
 
 -- a block without fault is there
-pub fault_or_none : (f : Fault) (part : BlockEntry → Option Fault) (o : Option BlockEntry) → fault_or f part o ≡ None → (x : BlockEntry) × (o ≡ Some x) × (part x ≡ None)
+pub fault_or_none : (f : Fault) (part : BlockEntry → Option Fault) (o : Option BlockEntry) → there_or f part o ≡ None → (x : BlockEntry) × (o ≡ Some x) × (part x ≡ None)
 fault_or_none f part None h = cc
 fault_or_none f part (Some x) h = (x, refl, h)
 

@@ -8,7 +8,8 @@ use Rattle.pst_btree.specs.Entries.{block_with}
 use Rattle.pst_block.specs.Block.{bid_key}
 use Rattle.pst_block.specs.Table.{Table, entry_of}
 use Rattle.pst_datatree.specs.Bid.{is_no_block}
-use Rattle.pst_datatree.specs.Data.{named_spans, data_spans, named_fault, data_fault, fault_or}
+use Rattle.pst_datatree.specs.Data.{named_spans, data_spans, named_fault, data_fault}
+use Rattle.pst_fault.specs.Each.{there_or}
 use Rattle.pst_datatree.specs.declared.named.Named.{Named}
 use Rattle.pst_datatree.specs.declared.named.Named.TheVariants.{Nothing, Missing, Data, Xblock, Xxblock}
 use Rattle.pst_datatree.specs.Named.{named_by}
@@ -30,7 +31,7 @@ pub data_spans_same : (t : Table) (a b : ℕ) → bid_key a ≡ bid_key b → da
 unfolding data_spans
 data_spans_same t a b e = ap (named_spans t) (named_same t a b e)
 
-pub missing_same : (f g : Fault) (part : BlockEntry → Option Fault) (o : Option BlockEntry) → fault_or f part o ≡ None → fault_or g part o ≡ None
+pub missing_same : (f g : Fault) (part : BlockEntry → Option Fault) (o : Option BlockEntry) → there_or f part o ≡ None → there_or g part o ≡ None
 missing_same f g part None h = cc
 missing_same f g part (Some e) h = h
 

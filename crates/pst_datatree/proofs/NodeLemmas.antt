@@ -11,7 +11,8 @@ use Rattle.pst_datatree.specs.declared.named.Named.TheVariants.{Nothing, Missing
 use Rattle.pst_datatree.specs.Bid.{is_internal}
 use Rattle.pst_datatree.specs.List.{count_in, total_in, bid_in, is_block_list}
 use Rattle.pst_datatree.specs.Named.{named_by}
-use Rattle.pst_datatree.specs.Data.{size_of, fault_or, block_missing, bad_tree, told_at, data_leaf_fault, xblock_spans, xblock_fault, child_fault, xxblock_spans, xxblock_fault, named_fault, data_fault}
+use Rattle.pst_datatree.specs.Data.{size_of, block_missing, bad_tree, told_at, data_leaf_fault, xblock_spans, xblock_fault, child_fault, xxblock_spans, xxblock_fault, named_fault, data_fault}
+use Rattle.pst_fault.specs.Each.{there_or}
 
 -- a fact of the faults that a data tree can have
 module _ (Is : Option Fault → Type 0) (none : Is None) (missing : (bid : ℕ) → Is (Some (block_missing bid))) (bad : (e : BlockEntry) → Is (Some (bad_tree e))) where
@@ -27,7 +28,7 @@ module _ (Is : Option Fault → Type 0) (none : Is None) (missing : (bid : ℕ) 
   below_is part zero h = none
   below_is part (suc n) h = then_is (first_below part n) (part n) (below_is part n h) (h n)
 
-  or_is : (bid : ℕ) (part : BlockEntry → Option Fault) (o : Option BlockEntry) → ((e : BlockEntry) → Is (part e)) → Is (fault_or (block_missing bid) part o)
+  or_is : (bid : ℕ) (part : BlockEntry → Option Fault) (o : Option BlockEntry) → ((e : BlockEntry) → Is (part e)) → Is (there_or (block_missing bid) part o)
   or_is bid part None h = missing bid
   or_is bid part (Some e) h = h e
 

@@ -8,6 +8,7 @@ use Rattle.pst_fault.specs.declared.fault.Fault.{Fault}
 use Rattle.pst_fault.specs.declared.kind.Kind.{Kind}
 use Rattle.pst_fault.specs.declared.kind.Kind.TheVariants.{BlockMissing, DataTree, NoMemory}
 use Rattle.pst_fault.specs.Fault.{fault_in, at_node}
+use Rattle.pst_fault.specs.Each.{there_or}
 use Rattle.pst_fault.specs.First.{◌then◌, holds_or, first_below, join_below}
 use Rattle.pst_page.specs.declared.entry.BlockEntry.{BlockEntry}
 use Rattle.pst_block.specs.Block.{body_span}
@@ -71,16 +72,11 @@ block_missing bid = fault_in BlockMissing 0 bid
 abbrev pub bad_tree : BlockEntry → Fault
 bad_tree e = fault_in DataTree e.ib e.bid
 
--- of the block with an entry; the missing block is the fault where there is none
-abbrev pub fault_or : Fault → (BlockEntry → Option Fault) → Option BlockEntry → Option Fault
-fault_or missing part None = Some missing
-fault_or missing part (Some e) = part e
-
 -- a block that an XBLOCK names is there, and is a data block
 unfoldable pub data_leaf_fault : Table → BlockEntry → ℕ → Option Fault
 data_leaf_fault t holder i =
     let bid = bid_in (body_of t holder) i in
-    fault_or (block_missing bid) (λ _. if is_internal bid then Some (bad_tree holder) else None) (entry_of t bid)
+    there_or (block_missing bid) (λ _. if is_internal bid then Some (bad_tree holder) else None) (entry_of t bid)
 
 -- an XBLOCK: its btype, level and fit, then each block that it names, then its total
 unfoldable pub xblock_fault : Table → BlockEntry → Option Fault
@@ -94,7 +90,7 @@ xblock_fault t e =
 unfoldable pub child_fault : Table → BlockEntry → ℕ → Option Fault
 child_fault t holder i =
     let bid = bid_in (body_of t holder) i in
-    fault_or (block_missing bid) (λ e. if is_internal bid then xblock_fault t e else Some (bad_tree holder)) (entry_of t bid)
+    there_or (block_missing bid) (λ e. if is_internal bid then xblock_fault t e else Some (bad_tree holder)) (entry_of t bid)
 
 -- an XXBLOCK: its btype, level and fit, then each block that it names, then its total
 unfoldable pub xxblock_fault : Table → BlockEntry → Option Fault

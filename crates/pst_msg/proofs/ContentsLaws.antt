@@ -139,7 +139,7 @@ node_law t nodes r sound = (node_none t nodes r sound, none_node t nodes r sound
 
 -- each has subnodes without fault
 pub nodes_sound : (t : Table) (nodes : List NodeEntry) (r : Roots) → nodes_fault t nodes ≡ None → Contains (all_roots nodes) r → sub_fault t LISTS r.bid_sub ≡ None
-unfolding nodes_fault
+unfolding first_of
 nodes_sound t [] r none w = absurd (omega (arith, w.1))
 nodes_sound t (e ∷ rest) r none w = let both = none_then (trees_fault t e) (nodes_fault t rest) none in by_place w.0 w.1 w.2 (none_subs t e both.0) (λ v. nodes_sound t rest r both.1 v)
   where

@@ -25,6 +25,7 @@ use Rattle.pst_datatree.specs.Data.{data_spans}
 use Rattle.pst_datatree.proofs.RelationLemmas.{data_law}
 use Rattle.pst_ndb.specs.Entries.{tree_under, block_list, node_list}
 use Rattle.pst_ndb.specs.Space.{space_walk, space_spans, space_claimed, space_fault, fault_after}
+use Rattle.pst_fault.specs.Each.{first_of}
 use Rattle.pst_ndb.specs.Fault.{node_fault, nodes_fault, file_fault, ndb_fault}
 use Rattle.pst_ndb.specs.Database.{Database, DatabaseLaw, HasTrees, AllHaveTrees, blocks_in, nodes_in, used_spans, claimed_units}
 use Rattle.pst_amap.specs.Report.{IsReport}
@@ -57,12 +58,12 @@ node_law t e = (
 )
 
 pub have_trees : (t : Table) (entries : List NodeEntry) → AllHaveTrees t entries → nodes_fault t entries ≡ None
-unfolding nodes_fault
+unfolding first_of
 have_trees t [] h = refl
 have_trees t (e ∷ rest) h = both_none (node_fault t e) (nodes_fault t rest) ((node_law t e).0 h.0) (have_trees t rest h.1)
 
 pub trees_there : (t : Table) (entries : List NodeEntry) → nodes_fault t entries ≡ None → AllHaveTrees t entries
-unfolding nodes_fault
+unfolding first_of
 trees_there t [] none = tt
 trees_there t (e ∷ rest) none = let both = none_then (node_fault t e) (nodes_fault t rest) none in ((node_law t e).1 both.0, trees_there t rest both.1)
 

@@ -1,4 +1,4 @@
--- The nodes one after another.
+-- The faults of nodes, and a file that has none.
 use Rattle.std.proofs.Common.{◌≡◌, ℕ, List, [], ◌∷◌, Bool, true, false, cond, eqb, Option, Some, None, refl, sym, ap, ◌∙◌}
 use Rattle.std.specs.Prelude.{option_map}
 use Rattle.std.proofs.lemmas.Bool.{eqb-true}
@@ -14,29 +14,12 @@ use Rattle.pst_subnode.specs.declared.height.TheConstants.{LISTS}
 use Rattle.pst_subnode.specs.Tree.{sub_fault, at_top}
 use Rattle.pst_ndb.specs.Entries.{block_table, node_list}
 use Rattle.pst_fault.specs.declared.fault.Fault.{Fault}
-use Rattle.pst_fault.specs.First.{IsFirst}
-use Rattle.pst_fault.proofs.FirstLemmas.{then_none, none_then, both_none, is_first_then}
+use Rattle.pst_fault.specs.Each.{first_of}
+use Rattle.pst_fault.proofs.FirstLemmas.{none_then, both_none}
 use Rattle.pst_page.specs.declared.entry.NodeEntry.{NodeEntry}
 use Rattle.pst_block.specs.Table.{Table}
 use Rattle.pst_ndb.specs.Fault.{node_fault, nodes_fault, file_fault, ndb_fault}
 use Rattle.pst_ndb.specs.Space.{space_fault}
-
--- one more node without a fault
-pub nodes_next : (t : Table) (e : NodeEntry) (entries rest : List NodeEntry) (total : Option Fault) → entries ≡ e ∷ rest → node_fault t e ≡ None → nodes_fault t entries ≡ total → nodes_fault t rest ≡ total
-unfolding nodes_fault
-nodes_next t e entries rest total is passed so_far =
-    sym (then_none (node_fault t e) (nodes_fault t rest) passed) ∙ (rw is at so_far)
-
--- a node with a fault
-pub nodes_refused : (t : Table) (e : NodeEntry) (entries rest : List NodeEntry) (total : Option Fault) (f : Fault) → entries ≡ e ∷ rest → IsFirst (node_fault t e) f → nodes_fault t entries ≡ total → IsFirst total f
-unfolding nodes_fault
-nodes_refused t e entries rest total f is failed so_far =
-    rw (← (rw is at so_far)) (is_first_then (node_fault t e) (nodes_fault t rest) f failed)
-
--- no node is left
-pub nodes_done : (t : Table) (entries : List NodeEntry) (total : Option Fault) → entries ≡ [] → nodes_fault t entries ≡ total → total ≡ None
-unfolding nodes_fault
-nodes_done t entries total is so_far = sym (rw is at so_far)
 
 -- ---- nodes without fault
 
@@ -62,17 +45,9 @@ none_data t e none = none_mapped (at_node e.nid) (data_fault t e.bid_data) (none
 pub none_subs : (t : Table) (e : NodeEntry) → node_fault t e ≡ None → sub_fault t LISTS e.bid_sub ≡ None
 none_subs t e none = none_mapped (at_top e.bid_sub e.nid) (sub_fault t LISTS e.bid_sub) (none_both t e none).1
 
-pub first_sound : (t : Table) (e : NodeEntry) (entries rest : List NodeEntry) → nodes_fault t entries ≡ None → entries ≡ e ∷ rest → node_fault t e ≡ None
-unfolding nodes_fault
-first_sound t e entries rest none is = (none_then (node_fault t e) (nodes_fault t rest) (rw is at none)).0
-
-pub rest_sound : (t : Table) (e : NodeEntry) (entries rest : List NodeEntry) → nodes_fault t entries ≡ None → entries ≡ e ∷ rest → nodes_fault t rest ≡ None
-unfolding nodes_fault
-rest_sound t e entries rest none is = (none_then (node_fault t e) (nodes_fault t rest) (rw is at none)).1
-
 -- a node that is found has none
 pub found_sound : (t : Table) (entries : List NodeEntry) (nid : ℕ) (e : NodeEntry) → nodes_fault t entries ≡ None → node_with nid entries ≡ Some e → node_fault t e ≡ None
-unfolding nodes_fault first_with
+unfolding first_of first_with
 found_sound t [] nid e none found = absurd cc
 found_sound t (x ∷ rest) nid e none found =
     let both = none_then (node_fault t x) (nodes_fault t rest) none in

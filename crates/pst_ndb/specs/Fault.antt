@@ -1,8 +1,9 @@
 -- The first fault of a file up to its nodes.
-use Rattle.std.specs.Prelude.{ℕ, List, [], ◌∷◌, Option, None, option_map}
+use Rattle.std.specs.Prelude.{ℕ, List, Option, option_map}
 use Rattle.pst_fault.specs.declared.fault.Fault.{Fault}
 use Rattle.pst_fault.specs.Fault.{at_node}
 use Rattle.pst_fault.specs.First.{◌then◌}
+use Rattle.pst_fault.specs.Each.{first_of}
 use Rattle.pst_header.specs.declared.header.Header.{Header}
 use Rattle.pst_header.specs.Header.{header_fault, fields}
 use Rattle.pst_page.specs.declared.entry.NodeEntry.{NodeEntry}
@@ -18,9 +19,8 @@ unfoldable pub node_fault : Table → NodeEntry → Option Fault
 node_fault t e = option_map (at_node e.nid) (data_fault t e.bid_data) then option_map (at_top e.bid_sub e.nid) (sub_fault t LISTS e.bid_sub)
 
 -- of nodes, in order
-unfoldable pub nodes_fault : Table → List NodeEntry → Option Fault
-nodes_fault t [] = None
-nodes_fault t (e ∷ rest) = node_fault t e then nodes_fault t rest
+abbrev pub nodes_fault : Table → List NodeEntry → Option Fault
+nodes_fault t = first_of (node_fault t)
 
 -- of a file with this header
 unfoldable pub file_fault : List ℕ → Header → Option Fault

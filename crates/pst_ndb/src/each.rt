@@ -28,7 +28,7 @@ impl<'a> Iterator for Nodes<'a> {
 
     ghost remaining = { item_count parts_left };
 
-    #[tactic(auto, using(crate::proofs::NodeLemmas::first_sound, crate::proofs::NodeLemmas::rest_sound))]
+    #[tactic(auto, using(pst_fault::proofs::EachLemmas::each_first, pst_fault::proofs::EachLemmas::each_rest))]
     fn next(&mut self) -> Option<Node<'a>> {
         let mut rest = self.rest;
         let entry = rest.next()?;

@@ -113,7 +113,7 @@ fn check_node(
 }
 
 // All nodes, in order of their identifiers.
-#[tactic(auto, using(crate::proofs::NodeLemmas::nodes_next, crate::proofs::NodeLemmas::nodes_refused, crate::proofs::NodeLemmas::nodes_done))]
+#[tactic(auto, using(pst_fault::proofs::EachLemmas::each_next, pst_fault::proofs::EachLemmas::each_refused, pst_fault::proofs::EachLemmas::each_done))]
 fn check_each(
     alloc: Global,
     blocks: &Blocks,

@@ -14,7 +14,8 @@ use Rattle.pst_datatree.proofs.KeyLemmas.{none_same, entry_same, missing_same}
 use Rattle.pst_datatree.proofs.AddLemmas.{internal_same}
 use Rattle.pst_subnode.specs.declared.sub.Sub.{Sub}
 use Rattle.pst_subnode.specs.List.{sub_nid, bad_list, list_block_fault, list_fault, subs_of}
-use Rattle.pst_subnode.specs.Tree.{first_among, most_among, entry_fault, entry_height, nesting, sub_fault, sub_height}
+use Rattle.pst_subnode.specs.Tree.{most_among, entry_fault, entry_height, nesting, sub_fault, sub_height}
+use Rattle.pst_fault.specs.Each.{first_of}
 use Rattle.pst_subnode.specs.Laws.{BelowLaw, LowerLaw, HeightLaw, HeightLimitLaw, NoHeightLaw, SameSubLaw}
 use Rattle.pst_subnode.proofs.SubLemmas.{sub_fault_none, sub_fault_below, sub_fault_list, sub_height_suc}
 use Rattle.pst_subnode.proofs.TreeLaws.{no_subs, has_within, has_agrees, entry_law, one_law}
@@ -108,7 +109,7 @@ none_same_by t limit a b e h = by_test (is_no_block b) refl limit h
     by_test true f n k = sub_fault_none t n b f
     by_test false f zero k = let bad : Some nesting ≡ None = sym (sub_fault_below t 0 a refl (none_same a b e ∙ f)) ∙ k in cc
     by_test false f (suc n) k =
-        let p = none_then (list_fault t a) (first_among (entry_fault t (sub_fault t n)) (subs_of t a)) (sym (sub_fault_list t (suc n) n a (omega arith) (none_same a b e ∙ f)) ∙ k) in
+        let p = none_then (list_fault t a) (first_of (entry_fault t (sub_fault t n)) (subs_of t a)) (sym (sub_fault_list t (suc n) n a (omega arith) (none_same a b e ∙ f)) ∙ k) in
         sub_fault_list t (suc n) n b (omega arith) f ∙ (then_none _ _ (list_none_same t a b e p.0) ∙ rw (← subs_same t a b e) p.1)
 
 height_same : (t : Table) (limit a b : ℕ) → bid_key a ≡ bid_key b → sub_height t limit a ≡ sub_height t limit b

@@ -11,7 +11,8 @@ use Rattle.pst_datatree.specs.Bid.{is_no_block}
 use Rattle.pst_datatree.specs.Data.{data_fault}
 use Rattle.pst_subnode.specs.declared.sub.Sub.{Sub}
 use Rattle.pst_subnode.specs.List.{subs_of, list_fault}
-use Rattle.pst_subnode.specs.Tree.{first_among, most_among, entry_fault, entry_height, nesting, sub_fault, sub_height}
+use Rattle.pst_subnode.specs.Tree.{most_among, entry_fault, entry_height, nesting, sub_fault, sub_height}
+use Rattle.pst_fault.specs.Each.{first_of}
 use Rattle.pst_subnode.specs.Laws.{limit_fault, DepthLaw}
 use Rattle.pst_subnode.proofs.SubLemmas.{sub_fault_none, sub_height_none, sub_fault_below, sub_fault_list, sub_height_list}
 
@@ -47,13 +48,13 @@ entry_at t n m s law e =
     let p = none_then (data_fault t s.bid_data) (sub_fault t n s.bid_sub) e in
     then_none _ _ p.0 ∙ law s.bid_sub p.1
 
-entries_at : (t : Table) (n m : ℕ) (xs : List Sub) → ((b : ℕ) → sub_fault t n b ≡ None → sub_fault t m b ≡ limit_fault (sub_height t n b) m) → first_among (entry_fault t (sub_fault t n)) xs ≡ None → first_among (entry_fault t (sub_fault t m)) xs ≡ limit_fault (most_among (entry_height (sub_height t n)) xs) m
-unfolding first_among most_among
+entries_at : (t : Table) (n m : ℕ) (xs : List Sub) → ((b : ℕ) → sub_fault t n b ≡ None → sub_fault t m b ≡ limit_fault (sub_height t n b) m) → first_of (entry_fault t (sub_fault t n)) xs ≡ None → first_of (entry_fault t (sub_fault t m)) xs ≡ limit_fault (most_among (entry_height (sub_height t n)) xs) m
+unfolding first_of most_among
 entries_at t n m [] law h = sym (fits_yes 0 m (omega arith))
 entries_at t n m (s ∷ rest) law h =
-    let p = none_then (entry_fault t (sub_fault t n) s) (first_among (entry_fault t (sub_fault t n)) rest) h in
+    let p = none_then (entry_fault t (sub_fault t n) s) (first_of (entry_fault t (sub_fault t n)) rest) h in
     let most = most_among (entry_height (sub_height t n)) rest in
-    ap (λ o. o then first_among (entry_fault t (sub_fault t m)) rest) (entry_at t n m s law p.0)
+    ap (λ o. o then first_of (entry_fault t (sub_fault t m)) rest) (entry_at t n m s law p.0)
     ∙ ap (λ o. limit_fault (entry_height (sub_height t n) s) m then o) (entries_at t n m rest law p.1)
     ∙ fits_max (entry_height (sub_height t n) s) most m
 
@@ -65,7 +66,7 @@ list_law t n bid e law zero h =
 list_law t n bid e law (suc m) h =
     let xs = subs_of t bid in
     let most = most_among (entry_height (sub_height t n)) xs in
-    let p = none_then (list_fault t bid) (first_among (entry_fault t (sub_fault t n)) xs) (sym (sub_fault_list t (suc n) n bid (omega arith) e) ∙ h) in
+    let p = none_then (list_fault t bid) (first_of (entry_fault t (sub_fault t n)) xs) (sym (sub_fault_list t (suc n) n bid (omega arith) e) ∙ h) in
     sub_fault_list t (suc m) m bid (omega arith) e
     ∙ then_none _ _ p.0
     ∙ entries_at t n m xs (law m) p.1

@@ -15,7 +15,8 @@ use Rattle.pst_subnode.specs.declared.sub.Sub.{Sub}
 use Rattle.pst_datatree.specs.List.{count_in}
 use Rattle.pst_subnode.specs.Body.{leaf_bid_in, is_siblock, has_level_one}
 use Rattle.pst_subnode.specs.List.{slblock_subs, leaf_subs, siblock_subs, block_subs, subs_of, sub_nid, are_distinct, bad_list, slblock_fault, list_leaf_fault, siblock_fault, shape_fault, list_block_fault, list_fault}
-use Rattle.pst_subnode.specs.Tree.{first_among, most_among, entry_fault, entry_height, sub_fault, sub_height}
+use Rattle.pst_subnode.specs.Tree.{most_among, entry_fault, entry_height, sub_fault, sub_height}
+use Rattle.pst_fault.specs.Each.{first_of}
 use Rattle.pst_subnode.specs.Marks.{IsList, IsSiList, at_leaf, at_leaves, leaf_height, most_below, rank_of}
 use Rattle.pst_subnode.proofs.ListLaws.{level_zero}
 use Rattle.pst_subnode.proofs.SubLemmas.{sub_fault_list, sub_height_list}
@@ -132,10 +133,10 @@ then_assoc : (a b c : Option Fault) → ((a then b) then c) ≡ (a then (b then 
 then_assoc None b c = refl
 then_assoc (Some f) b c = refl
 
-among_append : (part : Sub → Option Fault) (xs ys : List Sub) → first_among part (xs ++ ys) ≡ (first_among part xs then first_among part ys)
-unfolding first_among
+among_append : (part : Sub → Option Fault) (xs ys : List Sub) → first_of part (xs ++ ys) ≡ (first_of part xs then first_of part ys)
+unfolding first_of
 among_append part [] ys = refl
-among_append part (x ∷ rest) ys = ap (λ o. part x then o) (among_append part rest ys) ∙ sym (then_assoc (part x) (first_among part rest) (first_among part ys))
+among_append part (x ∷ rest) ys = ap (λ o. part x then o) (among_append part rest ys) ∙ sym (then_assoc (part x) (first_of part rest) (first_of part ys))
 
 max_assoc : (a b c : ℕ) → max a (max b c) ≡ max (max a b) c
 max_assoc a b c = omega arith
@@ -146,16 +147,16 @@ most_append height [] ys = omega arith
 most_append height (x ∷ rest) ys = ap (max (height x)) (most_append height rest ys) ∙ max_assoc (height x) (most_among height rest) (most_among height ys)
 
 -- the first n of them
-leaves_at : (t : Table) (e : BlockEntry) (k n : ℕ) → ((i : ℕ) → i < n → IsLeafList t (body_of t e) i) → first_among (entry_fault t (sub_fault t k)) (join_below (leaf_subs t (body_of t e)) n) ≡ first_below (at_leaf t e (suc k)) n
-unfolding first_among
+leaves_at : (t : Table) (e : BlockEntry) (k n : ℕ) → ((i : ℕ) → i < n → IsLeafList t (body_of t e) i) → first_of (entry_fault t (sub_fault t k)) (join_below (leaf_subs t (body_of t e)) n) ≡ first_below (at_leaf t e (suc k)) n
+unfolding first_of
 leaves_at t e k zero each = refl
 leaves_at t e k (suc n) each =
     let body = body_of t e in
     let part = entry_fault t (sub_fault t k) in
     let leaf = each n (omega arith) in
     among_append part (join_below (leaf_subs t body) n) (leaf_subs t body n)
-    ∙ ap (λ o. o then first_among part (leaf_subs t body n)) (leaves_at t e k n (λ i lt. each i (omega arith)))
-    ∙ ap (λ o. first_below (at_leaf t e (suc k)) n then o) (sym (sub_fault_list t (suc k) k (leaf_bid_in body n) (omega arith) leaf.is_list.named ∙ (then_none _ _ leaf.is_list.list ∙ ap (first_among part) leaf.subs)))
+    ∙ ap (λ o. o then first_of part (leaf_subs t body n)) (leaves_at t e k n (λ i lt. each i (omega arith)))
+    ∙ ap (λ o. first_below (at_leaf t e (suc k)) n then o) (sym (sub_fault_list t (suc k) k (leaf_bid_in body n) (omega arith) leaf.is_list.named ∙ (then_none _ _ leaf.is_list.list ∙ ap (first_of part) leaf.subs)))
 
 heights_at : (t : Table) (e : BlockEntry) (k n : ℕ) → ((i : ℕ) → i < n → IsLeafList t (body_of t e) i) → most_among (entry_height (sub_height t k)) (join_below (leaf_subs t (body_of t e)) n) + 1 ≡ most_below (leaf_height t e (suc k)) n
 unfolding most_among most_below
@@ -178,7 +179,7 @@ si_fault t bid e limit below is more =
     let are : limit ≡ suc below = omega arith in
     rw are (sub_fault_list t (suc below) below bid (omega arith) is.is_list.named
     ∙ then_none _ _ is.is_list.list
-    ∙ ap (first_among (entry_fault t (sub_fault t below))) (named_subs t bid e is.is_list.named is.entry ∙ si.subs)
+    ∙ ap (first_of (entry_fault t (sub_fault t below))) (named_subs t bid e is.is_list.named is.entry ∙ si.subs)
     ∙ leaves_at t e below (count_in (body_of t e)) (λ i lt. leaf_list t bid e i is lt))
 
 pub si_height : (t : Table) (bid : ℕ) (e : BlockEntry) (limit below : ℕ) → IsSiList t bid e → below + 1 ≡ limit → sub_height t limit bid ≡ most_below (leaf_height t e limit) (count_in (body_of t e))
@@ -213,8 +214,8 @@ si_tells t bid e limit count most room is named told =
       told.1 ∙ (ap (most_below (leaf_height t e limit)) named ∙ sym (si_height t bid e limit (limit - 1) is more)),
     )
 
-pub list_tells : (t : Table) (bid limit below most : ℕ) (xs : List Sub) → below + 1 ≡ limit → IsList t bid → xs ≡ subs_of t bid → (first_among (entry_fault t (sub_fault t below)) xs ≡ None) × (most ≡ most_among (entry_height (sub_height t below)) xs) → (sub_fault t limit bid ≡ None) × (most + 1 ≡ sub_height t limit bid)
+pub list_tells : (t : Table) (bid limit below most : ℕ) (xs : List Sub) → below + 1 ≡ limit → IsList t bid → xs ≡ subs_of t bid → (first_of (entry_fault t (sub_fault t below)) xs ≡ None) × (most ≡ most_among (entry_height (sub_height t below)) xs) → (sub_fault t limit bid ≡ None) × (most + 1 ≡ sub_height t limit bid)
 list_tells t bid limit below most xs more is are told = (
-  sub_fault_list t limit below bid (omega (arith, more)) is.named ∙ then_none _ _ is.list ∙ ap (first_among (entry_fault t (sub_fault t below))) (sym are) ∙ told.0,
+  sub_fault_list t limit below bid (omega (arith, more)) is.named ∙ then_none _ _ is.list ∙ ap (first_of (entry_fault t (sub_fault t below))) (sym are) ∙ told.0,
   ap (λ n. n + 1) (told.1 ∙ ap (most_among (entry_height (sub_height t below))) are) ∙ sym (sub_height_list t limit below bid (omega (arith, more)) is.named),
 )

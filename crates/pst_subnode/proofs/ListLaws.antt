@@ -10,7 +10,8 @@ use Rattle.pst_fault.proofs.FirstLemmas.{none_then, then_none, none_below, holds
 use Rattle.pst_page.specs.declared.entry.BlockEntry.{BlockEntry}
 use Rattle.pst_block.specs.Table.{Table, entry_of, body_of}
 use Rattle.pst_datatree.specs.Bid.{is_internal}
-use Rattle.pst_datatree.specs.Data.{fault_or, block_missing}
+use Rattle.pst_datatree.specs.Data.{block_missing}
+use Rattle.pst_fault.specs.Each.{there_or}
 use Rattle.pst_subnode.specs.declared.sub.Sub.{Sub}
 use Rattle.pst_datatree.specs.List.{count_in}
 use Rattle.pst_subnode.specs.Body.{leaf_bid_in, is_slblock, is_siblock, has_level_one}
@@ -36,7 +37,7 @@ module _ (IsPart : ℕ → List Sub → Type 0) (fault : ℕ → Option Fault) (
   )
 
 -- a block that is there, of two that are told apart by a test
-there : (missing : Fault) (part : BlockEntry → Option Fault) (o : Option BlockEntry) → fault_or missing part o ≡ None → (e : BlockEntry) × (o ≡ Some e) × (part e ≡ None)
+there : (missing : Fault) (part : BlockEntry → Option Fault) (o : Option BlockEntry) → there_or missing part o ≡ None → (e : BlockEntry) × (o ≡ Some e) × (part e ≡ None)
 there missing part None h = cc
 there missing part (Some e) h = (e, refl, h)
 

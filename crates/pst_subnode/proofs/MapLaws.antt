@@ -9,7 +9,8 @@ use Rattle.pst_btree.specs.Entries.{first_with}
 use Rattle.pst_datatree.specs.Bid.{is_no_block}
 use Rattle.pst_subnode.specs.declared.sub.Sub.{Sub}
 use Rattle.pst_subnode.specs.List.{sub_nid, are_distinct, subs_of, list_fault}
-use Rattle.pst_subnode.specs.Tree.{first_among, entry_fault, nesting, sub_fault}
+use Rattle.pst_subnode.specs.Tree.{entry_fault, nesting, sub_fault}
+use Rattle.pst_fault.specs.Each.{first_of}
 use Rattle.pst_datatree.specs.Data.{data_fault}
 use Rattle.pst_subnode.specs.Laws.{MapLaw, FoundLaw}
 use Rattle.pst_subnode.proofs.ListLaws.{names_law, distinct_law, both_true}
@@ -74,7 +75,7 @@ distinct_list t (suc limit) bid h = by_test (is_no_block bid) refl
     by_test : (v : Bool) → is_no_block bid ≡ v → are_distinct (map sub_nid (subs_of t bid)) ≡ true
     by_test true e = rw (no_subs t bid e) refl
     by_test false e =
-        let p = none_then (list_fault t bid) (first_among (entry_fault t (sub_fault t limit)) (subs_of t bid)) (sym (sub_fault_list t (suc limit) limit bid (omega arith) e) ∙ h) in
+        let p = none_then (list_fault t bid) (first_of (entry_fault t (sub_fault t limit)) (subs_of t bid)) (sym (sub_fault_list t (suc limit) limit bid (omega arith) e) ∙ h) in
         let names = (names_law t bid (subs_of t bid)).1 (p.0, named_subs t bid e) in
         (distinct_law (map sub_nid (subs_of t bid))).0 names.4
 

@@ -23,7 +23,8 @@ use Rattle.pst_datatree.proofs.KeyLemmas.{entry_same}
 use Rattle.pst_subnode.specs.declared.sub.Sub.{Sub}
 use Rattle.pst_subnode.specs.declared.heights.Heights.{Heights}
 use Rattle.pst_subnode.specs.List.{subs_of, list_fault}
-use Rattle.pst_subnode.specs.Tree.{first_among, entry_fault, nesting, sub_fault, sub_height}
+use Rattle.pst_subnode.specs.Tree.{entry_fault, nesting, sub_fault, sub_height}
+use Rattle.pst_fault.specs.Each.{first_of}
 use Rattle.pst_subnode.specs.Heights.{list_keys, state_at, state_of, AreTrue, NoMarks, NoNewMarks, AreHeightsTrue}
 use Rattle.pst_subnode.specs.Marks.{at_list, at_entries, at_entry, at_leaf, at_leaves, IsSiList, rank_at, rank_of, LeadsTo, HaveCome}
 use Rattle.pst_datatree.specs.List.{count_in}
@@ -129,14 +130,14 @@ into_list t rank limit below bid more e none (suc k) le =
 
 -- to the first entry
 pub to_entry : (t : Table) (h : Heights) (limit : ℕ) (s : Sub) (xs rest : List Sub) → xs ≡ s ∷ rest → HaveCome t h (at_entries t xs) 1 limit → HaveCome t h (at_entry t s) 1 limit
-unfolding first_among
+unfolding first_of
 to_entry t h limit s xs rest is come =
     come_on t h h (at_entries t xs) (at_entry t s) 1 limit 1 limit (λ q marked. marked) (omega arith)
     (λ k le. inr (k, omega arith, le, (λ f at. rw is (then_some _ _ f at)))) come
 
 -- to the entries behind the first, which has no fault
 pub past_entry : (t : Table) (old new : Heights) (limit : ℕ) (s : Sub) (xs rest : List Sub) → xs ≡ s ∷ rest → NoNewMarks old new → entry_fault t (sub_fault t limit) s ≡ None → HaveCome t old (at_entries t xs) 1 limit → HaveCome t new (at_entries t rest) 1 limit
-unfolding first_among
+unfolding first_of
 past_entry t old new limit s xs rest is marks none come =
     come_on t old new (at_entries t xs) (at_entries t rest) 1 limit 1 limit marks (omega arith)
     (λ k le. elim (entry_or_deep t limit k s none) [

@@ -10,30 +10,31 @@ use Rattle.pst_datatree.specs.Bid.{is_no_block}
 use Rattle.pst_datatree.specs.Data.{data_fault}
 use Rattle.pst_subnode.specs.declared.sub.Sub.{Sub}
 use Rattle.pst_subnode.specs.List.{subs_of, list_fault}
-use Rattle.pst_subnode.specs.Tree.{first_among, most_among, entry_fault, entry_height, nesting, sub_fault, sub_height}
+use Rattle.pst_subnode.specs.Tree.{most_among, entry_fault, entry_height, nesting, sub_fault, sub_height}
+use Rattle.pst_fault.specs.Each.{first_of}
 use Rattle.pst_subnode.specs.Laws.{MoreLaw}
 
 -- ---- entries, one after another
 
-pub among_end : (part : Sub → Option Fault) (xs : List Sub) → xs ≡ [] → first_among part xs ≡ None
-unfolding first_among
+pub among_end : (part : Sub → Option Fault) (xs : List Sub) → xs ≡ [] → first_of part xs ≡ None
+unfolding first_of
 among_end part xs is = rw is refl
 
 -- an entry without fault
-pub among_more : (part : Sub → Option Fault) (xs rest : List Sub) (s : Sub) → xs ≡ s ∷ rest → part s ≡ None → first_among part xs ≡ first_among part rest
-unfolding first_among
-among_more part xs rest s is none = rw is (then_none (part s) (first_among part rest) none)
+pub among_more : (part : Sub → Option Fault) (xs rest : List Sub) (s : Sub) → xs ≡ s ∷ rest → part s ≡ None → first_of part xs ≡ first_of part rest
+unfolding first_of
+among_more part xs rest s is none = rw is (then_none (part s) (first_of part rest) none)
 
 -- an entry that is refused
-pub among_at : (part : Sub → Option Fault) (xs rest : List Sub) (s : Sub) (f : Fault) → xs ≡ s ∷ rest → IsFirst (part s) f → IsFirst (first_among part xs) f
-unfolding first_among
-among_at part xs rest s f is first = rw is (is_first_then (part s) (first_among part rest) f first)
+pub among_at : (part : Sub → Option Fault) (xs rest : List Sub) (s : Sub) (f : Fault) → xs ≡ s ∷ rest → IsFirst (part s) f → IsFirst (first_of part xs) f
+unfolding first_of
+among_at part xs rest s f is first = rw is (is_first_then (part s) (first_of part rest) f first)
 
 -- where entries have no fault, each has none
-pub none_among : (part : Sub → Option Fault) (xs : List Sub) (s : Sub) → first_among part xs ≡ None → Contains xs s → part s ≡ None
-unfolding first_among
+pub none_among : (part : Sub → Option Fault) (xs : List Sub) (s : Sub) → first_of part xs ≡ None → Contains xs s → part s ≡ None
+unfolding first_of
 none_among part [] s none w = absurd (omega (arith, w.1))
-none_among part (x ∷ rest) s none w = by_place w.0 w.1 w.2 (none_then (part x) (first_among part rest) none).0 (λ v. none_among part rest s (none_then (part x) (first_among part rest) none).1 v)
+none_among part (x ∷ rest) s none w = by_place w.0 w.1 w.2 (none_then (part x) (first_of part rest) none).0 (λ v. none_among part rest s (none_then (part x) (first_of part rest) none).1 v)
   where
     by_place : (k : ℕ) → k < length (x ∷ rest) → slice_index_or (x ∷ rest) k s ≡ s → part x ≡ None → (Contains rest s → part s ≡ None) → part s ≡ None
     by_place zero lt is one later = rw (← is) one
@@ -64,12 +65,12 @@ pub sub_fault_below : (t : Table) (limit bid : ℕ) → limit ≡ 0 → is_no_bl
 unfolding sub_fault
 sub_fault_below t limit bid z e = rw (z, e) refl
 
-sub_fault_suc : (t : Table) (limit bid : ℕ) → is_no_block bid ≡ false → sub_fault t (suc limit) bid ≡ (list_fault t bid then first_among (entry_fault t (sub_fault t limit)) (subs_of t bid))
+sub_fault_suc : (t : Table) (limit bid : ℕ) → is_no_block bid ≡ false → sub_fault t (suc limit) bid ≡ (list_fault t bid then first_of (entry_fault t (sub_fault t limit)) (subs_of t bid))
 unfolding sub_fault
 sub_fault_suc t limit bid e = rw e refl
 
 -- a list that may begin, where one fewer may below it
-pub sub_fault_list : (t : Table) (limit below bid : ℕ) → below + 1 ≡ limit → is_no_block bid ≡ false → sub_fault t limit bid ≡ (list_fault t bid then first_among (entry_fault t (sub_fault t below)) (subs_of t bid))
+pub sub_fault_list : (t : Table) (limit below bid : ℕ) → below + 1 ≡ limit → is_no_block bid ≡ false → sub_fault t limit bid ≡ (list_fault t bid then first_of (entry_fault t (sub_fault t below)) (subs_of t bid))
 sub_fault_list t limit below bid h e = let more : limit ≡ suc below = omega arith in rw more (sub_fault_suc t below bid e)
 
 pub sub_height_suc : (t : Table) (limit bid : ℕ) → is_no_block bid ≡ false → sub_height t (suc limit) bid ≡ most_among (entry_height (sub_height t limit)) (subs_of t bid) + 1
@@ -91,11 +92,11 @@ entry_more t below more s h e =
     let p = none_then (data_fault t s.bid_data) (below s.bid_sub) e in
     then_none _ _ p.0 ∙ h s.bid_sub p.1
 
-entries_more : (t : Table) (below more : ℕ → Option Fault) (xs : List Sub) → ((b : ℕ) → below b ≡ None → more b ≡ None) → first_among (entry_fault t below) xs ≡ None → first_among (entry_fault t more) xs ≡ None
-unfolding first_among
+entries_more : (t : Table) (below more : ℕ → Option Fault) (xs : List Sub) → ((b : ℕ) → below b ≡ None → more b ≡ None) → first_of (entry_fault t below) xs ≡ None → first_of (entry_fault t more) xs ≡ None
+unfolding first_of
 entries_more t below more [] h e = refl
 entries_more t below more (s ∷ rest) h e =
-    let p = none_then (entry_fault t below s) (first_among (entry_fault t below) rest) e in
+    let p = none_then (entry_fault t below s) (first_of (entry_fault t below) rest) e in
     then_none _ _ (entry_more t below more s h p.0) ∙ entries_more t below more rest h p.1
 
 -- what may nest so deep may nest deeper
@@ -107,5 +108,5 @@ sub_fault_more t (suc limit) bid h = by_test (is_no_block bid) refl (λ b. sub_f
     by_test : (v : Bool) → is_no_block bid ≡ v → ((b : ℕ) → sub_fault t limit b ≡ None → sub_fault t (suc limit) b ≡ None) → sub_fault t (suc (suc limit)) bid ≡ None
     by_test true e more = sub_fault_none t (suc (suc limit)) bid e
     by_test false e more =
-        let p = none_then (list_fault t bid) (first_among (entry_fault t (sub_fault t limit)) (subs_of t bid)) (sym (sub_fault_suc t limit bid e) ∙ h) in
+        let p = none_then (list_fault t bid) (first_of (entry_fault t (sub_fault t limit)) (subs_of t bid)) (sym (sub_fault_suc t limit bid e) ∙ h) in
         sub_fault_suc t (suc limit) bid e ∙ (then_none _ _ p.0 ∙ entries_more t (sub_fault t limit) (sub_fault t (suc limit)) (subs_of t bid) more p.1)

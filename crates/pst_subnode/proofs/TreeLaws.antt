@@ -9,7 +9,8 @@ use Rattle.pst_datatree.specs.Data.{data_fault, data_spans}
 use Rattle.pst_datatree.proofs.RelationLemmas.{data_law}
 use Rattle.pst_subnode.specs.declared.sub.Sub.{Sub}
 use Rattle.pst_subnode.specs.List.{subs_at, block_subs, subs_of, list_fault}
-use Rattle.pst_subnode.specs.Tree.{first_among, most_among, entry_fault, entry_height, nesting, sub_fault, sub_height}
+use Rattle.pst_subnode.specs.Tree.{most_among, entry_fault, entry_height, nesting, sub_fault, sub_height}
+use Rattle.pst_fault.specs.Each.{first_of}
 use Rattle.pst_subnode.specs.Relation.{NamesList, HasSubs, nothing, listed, HaveSubs, no_entries, entries}
 use Rattle.pst_subnode.specs.Laws.{SubLaw, OneLaw, EntryLaw}
 use Rattle.pst_subnode.proofs.ListLaws.{names_law}
@@ -22,7 +23,7 @@ pub record Agrees (t : Table) (limit bid height : ℕ) (subs : List Sub) : Type 
   pub subs_are : subs ≡ subs_of t bid
 
 pub record Agree (t : Table) (limit : ℕ) (subs : List Sub) (most : ℕ) : Type 0 where
-  pub first : first_among (entry_fault t (sub_fault t limit)) subs ≡ None
+  pub first : first_of (entry_fault t (sub_fault t limit)) subs ≡ None
   pub most_is : most ≡ most_among (entry_height (sub_height t limit)) subs
 
 pub no_subs : (t : Table) (bid : ℕ) → is_no_block bid ≡ true → subs_of t bid ≡ []
@@ -49,11 +50,11 @@ agrees_list t limit below bid most subs h e names agree =
     }
 
 agree_none : (t : Table) (limit : ℕ) → Agree t limit [] 0
-unfolding first_among most_among
+unfolding first_of most_among
 agree_none t limit = record { first = refl; most_is = refl }
 
 agree_more : (t : Table) (limit height most : ℕ) (s : Sub) (rest subs : List Sub) → data_fault t s.bid_data ≡ None → Agrees t limit s.bid_sub height subs → Agree t limit rest most → Agree t limit (s ∷ rest) (max height most)
-unfolding first_among most_among entry_fault entry_height
+unfolding first_of most_among entry_fault entry_height
 agree_more t limit height most s rest subs tree one others = record {
   first = then_none _ _ (then_none _ _ tree ∙ one.first) ∙ others.first;
   most_is = ap (λ h. max h most) one.height_is ∙ ap (max (sub_height t limit s.bid_sub)) others.most_is;
@@ -78,8 +79,8 @@ HasWithin t limit bid = HasSubs t bid (sub_height t limit bid) (subs_of t bid) �
 has_none : (t : Table) (limit bid : ℕ) → is_no_block bid ≡ true → HasWithin t limit bid
 has_none t limit bid e = rw (sub_height_none t limit bid e, no_subs t bid e) (nothing bid e, omega arith)
 
-have_within : (t : Table) (limit : ℕ) → ((b : ℕ) → sub_fault t limit b ≡ None → HasWithin t limit b) → (xs : List Sub) → first_among (entry_fault t (sub_fault t limit)) xs ≡ None → HaveSubs t xs (most_among (entry_height (sub_height t limit)) xs) × (most_among (entry_height (sub_height t limit)) xs ≤ limit)
-unfolding first_among most_among entry_fault entry_height
+have_within : (t : Table) (limit : ℕ) → ((b : ℕ) → sub_fault t limit b ≡ None → HasWithin t limit b) → (xs : List Sub) → first_of (entry_fault t (sub_fault t limit)) xs ≡ None → HaveSubs t xs (most_among (entry_height (sub_height t limit)) xs) × (most_among (entry_height (sub_height t limit)) xs ≤ limit)
+unfolding first_of most_among entry_fault entry_height
 have_within t limit has [] h = (no_entries, omega arith)
 have_within t limit has (s ∷ rest) h =
     let p = none_then (data_fault t s.bid_data then sub_fault t limit s.bid_sub) _ h in
@@ -90,7 +91,7 @@ have_within t limit has (s ∷ rest) h =
 
 has_list : (t : Table) (limit bid : ℕ) → is_no_block bid ≡ false → ((b : ℕ) → sub_fault t limit b ≡ None → HasWithin t limit b) → sub_fault t (suc limit) bid ≡ None → HasWithin t (suc limit) bid
 has_list t limit bid e has h =
-    let p = none_then (list_fault t bid) (first_among (entry_fault t (sub_fault t limit)) (subs_of t bid)) (sym (sub_fault_list t (suc limit) limit bid (omega arith) e) ∙ h) in
+    let p = none_then (list_fault t bid) (first_of (entry_fault t (sub_fault t limit)) (subs_of t bid)) (sym (sub_fault_list t (suc limit) limit bid (omega arith) e) ∙ h) in
     let each = have_within t limit has (subs_of t bid) p.1 in
     rw (sub_height_suc t limit bid e) (listed bid (subs_of t bid) _ e ((names_law t bid (subs_of t bid)).1 (p.0, named_subs t bid e)) each.0, omega (arith, each.1))
 
@@ -127,5 +128,5 @@ entry_law t limit bid s h w = by_test (is_no_block bid) refl
     by_test : (v : Bool) → is_no_block bid ≡ v → (data_fault t s.bid_data ≡ None) × (sub_fault t limit s.bid_sub ≡ None)
     by_test true e = let bad : Contains [] s = (rw (no_subs t bid e) at w) in absurd (omega (arith, bad.1))
     by_test false e =
-        let p = none_then (list_fault t bid) (first_among (entry_fault t (sub_fault t limit)) (subs_of t bid)) (sym (sub_fault_list t (suc limit) limit bid (omega arith) e) ∙ h) in
+        let p = none_then (list_fault t bid) (first_of (entry_fault t (sub_fault t limit)) (subs_of t bid)) (sym (sub_fault_list t (suc limit) limit bid (omega arith) e) ∙ h) in
         none_then (data_fault t s.bid_data) (sub_fault t limit s.bid_sub) (none_among (entry_fault t (sub_fault t limit)) (subs_of t bid) s p.1 w)

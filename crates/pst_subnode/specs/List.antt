@@ -11,7 +11,8 @@ use Rattle.pst_fault.specs.First.{◌then◌, holds_or, first_below, join_below}
 use Rattle.pst_page.specs.declared.entry.BlockEntry.{BlockEntry}
 use Rattle.pst_block.specs.Table.{Table, entry_of, body_of}
 use Rattle.pst_datatree.specs.Bid.{is_internal, is_no_block}
-use Rattle.pst_datatree.specs.Data.{block_missing, fault_or}
+use Rattle.pst_datatree.specs.Data.{block_missing}
+use Rattle.pst_fault.specs.Each.{there_or}
 use Rattle.pst_subnode.specs.declared.sub.Sub.{Sub}
 use Rattle.pst_datatree.specs.List.{count_in}
 use Rattle.pst_subnode.specs.Body.{leaf_bid_in, is_slblock, is_siblock, has_level_one, subs_in}
@@ -65,7 +66,7 @@ slblock_fault t e = holds_or (is_slblock (body_of t e)) (bad_list e)
 unfoldable pub list_leaf_fault : Table → BlockEntry → ℕ → Option Fault
 list_leaf_fault t holder i =
     let bid = leaf_bid_in (body_of t holder) i in
-    fault_or (block_missing bid) (λ e. if is_internal bid then slblock_fault t e else Some (bad_list holder)) (entry_of t bid)
+    there_or (block_missing bid) (λ e. if is_internal bid then slblock_fault t e else Some (bad_list holder)) (entry_of t bid)
 
 -- an SIBLOCK: its btype, level and fit, then each block that it names
 unfoldable pub siblock_fault : Table → BlockEntry → Option Fault
@@ -84,4 +85,4 @@ list_block_fault t e = shape_fault t e then holds_or (are_distinct (map sub_nid 
 -- a block identifier that names a block: it is there, and is internal
 unfoldable pub list_fault : Table → ℕ → Option Fault
 list_fault t bid =
-    fault_or (block_missing bid) (λ e. if is_internal bid then list_block_fault t e else Some (bad_list e)) (entry_of t bid)
+    there_or (block_missing bid) (λ e. if is_internal bid then list_block_fault t e else Some (bad_list e)) (entry_of t bid)

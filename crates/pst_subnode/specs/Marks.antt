@@ -9,7 +9,8 @@ use Rattle.pst_subnode.specs.declared.sub.Sub.{Sub}
 use Rattle.pst_subnode.specs.declared.heights.Heights.{Heights}
 use Rattle.pst_subnode.specs.Body.{leaf_bid_in, has_level_one}
 use Rattle.pst_subnode.specs.List.{list_fault}
-use Rattle.pst_subnode.specs.Tree.{first_among, entry_fault, sub_fault, sub_height, nesting}
+use Rattle.pst_subnode.specs.Tree.{entry_fault, sub_fault, sub_height, nesting}
+use Rattle.pst_fault.specs.Each.{first_of}
 use Rattle.pst_subnode.specs.Heights.{state_of}
 
 -- ---- what a walk is at, by the faults that it would tell there under each limit
@@ -18,7 +19,7 @@ abbrev pub at_list : Table → ℕ → ℕ → Option Fault
 at_list t bid limit = sub_fault t limit bid
 
 abbrev pub at_entries : Table → List Sub → ℕ → Option Fault
-at_entries t subs limit = first_among (entry_fault t (sub_fault t limit)) subs
+at_entries t subs limit = first_of (entry_fault t (sub_fault t limit)) subs
 
 abbrev pub at_entry : Table → Sub → ℕ → Option Fault
 at_entry t s limit = entry_fault t (sub_fault t limit) s

@@ -8,17 +8,13 @@ use Rattle.pst_fault.specs.declared.fault.Fault.{Fault}
 use Rattle.pst_fault.specs.declared.kind.Kind.{Kind}
 use Rattle.pst_fault.specs.declared.kind.Kind.TheVariants.{Nesting, NoMemory}
 use Rattle.pst_fault.specs.Fault.{fault_at, at_node}
+use Rattle.pst_fault.specs.Each.{first_of}
 use Rattle.pst_fault.specs.First.{◌then◌}
 use Rattle.pst_block.specs.Table.{Table}
 use Rattle.pst_datatree.specs.Bid.{is_no_block}
 use Rattle.pst_datatree.specs.Data.{data_fault}
 use Rattle.pst_subnode.specs.declared.sub.Sub.{Sub}
 use Rattle.pst_subnode.specs.List.{subs_of, list_fault}
-
--- the first fault of entries, in order
-unfoldable pub first_among : (Sub → Option Fault) → List Sub → Option Fault
-first_among part [] = None
-first_among part (s ∷ rest) = part s then first_among part rest
 
 -- the greatest height of entries, 0 where there are none
 unfoldable pub most_among : (Sub → ℕ) → List Sub → ℕ
@@ -41,7 +37,7 @@ nesting = fault_at Nesting 0
 unfoldable pub sub_fault : Table → ℕ → ℕ → Option Fault
 sub_fault t zero bid = if is_no_block bid then None else Some nesting
 sub_fault t (suc limit) bid =
-    if is_no_block bid then None else (list_fault t bid then first_among (entry_fault t (λ b. sub_fault t limit b)) (subs_of t bid))
+    if is_no_block bid then None else (list_fault t bid then first_of (entry_fault t (λ b. sub_fault t limit b)) (subs_of t bid))
 
 -- how many lists nest, where nothing is at fault: one more than the most below an entry
 unfoldable pub sub_height : Table → ℕ → ℕ → ℕ

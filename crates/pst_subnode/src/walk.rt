@@ -7,7 +7,8 @@ ghost use Rattle.pst_block.specs.Table.{body_of, IsWithin};
 ghost use Rattle.pst_datatree.specs.Bid.{is_no_block as no_block};
 ghost use Rattle.pst_subnode.specs.Body.{leaf_bid_in};
 ghost use Rattle.pst_subnode.specs.Left.{subs_left};
-ghost use Rattle.pst_subnode.specs.Tree.{first_among, most_among, entry_fault, entry_height, sub_fault, sub_height};
+ghost use Rattle.pst_subnode.specs.Tree.{most_among, entry_fault, entry_height, sub_fault, sub_height};
+ghost use Rattle.pst_fault.specs.Each.{first_of};
 ghost use Rattle.pst_subnode.specs.Heights.{state_of};
 ghost use Rattle.pst_subnode.specs.Marks.{IsSlblockList, IsSiList, at_list, at_entries, at_entry, at_leaf, at_leaves, leaf_height, most_below};
 ghost use Rattle.pst_subnode.specs.Reach.{Leads};
@@ -65,7 +66,7 @@ fn height_of_entries(
     requires begun { let t = table_of blocks.now in
         IsBegun t seen.old heights.old (at_entries t (subs_left subs)) 1 limit }
     ensures exact { let t = table_of blocks.now in
-        Tells result (first_among (entry_fault t (sub_fault t limit)) (subs_left subs.entry))
+        Tells result (first_of (entry_fault t (sub_fault t limit)) (subs_left subs.entry))
         (most_among (entry_height (sub_height t limit)) (subs_left subs.entry)) }
     ensures small { IfOk result (λ h. h ≤ limit) }
     ensures walked { let t = table_of blocks.now in

@@ -1,18 +1,18 @@
 use Rattle.std.proofs.Common.{map, ap}
 use Rattle.std.proofs.lemmas.Result.{err_from_is_err_and}
-use Rattle.pst_fault.proofs.EachLemmas.{contains_here, contains_later}
+use Rattle.pst_fault.proofs.EachLemmas.{each_next, each_refused, contains_here, contains_later}
 use Rattle.pst_btree.specs.Trees.{node_entries}
 use Rattle.pst_btree.specs.Nodes.{nodes_left}
 use Rattle.pst_block.specs.Blocks.{table_of}
 use Rattle.pst_subnode.proofs.AddLemmas.{adds_entry, entry_next, entries_done}
 use Rattle.pst_ndb.specs.Known.{entry_of_node}
-use Rattle.pst_ndb.proofs.NodeLemmas.{nodes_next, nodes_refused}
+use Rattle.pst_ndb.specs.Fault.{node_fault}
 use Rattle.pst_ndb.proofs.nodes.check_each.Goals as goal
 
 pub returns-in_err-check_node-clause-exact : goal.returns-in_err-check_node-clause-exact
 returns-in_err-check_node-clause-exact c =
     let p = err_from_is_err_and c.from_residual.result c.from_residual.ensures.1 in
-    rw (p.1, p.2) (nodes_refused (table_of c.args.blocks.now) _ _ _ _ _ c.in-Some.ensures.steps c.in_err-check_node.ensures.exact c.loop-entry.invariant.first)
+    rw (p.1, p.2) (each_refused (node_fault (table_of c.args.blocks.now)) _ _ _ _ _ c.in-Some.ensures.steps c.in_err-check_node.ensures.exact c.loop-entry.invariant.first)
 
 pub returns-in_err-check_node-clause-adds : goal.returns-in_err-check_node-clause-adds
 returns-in_err-check_node-clause-adds c =
@@ -31,7 +31,7 @@ loop-entry-preserved c =
     let inv = c.loop-entry.invariant in
     let node = c.in_ok-check_node.ensures in
     record {
-      first = nodes_next (table_of c.args.blocks.now) c.in-Some.entry _ _ _ c.in-Some.ensures.steps node.exact.0 inv.first;
+      first = each_next (node_fault (table_of c.args.blocks.now)) _ _ c.in-Some.entry _ c.in-Some.ensures.steps node.exact.0 inv.first;
       known = node.known;
       adds = adds_entry (table_of c.args.blocks.now) all sub c.args.known.now.seen c.args.known.now.heights c.loop-entry.known.seen c.loop-entry.known.heights c.check_node.new.known.seen c.check_node.new.known.heights (inv.within sub (rw steps (contains_here sub rest))) inv.adds node.adds;
       there = entry_next (table_of c.args.blocks.now) _ all xs rest sub c.loop-entry.known.seen c.loop-entry.known.heights c.check_node.new.known.seen c.check_node.new.known.heights steps inv.there node.adds node.there;

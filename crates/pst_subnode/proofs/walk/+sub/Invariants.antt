@@ -7,7 +7,8 @@ use Rattle.pst_subnode.specs.declared.sub.Sub.{Sub}
 use Rattle.pst_subnode.specs.Known as given
 use Rattle.pst_subnode.proofs.AddLemmas.{AreKnownOr}
 use Rattle.pst_subnode.specs.Left.{subs_left}
-use Rattle.pst_subnode.specs.Tree.{first_among, most_among, entry_fault, entry_height, sub_fault, sub_height}
+use Rattle.pst_subnode.specs.Tree.{most_among, entry_fault, entry_height, sub_fault, sub_height}
+use Rattle.pst_fault.specs.Each.{first_of}
 use Rattle.pst_subnode.proofs.walk.+sub.Given as goal
 
 abbrev pub decreases-height_of_entries : goal.decreases-height_of_entries
@@ -36,7 +37,7 @@ decreases-height_of_slblock l = 8 * l.limit
 
 abbrev pub invariant-height_of_entries-loop-sub : goal.invariant-height_of_entries-loop-sub
 invariant-height_of_entries-loop-sub l = record {
-  first : first_among (entry_fault (table_of l.blocks) (sub_fault (table_of l.blocks) l.limit)) (subs_left l.rest) ≡ first_among (entry_fault (table_of l.blocks) (sub_fault (table_of l.blocks) l.limit)) (subs_left l.subs);
+  first : first_of (entry_fault (table_of l.blocks) (sub_fault (table_of l.blocks) l.limit)) (subs_left l.rest) ≡ first_of (entry_fault (table_of l.blocks) (sub_fault (table_of l.blocks) l.limit)) (subs_left l.subs);
   most : max l.most (most_among (entry_height (sub_height (table_of l.blocks) l.limit)) (subs_left l.rest)) ≡ most_among (entry_height (sub_height (table_of l.blocks) l.limit)) (subs_left l.subs);
   small : l.most ≤ l.limit;
   come : way.HaveCome (table_of l.blocks) l.heights (way.at_entries (table_of l.blocks) (subs_left l.rest)) 1 l.limit;
