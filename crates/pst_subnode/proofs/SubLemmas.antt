@@ -16,30 +16,6 @@ use Rattle.pst_subnode.specs.Laws.{MoreLaw}
 
 -- ---- entries, one after another
 
-pub among_end : (part : Sub → Option Fault) (xs : List Sub) → xs ≡ [] → first_of part xs ≡ None
-unfolding first_of
-among_end part xs is = rw is refl
-
--- an entry without fault
-pub among_more : (part : Sub → Option Fault) (xs rest : List Sub) (s : Sub) → xs ≡ s ∷ rest → part s ≡ None → first_of part xs ≡ first_of part rest
-unfolding first_of
-among_more part xs rest s is none = rw is (then_none (part s) (first_of part rest) none)
-
--- an entry that is refused
-pub among_at : (part : Sub → Option Fault) (xs rest : List Sub) (s : Sub) (f : Fault) → xs ≡ s ∷ rest → IsFirst (part s) f → IsFirst (first_of part xs) f
-unfolding first_of
-among_at part xs rest s f is first = rw is (is_first_then (part s) (first_of part rest) f first)
-
--- where entries have no fault, each has none
-pub none_among : (part : Sub → Option Fault) (xs : List Sub) (s : Sub) → first_of part xs ≡ None → Contains xs s → part s ≡ None
-unfolding first_of
-none_among part [] s none w = absurd (omega (arith, w.1))
-none_among part (x ∷ rest) s none w = by_place w.0 w.1 w.2 (none_then (part x) (first_of part rest) none).0 (λ v. none_among part rest s (none_then (part x) (first_of part rest) none).1 v)
-  where
-    by_place : (k : ℕ) → k < length (x ∷ rest) → slice_index_or (x ∷ rest) k s ≡ s → part x ≡ None → (Contains rest s → part s ≡ None) → part s ≡ None
-    by_place zero lt is one later = rw (← is) one
-    by_place (suc k) lt is one later = later (k, omega arith, is)
-
 pub most_end : (height : Sub → ℕ) (m : ℕ) (xs : List Sub) → xs ≡ [] → max m (most_among height xs) ≡ m
 unfolding most_among
 most_end height m xs is = rw is (omega arith)

@@ -3,6 +3,7 @@ use Rattle.std.proofs.Common.{◌≡◌, ℕ, zero, suc, ◌+◌, ◌-◌, ◌�
 use Rattle.std.specs.List.{Contains}
 use Rattle.pst_fault.specs.First.{◌then◌}
 use Rattle.pst_fault.proofs.FirstLemmas.{then_none, none_then}
+use Rattle.pst_fault.proofs.EachLemmas.{none_of}
 use Rattle.pst_block.specs.Table.{Table, entry_of}
 use Rattle.pst_datatree.specs.Bid.{is_no_block}
 use Rattle.pst_datatree.specs.Data.{data_fault, data_spans}
@@ -14,7 +15,7 @@ use Rattle.pst_fault.specs.Each.{first_of}
 use Rattle.pst_subnode.specs.Relation.{NamesList, HasSubs, nothing, listed, HaveSubs, no_entries, entries}
 use Rattle.pst_subnode.specs.Laws.{SubLaw, OneLaw, EntryLaw}
 use Rattle.pst_subnode.proofs.ListLaws.{names_law}
-use Rattle.pst_subnode.proofs.SubLemmas.{sub_fault_none, sub_fault_below, sub_fault_list, sub_height_none, sub_height_list, sub_height_suc, none_among}
+use Rattle.pst_subnode.proofs.SubLemmas.{sub_fault_none, sub_fault_below, sub_fault_list, sub_height_none, sub_height_list, sub_height_suc}
 
 -- what the definitions say of a block identifier, and of entries
 pub record Agrees (t : Table) (limit bid height : ℕ) (subs : List Sub) : Type 0 where
@@ -129,4 +130,4 @@ entry_law t limit bid s h w = by_test (is_no_block bid) refl
     by_test true e = let bad : Contains [] s = (rw (no_subs t bid e) at w) in absurd (omega (arith, bad.1))
     by_test false e =
         let p = none_then (list_fault t bid) (first_of (entry_fault t (sub_fault t limit)) (subs_of t bid)) (sym (sub_fault_list t (suc limit) limit bid (omega arith) e) ∙ h) in
-        none_then (data_fault t s.bid_data) (sub_fault t limit s.bid_sub) (none_among (entry_fault t (sub_fault t limit)) (subs_of t bid) s p.1 w)
+        none_then (data_fault t s.bid_data) (sub_fault t limit s.bid_sub) (none_of (entry_fault t (sub_fault t limit)) (subs_of t bid) s p.1 w)

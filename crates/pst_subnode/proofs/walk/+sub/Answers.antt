@@ -3,7 +3,7 @@ use Rattle.std.proofs.lemmas.Result.{err_from_is_err_and, IfOk-weaker}
 use Rattle.pst_datatree.proofs.AddLemmas.{none_internal}
 use Rattle.pst_block.specs.Blocks.{table_of}
 use Rattle.pst_fault.proofs.FirstLemmas.{is_first_then, is_first_after, is_first_at, first_more}
-use Rattle.pst_fault.proofs.EachLemmas.{contains_here, contains_later}
+use Rattle.pst_fault.proofs.EachLemmas.{contains_here, contains_later, each_next, each_refused, each_done}
 use Rattle.pst_block.specs.Table.{body_of}
 use Rattle.pst_subnode.specs.Body.{leaf_bid_in, has_level_one}
 use Rattle.pst_subnode.specs.Heights.{state_of}
@@ -14,7 +14,7 @@ use Rattle.pst_subnode.specs.Tree.{entry_fault, entry_height, sub_fault, sub_hei
 use Rattle.pst_subnode.proofs.LeafLemmas.{leaf_list, si_fault, si_tells, list_tells, most_start, most_next, most_least}
 use Rattle.pst_subnode.proofs.AddLemmas.{both_known, put_known, slblock_known, siblock_known, entries_done, leaf_next, entry_next}
 use Rattle.pst_subnode.proofs.MarkLemmas.{begin_come, rank_small, rank_none, lower_rank, past_entry, to_entry, to_leaf, to_leaves, same_place, begin_true, known_tells}
-use Rattle.pst_subnode.proofs.SubLemmas.{sub_fault_below, sub_fault_list, among_at, among_more, among_end, most_more, most_end}
+use Rattle.pst_subnode.proofs.SubLemmas.{sub_fault_below, sub_fault_list, most_more, most_end}
 use Rattle.pst_subnode.proofs.WalkLemmas.{IsMarking, walked_none, walked_data, walked_both, walked_entry, walked_leaf, walked_list, walked_leaves, walked_same, walked_forget, walked_settle, counts_none, counts_then, counts_data}
 use Rattle.pst_subnode.proofs.walk.+sub.Goals as goal
 
@@ -274,7 +274,7 @@ height_of_entries-returns-in_err-height_of_entry-clause-exact t c =
     let p = err_from_is_err_and c.from_residual.result c.from_residual.ensures.1 in
     let table = table_of c.args.blocks.now in
     let part = entry_fault table (sub_fault table c.args.limit) in
-    rw (p.1, p.2, ← c.loop-sub.invariant.first) (among_at part (subs_left c.loop-sub.rest) (subs_left c.next.new.self) c.in-Some.sub _ c.in-Some.ensures.steps c.in_err-height_of_entry.ensures.exact)
+    rw (p.1, p.2) (each_refused part (subs_left c.loop-sub.rest) (subs_left c.next.new.self) c.in-Some.sub _ _ c.in-Some.ensures.steps c.in_err-height_of_entry.ensures.exact c.loop-sub.invariant.first)
 
 pub height_of_entries-returns-in_err-height_of_entry-clause-walked : goal.height_of_entries-returns-in_err-height_of_entry-clause-walked
 height_of_entries-returns-in_err-height_of_entry-clause-walked t c =
@@ -291,7 +291,7 @@ height_of_entries-loop-sub-preserved t c =
     let greater : c.max-most.result ≡ max c.loop-sub.most c.in_ok-height_of_entry.field-0 = search rules in
     let this : c.max-most.result ≡ max c.loop-sub.most (height c.in-Some.sub) = greater ∙ ap (max c.loop-sub.most) entry.exact.1 in
     record {
-      first = sym (among_more part (subs_left c.loop-sub.rest) (subs_left c.next.new.self) c.in-Some.sub c.in-Some.ensures.steps entry.exact.0) ∙ inv.first;
+      first = each_next part (subs_left c.loop-sub.rest) (subs_left c.next.new.self) c.in-Some.sub _ c.in-Some.ensures.steps entry.exact.0 inv.first;
       most = most_more height c.loop-sub.most c.max-most.result (subs_left c.loop-sub.rest) (subs_left c.next.new.self) c.in-Some.sub c.in-Some.ensures.steps this ∙ inv.most;
       small = omega (arith, greater, entry.small);
       come = past_entry table c.loop-sub.heights c.height_of_entry.new.heights c.args.limit c.in-Some.sub (subs_left c.loop-sub.rest) (subs_left c.next.new.self) c.in-Some.ensures.steps entry.walked.marks entry.exact.0 inv.come;
@@ -307,7 +307,7 @@ height_of_entries-returns-clause-exact t c =
     let part = entry_fault table (sub_fault table c.args.limit) in
     let height = entry_height (sub_height table c.args.limit) in
     let end = c.in_default.ensures.steps.0 in (
-      sym c.loop-sub.invariant.first ∙ among_end part (subs_left c.loop-sub.rest) end,
+      each_done part (subs_left c.loop-sub.rest) _ end c.loop-sub.invariant.first,
       sym (most_end height c.loop-sub.most (subs_left c.loop-sub.rest) end) ∙ c.loop-sub.invariant.most,
     )
 
