@@ -1,7 +1,6 @@
 -- Whether no number stands twice, told one number after another.
-use Rattle.std.proofs.Common.{◌≡◌, ℕ, ◌<◌, ◌≤◌, Bool, true, false, List, [], ◌∷◌, refl, sym, ap, ◌∙◌, BTreeSet, arith}
-use Rattle.std.specs.Prelude.{cond, not, ◌&&◌, ◌||◌, nat_eq, nat_lt}
-use Rattle.std.proofs.lemmas.Bool.{ltb-true, ne_eqb, and_parts}
+use Rattle.std.proofs.Common.{◌≡◌, ℕ, Bool, true, false, List, [], ◌∷◌, refl, sym, ap, ◌∙◌, BTreeSet}
+use Rattle.std.specs.Prelude.{cond, not, ◌&&◌, ◌||◌, nat_eq}
 use Rattle.std.specs.Ordering.{nat_cmp}
 use Rattle.std.specs.List.{list_any}
 use Rattle.std.specs.BTreeMap.{is_at}
@@ -77,32 +76,3 @@ was_met b false e f = cc
 pub was_new : (b met : Bool) → b ≡ not met → b ≡ true → met ≡ false
 was_new b false e f = refl
 was_new b true e f = cc
-
--- ---- numbers that rise
-
--- each number is above the one before, and the first above this one
-abbrev pub rise_above : ℕ → List ℕ → Bool
-rise_above low [] = true
-rise_above low (n ∷ rest) = nat_lt low n && rise_above n rest
-
-none_below : (low m : ℕ) (xs : List ℕ) → m ≤ low → rise_above low xs ≡ true → list_any (nat_eq m) xs ≡ false
-none_below low m [] le rise = refl
-none_below low m (n ∷ rest) le rise =
-    let p = and_parts (nat_lt low n) (rise_above n rest) rise in
-    let lt : low < n = ltb-true low n p.0 in
-    rw (ne_eqb m n (λ same. absurd (omega (arith, same))), none_below n m rest (omega arith) p.1) refl
-
--- numbers that rise are distinct
-pub risen_distinct : (n : ℕ) (rest : List ℕ) → rise_above n rest ≡ true → are_distinct (n ∷ rest) ≡ true
-unfolding are_distinct
-risen_distinct n [] rise = refl
-risen_distinct n (m ∷ rest) rise =
-    let p = and_parts (nat_lt n m) (rise_above m rest) rise in
-    rw (none_below n n (m ∷ rest) (omega arith) rise, risen_distinct m rest p.1) refl
-
-pub none_distinct : (xs : List ℕ) → xs ≡ [] → are_distinct xs ≡ true
-unfolding are_distinct
-none_distinct xs none = rw none refl
-
-pub first_distinct : (n : ℕ) (xs rest : List ℕ) → xs ≡ n ∷ rest → rise_above n rest ≡ true → are_distinct xs ≡ true
-first_distinct n xs rest is rise = rw is (risen_distinct n rest rise)

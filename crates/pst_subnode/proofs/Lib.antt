@@ -1,6 +1,8 @@
 pub mod LeftLemmas
 pub mod FindLemmas
 pub mod DistinctLemmas
+pub mod RiseLemmas
+pub mod RangeLemmas
 pub mod SubLemmas
 pub mod TopLemmas
 pub mod ListLaws

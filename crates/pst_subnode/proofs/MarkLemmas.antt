@@ -23,9 +23,11 @@ use Rattle.pst_datatree.proofs.KeyLemmas.{entry_same}
 use Rattle.pst_subnode.specs.declared.sub.Sub.{Sub}
 use Rattle.pst_subnode.specs.declared.heights.Heights.{Heights}
 use Rattle.pst_subnode.specs.List.{subs_of, list_fault}
-use Rattle.pst_subnode.specs.Tree.{entry_fault, nesting, sub_fault, sub_height}
 use Rattle.pst_fault.specs.Each.{first_of}
-use Rattle.pst_subnode.specs.Heights.{list_keys, state_at, state_of, AreTrue, NoMarks, NoNewMarks, AreHeightsTrue}
+use Rattle.pst_subnode.specs.Tree.{entry_fault, nesting, sub_fault, sub_height}
+use Rattle.pst_subnode.specs.declared.ranges.Ranges.{Ranges}
+use Rattle.pst_subnode.specs.Ranges.{AreRangesTrue}
+use Rattle.pst_subnode.specs.Heights.{list_keys, state_at, state_of, AreTrue, AreAlike, NoMarks, NoNewMarks, AreHeightsTrue}
 use Rattle.pst_subnode.specs.Marks.{at_list, at_entries, at_entry, at_leaf, at_leaves, IsSiList, rank_at, rank_of, LeadsTo, HaveCome}
 use Rattle.pst_datatree.specs.List.{count_in}
 use Rattle.pst_datatree.proofs.KeyLemmas.{none_same}
@@ -192,8 +194,9 @@ marked_nests t h bid rank limit high come marked =
 
 -- ---- what is known stays true
 
-pub begin_true : (t : Table) (old new : Heights) (bid : ℕ) → IsPut old new bid (Some 0) → AreTrue t old → AreTrue t new
-begin_true t old new bid put are = record {
+pub begin_true : (t : Table) (old new : Heights) (bid : ℕ) → IsPut old new bid (Some 0) → new.ranges ≡ old.ranges → AreTrue t old → AreTrue t new
+begin_true t old new bid put ranges are = record {
+  ranges = rw ranges are.ranges;
   holds = λ q height more known.
       elim (put_cases old new bid (Some 0) q put) [
         | inl key ↦ let mark : Some height ≡ Some 0 = sym known ∙ key.1 in let is : height ≡ 0 = cc in absurd (omega (arith, is))
@@ -201,11 +204,25 @@ begin_true t old new bid put are = record {
       ];
 }
 
-pub same_true : (t : Table) (old new : Heights) → IsSame old new → AreTrue t old → AreTrue t new
-same_true t old new same are = record { holds = λ q height more known. are.holds q height more (sym (same (bid_key q)) ∙ known) }
+pub same_true : (t : Table) (old new : Heights) → IsSame old new → AreRangesTrue t new.ranges → AreTrue t old → AreTrue t new
+same_true t old new same ranges are = record { ranges = ranges; holds = λ q height more known. are.holds q height more (sym (same (bid_key q)) ∙ known) }
 
-pub forget_true : (t : Table) (old new : Heights) (bid : ℕ) → IsPut old new bid None → AreTrue t old → AreTrue t new
-forget_true t old new bid put are = record {
+-- after the check of a list's own blocks, which changes no height and no mark
+pub alike_same : (old new : Heights) → AreAlike old new → IsSame old new
+unfolding state_at
+alike_same old new alike key = rw alike.states refl
+
+pub alike_marks : (old new : Heights) → AreAlike old new → NoNewMarks old new
+alike_marks old new alike q marked = sym (alike_same old new alike (bid_key q)) ∙ marked
+
+-- other ranges of SLBLOCKs are known
+pub ranges_true : (t : Table) (h : Heights) (ranges : Ranges) → AreRangesTrue t ranges → AreTrue t h → AreTrue t (record { states = h.states; expansions = h.expansions; ranges = ranges })
+unfolding state_at
+ranges_true t h ranges true_of are = record { ranges = true_of; holds = are.holds }
+
+pub forget_true : (t : Table) (old new : Heights) (bid : ℕ) → IsPut old new bid None → new.ranges ≡ old.ranges → AreTrue t old → AreTrue t new
+forget_true t old new bid put ranges are = record {
+  ranges = rw ranges are.ranges;
   holds = λ q height more known.
       elim (put_cases old new bid None q put) [
         | inl key ↦ let bad : Some height ≡ None = sym known ∙ key.1 in cc
@@ -214,8 +231,9 @@ forget_true t old new bid put are = record {
 }
 
 -- a height is put in
-pub settle_true : (t : Table) (old new : Heights) (bid limit height : ℕ) → list_fault t bid ≡ None → sub_fault t limit bid ≡ None → sub_height t limit bid ≡ height → IsPut old new bid (Some height) → AreTrue t old → AreTrue t new
-settle_true t old new bid limit height list none is put are = record {
+pub settle_true : (t : Table) (old new : Heights) (bid limit height : ℕ) → list_fault t bid ≡ None → sub_fault t limit bid ≡ None → sub_height t limit bid ≡ height → IsPut old new bid (Some height) → new.ranges ≡ old.ranges → AreTrue t old → AreTrue t new
+settle_true t old new bid limit height list none is put ranges are = record {
+  ranges = rw ranges are.ranges;
   holds = λ q other more known.
       elim (put_cases old new bid (Some height) q put) [
         | inl key ↦
@@ -238,10 +256,10 @@ known_high t h bid height limit are known more lt =
     depth_law t w.0 limit bid w.1 ∙ fits_no _ limit (omega (arith, w.2))
 
 -- nothing is known
-pub nothing_known : (t : Table) (h : Heights) → IsEmpty h.states → AreHeightsTrue t h
+pub nothing_known : (t : Table) (h : Heights) → IsEmpty h.states → AreRangesTrue t h.ranges → AreHeightsTrue t h
 unfolding state_at
-nothing_known t h empty = record {
-  heights = record { holds = λ bid height more known. let bad : None ≡ Some height = (rw empty at known) in cc };
+nothing_known t h empty ranges = record {
+  heights = record { ranges = ranges; holds = λ bid height more known. let bad : None ≡ Some height = (rw empty at known) in cc };
   unmarked = λ bid marked. let bad : None ≡ Some 0 = (rw empty at marked) in cc;
 }
 

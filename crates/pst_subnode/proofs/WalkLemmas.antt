@@ -15,12 +15,12 @@ use Rattle.pst_datatree.specs.List.{count_in}
 use Rattle.pst_subnode.specs.Body.{leaf_bid_in}
 use Rattle.pst_subnode.specs.List.{subs_of, list_fault}
 use Rattle.pst_subnode.specs.Tree.{sub_fault, sub_height}
-use Rattle.pst_subnode.specs.Heights.{list_expansions, state_of, AreTrue, NoNewMarks}
+use Rattle.pst_subnode.specs.Heights.{list_expansions, state_of, AreTrue, AreAlike, AreHeightsCounted, NoNewMarks}
 use Rattle.pst_subnode.specs.Marks.{IsSlblockList, IsSiList}
 use Rattle.pst_subnode.specs.Reach.{NamesNext, Leads}
 use Rattle.pst_subnode.specs.Known.{IsKnownBlock, AreLedTo, AreLedEach, AreLedBelow}
 use Rattle.pst_subnode.specs.Walk.{IsWalked, KeepsCounts}
-use Rattle.pst_subnode.proofs.MarkLemmas.{IsPut, IsSame, same_true, forget_true, settle_true}
+use Rattle.pst_subnode.proofs.MarkLemmas.{IsPut, IsSame, alike_same, forget_true, settle_true}
 use Rattle.pst_subnode.proofs.AddLemmas.{adds_none, adds_then, adds_of, adds_alike, adds_first, forgets, settles, led_entries, led_leaves}
 
 -- ---- a step
@@ -86,15 +86,22 @@ walked_leaf t e n i s h s' h' s'' h'' lt so_far one = walked_then t (AreLedBelow
 
 -- ---- a list is marked, and then it is forgotten or gets its height
 
-pub walked_same : (t : Table) (AreLed : List ℕ → Type 0) (s : Seen) (h h' : Heights) → IsSeenTrue t s → AreTrue t h → IsSame h h' → list_expansions h ≤ list_expansions h' → IsWalked t AreLed s h s h'
+pub walked_same : (t : Table) (AreLed : List ℕ → Type 0) (s : Seen) (h h' : Heights) → IsSeenTrue t s → AreTrue t h' → IsSame h h' → list_expansions h ≤ list_expansions h' → IsWalked t AreLed s h s h'
 walked_same t AreLed s h h' trees lists same grows = record {
   trees = trees;
-  lists = same_true t h h' same lists;
+  lists = lists;
   marks = λ q marked. sym (same (bid_key q)) ∙ marked;
   adds = adds_alike t AreLed s h h' same;
   tree_count = omega arith;
   list_count = grows;
 }
+
+-- after the check of a list's own blocks, which changes no height and no mark
+pub walked_alike : (t : Table) (AreLed : List ℕ → Type 0) (s : Seen) (h h' : Heights) → IsSeenTrue t s → AreTrue t h' → AreAlike h h' → IsWalked t AreLed s h s h'
+walked_alike t AreLed s h h' trees lists alike = walked_same t AreLed s h h' trees lists (alike_same h h' alike) (omega (arith, alike.count))
+
+pub walked_behind : (t : Table) (AreLed : List ℕ → Type 0) (s : Seen) (h h' : Heights) (s'' : Seen) (h'' : Heights) → IsSeenTrue t s → AreTrue t h' → AreAlike h h' → IsWalked t AreLed s h' s'' h'' → IsWalked t AreLed s h s'' h''
+walked_behind t AreLed s h h' s'' h'' trees lists alike walked = walked_then t AreLed s h s h' s'' h'' (walked_alike t AreLed s h h' trees lists alike) walked
 
 -- a list without fault of its own blocks, of which nothing was known, is marked
 pub record IsMarking (t : Table) (bid : ℕ) (h begun : Heights) : Type 0 where
@@ -117,20 +124,20 @@ settle_marks old begun mid new bid height more first marks last q marked = by_te
     by_test true is was = let same : Some 0 ≡ Some height = sym marked ∙ is in let bad : 0 ≡ height = cc in absurd (omega (arith, bad))
     by_test false is was = sym was ∙ marks q (sym is ∙ marked)
 
-pub walked_forget : (t : Table) (bid : ℕ) (s s' : Seen) (h begun mid new : Heights) → IsMarking t bid h begun → IsWalked t (λ from. Leads t from bid) s begun s' mid → IsPut mid new bid None → list_expansions mid ≤ list_expansions new → IsWalked t (λ from. Leads t from bid) s h s' new
-walked_forget t bid s s' h begun mid new is walked last grows = record {
+pub walked_forget : (t : Table) (bid : ℕ) (s s' : Seen) (h begun mid new : Heights) → IsMarking t bid h begun → IsWalked t (λ from. Leads t from bid) s begun s' mid → IsPut mid new bid None → new.ranges ≡ mid.ranges → list_expansions mid ≤ list_expansions new → IsWalked t (λ from. Leads t from bid) s h s' new
+walked_forget t bid s s' h begun mid new is walked last ranges grows = record {
   trees = walked.trees;
-  lists = forget_true t mid new bid last walked.lists;
+  lists = forget_true t mid new bid last ranges walked.lists;
   marks = forget_marks h begun mid new bid is.put walked.marks last;
   adds = forgets t bid s s' h begun mid new is.list is.fresh is.put walked.adds last;
   tree_count = walked.tree_count;
   list_count = omega (arith, is.grows, walked.list_count, grows);
 }
 
-pub walked_settle : (t : Table) (bid limit height : ℕ) (s s' : Seen) (h begun mid new : Heights) → 0 < height → IsMarking t bid h begun → IsWalked t (λ from. Leads t from bid) s begun s' mid → (sub_fault t limit bid ≡ None) × (height ≡ sub_height t limit bid) → ((next : ℕ) (x : BlockEntry) → NamesNext t bid next → IsInternal t next x → IsKnownBlock s' mid next) → IsPut mid new bid (Some height) → list_expansions mid ≤ list_expansions new → IsWalked t (λ from. Leads t from bid) s h s' new
-walked_settle t bid limit height s s' h begun mid new more is walked tells names_known last grows = record {
+pub walked_settle : (t : Table) (bid limit height : ℕ) (s s' : Seen) (h begun mid new : Heights) → 0 < height → IsMarking t bid h begun → IsWalked t (λ from. Leads t from bid) s begun s' mid → (sub_fault t limit bid ≡ None) × (height ≡ sub_height t limit bid) → ((next : ℕ) (x : BlockEntry) → NamesNext t bid next → IsInternal t next x → IsKnownBlock s' mid next) → IsPut mid new bid (Some height) → new.ranges ≡ mid.ranges → list_expansions mid ≤ list_expansions new → IsWalked t (λ from. Leads t from bid) s h s' new
+walked_settle t bid limit height s s' h begun mid new more is walked tells names_known last ranges grows = record {
   trees = walked.trees;
-  lists = settle_true t mid new bid limit height is.list tells.0 (sym tells.1) last walked.lists;
+  lists = settle_true t mid new bid limit height is.list tells.0 (sym tells.1) last ranges walked.lists;
   marks = settle_marks h begun mid new bid height more is.put walked.marks last;
   adds = settles t bid height s s' h begun mid new more is.list is.fresh is.put walked.adds last names_known;
   tree_count = walked.tree_count;
@@ -147,3 +154,9 @@ counts_then s h s' h' s'' h'' first second = record { trees = λ k is. second.tr
 
 pub counts_data : (s s' s'' : Seen) (h h'' : Heights) → KeepsCount s s' → KeepsCounts s' h s'' h'' → KeepsCounts s h s'' h''
 counts_data s s' s'' h h'' first second = record { trees = λ k is. second.trees k (first k is); lists = second.lists }
+
+pub counts_behind : (s : Seen) (h h' : Heights) (s'' : Seen) (h'' : Heights) → AreAlike h h' → KeepsCounts s h' s'' h'' → KeepsCounts s h s'' h''
+counts_behind s h h' s'' h'' alike counts = record { trees = counts.trees; lists = λ is. counts.lists (still is) }
+  where
+    still : AreHeightsCounted h → AreHeightsCounted h'
+    still is = rw (alike.count, alike.states) is

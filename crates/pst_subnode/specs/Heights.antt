@@ -6,6 +6,7 @@ use Rattle.pst_block.specs.Block.{bid_key}
 use Rattle.pst_block.specs.Table.{Table}
 use Rattle.pst_datatree.specs.Seen.{raised}
 use Rattle.pst_subnode.specs.declared.heights.Heights.{Heights}
+use Rattle.pst_subnode.specs.Ranges.{AreRangesTrue}
 use Rattle.pst_subnode.specs.Tree.{sub_fault, sub_height}
 
 -- how many blocks of lists have been expanded
@@ -28,15 +29,16 @@ state_of h bid = state_at h (bid_key bid)
 abbrev pub HasHeight : Table → ℕ → ℕ → Type 0
 HasHeight t bid height = (limit : ℕ) × (sub_fault t limit bid ≡ None) × (sub_height t limit bid ≡ height)
 
--- each height is true
+-- each height is true, and so is what is known of the identifiers in SLBLOCKs
 pub record AreTrue (t : Table) (h : Heights) : Type 0 where
   pub holds : (bid height : ℕ) → 0 < height → state_of h bid ≡ Some height → HasHeight t bid height
+  pub ranges : AreRangesTrue t h.ranges
 
 -- nothing is marked
 abbrev pub NoMarks : Heights → Type 0
 NoMarks h = (bid : ℕ) → state_of h bid ≡ Some 0 → ⊥
 
--- What is known between two calls is true: each height, and nothing is marked.
+-- What is known between two calls is true: each height and each range of identifiers, and nothing is marked.
 pub record AreHeightsTrue (t : Table) (h : Heights) : Type 0 where
   pub heights : AreTrue t h
   pub unmarked : NoMarks h
@@ -54,3 +56,8 @@ known_lists h = btree_map_len h.states
 -- the blocks that were expanded are those that are known
 abbrev pub AreHeightsCounted : Heights → Type 0
 AreHeightsCounted h = list_expansions h ≡ raised (known_lists h) 0
+
+-- the same heights and marks, and the same count
+pub record AreAlike (old new : Heights) : Type 0 where
+  pub states : new.states ≡ old.states
+  pub count : list_expansions new ≡ list_expansions old

@@ -1,16 +1,19 @@
 //! The check of a subnode list: of its own blocks, and that no subnode stands in it twice.
 
-ghost use Rattle.std.specs.Prelude.{◌≡◌, ◌+◌, ◌*◌, ◌≤◌, length, map, true, IfOk, IfErr};
+ghost use Rattle.std.specs.Prelude.{◌≡◌, ◌+◌, ◌*◌, ◌≤◌, length, map, IfOk, IfErr};
 ghost use Rattle.pst_fault.specs.Fault.{no_memory};
 ghost use Rattle.pst_fault.specs.First.{answer, Tells, first_below};
 ghost use Rattle.pst_block.specs.Table.{body_of, IsWithin};
 ghost use Rattle.pst_block.specs.Blocks.{table_of};
-ghost use Rattle.pst_subnode.specs.List.{bad_list, slblock_fault, list_leaf_fault, shape_fault, list_block_fault, list_fault, are_distinct as distinct, sub_nid};
+ghost use Rattle.pst_subnode.specs.List.{bad_list, slblock_fault, list_leaf_fault, shape_fault, list_block_fault, list_fault, block_subs, are_distinct as distinct, sub_nid};
 ghost use Rattle.pst_subnode.specs.Left.{subs_left};
+ghost use Rattle.pst_subnode.specs.Ranges.{AreRangesTrue};
 
 use crate::body::{bid_at, body_in};
 use crate::entries::Subs;
 use crate::list_block::{ListBlock, list_block};
+use crate::ranges::Ranges;
+use crate::rise::block_rises;
 use pst_block::{BlockEntry, Blocks};
 use pst_datatree::{is_internal, missing_block};
 use pst_fault::{Fault, Kind};
@@ -80,32 +83,11 @@ fn check_shape(blocks: &Blocks, entry: BlockEntry) -> Result<(), Fault>
     }
 }
 
-// Whether each entry's identifier is above the one before; then no subnode stands twice.
-fn rise(subs: Subs) -> bool
-    ensures { result ≡ true → distinct (map sub_nid (subs_left subs.entry)) ≡ true }
-{
-    let mut rest = subs;
-    let Some(first) = rest.next() else {
-        return true;
-    };
-    let mut last = first.nid;
-    while let Some(sub) = rest.next() {
-        if sub.nid <= last {
-            return false;
-        }
-        last = sub.nid;
-    }
-    true
-}
-
-// Whether no subnode stands twice among entries; or memory ran out. Where identifiers rise, as the format has them, none is taken.
-fn are_distinct(alloc: Global, subs: Subs) -> Result<bool, Fault>
+// Whether no subnode stands twice among entries, in whatever order; or memory ran out.
+fn stand_once(alloc: Global, subs: Subs) -> Result<bool, Fault>
     ensures value { IfOk result (λ b. b ≡ distinct (map sub_nid (subs_left subs.entry))) }
     ensures memory { IfErr result (λ f. f ≡ no_memory) }
 {
-    if rise(subs) {
-        return Ok(true);
-    }
     let mut met = BTreeSet::new(alloc);
     let mut rest = subs;
     while let Some(sub) = rest.next() {
@@ -116,14 +98,42 @@ fn are_distinct(alloc: Global, subs: Subs) -> Result<bool, Fault>
     Ok(true)
 }
 
+// Whether no subnode stands twice among the entries of a block; or memory ran out. Where identifiers rise, as the format has
+// them, none is taken but for what is known.
+fn are_distinct(
+    alloc: Global,
+    blocks: &Blocks,
+    entry: BlockEntry,
+    ranges: &mut Ranges,
+) -> Result<bool, Fault>
+    requires within { IsWithin (table_of blocks.now).image entry }
+    requires known { AreRangesTrue (table_of blocks.now) ranges.old }
+    ensures known { AreRangesTrue (table_of blocks.now) ranges.new }
+    ensures value { let t = table_of blocks.now in
+        IfOk result (λ b. b ≡ distinct (map sub_nid (block_subs t entry))) }
+    ensures memory { IfErr result (λ f. f ≡ no_memory) }
+{
+    if block_rises(blocks, entry, ranges)? {
+        return Ok(true);
+    }
+    stand_once(alloc, Subs::of_block(blocks, entry))
+}
+
 // A block of a list, all of it.
 #[tactic(auto, unfolding(crate::specs::List::list_block_fault))]
-fn check_block(alloc: Global, blocks: &Blocks, entry: BlockEntry) -> Result<(), Fault>
-    requires { IsWithin (table_of blocks.now).image entry }
-    ensures { Tells result (list_block_fault (table_of blocks.now) entry) tt }
+fn check_block(
+    alloc: Global,
+    blocks: &Blocks,
+    entry: BlockEntry,
+    ranges: &mut Ranges,
+) -> Result<(), Fault>
+    requires within { IsWithin (table_of blocks.now).image entry }
+    requires known { AreRangesTrue (table_of blocks.now) ranges.old }
+    ensures known { AreRangesTrue (table_of blocks.now) ranges.new }
+    ensures exact { Tells result (list_block_fault (table_of blocks.now) entry) tt }
 {
     check_shape(blocks, entry)?;
-    if !are_distinct(alloc, Subs::of_block(blocks, entry))? {
+    if !are_distinct(alloc, blocks, entry, ranges)? {
         return Err(list_breach(entry));
     }
     Ok(())
@@ -131,8 +141,15 @@ fn check_block(alloc: Global, blocks: &Blocks, entry: BlockEntry) -> Result<(), 
 
 // The list of a block identifier that names a block.
 #[tactic(auto, unfolding(crate::specs::List::list_fault))]
-pub(crate) fn check_list(alloc: Global, blocks: &Blocks, bid: u64) -> Result<(), Fault>
-    ensures { Tells result (list_fault (table_of blocks.now) bid) tt }
+pub(crate) fn check_list(
+    alloc: Global,
+    blocks: &Blocks,
+    bid: u64,
+    ranges: &mut Ranges,
+) -> Result<(), Fault>
+    requires { AreRangesTrue (table_of blocks.now) ranges.old }
+    ensures known { AreRangesTrue (table_of blocks.now) ranges.new }
+    ensures exact { Tells result (list_fault (table_of blocks.now) bid) tt }
 {
     let Some(entry) = blocks.entry(bid) else {
         return Err(missing_block(bid));
@@ -140,5 +157,5 @@ pub(crate) fn check_list(alloc: Global, blocks: &Blocks, bid: u64) -> Result<(),
     if !is_internal(bid) {
         return Err(list_breach(entry));
     }
-    check_block(alloc, blocks, entry)
+    check_block(alloc, blocks, entry, ranges)
 }

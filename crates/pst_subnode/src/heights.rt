@@ -2,18 +2,20 @@
 
 ghost use Rattle.std.specs.Prelude.{◌≡◌, ◌≤◌};
 
+use crate::ranges::Ranges;
 use pst_fault::Fault;
 use pst_page::PageKind;
 use std::alloc::Global;
 use std::collections::BTreeMap;
 
 /// What is already known of subnode lists: the heights of those that were found without fault, which each walk passes over,
-/// and which lists are being expanded.
+/// which lists are being expanded, and where the identifiers in SLBLOCKs lie that rise.
 #[derive(Drop)]
 pub struct Heights {
     // By the keys of the lists: a height, or 0 for a list that is being expanded.
     pub(crate) states: BTreeMap<u64, u32>,
     pub(crate) expansions: u64,
+    pub(crate) ranges: Ranges,
 }
 
 impl Heights {
@@ -35,6 +37,7 @@ impl Heights {
         Heights {
             states: BTreeMap::new(alloc),
             expansions: 0,
+            ranges: Ranges::new(alloc),
         }
     }
 
@@ -70,6 +73,7 @@ impl Heights {
         ensures memory { IfErr result (λ f. f ≡ no_memory) }
         ensures keeps { OnOk result (AreHeightsCounted self.old → AreHeightsCounted self.new) }
         ensures grows { list_expansions self.old ≤ list_expansions self.new }
+        ensures ranges { self.new.ranges ≡ self.old.ranges }
     {
         let old = self.states.insert(PageKind::Bbt.key_of(bid), state)?;
         if old.is_none() {
@@ -84,6 +88,7 @@ impl Heights {
         ensures put { (key : ℕ) → state_at self.new key ≡
             cond (eq_by_cmp nat_cmp (bid_key bid) key) None (state_at self.old key) }
         ensures counts { list_expansions self.new ≡ list_expansions self.old }
+        ensures ranges { self.new.ranges ≡ self.old.ranges }
     {
         let _ = self.states.remove(&PageKind::Bbt.key_of(bid));
     }
@@ -96,6 +101,7 @@ impl Heights {
         ensures memory { IfErr result (λ f. f ≡ no_memory) }
         ensures keeps { OnOk result (AreHeightsCounted self.old → AreHeightsCounted self.new) }
         ensures grows { list_expansions self.old ≤ list_expansions self.new }
+        ensures ranges { self.new.ranges ≡ self.old.ranges }
     {
         self.put(bid, 0)
     }
@@ -109,6 +115,7 @@ impl Heights {
         ensures memory { IfErr result (λ f. f ≡ no_memory) }
         ensures keeps { OnOk result (AreHeightsCounted self.old → AreHeightsCounted self.new) }
         ensures grows { list_expansions self.old ≤ list_expansions self.new }
+        ensures ranges { self.new.ranges ≡ self.old.ranges }
     {
         if let Err(fault) = self.put(bid, height) {
             self.forget(bid);

@@ -12,6 +12,8 @@ mod heights;
 mod index;
 mod laws;
 mod list_block;
+mod ranges;
+mod rise;
 mod scan;
 mod steps;
 mod sub;

@@ -9,9 +9,13 @@ ghost use Rattle.pst_datatree.specs.List.{count_in};
 ghost use Rattle.pst_datatree.specs.Names.{IsInTree};
 ghost use Rattle.pst_datatree.specs.Seen.{tree_expansions, IsSeenTrue, IsKnownTree, AddsTrees, KeepsCount};
 ghost use Rattle.pst_subnode.specs.Tree.{nesting};
+ghost use Rattle.pst_subnode.specs.List.{list_fault};
+ghost use Rattle.pst_subnode.specs.Heights.{AreTrue, AreAlike};
 ghost use Rattle.pst_subnode.specs.Marks.{IsSiList};
 
 use crate::body::body_in;
+use crate::check::check_list;
+use crate::heights::Heights;
 use crate::sub::Sub;
 use pst_block::{BlockEntry, Blocks};
 use pst_datatree::{Seen, check_data};
@@ -35,6 +39,22 @@ pub(crate) fn height_known(height: u32, limit: u32) -> Result<u32, Fault>
         return Err(nesting_fault());
     }
     Ok(height)
+}
+
+// The own blocks of the list of a block identifier. It changes no height, and no mark.
+#[tactic(auto, using(crate::proofs::MarkLemmas::ranges_true))]
+pub(crate) fn check_own_blocks(
+    alloc: Global,
+    blocks: &Blocks,
+    bid: u64,
+    heights: &mut Heights,
+) -> Result<(), Fault>
+    requires { AreTrue (table_of blocks.now) heights.old }
+    ensures known { AreTrue (table_of blocks.now) heights.new }
+    ensures exact { Tells result (list_fault (table_of blocks.now) bid) tt }
+    ensures same { AreAlike heights.old heights.new }
+{
+    check_list(alloc, blocks, bid, &mut heights.ranges)
 }
 
 // How many SLBLOCKs an SIBLOCK names.

@@ -16,11 +16,10 @@ ghost use Rattle.pst_subnode.specs.Known.{IsKnownList, IsKnownEntry, AreLedTo, A
 ghost use Rattle.pst_subnode.specs.Walk.{IsBegun, IsWalked, KeepsCounts};
 
 use crate::body::{bid_at, body_in, has_level_one};
-use crate::check::check_list;
 use crate::entries::Subs;
 use crate::find::subs;
 use crate::heights::Heights;
-use crate::steps::{check_entry_data, height_known, leaf_count, nesting_fault};
+use crate::steps::{check_entry_data, check_own_blocks, height_known, leaf_count, nesting_fault};
 use crate::sub::Sub;
 use pst_block::{BlockEntry, Blocks};
 use pst_datatree::{Seen, is_no_block};
@@ -254,7 +253,7 @@ fn height_of_list(
     ensures there { let t = table_of blocks.now in
         OnOk result (IsKnownList t heights.new bid) }
 {
-    check_list(alloc, blocks, bid)?;
+    check_own_blocks(alloc, blocks, bid, heights)?;
     let Some(entry) = blocks.entry(bid) else {
         unreachable!()
     };

@@ -114,3 +114,72 @@ fn slblocks_are_shared(rt: HostRuntime) -> Result<(), Fail> {
     heights.keys_rise();
     Ok(())
 }
+
+// SLBLOCKs that many SIBLOCKs name, one after another: a subnode that stands twice is told of the SIBLOCK, whatever order its
+// SLBLOCKs stand in and whatever is known of them; identifiers that fall, or lie between those of another, are no fault.
+#[test]
+fn a_subnode_twice_in_shared_slblocks(rt: HostRuntime) -> Result<(), Fail> {
+    let alloc = rt.alloc();
+    let mut plan = Vec::new(alloc);
+    for (bid, first, second) in [
+        (6, 102, 106),
+        (10, 102, 110),
+        (14, 110, 102),
+        (18, 102, 114),
+        (22, 106, 102),
+        (26, 102, 102),
+        (30, 118, 106),
+        (34, 122, 106),
+        (38, 106, 118),
+    ] {
+        add(
+            &mut plan,
+            bid,
+            list(alloc, 1, 2, &[0x21, first, 0x41, second])?,
+        )?;
+    }
+    for (bid, first, second) in [
+        (102, 0x21, 0x61),
+        (106, 0xa1, 0xc1),
+        (110, 0x61, 0xe1),
+        (114, 0x41, 0x81),
+        (122, 0xe1, 0x101),
+    ] {
+        if bid == 122 {
+            add(&mut plan, 118, list(alloc, 0, 0, &[])?)?;
+        }
+        add(
+            &mut plan,
+            bid,
+            list(alloc, 0, 2, &[first, 0, 0, second, 0, 0])?,
+        )?;
+    }
+    let bytes = image_of(alloc, plan)?;
+    let Ok(blocks) = blocks_in(alloc, Image::new(&bytes)) else {
+        return Err(Fail::from("no blocks"));
+    };
+    let mut seen = Seen::new(alloc);
+    let mut heights = Heights::new(alloc);
+    for (bid, is_list) in [
+        (10, false),
+        (6, true),
+        (14, false),
+        (18, true),
+        (22, true),
+        (26, false),
+        (30, true),
+        (34, true),
+        (38, true),
+        (10, false),
+    ] {
+        let told = check_sub(alloc, &blocks, bid, NODE, &mut seen, &mut heights);
+        let place = FIRST.saturating_add(bid.saturating_sub(6).saturating_mul(16));
+        let answer = if is_list {
+            Ok(1)
+        } else {
+            Err(fault_of(Kind::Subnode, place, bid))
+        };
+        assert_eq!(rt; told, answer);
+    }
+    Ok(())
+}

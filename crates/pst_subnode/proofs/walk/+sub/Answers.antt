@@ -7,15 +7,15 @@ use Rattle.pst_fault.proofs.EachLemmas.{contains_here, contains_later, each_next
 use Rattle.pst_block.specs.Table.{body_of}
 use Rattle.pst_subnode.specs.Body.{leaf_bid_in, has_level_one}
 use Rattle.pst_subnode.specs.Heights.{state_of}
-use Rattle.pst_subnode.specs.Marks.{HaveCome, at_list, at_leaf, at_leaves, leaf_height}
+use Rattle.pst_subnode.specs.Marks.{IsSiList, HaveCome, at_list, at_leaf, at_leaves, leaf_height}
 use Rattle.pst_subnode.specs.List.{list_fault}
 use Rattle.pst_subnode.specs.Left.{subs_left}
 use Rattle.pst_subnode.specs.Tree.{entry_fault, entry_height, sub_fault, sub_height}
 use Rattle.pst_subnode.proofs.LeafLemmas.{leaf_list, si_fault, si_tells, list_tells, most_start, most_next, most_least}
 use Rattle.pst_subnode.proofs.AddLemmas.{both_known, put_known, slblock_known, siblock_known, entries_done, leaf_next, entry_next}
-use Rattle.pst_subnode.proofs.MarkLemmas.{begin_come, rank_small, rank_none, lower_rank, past_entry, to_entry, to_leaf, to_leaves, same_place, begin_true, known_tells}
+use Rattle.pst_subnode.proofs.MarkLemmas.{begin_come, rank_small, rank_none, lower_rank, past_entry, to_entry, to_leaf, to_leaves, same_place, begin_true, same_true, alike_same, alike_marks, known_tells}
 use Rattle.pst_subnode.proofs.SubLemmas.{sub_fault_below, sub_fault_list, most_more, most_end}
-use Rattle.pst_subnode.proofs.WalkLemmas.{IsMarking, walked_none, walked_data, walked_both, walked_entry, walked_leaf, walked_list, walked_leaves, walked_same, walked_forget, walked_settle, counts_none, counts_then, counts_data}
+use Rattle.pst_subnode.proofs.WalkLemmas.{IsMarking, walked_alike, walked_behind, counts_behind, walked_none, walked_data, walked_both, walked_entry, walked_leaf, walked_list, walked_leaves, walked_same, walked_forget, walked_settle, counts_none, counts_then, counts_data}
 use Rattle.pst_subnode.proofs.walk.+sub.Goals as goal
 
 -- ---- a block identifier
@@ -38,20 +38,57 @@ height_of-returns-then-is_no_block-clause-there t c = λ e is.
 
 -- ---- a list
 
-pub height_of_list-returns-in_err-check_list-clause-exact : goal.height_of_list-returns-in_err-check_list-clause-exact
-height_of_list-returns-in_err-check_list-clause-exact t c =
+pub height_of_list-returns-in_err-check_own_blocks-clause-exact : goal.height_of_list-returns-in_err-check_own_blocks-clause-exact
+height_of_list-returns-in_err-check_own_blocks-clause-exact t c =
     let p = err_from_is_err_and c.from_residual.result c.from_residual.ensures.1 in
     let table = table_of c.args.blocks.now in
-    rw (p.1, p.2, sub_fault_list table c.args.limit (c.args.limit - 1) c.args.bid (omega (arith, c.requires.room)) c.requires.named) (is_first_then (list_fault table c.args.bid) _ _ c.in_err-check_list.ensures)
+    rw (p.1, p.2, sub_fault_list table c.args.limit (c.args.limit - 1) c.args.bid (omega (arith, c.requires.room)) c.requires.named) (is_first_then (list_fault table c.args.bid) _ _ c.in_err-check_own_blocks.ensures.exact)
+
+pub height_of_list-returns-in_err-check_own_blocks-clause-walked : goal.height_of_list-returns-in_err-check_own_blocks-clause-walked
+height_of_list-returns-in_err-check_own_blocks-clause-walked t c =
+    let own = c.check_own_blocks.ensures in
+    walked_alike (table_of c.args.blocks.now) _ c.args.seen.now c.args.heights.now c.check_own_blocks.new.heights c.requires.begun.trees own.known own.same
 
 pub height_of_list-height_of_slblock-requires : goal.height_of_list-height_of_slblock-requires
 height_of_list-height_of_slblock-requires t c =
     let table = table_of c.args.blocks.now in
     let begun = c.requires.begun in
+    let own = c.check_own_blocks.ensures in
+    let now = c.check_own_blocks.new.heights in
     let level : has_level_one (body_of table c.in-Some.entry) ≡ false = ap has_level_one (sym c.body_in.ensures) ∙ (sym c.has_level_one.ensures ∙ c.if-has_level_one.false) in
     let rank = rank_none table c.args.bid c.in-Some.entry (sym c.entry.ensures.value ∙ c.in-Some.is) level in
-    let come = lower_rank table c.args.heights.now (at_list table c.args.bid) c.args.limit begun.come in
-    (omega arith, (c.requires.room, (record { is_list = record { named = c.requires.named; list = c.in_ok-check_list.ensures.0 }; rank = rank }, (record { trees = begun.trees; lists = begun.lists; come = come }, c.requires.fresh))))
+    let come = lower_rank table now (at_list table c.args.bid) c.args.limit (same_place table c.args.heights.now now _ 1 c.args.limit (alike_marks _ _ own.same) begun.come) in
+    (omega arith, (c.requires.room, (record { is_list = record { named = c.requires.named; list = c.in_ok-check_own_blocks.ensures.exact.0 }; rank = rank }, (record { trees = begun.trees; lists = own.known; come = come }, alike_same _ _ own.same _ ∙ c.requires.fresh))))
+
+pub height_of_list-height_of_siblock-requires : goal.height_of_list-height_of_siblock-requires
+height_of_list-height_of_siblock-requires t c =
+    let table = table_of c.args.blocks.now in
+    let begun = c.requires.begun in
+    let own = c.check_own_blocks.ensures in
+    let now = c.check_own_blocks.new.heights in
+    let level : has_level_one (body_of table c.in-Some.entry) ≡ true = ap has_level_one (sym c.body_in.ensures) ∙ (sym c.has_level_one.ensures ∙ c.if-has_level_one.true) in
+    let there = sym c.entry.ensures.value ∙ c.in-Some.is in
+    let is_list : IsSiList table c.args.bid c.in-Some.entry = record { is_list = record { named = c.requires.named; list = c.in_ok-check_own_blocks.ensures.exact.0 }; entry = there; level = level } in
+    let come = same_place table c.args.heights.now now _ 1 c.args.limit (alike_marks _ _ own.same) begun.come in
+    (omega arith, (c.requires.room, (search rules, (is_list, (record { trees = begun.trees; lists = own.known; come = come }, alike_same _ _ own.same _ ∙ c.requires.fresh)))))
+
+pub height_of_list-returns-then-has_level_one-clause-walked : goal.height_of_list-returns-then-has_level_one-clause-walked
+height_of_list-returns-then-has_level_one-clause-walked t c =
+    let own = c.check_own_blocks.ensures in
+    walked_behind (table_of c.args.blocks.now) _ c.args.seen.now c.args.heights.now c.check_own_blocks.new.heights c.height_of_siblock.new.seen c.height_of_siblock.new.heights c.requires.begun.trees own.known own.same c.height_of_siblock.ensures.walked
+
+pub height_of_list-returns-then-has_level_one-clause-counts : goal.height_of_list-returns-then-has_level_one-clause-counts
+height_of_list-returns-then-has_level_one-clause-counts t c =
+    IfOk-weaker c.height_of_siblock.result _ _ (λ x list. counts_behind c.args.seen.now c.args.heights.now c.check_own_blocks.new.heights c.height_of_siblock.new.seen c.height_of_siblock.new.heights c.check_own_blocks.ensures.same list) c.height_of_siblock.ensures.counts
+
+pub height_of_list-returns-else-has_level_one-clause-walked : goal.height_of_list-returns-else-has_level_one-clause-walked
+height_of_list-returns-else-has_level_one-clause-walked t c =
+    let own = c.check_own_blocks.ensures in
+    walked_behind (table_of c.args.blocks.now) _ c.args.seen.now c.args.heights.now c.check_own_blocks.new.heights c.height_of_slblock.new.seen c.height_of_slblock.new.heights c.requires.begun.trees own.known own.same c.height_of_slblock.ensures.walked
+
+pub height_of_list-returns-else-has_level_one-clause-counts : goal.height_of_list-returns-else-has_level_one-clause-counts
+height_of_list-returns-else-has_level_one-clause-counts t c =
+    IfOk-weaker c.height_of_slblock.result _ _ (λ x list. counts_behind c.args.seen.now c.args.heights.now c.check_own_blocks.new.heights c.height_of_slblock.new.seen c.height_of_slblock.new.heights c.check_own_blocks.ensures.same list) c.height_of_slblock.ensures.counts
 
 -- ---- an SLBLOCK
 
@@ -64,7 +101,7 @@ height_of_slblock-height_of_entries-requires t c =
       omega arith,
       record {
         trees = begun.trees;
-        lists = begin_true table c.args.heights.now c.begin.new.self c.args.bid put begun.lists;
+        lists = begin_true table c.args.heights.now c.begin.new.self c.args.bid put c.begin.ensures.ranges begun.lists;
         come = begin_come table c.args.heights.now c.begin.new.self c.args.limit (c.args.limit - 1) c.args.bid (subs_left c.subs-list.result) c.subs-list.ensures (omega (arith, c.requires.room)) is.named is.list put begun.come;
       },
     )
@@ -82,7 +119,7 @@ height_of_slblock-returns-in_ok-settle-in-Ok-clause-exact t c =
 
 pub height_of_slblock-returns-in_err-begin-clause-walked : goal.height_of_slblock-returns-in_err-begin-clause-walked
 height_of_slblock-returns-in_err-begin-clause-walked t c =
-    walked_same (table_of c.args.blocks.now) _ c.args.seen.now c.args.heights.now c.begin.new.self c.requires.begun.trees c.requires.begun.lists c.in_err-begin.ensures.same c.begin.ensures.grows
+    walked_same (table_of c.args.blocks.now) _ c.args.seen.now c.args.heights.now c.begin.new.self c.requires.begun.trees (same_true (table_of c.args.blocks.now) c.args.heights.now c.begin.new.self c.in_err-begin.ensures.same (rw c.begin.ensures.ranges c.requires.begun.lists.ranges) c.requires.begun.lists) c.in_err-begin.ensures.same c.begin.ensures.grows
 
 pub height_of_slblock-returns-in-Err-clause-walked : goal.height_of_slblock-returns-in-Err-clause-walked
 height_of_slblock-returns-in-Err-clause-walked t c =
@@ -90,7 +127,7 @@ height_of_slblock-returns-in-Err-clause-walked t c =
     let mid = c.height_of_entries.new.heights in
     let begun : IsMarking table c.args.bid c.args.heights.now c.begin.new.self = record { list = c.requires.is_list.is_list.list; fresh = c.requires.fresh; put = c.in_ok-begin.ensures.put; grows = c.begin.ensures.grows } in
     let walked = walked_list table c.args.bid (subs_left c.subs-list.result) c.args.seen.now c.begin.new.self c.height_of_entries.new.seen mid c.requires.is_list c.subs-list.ensures c.in-Err.ensures.walked in
-    walked_forget table c.args.bid c.args.seen.now c.height_of_entries.new.seen c.args.heights.now c.begin.new.self mid c.forget.new.self begun walked c.forget.ensures.put (omega (arith, c.forget.ensures.counts))
+    walked_forget table c.args.bid c.args.seen.now c.height_of_entries.new.seen c.args.heights.now c.begin.new.self mid c.forget.new.self begun walked c.forget.ensures.put c.forget.ensures.ranges (omega (arith, c.forget.ensures.counts))
 
 pub height_of_slblock-returns-in_err-settle-in-Ok-clause-walked : goal.height_of_slblock-returns-in_err-settle-in-Ok-clause-walked
 height_of_slblock-returns-in_err-settle-in-Ok-clause-walked t c =
@@ -98,7 +135,7 @@ height_of_slblock-returns-in_err-settle-in-Ok-clause-walked t c =
     let mid = c.height_of_entries.new.heights in
     let begun : IsMarking table c.args.bid c.args.heights.now c.begin.new.self = record { list = c.requires.is_list.is_list.list; fresh = c.requires.fresh; put = c.in_ok-begin.ensures.put; grows = c.begin.ensures.grows } in
     let walked = walked_list table c.args.bid (subs_left c.subs-list.result) c.args.seen.now c.begin.new.self c.height_of_entries.new.seen mid c.requires.is_list c.subs-list.ensures c.in-Ok.ensures.walked in
-    walked_forget table c.args.bid c.args.seen.now c.height_of_entries.new.seen c.args.heights.now c.begin.new.self mid c.settle.new.self begun walked c.in_err-settle-in-Ok.ensures.forgotten c.in_err-settle-in-Ok.ensures.grows
+    walked_forget table c.args.bid c.args.seen.now c.height_of_entries.new.seen c.args.heights.now c.begin.new.self mid c.settle.new.self begun walked c.in_err-settle-in-Ok.ensures.forgotten c.in_err-settle-in-Ok.ensures.ranges c.in_err-settle-in-Ok.ensures.grows
 
 pub height_of_slblock-returns-in_ok-settle-in-Ok-clause-walked : goal.height_of_slblock-returns-in_ok-settle-in-Ok-clause-walked
 height_of_slblock-returns-in_ok-settle-in-Ok-clause-walked t c =
@@ -110,7 +147,7 @@ height_of_slblock-returns-in_ok-settle-in-Ok-clause-walked t c =
     let walked = walked_list table c.args.bid list c.args.seen.now c.begin.new.self c.height_of_entries.new.seen mid is c.subs-list.ensures c.in-Ok.ensures.walked in
     let tells = list_tells table c.args.bid c.args.limit (c.args.limit - 1) c.in-Ok.most _ (omega (arith, c.requires.room)) is.is_list c.subs-list.ensures c.in-Ok.ensures.exact in
     let known = slblock_known table c.args.bid list c.height_of_entries.new.seen mid is.is_list is.rank c.subs-list.ensures c.in-Ok.ensures.there in
-    walked_settle table c.args.bid c.args.limit (c.in-Ok.most + 1) c.args.seen.now c.height_of_entries.new.seen c.args.heights.now c.begin.new.self mid c.settle.new.self (omega arith) begun walked tells known c.in_ok-settle-in-Ok.ensures.put c.in_ok-settle-in-Ok.ensures.grows
+    walked_settle table c.args.bid c.args.limit (c.in-Ok.most + 1) c.args.seen.now c.height_of_entries.new.seen c.args.heights.now c.begin.new.self mid c.settle.new.self (omega arith) begun walked tells known c.in_ok-settle-in-Ok.ensures.put c.in_ok-settle-in-Ok.ensures.ranges c.in_ok-settle-in-Ok.ensures.grows
 
 pub height_of_slblock-returns-in_ok-settle-in-Ok-clause-there : goal.height_of_slblock-returns-in_ok-settle-in-Ok-clause-there
 height_of_slblock-returns-in_ok-settle-in-Ok-clause-there t c =
@@ -188,7 +225,7 @@ height_of_siblock-height_of_leaves-requires t c =
     let count = c.leaf_count-count.ensures.value in
     let leaf = λ (i : ℕ) (lt : i < c.leaf_count-count.result). leaf_list table c.args.bid c.args.entry i is (omega (arith, lt, count)) in
     let come : HaveCome table c.begin.new.self (at_leaves table c.args.entry c.leaf_count-count.result) 0 c.args.limit = rw count (to_leaves table c.args.heights.now c.begin.new.self c.args.limit c.args.bid c.args.entry c.requires.room is c.in_ok-begin.ensures.put c.requires.begun.come) in
-    let known = begin_true table c.args.heights.now c.begin.new.self c.args.bid c.in_ok-begin.ensures.put c.requires.begun.lists in
+    let known = begin_true table c.args.heights.now c.begin.new.self c.args.bid c.in_ok-begin.ensures.put c.begin.ensures.ranges c.requires.begun.lists in
     (omega arith, (c.requires.room, (c.requires.within, (c.leaf_count-count.ensures.fits, ((λ i lt. record { is_list = (leaf i lt).is_list; rank = (leaf i lt).rank }), record { trees = c.requires.begun.trees; lists = known; come = come })))))
 
 pub height_of_siblock-returns-in-Err-clause-exact : goal.height_of_siblock-returns-in-Err-clause-exact
@@ -203,7 +240,7 @@ height_of_siblock-returns-in_ok-settle-in-Ok-clause-exact t c =
 
 pub height_of_siblock-returns-in_err-begin-clause-walked : goal.height_of_siblock-returns-in_err-begin-clause-walked
 height_of_siblock-returns-in_err-begin-clause-walked t c =
-    walked_same (table_of c.args.blocks.now) _ c.args.seen.now c.args.heights.now c.begin.new.self c.requires.begun.trees c.requires.begun.lists c.in_err-begin.ensures.same c.begin.ensures.grows
+    walked_same (table_of c.args.blocks.now) _ c.args.seen.now c.args.heights.now c.begin.new.self c.requires.begun.trees (same_true (table_of c.args.blocks.now) c.args.heights.now c.begin.new.self c.in_err-begin.ensures.same (rw c.begin.ensures.ranges c.requires.begun.lists.ranges) c.requires.begun.lists) c.in_err-begin.ensures.same c.begin.ensures.grows
 
 pub height_of_siblock-returns-in-Err-clause-walked : goal.height_of_siblock-returns-in-Err-clause-walked
 height_of_siblock-returns-in-Err-clause-walked t c =
@@ -211,7 +248,7 @@ height_of_siblock-returns-in-Err-clause-walked t c =
     let mid = c.height_of_leaves.new.heights in
     let begun : IsMarking table c.args.bid c.args.heights.now c.begin.new.self = record { list = c.requires.is_list.is_list.list; fresh = c.requires.fresh; put = c.in_ok-begin.ensures.put; grows = c.begin.ensures.grows } in
     let walked = walked_leaves table c.args.bid c.args.entry c.leaf_count-count.result c.args.seen.now c.begin.new.self c.height_of_leaves.new.seen mid c.requires.is_list c.leaf_count-count.ensures.value c.in-Err.ensures.walked in
-    walked_forget table c.args.bid c.args.seen.now c.height_of_leaves.new.seen c.args.heights.now c.begin.new.self mid c.forget.new.self begun walked c.forget.ensures.put (omega (arith, c.forget.ensures.counts))
+    walked_forget table c.args.bid c.args.seen.now c.height_of_leaves.new.seen c.args.heights.now c.begin.new.self mid c.forget.new.self begun walked c.forget.ensures.put c.forget.ensures.ranges (omega (arith, c.forget.ensures.counts))
 
 pub height_of_siblock-returns-in_err-settle-in-Ok-clause-walked : goal.height_of_siblock-returns-in_err-settle-in-Ok-clause-walked
 height_of_siblock-returns-in_err-settle-in-Ok-clause-walked t c =
@@ -219,7 +256,7 @@ height_of_siblock-returns-in_err-settle-in-Ok-clause-walked t c =
     let mid = c.height_of_leaves.new.heights in
     let begun : IsMarking table c.args.bid c.args.heights.now c.begin.new.self = record { list = c.requires.is_list.is_list.list; fresh = c.requires.fresh; put = c.in_ok-begin.ensures.put; grows = c.begin.ensures.grows } in
     let walked = walked_leaves table c.args.bid c.args.entry c.leaf_count-count.result c.args.seen.now c.begin.new.self c.height_of_leaves.new.seen mid c.requires.is_list c.leaf_count-count.ensures.value c.in-Ok.ensures.walked in
-    walked_forget table c.args.bid c.args.seen.now c.height_of_leaves.new.seen c.args.heights.now c.begin.new.self mid c.settle.new.self begun walked c.in_err-settle-in-Ok.ensures.forgotten c.in_err-settle-in-Ok.ensures.grows
+    walked_forget table c.args.bid c.args.seen.now c.height_of_leaves.new.seen c.args.heights.now c.begin.new.self mid c.settle.new.self begun walked c.in_err-settle-in-Ok.ensures.forgotten c.in_err-settle-in-Ok.ensures.ranges c.in_err-settle-in-Ok.ensures.grows
 
 pub height_of_siblock-returns-in_ok-settle-in-Ok-clause-walked : goal.height_of_siblock-returns-in_ok-settle-in-Ok-clause-walked
 height_of_siblock-returns-in_ok-settle-in-Ok-clause-walked t c =
@@ -232,7 +269,7 @@ height_of_siblock-returns-in_ok-settle-in-Ok-clause-walked t c =
     let walked = walked_leaves table c.args.bid c.args.entry c.leaf_count-count.result c.args.seen.now c.begin.new.self c.height_of_leaves.new.seen mid is count c.in-Ok.ensures.walked in
     let tells = si_tells table c.args.bid c.args.entry c.args.limit c.leaf_count-count.result c.in-Ok.most c.requires.room is count c.in-Ok.ensures.exact in
     let known = siblock_known table c.args.bid c.args.entry c.leaf_count-count.result c.height_of_leaves.new.seen mid is count c.in-Ok.ensures.there in
-    walked_settle table c.args.bid c.args.limit c.in-Ok.most c.args.seen.now c.height_of_leaves.new.seen c.args.heights.now c.begin.new.self mid c.settle.new.self (omega (arith, least, c.in-Ok.ensures.exact.1)) begun walked tells known c.in_ok-settle-in-Ok.ensures.put c.in_ok-settle-in-Ok.ensures.grows
+    walked_settle table c.args.bid c.args.limit c.in-Ok.most c.args.seen.now c.height_of_leaves.new.seen c.args.heights.now c.begin.new.self mid c.settle.new.self (omega (arith, least, c.in-Ok.ensures.exact.1)) begun walked tells known c.in_ok-settle-in-Ok.ensures.put c.in_ok-settle-in-Ok.ensures.ranges c.in_ok-settle-in-Ok.ensures.grows
 
 pub height_of_siblock-returns-in_ok-settle-in-Ok-clause-there : goal.height_of_siblock-returns-in_ok-settle-in-Ok-clause-there
 height_of_siblock-returns-in_ok-settle-in-Ok-clause-there t c =

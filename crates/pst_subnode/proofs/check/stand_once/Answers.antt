@@ -4,7 +4,7 @@ use Rattle.std.specs.BTreeSet.{contains}
 use Rattle.pst_subnode.specs.List.{sub_nid}
 use Rattle.pst_subnode.specs.Left.{subs_left}
 use Rattle.pst_subnode.proofs.DistinctLemmas.{distinct_start, distinct_more, fresh_met, fresh_end, was_met, was_new}
-use Rattle.pst_subnode.proofs.check.are_distinct.Goals as goal
+use Rattle.pst_subnode.proofs.check.stand_once.Goals as goal
 
 pub loop-sub-init : goal.loop-sub-init
 loop-sub-init c = distinct_start c.new-met.result (map sub_nid (subs_left c.args.subs)) c.new-met.ensures.empty

@@ -4,7 +4,7 @@ use Rattle.std.specs.BTreeSet.{contains}
 use Rattle.pst_subnode.specs.List.{are_distinct, sub_nid}
 use Rattle.pst_subnode.specs.Left.{subs_left}
 use Rattle.pst_subnode.proofs.DistinctLemmas.{fresh}
-use Rattle.pst_subnode.proofs.check.are_distinct.Given as goal
+use Rattle.pst_subnode.proofs.check.stand_once.Given as goal
 
 abbrev pub invariant-loop-sub : goal.invariant-loop-sub
 invariant-loop-sub l = fresh (contains nat_cmp l.met) (map sub_nid (subs_left l.rest)) ≡ are_distinct (map sub_nid (subs_left l.subs))
