@@ -84,3 +84,52 @@ fn each_block_counts_once(rt: HostRuntime) -> Result<(), Fail> {
     assert_eq!(rt; expanded(alloc, &small)?, 0);
     Ok(())
 }
+
+// Two nodes whose SIBLOCKs name SLBLOCKs of the same four: one that stands twice is told of the second node's SIBLOCK, in
+// whatever order; identifiers that fall, or lie between those of another, are no fault.
+#[test]
+fn a_subnode_twice_in_shared_slblocks(rt: HostRuntime) -> Result<(), Fail> {
+    let alloc = rt.alloc();
+    let yes = "yes: 2 pages 6 blocks 2 nodes High 0 lost 0 old";
+    let no = "no: 17 Subnode at 0x4c40 bid 0x6 nid 0x41";
+    let two_leaves = [2, 1, 2, 0, 0, 0, 0, 0];
+    let two_entries = [2, 0, 2, 0, 0, 0, 0, 0];
+    for (first, second, line) in [
+        (0x0a, 0x0e, yes),
+        (0x0e, 0x0a, yes),
+        (0x0a, 0x16, yes),
+        (0x0a, 0x12, no),
+        (0x12, 0x0b, no),
+        (0x0a, 0x0a, no),
+    ] {
+        let image = store(
+            alloc,
+            &[
+                (2, &body_of(alloc, two_leaves, &[0x21, 0x0a, 0xa1, 0x0e])?),
+                (
+                    6,
+                    &body_of(alloc, two_leaves, &[0x21, first, 0x41, second])?,
+                ),
+                (
+                    0x0a,
+                    &body_of(alloc, two_entries, &[0x21, 0, 0, 0x61, 0, 0])?,
+                ),
+                (
+                    0x0e,
+                    &body_of(alloc, two_entries, &[0xa1, 0, 0, 0xc1, 0, 0])?,
+                ),
+                (
+                    0x12,
+                    &body_of(alloc, two_entries, &[0x61, 0, 0, 0xe1, 0, 0])?,
+                ),
+                (
+                    0x16,
+                    &body_of(alloc, two_entries, &[0x41, 0, 0, 0x81, 0, 0])?,
+                ),
+            ],
+            &[(0x21, 0, 2), (0x41, 0, 6)],
+        )?;
+        is_answered(&rt, alloc, &image, line)?;
+    }
+    Ok(())
+}
