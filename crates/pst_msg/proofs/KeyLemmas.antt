@@ -1,37 +1,19 @@
 -- Sets of nodes.
-use Rattle.std.proofs.Common.{◌≡◌, ℕ, zero, suc, ◌<◌, [], ◌∷◌, length, arith, Bool, true, false, List, refl, sym, ap, ◌∙◌, BTreeSet, ◌⊎◌, inl, inr}
-use Rattle.std.specs.Prelude.{◌||◌, cond, not, ◌+◌, if◌then◌else◌}
+use Rattle.std.proofs.Common.{◌≡◌, ℕ, zero, suc, ◌+◌, ◌<◌, [], ◌∷◌, length, arith, Bool, true, false, List, Result, Ok, Err, refl, sym, ap, ◌∙◌, ◌⊎◌, inl, inr}
+use Rattle.std.specs.Prelude.{◌||◌, OnOk, OnErr}
 use Rattle.std.specs.List.{Contains, list_any, slice_index_or}
-use Rattle.std.specs.Ordering.{nat_cmp, eq_by_cmp}
 use Rattle.std.specs.BTreeMap.{is_at}
-use Rattle.std.specs.BTreeSet.{contains}
-use Rattle.std.proofs.lemmas.Map.Lookups.{CmpEqualImpliesEq, exact_unsigned, exact_pairs}
 use Rattle.std.proofs.lemmas.Map.Views.{tells_apart, Contains-from_any}
 use Rattle.std.proofs.lemmas.Cmp.{tied_itself, nat_cmp_total}
 use Rattle.pst_block.specs.Block.{bid_key}
+use Rattle.pst_fault.specs.declared.fault.Fault.{Fault}
 use Rattle.pst_ndb.specs.Roots.{Roots}
-use Rattle.pst_msg.specs.declared.keys.Keys.{Keys}
 use Rattle.pst_ndb.specs.Alike.{Alike}
-use Rattle.pst_msg.specs.Keys.{Key, key, list_key, pair_cmp, key_cmp, keys_in, holds, has}
-
-pub keys_exact : CmpEqualImpliesEq key_cmp
-keys_exact = exact_pairs pair_cmp nat_cmp (exact_pairs nat_cmp nat_cmp exact_unsigned exact_unsigned) exact_unsigned
-
--- what is in the set after an insertion was there, or is the key
-pub only_new : (old new : BTreeSet Key) (k : Key) → ((q : Key) → contains key_cmp new q ≡ cond (is_at (key_cmp k) q) true (contains key_cmp old q)) → (q : Key) → contains key_cmp new q ≡ true → (contains key_cmp old q ≡ true) ⊎ (k ≡ q)
-only_new old new k more q e = by_test (eq_by_cmp key_cmp k q) refl (sym (more q) ∙ e)
-  where
-    by_test : (v : Bool) → eq_by_cmp key_cmp k q ≡ v → cond v true (contains key_cmp old q) ≡ true → (contains key_cmp old q ≡ true) ⊎ (k ≡ q)
-    by_test true here h = inr (tells_apart keys_exact k q here)
-    by_test false here h = inl h
-
--- what was in the set is in it
-pub still_there : (old new : BTreeSet Key) (k : Key) → ((q : Key) → contains key_cmp new q ≡ cond (is_at (key_cmp k) q) true (contains key_cmp old q)) → (q : Key) → contains key_cmp old q ≡ true → contains key_cmp new q ≡ true
-still_there old new k more q e = more q ∙ by_test (eq_by_cmp key_cmp k q)
-  where
-    by_test : (v : Bool) → cond v true (contains key_cmp old q) ≡ true
-    by_test true = refl
-    by_test false = e
+use Rattle.pst_msg.specs.declared.keys.Keys.{Keys}
+use Rattle.pst_msg.specs.Keys.{Key, key, list_key, pair_cmp, key_cmp, keys_in, holds, has, IsPut}
+use Rattle.pst_msg.proofs.AloneLemmas.{held_alone, held_other}
+use Rattle.pst_msg.proofs.InsertLemmas.{inserted_any, inserted_length}
+use Rattle.pst_msg.proofs.KeyOrderLemmas.{keys_exact}
 
 -- ---- keys of nodes
 
@@ -43,12 +25,6 @@ same_list r s e = ap (λ (k : Key). k.0.1) e
 
 pub has_same : (keys : Keys) (n : ℕ) (r s : Roots) → Alike r s → has keys n r ≡ true → has keys n s ≡ true
 has_same keys n r s e is = rw (← e.0, ← e.1) is
-
--- how many they are after an insertion
-pub one_more_key : (old new : ℕ) (set : BTreeSet Key) (added : Bool) (q k : Key) → q ≡ k → contains key_cmp set k ≡ false → added ≡ not (contains key_cmp set q) → new ≡ old + (if added then 1 else 0) → new ≡ old + 1
-one_more_key old new set added q k same absent is more =
-    let fresh : added ≡ true = is ∙ ap not (ap (contains key_cmp set) same ∙ absent) in
-    rw fresh at more
 
 -- ---- the keys of a set
 
@@ -74,3 +50,51 @@ holds_listed keys q w = any_of q _ w
 pub listed_holds : (keys : Keys) (q : Key) → holds keys q ≡ true → Contains (keys_in keys) q
 unfolding holds keys_in
 listed_holds keys q e = Contains-from_any (tells_apart keys_exact) q _ e
+
+-- ---- which of the two lists a key is in
+
+pub there_alone : (keys : Keys) (q : Key) → q.0.1 ≡ 0 → list_any (is_at (pair_cmp (q.0.0, q.1))) keys.alone.keys ≡ true → true ≡ holds keys q
+unfolding holds keys_in
+there_alone keys q none is = sym (rw none (held_alone keys.alone.keys keys.others.keys q.0.0 q.1 ∙ ap (λ b. b || list_any (is_at (key_cmp ((q.0.0, 0), q.1))) keys.others.keys) is))
+
+pub not_alone : (keys : Keys) (q : Key) → q.0.1 ≡ 0 → list_any (is_at (pair_cmp (q.0.0, q.1))) keys.alone.keys ≡ false → list_any (is_at (key_cmp q)) keys.others.keys ≡ holds keys q
+unfolding holds keys_in
+not_alone keys q none is = sym (rw none (held_alone keys.alone.keys keys.others.keys q.0.0 q.1 ∙ ap (λ b. b || list_any (is_at (key_cmp ((q.0.0, 0), q.1))) keys.others.keys) is))
+
+pub never_alone : (keys : Keys) (q : Key) → 0 < q.0.1 → list_any (is_at (key_cmp q)) keys.others.keys ≡ holds keys q
+unfolding holds keys_in
+never_alone keys q some = sym (held_other keys.alone.keys keys.others.keys q some)
+
+-- ---- one more key
+
+-- what is in it was there, or is the key
+pub only_put : (result : Result (Unit {0}) Fault) (old new : Keys) (k : Key) → IsPut result old k new → (q : Key) → holds new q ≡ true → (holds old q ≡ true) ⊎ (k ≡ q)
+unfolding holds
+only_put (Err f) old new k same q e = inl (rw (← same) e)
+only_put (Ok x) old new k more q e = by_test (is_at (key_cmp q) k) refl (sym (inserted_any key_cmp keys_exact (is_at (key_cmp q)) (keys_in old) k) ∙ rw (← more) e)
+  where
+    by_test : (v : Bool) → is_at (key_cmp q) k ≡ v → (v || list_any (is_at (key_cmp q)) (keys_in old)) ≡ true → (list_any (is_at (key_cmp q)) (keys_in old) ≡ true) ⊎ (k ≡ q)
+    by_test true here h = inr (sym (tells_apart keys_exact q k here))
+    by_test false here h = inl h
+
+-- what was in it is there
+pub still_there : (result : Result (Unit {0}) Fault) (old new : Keys) (k : Key) → IsPut result old k new → (q : Key) → holds old q ≡ true → holds new q ≡ true
+unfolding holds
+still_there (Err f) old new k same q e = rw same e
+still_there (Ok x) old new k more q e = rw (more, inserted_any key_cmp keys_exact (is_at (key_cmp q)) (keys_in old) k, e) (or_true (is_at (key_cmp q) k))
+
+-- the key is
+pub put_there : (result : Result (Unit {0}) Fault) (old new : Keys) (k : Key) → IsPut result old k new → OnOk result (holds new k ≡ true)
+unfolding holds
+put_there (Err f) old new k same = tt
+put_there (Ok x) old new k more = rw (more, inserted_any key_cmp keys_exact (is_at (key_cmp k)) (keys_in old) k, itself k) refl
+
+-- and one that was not there makes one more
+pub one_more_key : (result : Result (Unit {0}) Fault) (old new : Keys) (k : Key) → IsPut result old k new → holds old k ≡ false → OnOk result (length (keys_in new) ≡ length (keys_in old) + 1)
+unfolding holds
+one_more_key (Err f) old new k same absent = tt
+one_more_key (Ok x) old new k more absent = rw more (inserted_length key_cmp (keys_in old) k absent)
+
+pub put_refused : (result : Result (Unit {0}) Fault) (old new : Keys) (k : Key) → IsPut result old k new → OnErr result (keys_in new ≡ keys_in old)
+put_refused (Err f) old new k same = same
+put_refused (Ok x) old new k more = tt

@@ -4,6 +4,9 @@ pub mod LimitLemmas
 pub mod MessageLaws
 pub mod ContentsLaws
 pub mod AlikeLemmas
+pub mod InsertLemmas
+pub mod KeyOrderLemmas
+pub mod AloneLemmas
 pub mod KeyLemmas
 pub mod IndexLemmas
 pub mod KnownLemmas

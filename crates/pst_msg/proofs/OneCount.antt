@@ -1,26 +1,19 @@
 -- A store names one number of contexts.
-use Rattle.std.proofs.Common.{◌≡◌, ℕ, BTreeSet, List, length, sym, ap, ◌∙◌}
+use Rattle.std.proofs.Common.{◌≡◌, BTreeSet, List, length, sym, ap, ◌∙◌}
 use Rattle.std.specs.Prelude.{◌+◌}
-use Rattle.std.specs.Cmp.{IsTotalOrder, then_total, on_total, nat_cmp_total}
 use Rattle.std.specs.List.{Contains}
 use Rattle.std.specs.List.Sorted.{IsStrictlySortedBy}
 use Rattle.std.specs.BTreeSet.{contains}
 use Rattle.std.proofs.lemmas.Map.Lookups.{btree_set_from_contains}
 use Rattle.std.proofs.lemmas.Map.Views.{btree_set_contains_iff}
 use Rattle.pst_fault.proofs.GeneralLemmas.{same_test}
-use Rattle.pst_msg.specs.Keys.{Key, pair_cmp, key_cmp}
+use Rattle.pst_msg.specs.Keys.{Key, key_cmp}
 use Rattle.pst_ndb.specs.Counts.{capped}
 use Rattle.pst_msg.specs.Laws.{CountLaw}
-use Rattle.pst_msg.proofs.KeyLemmas.{keys_exact}
+use Rattle.pst_msg.proofs.KeyOrderLemmas.{keys_exact, keys_total}
 
 abbrev btree_set : List Key → BTreeSet Key
 btree_set ks = record { keys = ks }
-
-pairs_total : IsTotalOrder pair_cmp
-pairs_total = then_total (on_total (λ (x : ℕ × ℕ). x.0) nat_cmp_total) (on_total (λ (x : ℕ × ℕ). x.1) nat_cmp_total)
-
-keys_total : IsTotalOrder key_cmp
-keys_total = then_total (on_total (λ (x : Key). x.0) pairs_total) (on_total (λ (x : Key). x.1) nat_cmp_total)
 
 same_keys : (ks ls : List Key) → IsStrictlySortedBy key_cmp ks → IsStrictlySortedBy key_cmp ls → ((q : Key) → Contains ks q → Contains ls q) → ((q : Key) → Contains ls q → Contains ks q) → ks ≡ ls
 same_keys ks ls a b to from =

@@ -1,8 +1,11 @@
 -- A set of nodes, each with a number, by the blocks of their data and of their subnodes, bit 0 of their identifiers cleared.
-use Rattle.std.specs.Prelude.{ℕ, Bool, List}
+use Rattle.std.specs.Prelude.{◌≡◌, ℕ, Bool, List, [], ◌∷◌, Result, Ok, Err}
+use Rattle.std.specs.List.{list_any}
 use Rattle.std.specs.Ordering.{nat_cmp, ordering_then}
 use Rattle.std.specs.declared.cmp.Ordering.{Ordering}
-use Rattle.std.specs.BTreeSet.{contains, keys as keys_of_set}
+use Rattle.std.specs.BTreeMap.{is_at}
+use Rattle.std.specs.BTreeSet.{insert_key, keys as keys_of_set}
+use Rattle.pst_fault.specs.declared.fault.Fault.{Fault}
 use Rattle.pst_block.specs.Block.{bid_key}
 use Rattle.pst_ndb.specs.Roots.{Roots}
 use Rattle.pst_msg.specs.declared.keys.Keys.{Keys}
@@ -26,11 +29,25 @@ key n r = ((bid_key r.bid_data, bid_key r.bid_sub), n)
 abbrev pub list_key : Roots → Key
 list_key r = ((0, bid_key r.bid_sub), 0)
 
+-- of a node without subnodes: by its data, with a number
+abbrev pub alone_key : (ℕ × ℕ) → Key
+alone_key x = ((x.0, 0), x.1)
+
+-- keys, and those of nodes without subnodes at their places among them
+abbrev pub with_alone : List (ℕ × ℕ) → List Key → List Key
+with_alone [] ks = ks
+with_alone (x ∷ rest) ks = insert_key key_cmp (with_alone rest ks) (alone_key x)
+
 unfoldable pub keys_in : Keys → List Key
-keys_in keys = keys_of_set keys.set
+keys_in keys = with_alone (keys_of_set keys.alone) (keys_of_set keys.others)
 
 unfoldable pub holds : Keys → Key → Bool
-holds keys k = contains key_cmp keys.set k
+holds keys k = list_any (is_at (key_cmp k)) (keys_in keys)
 
 abbrev pub has : Keys → ℕ → Roots → Bool
 has keys n r = holds keys (key n r)
+
+-- a key was put into a set, or memory was refused and it stayed as it was
+abbrev pub IsPut : Result (Unit {0}) Fault → Keys → Key → Keys → Type 0
+IsPut (Ok x) old k new = keys_in new ≡ insert_key key_cmp (keys_in old) k
+IsPut (Err f) old k new = keys_in new ≡ keys_in old

@@ -5,7 +5,7 @@ ghost use Rattle.std.specs.List.Sorted.{IsStrictlySortedBy};
 ghost use Rattle.pst_fault.specs.Fault.{no_memory};
 ghost use Rattle.pst_block.specs.Block.{bid_key};
 ghost use Rattle.pst_ndb.specs.Views.{roots_of};
-ghost use Rattle.pst_msg.specs.Keys.{Key as SpecKey, key, list_key, key_cmp, keys_in, holds};
+ghost use Rattle.pst_msg.specs.Keys.{Key as SpecKey, key, list_key, key_cmp, keys_in, holds, IsPut};
 
 use pst_fault::Fault;
 use pst_ndb::Node;
@@ -19,7 +19,9 @@ pub(crate) type Key = ((u64, u64), u64);
 /// A set of nodes, each with a number.
 #[derive(Drop)]
 pub(crate) struct Keys {
-    set: BTreeSet<((u64, u64), u64)>,
+    // Those of nodes without subnodes, by their data alone: most contexts are, and so each takes less memory.
+    alone: BTreeSet<(u64, u64)>,
+    others: BTreeSet<((u64, u64), u64)>,
 }
 
 /// The identifier of a block without its bit 0.
@@ -51,20 +53,60 @@ impl Keys {
         ensures empty { keys_in result ≡ [] }
     {
         Keys {
-            set: BTreeSet::new(alloc),
+            alone: BTreeSet::new(alloc),
+            others: BTreeSet::new(alloc),
         }
     }
 
     /// Whether a key is in it.
-    #[tactic(auto, unfolding(crate::specs::Keys::holds))]
+    #[tactic(auto, using(crate::proofs::KeyLemmas::there_alone))]
     pub(crate) fn has(&self, taken: Key) -> bool
         ensures { result ≡ holds self.now taken }
     {
-        self.set.contains(&taken)
+        let ((block, sub), number) = taken;
+        if sub > 0 {
+            return self.others.contains(&taken);
+        }
+        if self.alone.contains(&(block, number)) {
+            return true;
+        }
+        self.others.contains(&taken)
+    }
+
+    // Puts the key of a node without subnodes into it.
+    fn put_alone(&mut self, block: u64, number: u64) -> Result<(), Fault>
+        ensures put { IsPut result self.old ((block, 0), number) self.new }
+        ensures memory { IfErr result (λ f. f ≡ no_memory) }
+    {
+        self.others.len();
+        self.alone.insert((block, number))?;
+        Ok(())
+    }
+
+    // Puts another key into it.
+    fn put_other(&mut self, taken: Key) -> Result<(), Fault>
+        ensures put { IsPut result self.old taken self.new }
+        ensures memory { IfErr result (λ f. f ≡ no_memory) }
+    {
+        self.others.len();
+        self.others.insert(taken)?;
+        Ok(())
+    }
+
+    // Puts a key into it, where it belongs.
+    fn put_in(&mut self, taken: Key) -> Result<(), Fault>
+        ensures put { IsPut result self.old taken self.new }
+        ensures memory { IfErr result (λ f. f ≡ no_memory) }
+    {
+        let ((block, sub), number) = taken;
+        if sub == 0 {
+            self.put_alone(block, number)
+        } else {
+            self.put_other(taken)
+        }
     }
 
     /// Puts a key into it; or memory is refused, and it stays as it is.
-    #[tactic(auto, unfolding(crate::specs::Keys::holds, crate::specs::Keys::keys_in))]
     pub(crate) fn put(&mut self, taken: Key) -> Result<(), Fault>
         ensures only { (q : SpecKey) → holds self.new q ≡ true →
             (holds self.old q ≡ true) ⊎ (taken ≡ q) }
@@ -75,15 +117,14 @@ impl Keys {
         ensures same { OnErr result (keys_in self.new ≡ keys_in self.old) }
         ensures memory { IfErr result (λ f. f ≡ no_memory) }
     {
-        self.set.insert(taken)?;
-        Ok(())
+        self.put_in(taken)
     }
 
     /// Its keys are in order.
-    #[tactic(auto, unfolding(crate::specs::Keys::keys_in))]
+    #[tactic(auto, unfolding(crate::specs::Keys::keys_in), using(crate::proofs::AloneLemmas::sorted_with))]
     pub(crate) fn are_sorted(&self)
         ensures { IsStrictlySortedBy key_cmp (keys_in self.now) }
     {
-        self.set.len();
+        self.others.len();
     }
 }

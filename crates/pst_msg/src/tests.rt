@@ -2,6 +2,7 @@
 
 mod attachments;
 mod folders;
+mod keys;
 mod makers;
 mod messages;
 mod nested;

@@ -1,0 +1,7 @@
+use Rattle.pst_msg.specs.Keys.{keys_in}
+use Rattle.pst_msg.proofs.AloneLemmas.{other_put}
+use Rattle.pst_msg.proofs.keys.Keys.put_other.Goals as goal
+
+pub returns-clause-put : goal.returns-clause-put
+unfolding keys_in
+returns-clause-put c = rw c.in_ok-insert.ensures.keys (other_put c.args.self.now.alone.keys c.args.self.now.others.keys c.args.taken c.len.ensures.ordered)
