@@ -28,7 +28,7 @@ use Rattle.pst_subnode.specs.declared.heights.Heights.{Heights}
 use Rattle.pst_subnode.specs.Heights as heights
 use Rattle.pst_subnode.specs.Reach.{NamesNext, of_tree, of_siblock, of_slblock, Leads, begins, goes_on, IsReached}
 use Rattle.pst_subnode.specs.Known as both
-use Rattle.pst_subnode.proofs.MarkLemmas.{state_key, key_state}
+use Rattle.pst_subnode.proofs.StateLemmas.{state_key, key_state}
 use Rattle.pst_subnode.proofs.AddLemmas.{contains_cases}
 use Rattle.pst_subnode.proofs.ReachLemmas.{slblock_type, siblock_type, list_type}
 use Rattle.pst_ndb.specs.declared.nodes.Known.{Known}

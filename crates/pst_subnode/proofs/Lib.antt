@@ -18,4 +18,6 @@ pub mod MarkLemmas
 pub mod LeafLemmas
 pub mod ReachLemmas
 pub mod AddLemmas
+pub mod PartLemmas
+pub mod StateLemmas
 pub mod WalkLemmas

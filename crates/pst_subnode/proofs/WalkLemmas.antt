@@ -20,8 +20,10 @@ use Rattle.pst_subnode.specs.Marks.{IsSlblockList, IsSiList}
 use Rattle.pst_subnode.specs.Reach.{NamesNext, Leads}
 use Rattle.pst_subnode.specs.Known.{IsKnownBlock, AreLedTo, AreLedEach, AreLedBelow}
 use Rattle.pst_subnode.specs.Walk.{IsWalked, KeepsCounts}
-use Rattle.pst_subnode.proofs.MarkLemmas.{IsPut, IsSame, alike_same, forget_true, settle_true}
-use Rattle.pst_subnode.proofs.AddLemmas.{adds_none, adds_then, adds_of, adds_alike, adds_first, forgets, settles, led_entries, led_leaves}
+use Rattle.pst_subnode.proofs.MarkLemmas.{IsPut, IsSame}
+use Rattle.pst_subnode.proofs.StateLemmas.{alike_same, forget_true, settle_true}
+use Rattle.pst_subnode.proofs.AddLemmas.{adds_none, adds_then, adds_of, adds_alike, adds_first, forgets, settles}
+use Rattle.pst_subnode.proofs.PartLemmas.{led_entries, led_leaves}
 
 -- ---- a step
 

@@ -65,7 +65,7 @@ impl Heights {
     }
 
     // A list has this state from now on. It is counted as expanded where nothing was known of it.
-    #[tactic(auto, using(crate::proofs::MarkLemmas::new_counted, crate::proofs::MarkLemmas::old_counted), unfolding(crate::specs::Heights::state_at))]
+    #[tactic(auto, using(crate::proofs::StateLemmas::new_counted, crate::proofs::StateLemmas::old_counted), unfolding(crate::specs::Heights::state_at))]
     fn put(&mut self, bid: u64, state: u32) -> Result<(), Fault>
         ensures put { OnOk result ((key : ℕ) → state_at self.new key ≡
             cond (eq_by_cmp nat_cmp (bid_key bid) key) (Some state) (state_at self.old key)) }

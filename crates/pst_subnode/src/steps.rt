@@ -42,7 +42,7 @@ pub(crate) fn height_known(height: u32, limit: u32) -> Result<u32, Fault>
 }
 
 // The own blocks of the list of a block identifier. It changes no height, and no mark.
-#[tactic(auto, using(crate::proofs::MarkLemmas::ranges_true))]
+#[tactic(auto, using(crate::proofs::StateLemmas::ranges_true))]
 pub(crate) fn check_own_blocks(
     alloc: Global,
     blocks: &Blocks,

@@ -4,7 +4,7 @@ use Rattle.pst_fault.proofs.EachLemmas.{each_next, each_refused, contains_here, 
 use Rattle.pst_btree.specs.Trees.{node_entries}
 use Rattle.pst_btree.specs.Nodes.{nodes_left}
 use Rattle.pst_block.specs.Blocks.{table_of}
-use Rattle.pst_subnode.proofs.AddLemmas.{adds_entry, entry_next, entries_done}
+use Rattle.pst_subnode.proofs.PartLemmas.{adds_entry, entry_next, entries_done}
 use Rattle.pst_ndb.specs.Known.{entry_of_node}
 use Rattle.pst_ndb.specs.Fault.{node_fault}
 use Rattle.pst_ndb.proofs.nodes.check_each.Goals as goal

@@ -12,8 +12,10 @@ use Rattle.pst_subnode.specs.List.{list_fault}
 use Rattle.pst_subnode.specs.Left.{subs_left}
 use Rattle.pst_subnode.specs.Tree.{entry_fault, entry_height, sub_fault, sub_height}
 use Rattle.pst_subnode.proofs.LeafLemmas.{leaf_list, si_fault, si_tells, list_tells, most_start, most_next, most_least}
-use Rattle.pst_subnode.proofs.AddLemmas.{both_known, put_known, slblock_known, siblock_known, entries_done, leaf_next, entry_next}
-use Rattle.pst_subnode.proofs.MarkLemmas.{begin_come, rank_small, rank_none, lower_rank, past_entry, to_entry, to_leaf, to_leaves, same_place, begin_true, same_true, alike_same, alike_marks, known_tells}
+use Rattle.pst_subnode.proofs.AddLemmas.{both_known, put_known}
+use Rattle.pst_subnode.proofs.PartLemmas.{slblock_known, siblock_known, entries_done, leaf_next, entry_next}
+use Rattle.pst_subnode.proofs.MarkLemmas.{begin_come, rank_small, rank_none, lower_rank, past_entry, to_entry}
+use Rattle.pst_subnode.proofs.StateLemmas.{to_leaf, to_leaves, same_place, begin_true, same_true, alike_same, alike_marks, known_tells}
 use Rattle.pst_subnode.proofs.SubLemmas.{sub_fault_below, sub_fault_list, most_more, most_end}
 use Rattle.pst_subnode.proofs.WalkLemmas.{IsMarking, walked_alike, walked_behind, counts_behind, walked_none, walked_data, walked_both, walked_entry, walked_leaf, walked_list, walked_leaves, walked_same, walked_forget, walked_settle, counts_none, counts_then, counts_data}
 use Rattle.pst_subnode.proofs.walk.+sub.Goals as goal

@@ -5,7 +5,7 @@ use Rattle.pst_subnode.specs.Walk as step
 use Rattle.std.specs.List.{Contains}
 use Rattle.pst_subnode.specs.declared.sub.Sub.{Sub}
 use Rattle.pst_subnode.specs.Known as given
-use Rattle.pst_subnode.proofs.AddLemmas.{AreKnownOr}
+use Rattle.pst_subnode.proofs.PartLemmas.{AreKnownOr}
 use Rattle.pst_subnode.specs.Left.{subs_left}
 use Rattle.pst_subnode.specs.Tree.{most_among, entry_fault, entry_height, sub_fault, sub_height}
 use Rattle.pst_fault.specs.Each.{first_of}

@@ -1,4 +1,4 @@
-use Rattle.pst_subnode.proofs.MarkLemmas.{nothing_known, nothing_at}
+use Rattle.pst_subnode.proofs.StateLemmas.{nothing_known, nothing_at}
 use Rattle.pst_subnode.proofs.heights.Heights.new.Goals as goal
 
 pub returns-clause-known : goal.returns-clause-known
