@@ -1,5 +1,5 @@
 -- What an iterator over the records of a BTH has left.
-use Rattle.std.specs.Prelude.{◌≡◌, ℕ, ◌-◌, ◌<◌, ◌≤◌, ⊤, List, [], ◌++◌, map, Option, Some, None}
+use Rattle.std.specs.Prelude.{◌≡◌, ℕ, ◌-◌, ◌<◌, ◌≤◌, ⊤, List, [], ◌++◌, map, Bool, true, false, Option, Some, None}
 use Rattle.pst_bytes.specs.declared.span.Span.{Span}
 use Rattle.std.specs.Iterator.{YieldsFirst}
 use Rattle.pst_bytes.specs.Image.{IsInside}
@@ -9,7 +9,7 @@ use Rattle.pst_bth.specs.declared.records.Records.{Records}
 use Rattle.pst_bth.specs.Rows.{row_key, row_count, rows_from}
 use Rattle.pst_bth.specs.Rows.{leaf_size}
 use Rattle.pst_bth.specs.Values.{record_at}
-use Rattle.pst_bth.specs.View.{heap_of, sizes_in, rows_of}
+use Rattle.pst_bth.specs.View.{heap_of, sizes_in, rows_of, rows_item, rows_size}
 use Rattle.pst_bth.specs.Find.{rows_from_key}
 
 -- the BTH
@@ -19,16 +19,16 @@ bth_left r = r.bth
 -- the places of the records that are left: those of the leaf that is gone through, and those from a key on
 abbrev pub rows_left : Records → List ℕ
 rows_left r =
-    rows_from (leaf_size (sizes_in r.bth)) r.item r.next ++ rows_from_key (data_of (heap_of r.bth)).image (sizes_in r.bth).key r.low (rows_of r.bth)
+    rows_from (leaf_size (sizes_in r.bth)) (rows_item r.leaf) r.next ++ rows_from_key (data_of (heap_of r.bth)).image (sizes_in r.bth).key r.low (rows_of r.bth)
 
 -- the records: each a key and the span of its data
 abbrev pub records_left : Records → List (ℕ × Span)
 records_left r = map (record_at (data_of (heap_of r.bth)).image (sizes_in r.bth)) (rows_left r)
 
--- the same records, with one left of the leaf that is gone through; none where no record is left
-abbrev pub Fills : Records → Option Records → Type 0
-Fills r None = rows_left r ≡ []
-Fills r (Some more) = (more.bth ≡ r.bth) × (rows_left more ≡ rows_left r) × (more.next < row_count (leaf_size (sizes_in more.bth)) more.item)
+-- the same records are left, the next one in the leaf that is gone through; or none is left
+abbrev pub Reaches : Records → Bool → Records → Type 0
+Reaches old false new = (new.bth ≡ old.bth) × (rows_left old ≡ []) × (rows_left new ≡ [])
+Reaches old true new = (new.bth ≡ old.bth) × (rows_left new ≡ rows_left old) × (new.next < row_count (rows_size new.leaf) (rows_item new.leaf))
 
 -- the data of a record lies in the file, behind its key, and has the size that the BTH says; the key is what stands before it
 abbrev pub HasPlace : Bth → Option (ℕ × Span) → Type 0

@@ -1,10 +1,13 @@
 //! All records of a BTH, in order of their keys.
 
-ghost use Rattle.pst_bytes.specs.Image.{IsInside};
+ghost use Rattle.std.specs.Prelude.{◌≡◌};
+ghost use Rattle.pst_bytes.specs.Image.{bytes_of};
 ghost use Rattle.pst_heap.specs.View.{data_of};
-ghost use Rattle.pst_bth.specs.View.{heap_of};
+ghost use Rattle.pst_bth.specs.Rows.{leaf_size};
+ghost use Rattle.pst_bth.specs.View.{heap_of, sizes_in, rows_image, rows_key_size, rows_size};
 
 use crate::bth::Bth;
+use crate::rows::Rows;
 use pst_bytes::Span;
 
 /// The records of a BTH that are left, keys rising: each a key, and the span of its data. A leaf is gone through record by
@@ -14,58 +17,49 @@ use pst_bytes::Span;
 pub struct Records<'a> {
     bth: Bth<'a>,
     // The leaf that is gone through, and its next record by its number.
-    item: Span,
+    leaf: Rows<'a>,
     next: u64,
     // The least key that is wanted behind that leaf.
     low: u64,
-    ghost inside: { IsInside (data_of (heap_of bth)).image item },
+    ghost image: { bytes_of (rows_image leaf) ≡ (data_of (heap_of bth)).image },
+    ghost key: { rows_key_size leaf ≡ (sizes_in bth).key },
+    ghost size: { rows_size leaf ≡ leaf_size (sizes_in bth) },
 }
 
 impl<'a> Records<'a> {
     ghost use Rattle.std.specs.Prelude.{◌≡◌, ◌<◌, Some, ◌∷◌};
     ghost use Rattle.pst_bth.specs.Rows.{row_count};
-    ghost use Rattle.pst_bth.specs.Rows.{leaf_size};
-    ghost use Rattle.pst_bth.specs.View.{sizes_in};
-    ghost use Rattle.pst_bth.specs.Left.{bth_left, records_left, Fills, HasPlace};
+    ghost use Rattle.pst_bth.specs.View.{rows_item, rows_size};
+    ghost use Rattle.pst_bth.specs.Left.{bth_left, records_left, Reaches, HasPlace};
 
-    // The same records, with one left of the leaf that is gone through.
-    fn filled(self) -> Option<Records<'a>>
-        ensures { Fills self.entry result }
+    // Goes on to the leaf that has the next record; false where no record is left.
+    fn reach(&mut self) -> bool
+        ensures { Reaches self.old result self.new }
     {
-        if self.next < self.bth.leaf_rows(self.item).count() {
-            return Some(self);
+        if self.next < self.leaf.count() {
+            return true;
         }
         let Some(leaf) = self.bth.leaf_from(self.low) else {
-            return None;
+            return false;
         };
         let rows = self.bth.leaf_rows(leaf.item);
-        let last = rows.key(rows.count() - 1);
-        Some(Records {
-            bth: self.bth,
-            item: leaf.item,
-            next: leaf.first,
-            low: last + 1,
-        })
+        self.low = rows.key(rows.count() - 1) + 1;
+        self.leaf = rows;
+        self.next = leaf.first;
+        true
     }
 
-    // The next record of the leaf that is gone through, and what is left behind it.
-    fn step(self) -> ((u32, Span), Records<'a>)
-        requires { self.next < row_count (leaf_size (sizes_in self.bth)) self.item }
-        ensures first { records_left self.entry ≡ result.0 ∷ records_left result.1 }
-        ensures bth { bth_left result.1 ≡ bth_left self.entry }
-        ensures place { HasPlace (bth_left self.entry) (Some result.0) }
+    // The next record of the leaf that is gone through.
+    fn step(&mut self) -> (u32, Span)
+        requires { self.old.next < row_count (rows_size self.old.leaf) (rows_item self.old.leaf) }
+        ensures first { records_left self.old ≡ result ∷ records_left self.new }
+        ensures bth { bth_left self.new ≡ bth_left self.old }
+        ensures place { HasPlace (bth_left self.old) (Some result) }
     {
-        let rows = self.bth.leaf_rows(self.item);
-        let record = self.bth.record(rows, self.next);
-        (
-            record,
-            Records {
-                bth: self.bth,
-                item: self.item,
-                next: self.next + 1,
-                low: self.low,
-            },
-        )
+        let _count = self.leaf.count();
+        let record = self.bth.record(self.leaf, self.next);
+        self.next += 1;
+        record
     }
 }
 
@@ -80,10 +74,10 @@ impl<'a> Iterator for Records<'a> {
     ghost remaining = { item_count records_left };
 
     fn next(&mut self) -> Option<(u32, Span)> {
-        let full = self.filled()?;
-        let (record, rest) = full.step();
-        *self = rest;
-        Some(record)
+        if !self.reach() {
+            return None;
+        }
+        Some(self.step())
     }
 }
 
@@ -99,7 +93,7 @@ impl<'a> Bth<'a> {
     {
         Records {
             bth: *self,
-            item: Span { at: 0, len: 0 },
+            leaf: self.leaf_rows(Span { at: 0, len: 0 }),
             next: 0,
             low: 0,
         }

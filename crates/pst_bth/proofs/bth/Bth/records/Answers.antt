@@ -10,4 +10,4 @@ pub returns-clause-records : goal.returns-clause-records
 returns-clause-records c =
     let b = c.args.self.now in
     let I = (data_of (heap_of b)).image in
-    ap (map (record_at I (sizes_in b))) (records_start I (sizes_in b).key (leaf_size (sizes_in b)) (rows_of b))
+    rw c.leaf_rows.ensures.item (ap (map (record_at I (sizes_in b))) (records_start I (sizes_in b).key (leaf_size (sizes_in b)) (rows_of b)))
