@@ -14,3 +14,4 @@ pub mod ByteLemmas
 pub mod SeenLemmas
 pub mod SliceLemmas
 pub mod AddLemmas
+pub mod PartsLemmas

@@ -4,6 +4,8 @@ pub mod Named
 pub mod Names
 pub mod Data
 pub mod Seen
+pub mod Parts
+pub mod PartsView
 pub mod Relation
 pub mod Spans
 pub mod Cut

@@ -11,6 +11,7 @@ mod look;
 mod make;
 mod named;
 mod number;
+mod parts;
 mod pass;
 mod pieces;
 mod position;
@@ -26,6 +27,7 @@ pub use laws::{data_decides, data_is_of_key, data_lies_inside, data_names_no_nod
 pub use lengths::missing_block;
 pub use look::leaf_count;
 pub use make::{empty_value, spans, value, value_at};
+pub use parts::Parts;
 pub use pieces::Pieces;
 pub use seen::Seen;
 pub use slices::Slices;

@@ -1,5 +1,6 @@
 mod breaches;
 mod large;
+mod parts;
 mod sharing;
 
 use super::*;

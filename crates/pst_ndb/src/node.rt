@@ -9,7 +9,7 @@ ghost use Rattle.pst_subnode.specs.Tree.{sub_fault};
 use pst_block::Blocks;
 use pst_btree::NodeEntry;
 use pst_bytes::{Image, Span};
-use pst_datatree::{Pieces, Value, data_lies_inside, leaf, leaf_count, spans, value};
+use pst_datatree::{Parts, Pieces, Value, data_lies_inside, leaf, leaf_count, spans, value};
 use pst_fault::Fault;
 use pst_subnode::{Sub, SubIndex, Subs, find_sub_by, subs};
 use std::alloc::Global;
@@ -35,6 +35,8 @@ impl<'a> Node<'a> {
     ghost use Rattle.pst_datatree.specs.Data.{data_spans, data_fault, size_of};
     ghost use Rattle.pst_datatree.specs.Spans.{nonempty, first_span, joined_bytes, AreInside};
     ghost use Rattle.pst_datatree.specs.Left.{spans_left, file_of};
+    ghost use Rattle.pst_datatree.specs.Parts.{HasParts};
+    ghost use Rattle.pst_datatree.specs.PartsView.{table_of_parts, tree_of_parts, image_of_parts};
     ghost use Rattle.pst_datatree.specs.Shown.{ShowsSpans, bytes_in, size_in, place_in};
     ghost use Rattle.pst_btree.specs.Entries.{first_with};
     ghost use Rattle.pst_subnode.specs.declared.height.TheConstants.{LISTS};
@@ -134,6 +136,17 @@ impl<'a> Node<'a> {
         ensures file { file_of result ≡ image_of_node self.now }
     {
         spans(&self.blocks, self.bid_data)
+    }
+
+    /// The parts of its data: of an XXBLOCK the XBLOCKs that it names, and else the data itself. Its spans are theirs, one after
+    /// another.
+    pub fn parts(&self) -> Parts<'a>
+        ensures table { table_of_parts result ≡ table_of_node self.now }
+        ensures image { image_of_parts result ≡ image_of_node self.now }
+        ensures tree { tree_of_parts result ≡ data_bid_of self.now }
+        ensures joined { HasParts (table_of_node self.now) (data_bid_of self.now) }
+    {
+        Parts::of(&self.blocks, self.bid_data)
     }
 
     /// The span with a number of its data, from 0 on; None exactly from `leaf_count` on.
