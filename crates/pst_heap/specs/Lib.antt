@@ -2,5 +2,6 @@ pub mod PageMap
 pub mod Values
 pub mod Grammar
 pub mod Fault
+pub mod Maps
 pub mod View
 pub mod Laws

@@ -5,6 +5,7 @@ ghost use Rattle.pst_bytes.specs.Image.{bytes_of, IsInside};
 ghost use Rattle.pst_fault.specs.First.{answer, Checks};
 ghost use Rattle.pst_fault.specs.Each.{first_of};
 ghost use Rattle.pst_datatree.specs.Spans.{first_span};
+ghost use Rattle.pst_datatree.specs.Left.{spans_left, file_of};
 ghost use Rattle.pst_heap.specs.PageMap.{has_front as front};
 ghost use Rattle.pst_heap.specs.Values.{data_of_node};
 ghost use Rattle.pst_heap.specs.Grammar.{IsHeap};
@@ -15,6 +16,7 @@ use crate::heap::Heap;
 use crate::page_map::has_page_map;
 use crate::told::told_of;
 use pst_bytes::{Image, Span};
+use pst_datatree::Pieces;
 use pst_fault::{Fault, Kind};
 use pst_ndb::Node;
 
@@ -38,7 +40,7 @@ fn has_front(image: Image, span: Span) -> bool
 }
 
 // How many spans there are at most.
-fn check_few(node: &Node) -> Result<(), Fault>
+pub(crate) fn check_few(node: &Node) -> Result<(), Fault>
     ensures exact { let h = data_of_node node.now in
         result ≡ answer (extra_fault (slice_get h.spans SPANS)) tt }
 {
@@ -50,7 +52,7 @@ fn check_few(node: &Node) -> Result<(), Fault>
 
 // The first span, by its header.
 #[tactic(auto, using(crate::proofs::HeapLemmas::front_none, crate::proofs::HeapLemmas::front_good, crate::proofs::HeapLemmas::front_bad, crate::proofs::HeapLemmas::first_got))]
-fn check_front(node: &Node) -> Result<Span, Fault>
+pub(crate) fn check_front(node: &Node) -> Result<Span, Fault>
     ensures exact { let h = data_of_node node.now in
         result ≡ answer (front_fault h.image h.spans) (first_span h.spans) }
     ensures inside { IfOk result (IsInside (data_of_node node.now).image) }
@@ -76,14 +78,14 @@ fn check_map(image: Image, span: Span) -> Result<(), Fault>
     Ok(())
 }
 
-// The page map of each span, in order.
+// The page map of each span that is left, in order.
 #[tactic(auto, using(pst_fault::proofs::EachLemmas::each_next, pst_fault::proofs::EachLemmas::each_fails, pst_fault::proofs::EachLemmas::each_done))]
-fn check_maps(node: &Node) -> Result<(), Fault>
-    ensures exact { let h = data_of_node node.now in
-        result ≡ answer (first_of (page_map_fault h.image) h.spans) tt }
+pub(crate) fn check_spans(image: Image, spans: Pieces) -> Result<(), Fault>
+    requires { file_of spans ≡ image }
+    ensures exact { let I = bytes_of image.entry in
+        result ≡ answer (first_of (page_map_fault I) (spans_left spans.entry)) tt }
 {
-    let image = node.image();
-    let mut rest = node.spans();
+    let mut rest = spans;
     while let Some(span) = rest.next_span() {
         check_map(image, span)?;
     }
@@ -99,7 +101,7 @@ fn check_all(node: &Node) -> Result<Span, Fault>
 {
     check_few(node)?;
     let first = check_front(node)?;
-    check_maps(node)?;
+    check_spans(node.image(), node.spans())?;
     Ok(first)
 }
 

@@ -10,14 +10,18 @@
 #![tactic(auto)]
 
 mod check;
+mod check_with;
 mod heap;
 mod laws;
+mod maps;
 mod page_map;
 mod told;
 
 pub use check::{SPANS, check_client, check_heap, known_heap};
+pub use check_with::check_heap_with;
 pub use heap::Heap;
 pub use laws::{heap_decides, items_lie_in_spans};
+pub use maps::Maps;
 pub use pst_ndb::check_ndb;
 pub use told::told_of;
 

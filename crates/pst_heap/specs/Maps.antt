@@ -1,0 +1,30 @@
+-- What is known of page maps: which data trees have good ones in all of their spans. Only what is true is known, so what is
+-- passed over hides no fault.
+use Rattle.std.specs.Prelude.{◌≡◌, ℕ, Bool, true, Option, None, slice_get}
+use Rattle.std.specs.Ordering.{nat_cmp}
+use Rattle.std.specs.BTreeSet.{contains}
+use Rattle.pst_fault.specs.declared.fault.Fault.{Fault}
+use Rattle.pst_fault.specs.First.{◌then◌}
+use Rattle.pst_fault.specs.Each.{first_of}
+use Rattle.pst_datatree.specs.Data.{data_spans}
+use Rattle.pst_ndb.specs.pst_block.Table.{Table}
+use Rattle.pst_heap.specs.declared.check.TheConstants.{SPANS}
+use Rattle.pst_heap.specs.declared.maps.Maps.{Maps}
+use Rattle.pst_heap.specs.Values.{HeapData}
+use Rattle.pst_heap.specs.Fault.{extra_fault, front_fault, page_map_fault}
+
+-- of the page maps of a data tree's spans
+abbrev pub maps_fault : Table → ℕ → Option Fault
+maps_fault t bid = first_of (page_map_fault t.image) (data_spans t bid)
+
+-- a block identifier is known, as it is written
+unfoldable pub has_maps : Maps → ℕ → Bool
+has_maps m bid = contains nat_cmp m.trees bid
+
+-- what is known is true
+pub record AreMapsTrue (t : Table) (m : Maps) : Type 0 where
+  pub holds : (bid : ℕ) → has_maps m bid ≡ true → maps_fault t bid ≡ None
+
+-- of a heap, before its page maps: how many spans it has, and the first one
+abbrev pub start_fault : HeapData → Option Fault
+start_fault h = extra_fault (slice_get h.spans SPANS) then front_fault h.image h.spans
