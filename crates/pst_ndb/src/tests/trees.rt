@@ -112,6 +112,10 @@ fn a_block_may_be_named_often(rt: HostRuntime) -> Result<(), Fail> {
     let node = checked.ndb.node(0x21).ok_or("no node")?;
     let span = Some(Span { at: 0x4c00, len: 1 });
     assert_eq!(rt; node.leaf_count(), 1021);
+    let parts = node.parts();
+    assert_eq!(rt; parts.count(), 1021);
+    assert_eq!(rt; (parts.bid(0), parts.bid(1020)), (6, 6));
+    assert_eq!(rt; parts.spans(1020).next_span(), span);
     assert_eq!(rt; node.bytes().len(), 1021);
     assert_eq!(rt; (node.leaf(0), node.leaf(1020)), (span, span));
     assert_eq!(rt; node.leaf(1021), None);
