@@ -1,9 +1,10 @@
 -- A property context, step by step.
-use Rattle.std.proofs.Common.{◌≡◌, ℕ, ◌+◌, ◌-◌, Bool, true, false, cond, eqb, List, [], ◌∷◌, map, Option, Some, None, refl, sym, ap, ◌∙◌}
+use Rattle.std.proofs.Common.{◌≡◌, ℕ, ◌+◌, ◌-◌, Bool, true, false, cond, eqb, List, [], ◌∷◌, map, Option, Some, None, refl, sym, ap, ◌∙◌, inl, inr}
 use Rattle.std.specs.Prelude.{option_map}
 use Rattle.pst_bytes.specs.declared.span.Span.{Span}
 use Rattle.pst_bytes.specs.Image.{num}
 use Rattle.pst_fault.specs.declared.fault.Fault.{Fault}
+use Rattle.pst_fault.specs.First.{IsFirst}
 use Rattle.pst_fault.proofs.FirstLemmas.{none_then}
 use Rattle.pst_block.specs.Table.{Table}
 use Rattle.pst_ndb.specs.Roots.{Roots}
@@ -27,6 +28,10 @@ use Rattle.pst_pc.specs.Values.{pc_client, pc_sizes, pc_records, property_at, pr
 pub heap_fails : (t : Table) (r : Roots) (f : Fault) → option_map (told_under r) (heap_fault (heap_at t r)) ≡ Some f → pc_fault t r ≡ Some f
 unfolding pc_fault untold_pc_fault
 heap_fails t r f e = told_first (told_under r) (heap_fault (heap_at t r)) _ f e
+
+pub heap_refused : (t : Table) (r : Roots) (f : Fault) → IsFirst (option_map (told_under r) (heap_fault (heap_at t r))) f → IsFirst (pc_fault t r) f
+heap_refused t r f (inl out) = inl out
+heap_refused t r f (inr e) = inr (heap_fails t r f e)
 
 pub client_fails : (t : Table) (r : Roots) (f : Fault) → option_map (told_under r) (heap_fault (heap_at t r)) ≡ None → option_map (told_under r) (client_fault pc_client (heap_at t r)) ≡ Some f → pc_fault t r ≡ Some f
 unfolding pc_fault untold_pc_fault

@@ -4,3 +4,4 @@ pub mod Grammar
 pub mod Laws
 pub mod View
 pub mod Left
+pub use Rattle.pst_heap.specs as pst_heap

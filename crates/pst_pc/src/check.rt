@@ -3,9 +3,10 @@
 ghost use Rattle.std.specs.Prelude.{◌≡◌, ◌≤◌, IfOk, IsOk, OnOk, None, option_map};
 ghost use Rattle.pst_bytes.specs.Image.{IsInside};
 ghost use Rattle.pst_fault.specs.Each.{first_of};
-ghost use Rattle.pst_fault.specs.First.{Checks};
+ghost use Rattle.pst_fault.specs.First.{Checks, TellsFirst};
 ghost use Rattle.pst_ndb.specs.Views.{table_of_node, roots_of, IsIndexedBy};
 ghost use Rattle.pst_heap.specs.Fault.{told_under};
+ghost use Rattle.pst_heap.specs.Maps.{AreMapsTrue};
 ghost use Rattle.pst_heap.specs.View.{node_of, data_of};
 ghost use Rattle.pst_bth.specs.View.{heap_of, sizes_in, records_of};
 ghost use Rattle.pst_pc.specs.Fault.{property_fault, pc_fault};
@@ -17,7 +18,7 @@ use crate::pc::Pc;
 use pst_bth::{Bth, check_bth_at};
 use pst_bytes::Span;
 use pst_fault::Fault;
-use pst_heap::{Heap, check_client, check_heap};
+use pst_heap::{Heap, Maps, check_client, check_heap, check_heap_with};
 use pst_ndb::{Node, SubIndex};
 use pst_value::{PropType, resolve_by};
 
@@ -57,16 +58,27 @@ fn check_properties(heap: &Heap, index: &SubIndex, bth: &Bth) -> Result<(), Faul
     Ok(())
 }
 
+// What a heap has to have to be a property context.
+#[tactic(auto, using(crate::proofs::PcLemmas::client_fails, crate::proofs::PcLemmas::bth_fails, crate::proofs::PcLemmas::all_left))]
+fn check_content(heap: &Heap, index: &SubIndex) -> Result<(), Fault>
+    requires { IsIndexedBy (node_of heap.now) index.now }
+    ensures exact { let node = node_of heap.now in
+        Checks result (pc_fault (table_of_node node) (roots_of node)) }
+{
+    heap.is_sound();
+    check_client(heap, 0xBC)?;
+    let bth = check_bth_at(heap, heap.user_root_place(), heap.user_root(), 2, 6)?;
+    check_properties(heap, index, &bth)
+}
+
 // All of a property context.
-#[tactic(auto, using(crate::proofs::PcLemmas::heap_fails, crate::proofs::PcLemmas::client_fails, crate::proofs::PcLemmas::bth_fails, crate::proofs::PcLemmas::all_left))]
+#[tactic(auto, using(crate::proofs::PcLemmas::heap_fails))]
 fn check_all(node: Node, index: &SubIndex) -> Result<(), Fault>
     requires { IsIndexedBy node index.now }
     ensures exact { Checks result (pc_fault (table_of_node node.entry) (roots_of node.entry)) }
 {
     let heap = check_heap(node)?;
-    check_client(&heap, 0xBC)?;
-    let bth = check_bth_at(&heap, heap.user_root_place(), heap.user_root(), 2, 6)?;
-    check_properties(&heap, index, &bth)
+    check_content(&heap, index)
 }
 
 /// The property context of a node that has one.
@@ -116,4 +128,24 @@ pub fn check_pc(node: Node<'_>) -> Result<Pc<'_>, Fault>
     ensures only { IsPc (table_of_node node.entry) (roots_of node.entry) → IsOk result }
 {
     check_pc_by(node, &SubIndex::none())
+}
+
+/// Checks the property context of a node as `check_pc_by` does, its heap by what is known of page maps, as `check_heap_with`
+/// does. NoMemory where memory is refused for that.
+pub fn check_pc_with<'a>(node: Node<'a>, index: &SubIndex, maps: &mut Maps) -> Result<Pc<'a>, Fault>
+    requires index { IsIndexedBy node index.now }
+
+    // What is known is true, and stays so.
+    requires known { AreMapsTrue (table_of_node node) maps.old }
+    ensures known { AreMapsTrue (table_of_node node.entry) maps.new }
+
+    // A property context, or the first fault; or that memory ran out.
+    ensures exact { TellsFirst result (pc_fault (table_of_node node.entry) (roots_of node.entry)) }
+    ensures node { IfOk result (λ p. node_of_pc p ≡ node.entry) }
+{
+    let heap = check_heap_with(node, maps)?;
+    match check_content(&heap, index) {
+        Ok(()) => Ok(known_pc(node)),
+        Err(fault) => Err(fault),
+    }
 }

@@ -91,12 +91,14 @@ fn is_answered<R: Abort>(
         return Err(Fail::from("refused"));
     };
     let node = checked.ndb.node(nid).ok_or("no node")?;
-    let told = line_of(alloc, check_pc(node))?;
-    assert_eq!(rt; told.as_str(), line);
     let Ok(index) = node.index(alloc) else {
         return Err(Fail::from("no memory"));
     };
+    let told = line_of(alloc, check_pc(node))?;
+    assert_eq!(rt; told.as_str(), line);
     let told = line_of(alloc, check_pc_by(node, &index))?;
+    assert_eq!(rt; told.as_str(), line);
+    let told = line_of(alloc, check_pc_with(node, &index, &mut Maps::new(alloc)))?;
     assert_eq!(rt; told.as_str(), line);
     Ok(())
 }

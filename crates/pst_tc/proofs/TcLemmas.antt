@@ -1,9 +1,9 @@
 -- A table context, step by step.
-use Rattle.std.proofs.Common.{◌≡◌, ℕ, ◌+◌, ◌<◌, true, false, List, Option, Some, None, refl, sym, ap, ◌∙◌}
+use Rattle.std.proofs.Common.{◌≡◌, ℕ, ◌+◌, ◌<◌, true, false, List, Option, Some, None, refl, sym, ap, ◌∙◌, inl, inr}
 use Rattle.std.specs.Prelude.{option_map, is_some}
 use Rattle.pst_bytes.specs.declared.span.Span.{Span}
 use Rattle.pst_fault.specs.declared.fault.Fault.{Fault}
-use Rattle.pst_fault.specs.First.{first_below}
+use Rattle.pst_fault.specs.First.{first_below, IsFirst}
 use Rattle.pst_fault.proofs.ToldLemmas.{told_none, told_some, told_first, told_next}
 use Rattle.pst_fault.proofs.FirstLemmas.{none_then, first_at, first_more}
 use Rattle.pst_block.specs.Table.{Table}
@@ -89,6 +89,10 @@ rows_left t r s a b c = sym (told_next (told_under r) _ _ a ∙ told_next (told_
 pub heap_fails : (t : Table) (r : Roots) (f : Fault) → option_map (told_under r) (heap_fault (heap_at t r)) ≡ Some f → tc_fault t r ≡ Some f
 unfolding tc_fault untold_tc_fault
 heap_fails t r f e = told_first (told_under r) (heap_fault (heap_at t r)) _ f e
+
+pub heap_refused : (t : Table) (r : Roots) (f : Fault) → IsFirst (option_map (told_under r) (heap_fault (heap_at t r))) f → IsFirst (tc_fault t r) f
+heap_refused t r f (inl out) = inl out
+heap_refused t r f (inr e) = inr (heap_fails t r f e)
 
 pub client_fails : (t : Table) (r : Roots) (f : Fault) → option_map (told_under r) (heap_fault (heap_at t r)) ≡ None → option_map (told_under r) (client_fault 0x7C (heap_at t r)) ≡ Some f → tc_fault t r ≡ Some f
 unfolding tc_fault untold_tc_fault

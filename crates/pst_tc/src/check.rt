@@ -204,18 +204,28 @@ fn check_body(heap: &Heap, index: &SubIndex, info: Span) -> Result<(), Fault>
     check_rows(heap, index, info, matrix, &bth)
 }
 
+// What a heap has to have to be a table context.
+pub(crate) fn check_content(heap: &Heap, index: &SubIndex) -> Result<(), Fault>
+    requires { IsIndexedBy (node_of heap.now) index.now }
+    ensures exact { let node = node_of heap.now in
+        Checks result (tc_fault (table_of_node node) (roots_of node)) }
+{
+    heap.is_sound();
+    check_client(heap, 0x7C)?;
+    let named = heap.user_root_place();
+    let Some(info) = heap.item_span(heap.user_root()) else {
+        return Err(told_of(&heap.node(), Fault::at(Kind::HeapId, named)));
+    };
+    check_body(heap, index, info)
+}
+
 // All of a table context.
 fn check_all(node: Node, index: &SubIndex) -> Result<(), Fault>
     requires { IsIndexedBy node index.now }
     ensures exact { Checks result (tc_fault (table_of_node node.entry) (roots_of node.entry)) }
 {
     let heap = check_heap(node)?;
-    check_client(&heap, 0x7C)?;
-    let named = heap.user_root_place();
-    let Some(info) = heap.item_span(heap.user_root()) else {
-        return Err(told_of(&heap.node(), Fault::at(Kind::HeapId, named)));
-    };
-    check_body(&heap, index, info)
+    check_content(&heap, index)
 }
 
 /// The table context of a node that has one.

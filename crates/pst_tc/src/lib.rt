@@ -16,6 +16,7 @@
 mod blocks;
 mod cell;
 mod check;
+mod check_with;
 mod columns;
 mod front;
 mod grid;
@@ -27,6 +28,7 @@ mod rows;
 mod tc;
 
 pub use check::{check_tc, check_tc_by, known_tc};
+pub use check_with::check_tc_with;
 pub use columns::{Column, Columns};
 pub use laws::{tc_decides, tc_has_records, tc_ids_rise, tc_is_of_keys};
 pub use row::Row;

@@ -7,6 +7,7 @@ use super::*;
 use pst_bytes::Image;
 use pst_datatree::Value;
 use pst_fault::Fault;
+use pst_heap::Maps;
 use pst_make::{build, m1_plan};
 use pst_ndb::check_ndb;
 use std::alloc::Global;
@@ -59,7 +60,8 @@ fn line_of(alloc: Global, answer: Result<Tc, Fault>) -> Result<String, Fail> {
     Ok(line)
 }
 
-// Whether the table context of a node is answered with a line, with an index of its subnodes and with none.
+// Whether the table context of a node is answered with a line, with an index of its subnodes and with none, and by one
+// who remembers page maps.
 fn is_answered<R: Abort>(
     rt: &R,
     alloc: Global,
@@ -77,6 +79,8 @@ fn is_answered<R: Abort>(
         return Err(Fail::from("no memory"));
     };
     let told = line_of(alloc, check_tc_by(node, &index))?;
+    assert_eq!(rt; told.as_str(), line);
+    let told = line_of(alloc, check_tc_with(node, &index, &mut Maps::new(alloc)))?;
     assert_eq!(rt; told.as_str(), line);
     Ok(())
 }

@@ -1,0 +1,34 @@
+//! The check of a table context by one who remembers page maps.
+
+ghost use Rattle.std.specs.Prelude.{◌≡◌, IfOk};
+ghost use Rattle.pst_fault.specs.First.{TellsFirst};
+ghost use Rattle.pst_ndb.specs.Views.{table_of_node, roots_of, IsIndexedBy};
+ghost use Rattle.pst_heap.specs.Maps.{AreMapsTrue};
+ghost use Rattle.pst_tc.specs.Fault.{tc_fault};
+ghost use Rattle.pst_tc.specs.Tc.{node_of_tc};
+
+use crate::check::{check_content, known_tc};
+use crate::tc::Tc;
+use pst_fault::Fault;
+use pst_heap::{Maps, check_heap_with};
+use pst_ndb::{Node, SubIndex};
+
+/// Checks the table context of a node as `check_tc_by` does, its heap by what is known of page maps, as `check_heap_with` does.
+/// NoMemory where memory is refused for that.
+pub fn check_tc_with<'a>(node: Node<'a>, index: &SubIndex, maps: &mut Maps) -> Result<Tc<'a>, Fault>
+    requires index { IsIndexedBy node index.now }
+
+    // What is known is true, and stays so.
+    requires known { AreMapsTrue (table_of_node node) maps.old }
+    ensures known { AreMapsTrue (table_of_node node.entry) maps.new }
+
+    // A table context, or the first fault; or that memory ran out.
+    ensures exact { TellsFirst result (tc_fault (table_of_node node.entry) (roots_of node.entry)) }
+    ensures node { IfOk result (λ t. node_of_tc t ≡ node.entry) }
+{
+    let heap = check_heap_with(node, maps)?;
+    match check_content(&heap, index) {
+        Ok(()) => Ok(known_tc(node)),
+        Err(fault) => Err(fault),
+    }
+}
