@@ -6,6 +6,8 @@ use Rattle.pst_subnode.specs.Tree.{sub_fault}
 use Rattle.pst_ndb.specs.declared.node.Node.{Node}
 use Rattle.pst_ndb.specs.Views.{table_of_node, roots_of}
 use Rattle.pst_ndb.specs.Roots.{Roots}
+use Rattle.pst_pc.specs.pst_heap.declared.maps.Maps.{Maps}
+use Rattle.pst_pc.specs.pst_heap.Maps.{AreMapsTrue}
 use Rattle.pst_msg.specs.declared.items.Items.TheVariants.{Subfolders, Messages, Associated}
 use Rattle.pst_msg.specs.declared.keys.Keys.{Keys}
 use Rattle.pst_msg.specs.declared.known.Known.{Known}
@@ -110,15 +112,16 @@ known_list t keys limit node same holds is sound =
     let all : sub_fault t LISTS (roots_of node).bid_sub ≡ None = rw (← same) node.subs in
     held_limit t limit LISTS (roots_of node) sound all ∙ holds (roots_of node) is all
 
--- ---- another index
+-- ---- another index, and more page maps
 
-pub index_turned : (t : Table) (k : Known) (index : ListIndex) → IsTrueOf t k → IsIndexIn t index → IsTrueOf t (record k { index = index })
-index_turned t k index is turned = record {
+pub aids_turned : (t : Table) (k : Known) (index : ListIndex) (maps : Maps) → IsTrueOf t k → IsIndexIn t index → AreMapsTrue t maps → IsTrueOf t (record k { index = index; maps = maps })
+aids_turned t k index maps is turned more = record {
   contexts = is.contexts;
   messages = is.messages;
   attachments = is.attachments;
   lists = is.lists;
   index = turned;
+  maps = more;
   messages_in = λ s there. message_later t k _ s (λ q h. h) (λ q h. h) (is.messages_in s there);
   attachments_in = λ s there. attachment_later t k _ s (λ q h. h) (λ q h. h) (is.attachments_in s there);
   lists_in = λ s there. held_later t k _ s (λ q h. h) (λ q h. h) (is.lists_in s there);
@@ -139,6 +142,7 @@ context_remembered t role r k new count is none more kept = record {
   attachments = is.attachments;
   lists = is.lists;
   index = is.index;
+  maps = is.maps;
   messages_in = λ s there. message_later t k _ s kept (λ q h. h) (is.messages_in s there);
   attachments_in = λ s there. attachment_later t k _ s kept (λ q h. h) (is.attachments_in s there);
   lists_in = λ s there. held_later t k _ s kept (λ q h. h) (is.lists_in s there);
@@ -155,6 +159,7 @@ message_remembered t known new limit node same is sound none inside more kept =
       attachments = is.attachments;
       lists = is.lists;
       index = is.index;
+      maps = is.maps;
       messages_in = λ s in_new. message_later t known _ s (λ q h. h) (λ q h. h) (elim (more (key 0 s) in_new) [ inl was ↦ is.messages_in s was | inr e ↦ message_in_alike t known r s (alike_of_key 0 0 r s e).1 inside ]);
       attachments_in = λ s there. attachment_later t known _ s (λ q h. h) kept (is.attachments_in s there);
       lists_in = λ s there. held_later t known _ s (λ q h. h) (λ q h. h) (is.lists_in s there);
@@ -171,6 +176,7 @@ attachment_remembered t known new limit node same is sound none inside more kept
       attachments = λ s in_new subs. elim (more (key 0 s) in_new) [ inl was ↦ is.attachments s was subs | inr e ↦ (alike_law t r s (alike_of_key 0 0 r s e).1 all subs).1 whole ];
       lists = is.lists;
       index = is.index;
+      maps = is.maps;
       messages_in = λ s there. message_later t known _ s (λ q h. h) kept (is.messages_in s there);
       attachments_in = λ s in_new. attachment_later t known _ s (λ q h. h) (λ q h. h) (elim (more (key 0 s) in_new) [ inl was ↦ is.attachments_in s was | inr e ↦ attachment_in_alike t known r s (alike_of_key 0 0 r s e).1 inside ]);
       lists_in = λ s there. held_later t known _ s (λ q h. h) kept (is.lists_in s there);
@@ -187,6 +193,7 @@ list_remembered t known new limit node same is sound none inside more kept =
       attachments = is.attachments;
       lists = λ s in_new subs. elim (more (list_key s) in_new) [ inl was ↦ is.lists s was subs | inr e ↦ held_alike t r s (same_list r s e) all subs whole ];
       index = is.index;
+      maps = is.maps;
       messages_in = λ s there. message_later t known _ s (λ q h. h) (λ q h. h) (is.messages_in s there);
       attachments_in = λ s there. attachment_later t known _ s (λ q h. h) (λ q h. h) (is.attachments_in s there);
       lists_in = λ s in_new. held_later t known _ s (λ q h. h) (λ q h. h) (elim (more (list_key s) in_new) [ inl was ↦ is.lists_in s was | inr e ↦ held_in_alike t known r s (same_list r s e) inside ]);

@@ -8,6 +8,7 @@ use Rattle.pst_block.specs.Table.{Table}
 use Rattle.pst_subnode.specs.declared.height.TheConstants.{LISTS}
 use Rattle.pst_subnode.specs.Tree.{sub_fault}
 use Rattle.pst_ndb.specs.Roots.{Roots, subnode_of}
+use Rattle.pst_pc.specs.pst_heap.Maps.{AreMapsTrue}
 use Rattle.pst_tc.specs.Values.{RowParts, tc_rows}
 use Rattle.pst_msg.specs.declared.items.Items.{Items}
 use Rattle.pst_msg.specs.declared.keys.Keys.{Keys}
@@ -81,6 +82,7 @@ pub record IsTrueOf (t : Table) (k : Known) : Type 0 where
   pub attachments : AttachmentsAreTrue t k.attachments
   pub lists : ListsAreTrue t k.lists
   pub index : IsIndexIn t k.index
+  pub maps : AreMapsTrue t k.maps
   -- it is closed
   pub messages_in : (r : Roots) → WholeIn k.messages r → MessageIn t k r
   pub attachments_in : (r : Roots) → WholeIn k.attachments r → AttachmentIn t k r

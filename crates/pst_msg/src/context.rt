@@ -29,7 +29,7 @@ pub(crate) fn once(known: &mut Known, role: Role, node: Node) -> Result<(), Faul
         return Ok(());
     }
     known.index.turn(known.alloc, node)?;
-    known.index.check(role, node)?;
+    known.index.check(role, node, &mut known.maps)?;
     known.contexts.put(taken)?;
     known.count = known.count.saturating_add(1);
     Ok(())

@@ -2,6 +2,7 @@
 
 use crate::keys::Keys;
 use crate::list_index::ListIndex;
+use pst_pc::Maps;
 use std::alloc::Global;
 
 /// The contexts, messages and attachments that have no fault.
@@ -17,6 +18,8 @@ pub(crate) struct Known {
     pub(crate) lists: Keys,
     /// The index of the list of subnodes that was asked about last.
     pub(crate) index: ListIndex,
+    /// The page maps of the data that contexts share.
+    pub(crate) maps: Maps,
     /// How many contexts were checked, from the first on. It stays at its greatest value once it is there.
     pub(crate) count: u64,
 }
@@ -42,6 +45,7 @@ impl Known {
             attachments: Keys::new(alloc),
             lists: Keys::new(alloc),
             index: ListIndex::none(),
+            maps: Maps::new(alloc),
             count,
         }
     }

@@ -4,6 +4,7 @@ use crate::keys::cleared;
 use crate::role::{Role, check_context};
 use pst_fault::Fault;
 use pst_ndb::Node;
+use pst_pc::Maps;
 use pst_subnode::SubIndex;
 use std::alloc::Global;
 
@@ -24,6 +25,7 @@ impl ListIndex {
     ghost use Rattle.pst_fault.specs.First.{Tells};
     ghost use Rattle.pst_ndb.specs.Roots.{subnode_of};
     ghost use Rattle.pst_ndb.specs.Views.{table_of_node, nid_of, roots_of, IsIndexedBy};
+    ghost use Rattle.pst_pc.specs.pst_heap.Maps.{AreMapsTrue};
     ghost use Rattle.pst_msg.specs.Roles.{role_fault};
     ghost use Rattle.pst_msg.specs.ListIndex.{IsIndexIn, index_in};
 
@@ -78,14 +80,16 @@ impl ListIndex {
     }
 
     /// The context of a node in a role, whose values in subnodes are found by this index, where it is of the node's list.
-    pub(crate) fn check(&self, role: Role, node: Node) -> Result<(), Fault>
-        requires { IsIndexIn (table_of_node node) self.now }
+    pub(crate) fn check(&self, role: Role, node: Node, maps: &mut Maps) -> Result<(), Fault>
+        requires index { IsIndexIn (table_of_node node) self.now }
+        requires known { AreMapsTrue (table_of_node node) maps.old }
+        ensures known { AreMapsTrue (table_of_node node.entry) maps.new }
         ensures exact { let t = table_of_node node.entry in
             Tells result (role_fault t role (roots_of node.entry)) tt }
     {
         if self.is_of(node) {
-            return check_context(role, node, &self.index);
+            return check_context(role, node, &self.index, maps);
         }
-        check_context(role, node, &SubIndex::none())
+        check_context(role, node, &SubIndex::none(), maps)
     }
 }

@@ -4,15 +4,16 @@ ghost use Rattle.std.specs.Prelude.{◌≡◌};
 ghost use Rattle.pst_fault.specs.First.{Tells};
 ghost use Rattle.pst_ndb.specs.Views.{table_of_node, roots_of, IsIndexedBy};
 ghost use Rattle.pst_pc.specs.Fault.{pc_fault};
+ghost use Rattle.pst_pc.specs.pst_heap.Maps.{AreMapsTrue};
 ghost use Rattle.pst_tc.specs.Fault.{tc_fault};
 ghost use Rattle.pst_msg.specs.Roles.{role_number, role_fault};
 
 use crate::items::Items;
 use pst_fault::Fault;
 use pst_ndb::Node;
-use pst_pc::check_pc_by;
+use pst_pc::{Maps, check_pc_with};
 use pst_subnode::SubIndex;
-use pst_tc::check_tc_by;
+use pst_tc::check_tc_with;
 
 /// What a context is to what names it.
 #[derive(Clone, Copy, Debug, PartialEq, Eq)]
@@ -42,32 +43,44 @@ pub(crate) fn role_number(role: Role) -> u64
 }
 
 // The property context of a node.
-fn check_properties(node: Node, index: &SubIndex) -> Result<(), Fault>
-    requires { IsIndexedBy node index.now }
-    ensures { Tells result (pc_fault (table_of_node node.entry) (roots_of node.entry)) tt }
+fn check_properties(node: Node, index: &SubIndex, maps: &mut Maps) -> Result<(), Fault>
+    requires index { IsIndexedBy node index.now }
+    requires known { AreMapsTrue (table_of_node node) maps.old }
+    ensures known { AreMapsTrue (table_of_node node.entry) maps.new }
+    ensures exact { Tells result (pc_fault (table_of_node node.entry) (roots_of node.entry)) tt }
 {
-    check_pc_by(node, index)?;
+    check_pc_with(node, index, maps)?;
     Ok(())
 }
 
 // A table context of a node, in a role.
-fn check_table(node: Node, index: &SubIndex) -> Result<(), Fault>
-    requires { IsIndexedBy node index.now }
-    ensures { Tells result (tc_fault (table_of_node node.entry) (roots_of node.entry)) tt }
+fn check_table(node: Node, index: &SubIndex, maps: &mut Maps) -> Result<(), Fault>
+    requires index { IsIndexedBy node index.now }
+    requires known { AreMapsTrue (table_of_node node) maps.old }
+    ensures known { AreMapsTrue (table_of_node node.entry) maps.new }
+    ensures exact { Tells result (tc_fault (table_of_node node.entry) (roots_of node.entry)) tt }
 {
-    check_tc_by(node, index)?;
+    check_tc_with(node, index, maps)?;
     Ok(())
 }
 
-/// Checks the context of a node in a role, whose values in subnodes are found by an index of them.
-pub(crate) fn check_context(role: Role, node: Node, index: &SubIndex) -> Result<(), Fault>
-    requires { IsIndexedBy node index.now }
-    ensures { Tells result (role_fault (table_of_node node.entry) role (roots_of node.entry)) tt }
+/// Checks the context of a node in a role, whose values in subnodes are found by an index of them, by what is known of page maps.
+pub(crate) fn check_context(
+    role: Role,
+    node: Node,
+    index: &SubIndex,
+    maps: &mut Maps,
+) -> Result<(), Fault>
+    requires index { IsIndexedBy node index.now }
+    requires known { AreMapsTrue (table_of_node node) maps.old }
+    ensures known { AreMapsTrue (table_of_node node.entry) maps.new }
+    ensures exact { let t = table_of_node node.entry in
+        Tells result (role_fault t role (roots_of node.entry)) tt }
 {
     match role {
-        Role::Properties => check_properties(node, index),
-        Role::Listed(_) => check_table(node, index),
-        Role::Recipients => check_table(node, index),
-        Role::Attachments => check_table(node, index),
+        Role::Properties => check_properties(node, index, maps),
+        Role::Listed(_) => check_table(node, index, maps),
+        Role::Recipients => check_table(node, index, maps),
+        Role::Attachments => check_table(node, index, maps),
     }
 }

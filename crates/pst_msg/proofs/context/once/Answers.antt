@@ -3,25 +3,28 @@ use Rattle.pst_msg.specs.declared.known.Known.{Known}
 use Rattle.pst_msg.specs.Keys.{key}
 use Rattle.pst_msg.specs.Known.{IsTrueOf}
 use Rattle.pst_msg.specs.Roles.{role_number}
-use Rattle.pst_msg.proofs.KnownLemmas.{OneMore, context_remembered, index_turned}
+use Rattle.pst_msg.proofs.KnownLemmas.{OneMore, context_remembered, aids_turned}
 use Rattle.pst_msg.proofs.context.once.Goals as goal
 
 pub returns-in_err-turn-clause-known : goal.returns-in_err-turn-clause-known
-returns-in_err-turn-clause-known c = index_turned (table_of_node c.args.node) c.args.known.now c.turn.new.self c.requires c.turn.ensures.index
+returns-in_err-turn-clause-known c = aids_turned (table_of_node c.args.node) c.args.known.now c.turn.new.self c.args.known.now.maps c.requires c.turn.ensures.index c.requires.maps
 
 pub returns-in_err-check-clause-known : goal.returns-in_err-check-clause-known
-returns-in_err-check-clause-known c = index_turned (table_of_node c.args.node) c.args.known.now c.turn.new.self c.requires c.turn.ensures.index
+returns-in_err-check-clause-known c =
+    aids_turned (table_of_node c.args.node) c.args.known.now c.turn.new.self c.check.new.maps c.requires c.turn.ensures.index c.in_err-check.ensures.known
 
 pub returns-in_err-put-clause-known : goal.returns-in_err-put-clause-known
 returns-in_err-put-clause-known c =
-    let turned : Known = record c.args.known.now { index = c.turn.new.self } in
-    let is : IsTrueOf (table_of_node c.args.node) turned = index_turned (table_of_node c.args.node) c.args.known.now c.turn.new.self c.requires c.turn.ensures.index in
+    let turned : Known = record c.args.known.now { index = c.turn.new.self; maps = c.check.new.maps } in
+    let is : IsTrueOf (table_of_node c.args.node) turned =
+    aids_turned (table_of_node c.args.node) c.args.known.now c.turn.new.self c.check.new.maps c.requires c.turn.ensures.index c.in_ok-check.ensures.known in
     let more : OneMore c.args.known.now.contexts c.put.new.self (key (role_number c.args.role) (roots_of c.args.node)) = rw (← c.role_number.ensures, ← c.key_of-taken.ensures) c.put.ensures.only in
     context_remembered (table_of_node c.args.node) c.args.role (roots_of c.args.node) turned c.put.new.self c.args.known.now.count is c.in_ok-check.ensures.exact.0 more c.put.ensures.grows
 
 pub returns-clause-known : goal.returns-clause-known
 returns-clause-known c =
-    let turned : Known = record c.args.known.now { index = c.turn.new.self } in
-    let is : IsTrueOf (table_of_node c.args.node) turned = index_turned (table_of_node c.args.node) c.args.known.now c.turn.new.self c.requires c.turn.ensures.index in
+    let turned : Known = record c.args.known.now { index = c.turn.new.self; maps = c.check.new.maps } in
+    let is : IsTrueOf (table_of_node c.args.node) turned =
+    aids_turned (table_of_node c.args.node) c.args.known.now c.turn.new.self c.check.new.maps c.requires c.turn.ensures.index c.in_ok-check.ensures.known in
     let more : OneMore c.args.known.now.contexts c.put.new.self (key (role_number c.args.role) (roots_of c.args.node)) = rw (← c.role_number.ensures, ← c.key_of-taken.ensures) c.put.ensures.only in
     context_remembered (table_of_node c.args.node) c.args.role (roots_of c.args.node) turned c.put.new.self c.saturating_add-known.result is c.in_ok-check.ensures.exact.0 more c.put.ensures.grows
