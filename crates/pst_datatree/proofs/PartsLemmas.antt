@@ -1,9 +1,7 @@
 -- The parts of a data tree without fault.
-use Rattle.std.proofs.Common.{◌≡◌, ℕ, zero, suc, ◌<◌, Bool, true, false, cond, List, ◌++◌, Option, Some, None, refl, sym, ap, ◌∙◌, arith}
+use Rattle.std.proofs.Common.{◌≡◌, ℕ, zero, suc, ◌<◌, Bool, true, false, List, ◌++◌, Some, None, refl, sym, ap, ◌∙◌, arith}
 use Rattle.std.specs.Prelude.{if◌then◌else◌}
 use Rattle.std.proofs.lemmas.Bool.Decides.{nat_tests}
-use Rattle.pst_bytes.specs.declared.span.Span.{Span}
-use Rattle.pst_fault.specs.declared.fault.Fault.{Fault}
 use Rattle.pst_fault.specs.First.{join_below}
 use Rattle.pst_fault.proofs.FirstLemmas.{guard_then}
 use Rattle.pst_page.specs.declared.entry.BlockEntry.{BlockEntry}
@@ -12,8 +10,8 @@ use Rattle.pst_datatree.specs.declared.named.Named.{Named}
 use Rattle.pst_datatree.specs.declared.named.Named.TheVariants.{Nothing, Missing, Data, Xblock, Xxblock}
 use Rattle.pst_datatree.specs.Bid.{is_internal, is_no_block}
 use Rattle.pst_datatree.specs.List.{count_in, bid_in, has_level_two}
-use Rattle.pst_datatree.specs.Named.{named_at, named_by}
-use Rattle.pst_datatree.specs.Data.{block_missing, bad_tree, xblock_spans, xblock_fault, child_spans, child_fault, xxblock_spans, xxblock_fault, named_spans, data_spans, named_fault, data_fault}
+use Rattle.pst_datatree.specs.Named.{named_by}
+use Rattle.pst_datatree.specs.Data.{block_missing, bad_tree, xblock_fault, child_spans, child_fault, xxblock_spans, xxblock_fault, named_spans, data_spans, data_fault}
 use Rattle.pst_datatree.specs.Parts.{named_count, named_part, part_count, part_in, HasParts}
 use Rattle.pst_datatree.proofs.DataLemmas.{fault_or_none, child_of_xxblock, tree_none}
 use Rattle.pst_datatree.proofs.SeenLemmas.{xblock_of_two}

@@ -9,9 +9,8 @@ use Rattle.std.proofs.lemmas.Map.Views.{tells_apart}
 use Rattle.pst_fault.specs.declared.fault.Fault.{Fault}
 use Rattle.pst_fault.specs.First.{◌then◌, first_below, join_below, IsFirst}
 use Rattle.pst_fault.specs.Each.{first_of}
-use Rattle.pst_fault.proofs.FirstLemmas.{first_at, both_none, is_first_then, is_first_after}
-use Rattle.pst_fault.proofs.ToldLemmas.{told_none, told_some, told_first, told_next}
-use Rattle.pst_datatree.specs.Data.{data_spans}
+use Rattle.pst_fault.proofs.FirstLemmas.{first_at, both_none}
+use Rattle.pst_fault.proofs.ToldLemmas.{told_none, told_some, told_first}
 use Rattle.pst_datatree.specs.Parts.{part_count, part_in, part_spans, HasParts}
 use Rattle.pst_ndb.specs.pst_block.Table.{Table}
 use Rattle.pst_heap.specs.declared.check.TheConstants.{SPANS}
