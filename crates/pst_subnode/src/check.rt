@@ -98,8 +98,8 @@ fn stand_once(alloc: Global, subs: Subs) -> Result<bool, Fault>
     Ok(true)
 }
 
-// Whether no subnode stands twice among the entries of a block; or memory ran out. Where identifiers rise, as the format has
-// them, none is taken but for what is known.
+// Whether no subnode stands twice among the entries of a block; or memory ran out. Where identifiers rise, as the format
+// has them, none is taken but for what is known.
 fn are_distinct(
     alloc: Global,
     blocks: &Blocks,

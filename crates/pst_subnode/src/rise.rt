@@ -1,5 +1,5 @@
-//! Whether the identifiers in a list rise, as the format has them: then no subnode stands twice. An SLBLOCK is gone through
-//! once for that, however many lists name it.
+//! Whether the identifiers in a list rise, as the format has them: then no subnode stands twice. An SLBLOCK whose own rise is
+//! gone through once for that, however many SIBLOCKs name it.
 
 ghost use Rattle.std.specs.Prelude.{◌≡◌, ◌+◌, ◌*◌, ◌≤◌, length, map, true, IfOk, IfErr, IfSome};
 ghost use Rattle.pst_bytes.specs.Image.{bytes_of};
@@ -72,8 +72,9 @@ fn leaves_rise(blocks: &Blocks, body: Image, ranges: &mut Ranges) -> Result<bool
     requires fits { 8 + 16 * count_in (bytes_of body) ≤ length (bytes_of body) }
     requires known { AreRangesTrue (table_of blocks.now) ranges.old }
     ensures known { AreRangesTrue (table_of blocks.now) ranges.new }
-    ensures value { IfOk result (λ b. b ≡ true → distinct (map sub_nid (join_below
-        (leaf_subs (table_of blocks.now) (bytes_of body.entry)) (count_in (bytes_of body.entry)))) ≡ true) }
+    ensures value { let b = bytes_of body.entry in
+        IfOk result (λ r. r ≡ true →
+        distinct (map sub_nid (join_below (leaf_subs (table_of blocks.now) b) (count_in b))) ≡ true) }
     ensures memory { IfErr result (λ f. f ≡ no_memory) }
 {
     let mut end = 0;

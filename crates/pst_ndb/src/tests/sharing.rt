@@ -85,8 +85,8 @@ fn each_block_counts_once(rt: HostRuntime) -> Result<(), Fail> {
     Ok(())
 }
 
-// Two nodes whose SIBLOCKs name SLBLOCKs of the same four: one that stands twice is told of the second node's SIBLOCK, in
-// whatever order; identifiers that fall, or lie between those of another, are no fault.
+// Two nodes whose SIBLOCKs name SLBLOCKs of the same four: one that stands twice is told of the second node's SIBLOCK,
+// in whatever order; identifiers that fall, or lie between those of another, are no fault.
 #[test]
 fn a_subnode_twice_in_shared_slblocks(rt: HostRuntime) -> Result<(), Fail> {
     let alloc = rt.alloc();

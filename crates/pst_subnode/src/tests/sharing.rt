@@ -115,8 +115,9 @@ fn slblocks_are_shared(rt: HostRuntime) -> Result<(), Fail> {
     Ok(())
 }
 
-// SLBLOCKs that many SIBLOCKs name, one after another: a subnode that stands twice is told of the SIBLOCK, whatever order its
-// SLBLOCKs stand in and whatever is known of them; identifiers that fall, or lie between those of another, are no fault.
+// SLBLOCKs that many SIBLOCKs name, one after another: a subnode that stands twice is told of the SIBLOCK, whatever order
+// its SLBLOCKs stand in and whatever is known of them; identifiers that fall, or lie between those of another, are no
+// fault.
 #[test]
 fn a_subnode_twice_in_shared_slblocks(rt: HostRuntime) -> Result<(), Fail> {
     let alloc = rt.alloc();
