@@ -59,7 +59,8 @@ pub fn compare(
     ensures claims { OnOk result (claims.new ≡
         (old_maps (bytes_of image.entry) header.now claims.old).claimed) }
     ensures kept { IfErr result (λ f. (claims.new ≡ claims.old)
-        ⊎ ((f ≡ no_memory) × (claims.new ≡ (old_maps (bytes_of image.entry) header.now claims.old).claimed))) }
+        ⊎ ((f ≡ no_memory)
+        × (claims.new ≡ (old_maps (bytes_of image.entry) header.now claims.old).claimed))) }
     ensures units { length claims.new ≡ length claims.old }
 {
     let order = check_order(image, header, claims)?;

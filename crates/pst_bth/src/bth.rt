@@ -115,7 +115,8 @@ impl<'a> Bth<'a> {
         requires key { rows_key_size rows ≡ (sizes_in self.now).key }
         requires size { rows_size rows ≡ leaf_size (sizes_in self.now) }
         ensures value { let I = (data_of (heap_of self.now)).image in
-            result ≡ record_at I (sizes_in self.now) (row_place (rows_size rows.entry) (rows_item rows.entry) i) }
+            result ≡ record_at I (sizes_in self.now)
+            (row_place (rows_size rows.entry) (rows_item rows.entry) i) }
         ensures inside { IsInside (data_of (heap_of self.now)).image result.1 }
         ensures behind { (sizes_in self.now).key ≤ result.1.at }
         ensures size { result.1.len ≡ (sizes_in self.now).ent }
@@ -134,7 +135,8 @@ impl<'a> Bth<'a> {
     #[tactic(auto, using(crate::proofs::BthLemmas::has_root))]
     pub(crate) fn leaf_from(&self, low: u64) -> Option<Leaf>
         ensures found { let z = sizes_in self.now in
-            LeafFrom (data_of (heap_of self.now)).image z.key (leaf_size z) low (rows_of self.now) result }
+            LeafFrom (data_of (heap_of self.now)).image z.key (leaf_size z) low
+            (rows_of self.now) result }
         ensures inside { IfSome result (λ l. IsInside (data_of (heap_of self.now)).image l.item) }
     {
         let image = self.heap.image();

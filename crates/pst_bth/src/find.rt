@@ -20,7 +20,8 @@ fn find_in(rows: Rows, key: u64) -> Option<u64>
     requires { let I = bytes_of (rows_image rows) in
         AreRising I (rows_key_size rows) (rows_at (rows_size rows) (rows_item rows)) }
     ensures value { let r = rows.entry in
-        result ≡ first_with (row_key (bytes_of (rows_image r)) (rows_key_size r)) key (rows_at (rows_size r) (rows_item r)) }
+        result ≡ first_with (row_key (bytes_of (rows_image r)) (rows_key_size r)) key
+        (rows_at (rows_size r) (rows_item r)) }
     ensures inside { let I = bytes_of (rows_image rows.entry) in
         IfSome result (λ at. at + rows_size rows.entry ≤ length I) }
 {

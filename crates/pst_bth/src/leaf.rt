@@ -28,7 +28,8 @@ fn first_in(rows: Rows, low: u64) -> Option<u64>
     requires { let I = bytes_of (rows_image rows) in
         AreRising I (rows_key_size rows) (rows_at (rows_size rows) (rows_item rows)) }
     ensures { let r = rows.entry in
-        FirstFrom (bytes_of (rows_image r)) (rows_key_size r) (rows_size r) (rows_item r) low result }
+        FirstFrom (bytes_of (rows_image r)) (rows_key_size r) (rows_size r)
+        (rows_item r) low result }
 {
     let count = rows.count();
     if count == 0 {

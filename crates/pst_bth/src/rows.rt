@@ -130,7 +130,8 @@ impl<'a> Rows<'a> {
     #[tactic(auto, using(crate::proofs::RowLemmas::rows_start, crate::proofs::RowLemmas::rows_next, crate::proofs::RowLemmas::rows_end, crate::proofs::OrderLemmas::rows_order_goes_on, crate::proofs::OrderLemmas::rows_order_low, crate::proofs::OrderLemmas::rows_order_high, crate::proofs::OrderLemmas::rows_order_done))]
     pub(crate) fn check_order(self, low: u64, high: Option<u64>) -> Result<(), Fault>
         ensures exact { let r = self.entry in let all = rows_at (rows_size r) (rows_item r) in
-            result ≡ answer (bth_order_fault (bytes_of (rows_image r)) (rows_key_size r) low high all) tt }
+            result ≡ answer (bth_order_fault (bytes_of (rows_image r)) (rows_key_size r)
+            low high all) tt }
     {
         let mut least = low;
         for i in 0..self.count {
@@ -146,7 +147,8 @@ impl<'a> Rows<'a> {
     /// How many records have a key of at most this one, by halving.
     pub(crate) fn up_to(self, key: u64) -> u64
         ensures { let r = self.entry in
-            IsUpToKey (bytes_of (rows_image r)) (rows_key_size r) (rows_size r) (rows_item r) key result }
+            IsUpToKey (bytes_of (rows_image r)) (rows_key_size r) (rows_size r)
+            (rows_item r) key result }
     {
         let mut low = 0;
         let mut high = self.count;

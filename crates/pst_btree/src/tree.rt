@@ -25,6 +25,7 @@ pub struct TreeView<'a> {
     /// How many pages there are.
     pub pages: u64,
     ghost inside: { end ≤ length (bytes_of image) },
-    ghost spelt: { IsTreeAt kind (bytes_of image) end level root 0 None } by { IsTreeAt-prop kind (bytes_of image) end level root 0 None },
+    ghost spelt: { IsTreeAt kind (bytes_of image) end level root 0 None } by { IsTreeAt-prop kind
+        (bytes_of image) end level root 0 None },
     ghost counted: { pages ≡ length (pages_of (tree_at kind (bytes_of image) level root)) },
 }

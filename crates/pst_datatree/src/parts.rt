@@ -24,7 +24,8 @@ pub struct Parts<'a> {
     named: Named,
     ghost sound: { data_fault (table_of blocks) bid ≡ None },
     ghost named_is: { named ≡ named_by (table_of blocks) bid },
-    ghost there: { IfBlock named (IsWithin (table_of blocks).image) } by { IfWithin-prop (table_of blocks).image named },
+    ghost there: { IfBlock named (IsWithin (table_of blocks).image) } by { IfWithin-prop
+        (table_of blocks).image named },
 }
 
 // How many parts what an identifier names has.

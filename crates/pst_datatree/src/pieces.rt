@@ -32,7 +32,8 @@ pub struct Pieces<'a> {
     // How many bytes are shown.
     pub(crate) left: u64,
     ghost sound: { tree_fault (table_of blocks) named ≡ None },
-    ghost there: { IfBlock named (IsWithin (table_of blocks).image) } by { IfWithin-prop (table_of blocks).image named },
+    ghost there: { IfBlock named (IsWithin (table_of blocks).image) } by { IfWithin-prop
+        (table_of blocks).image named },
     ghost within: { AreWithin (table_of blocks) },
     ghost counted: { left ≡
         size_of (shown whole skip left (named_left (table_of blocks) named at)) },

@@ -141,7 +141,8 @@ impl<'a> Heap<'a> {
         ensures exact { let first = item_fault (data_of self.now) hid in
             Checks result (option_map (told (node_of self.now)) first) }
         ensures value { let found = item_of (data_of self.now) hid in
-            IfOk result (λ slice. IfSome found (λ s. slice.now ≡ bytes_at (data_of self.now).image s)) }
+            IfOk result (λ slice. IfSome found (λ s. slice.now
+            ≡ bytes_at (data_of self.now).image s)) }
         ensures own { let found = item_of (data_of self.now) hid in
             IfOk result (λ slice. IfSome found (λ s. IsPartOf (file_of_heap self.now) s slice)) }
     {

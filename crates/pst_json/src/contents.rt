@@ -40,7 +40,8 @@ fn text_of(alloc: Global, message: Option<Message>, id: u16) -> Result<Doc, Allo
 #[tactic(auto, unfolding(crate::specs::Contents::listed_data))]
 fn listed_doc(alloc: Global, store: &Store, row: Row) -> Result<Doc, AllocError>
     ensures { let ndb = ndb_of_store store.now in
-        IfOk result (λ d. view d ≡ listed_data (table_of_ndb ndb) (nodes_of ndb) (row_parts row.entry)) }
+        IfOk result (λ d. view d ≡ listed_data (table_of_ndb ndb) (nodes_of ndb)
+        (row_parts row.entry)) }
 {
     let message = store.message(row.id());
     let class = text_of(alloc, message, CLASS)?;
@@ -57,7 +58,8 @@ fn contents_table<'a>(store: &Store<'a>, nid: u32) -> Result<Option<Tc<'a>>, Doc
         let t = table_of_ndb ndb in let nodes = nodes_of ndb in
         IfOk result (λ table. contents_of t nodes nid ≡ Ok (contents_data t nodes nid)) }
     ensures none { let ndb = ndb_of_store store.now in
-        IfErr result (λ f. (f ≡ NoFolder) × (contents_of (table_of_ndb ndb) (nodes_of ndb) nid ≡ Err NoFolder)) }
+        IfErr result (λ f. (f ≡ NoFolder) × (contents_of (table_of_ndb ndb) (nodes_of ndb) nid
+        ≡ Err NoFolder)) }
     ensures roots { let nodes = nodes_of (ndb_of_store store.now) in
         IfOk result (λ table. option_map tc_roots table ≡ folder_table nodes Messages nid) }
     ensures table { let t = table_of_ndb (ndb_of_store store.now) in
@@ -79,7 +81,8 @@ fn contents_table<'a>(store: &Store<'a>, nid: u32) -> Result<Option<Tc<'a>>, Doc
 fn listed_docs(alloc: Global, store: &Store, tc: &Tc) -> Result<Doc, AllocError>
     requires { table_of_node (node_of_tc tc.now) ≡ table_of_ndb (ndb_of_store store.now) }
     ensures { let ndb = ndb_of_store store.now in let t = table_of_ndb ndb in
-        IfOk result (λ d. view d ≡ list_data (listed_data t (nodes_of ndb)) (tc_rows t (tc_roots tc.now))) }
+        IfOk result (λ d. view d ≡ list_data (listed_data t (nodes_of ndb))
+        (tc_rows t (tc_roots tc.now))) }
 {
     let mut docs = Vec::new(alloc);
     for row in tc.rows() {
@@ -93,7 +96,8 @@ fn messages_doc(alloc: Global, store: &Store, table: Option<Tc>) -> Result<Doc, 
     requires { let t = table_of_ndb (ndb_of_store store.now) in
         IfSome table (λ x. table_of_node (node_of_tc x) ≡ t) }
     ensures { let ndb = ndb_of_store store.now in let t = table_of_ndb ndb in
-        IfOk result (λ d. view d ≡ list_data (listed_data t (nodes_of ndb)) (rows_there t (option_map tc_roots table.entry))) }
+        IfOk result (λ d. view d ≡ list_data (listed_data t (nodes_of ndb))
+        (rows_there t (option_map tc_roots table.entry))) }
 {
     match table {
         Some(tc) => listed_docs(alloc, store, &tc),
@@ -142,7 +146,8 @@ fn put_listed(
 ) -> Result<(), AllocError>
     ensures { let ndb = ndb_of_store store.now in
         let shown = listed_data (table_of_ndb ndb) (nodes_of ndb) in
-        OnOk result (text.new.items ≡ text.old.items ++ rows_text shown false (tc_rows_left rows.entry)) }
+        OnOk result (text.new.items ≡ text.old.items ++ rows_text shown false
+        (tc_rows_left rows.entry)) }
 {
     let mut later = false;
     for row in rows {
@@ -166,7 +171,8 @@ fn put_messages(
         IfSome table (λ x. table_of_node (node_of_tc x) ≡ t) }
     ensures { let ndb = ndb_of_store store.now in let t = table_of_ndb ndb in
         let rows = rows_there t (option_map tc_roots table.entry) in
-        OnOk result (text.new.items ≡ text.old.items ++ rows_text (listed_data t (nodes_of ndb)) false rows) }
+        OnOk result (text.new.items
+        ≡ text.old.items ++ rows_text (listed_data t (nodes_of ndb)) false rows) }
 {
     match table {
         Some(tc) => put_listed(alloc, store, tc.rows(), text),

@@ -49,7 +49,8 @@ fn count_of(table: Option<Tc>) -> u64
 // The identifiers of the rows of a table, as a list.
 fn row_nids_doc(alloc: Global, tc: &Tc) -> Result<Doc, AllocError>
     ensures { let node = node_of_tc tc.now in
-        IfOk result (λ d. view d ≡ list_data row_nid (tc_rows (table_of_node node) (roots_of node))) }
+        IfOk result (λ d. view d
+        ≡ list_data row_nid (tc_rows (table_of_node node) (roots_of node))) }
 {
     let mut docs = Vec::new(alloc);
     for row in tc.rows() {
@@ -61,7 +62,8 @@ fn row_nids_doc(alloc: Global, tc: &Tc) -> Result<Doc, AllocError>
 // The same, of no rows where the table is not there.
 fn nids_of(alloc: Global, table: Option<Tc>) -> Result<Doc, AllocError>
     ensures { (t : Table) → IfSome table.entry (λ x. table_of_node (node_of_tc x) ≡ t)
-        → IfOk result (λ d. view d ≡ list_data row_nid (rows_there t (option_map tc_roots table.entry))) }
+        → IfOk result (λ d. view d
+        ≡ list_data row_nid (rows_there t (option_map tc_roots table.entry))) }
 {
     match table {
         Some(tc) => row_nids_doc(alloc, &tc),
@@ -73,7 +75,8 @@ fn nids_of(alloc: Global, table: Option<Tc>) -> Result<Doc, AllocError>
 #[tactic(auto, unfolding(crate::specs::Folders::folder_data))]
 fn folder_doc(alloc: Global, folder: Folder) -> Result<Doc, AllocError>
     ensures { let ndb = ndb_of_folder folder.entry in
-        IfOk result (λ d. view d ≡ folder_data (table_of_ndb ndb) (nodes_of ndb) (folder_roots folder.entry)) }
+        IfOk result (λ d. view d ≡ folder_data (table_of_ndb ndb) (nodes_of ndb)
+        (folder_roots folder.entry)) }
 {
     folder.is_sound();
     let associated = count_of(folder.associated());
@@ -110,7 +113,8 @@ pub fn folders_doc(alloc: Global, store: &Store) -> Result<Doc, AllocError>
 fn put_folders(alloc: Global, folders: Folders, text: &mut Vec<u8>) -> Result<(), AllocError>
     ensures { let ndb = folders_ndb folders.entry in
         let shown = folder_data (table_of_ndb ndb) (nodes_of ndb) in
-        OnOk result (text.new.items ≡ text.old.items ++ rows_text shown false (folders_left folders.entry)) }
+        OnOk result (text.new.items ≡ text.old.items ++ rows_text shown false
+        (folders_left folders.entry)) }
 {
     let mut later = false;
     for folder in folders {

@@ -48,7 +48,8 @@ fn attachment_doc(alloc: Global, attachment: Attachment) -> Result<Doc, AllocErr
 // Attachments as a list of objects.
 fn attachments_doc(alloc: Global, attachments: Attachments) -> Result<Doc, AllocError>
     ensures { let t = table_of_node (holder_left attachments.entry) in
-        IfOk result (λ d. view d ≡ list_data (attachment_data t) (attachments_left attachments.entry)) }
+        IfOk result (λ d. view d
+        ≡ list_data (attachment_data t) (attachments_left attachments.entry)) }
 {
     let mut docs = Vec::new(alloc);
     for attachment in attachments {

@@ -81,7 +81,8 @@ fn put_attachments(
 #[tactic(auto, using(crate::proofs::NodeLineLemmas::recipients_text))]
 fn put_recipients(alloc: Global, table: Option<Tc>, text: &mut Vec<u8>) -> Result<(), AllocError>
     ensures { (t : Table) → IfSome table.entry (λ x. table_of_node (node_of_tc x) ≡ t)
-        → OnOk result (text.new.items ≡ text.old.items ++ compact_text (recipients_there t (option_map tc_roots table.entry))) }
+        → OnOk result (text.new.items
+        ≡ text.old.items ++ compact_text (recipients_there t (option_map tc_roots table.entry))) }
 {
     text.push(b'[')?;
     match table {
@@ -121,7 +122,8 @@ fn message_front_text(alloc: Global, nid: u32, message: Message) -> Result<Vec<u
 #[tactic(auto, using(crate::proofs::NodeLineLemmas::message_line_of))]
 fn message_line(alloc: Global, nid: u32, message: Message) -> Result<Vec<u8>, AllocError>
     ensures { let node = node_of_message message.entry in
-        IfOk result (λ t. t.items ≡ line_of (message_data (table_of_node node) (roots_of node) nid)) }
+        IfOk result (λ t. t.items
+        ≡ line_of (message_data (table_of_node node) (roots_of node) nid)) }
 {
     let mut text = message_front_text(alloc, nid, message)?;
     put_props(alloc, message.pc().props(), &mut text)?;
@@ -135,7 +137,8 @@ fn message_line(alloc: Global, nid: u32, message: Message) -> Result<Vec<u8>, Al
 #[tactic(auto, using(crate::proofs::NodeLineLemmas::node_line_of))]
 fn node_props_line(alloc: Global, nid: u32, pc: &Pc) -> Result<Vec<u8>, AllocError>
     ensures { let node = node_of_pc pc.now in
-        IfOk result (λ t. t.items ≡ line_of (node_props_data (table_of_node node) (roots_of node) nid)) }
+        IfOk result (λ t. t.items
+        ≡ line_of (node_props_data (table_of_node node) (roots_of node) nid)) }
 {
     let mut text = Vec::new(alloc);
     text.extend_from_slice(b"{\"nid\":")?;

@@ -55,7 +55,8 @@ impl<'a> Folder<'a> {
             image_of_node (node_of_folder self.now) ≡ image_of_ndb ndb }
         ensures kind { is_folder (top_of (node_of_folder self.now)) ≡ true }
         ensures sound { let ndb = ndb_of_folder self.now in
-            typed_node_fault (table_of_ndb ndb) (nodes_of ndb) (roots_of (node_of_folder self.now)) ≡ None }
+            typed_node_fault (table_of_ndb ndb) (nodes_of ndb) (roots_of (node_of_folder self.now))
+            ≡ None }
     {}
 
     /// Its node.
@@ -85,7 +86,8 @@ impl<'a> Folder<'a> {
     #[tactic(auto, using(crate::proofs::FolderLemmas::folder_tables), unfolding(crate::specs::Shown::folder_table))]
     fn table(&self, items: Items) -> Option<Tc<'a>>
         ensures roots { let nodes = nodes_of (ndb_of_folder self.now) in
-            option_map tc_roots result ≡ folder_table nodes items (top_of (node_of_folder self.now)) }
+            option_map tc_roots result
+            ≡ folder_table nodes items (top_of (node_of_folder self.now)) }
         ensures table { IfSome result (λ x.
             table_of_node (node_of_tc x) ≡ table_of_ndb (ndb_of_folder self.now)) }
         ensures image { IfSome result (λ x.

@@ -53,7 +53,8 @@ fn check_row(
     ensures there { let t = table_of_node node.entry in
         OnOk result (NamedIn t known.new.attachments (roots_of node.entry) (row_parts row.entry)) }
     ensures exact { let t = table_of_node node.entry in let r = roots_of node.entry in
-        Tells result (attachment_row_fault t (below_message t limit) r bid (row_parts row.entry)) tt }
+        Tells result (attachment_row_fault t (below_message t limit) r bid (row_parts row.entry))
+        tt }
 {
     let id = row.id();
     match node.sub_by(index, id) {

@@ -72,7 +72,8 @@ impl<'a> Message<'a> {
     #[tactic(auto, using(crate::proofs::ViewLemmas::message_recipients))]
     pub fn recipients(&self) -> Option<Tc<'a>>
         ensures roots { let node = node_of_message self.now in
-            option_map tc_roots result ≡ subnode_of (table_of_node node) (roots_of node) RECIPIENTS }
+            option_map tc_roots result
+            ≡ subnode_of (table_of_node node) (roots_of node) RECIPIENTS }
         ensures table { IfSome result (λ x.
             table_of_node (node_of_tc x) ≡ table_of_node (node_of_message self.now)) }
         ensures image { IfSome result (λ x.
@@ -88,7 +89,8 @@ impl<'a> Message<'a> {
     #[tactic(auto, using(crate::proofs::ViewLemmas::message_attachments))]
     fn table(&self) -> Option<Tc<'a>>
         ensures roots { let node = node_of_message self.now in
-            option_map tc_roots result ≡ subnode_of (table_of_node node) (roots_of node) ATTACHMENTS }
+            option_map tc_roots result
+            ≡ subnode_of (table_of_node node) (roots_of node) ATTACHMENTS }
         ensures table { IfSome result (λ x.
             table_of_node (node_of_tc x) ≡ table_of_node (node_of_message self.now)) }
     {

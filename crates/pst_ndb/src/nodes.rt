@@ -126,7 +126,8 @@ fn check_each(
     ensures adds { let t = table_of blocks.now in
         AddsKnown t (AreLedEach t (map entry_of_node (node_entries tree.now))) known.old known.new }
     ensures there { let t = table_of blocks.now in
-        OnOk result (AreKnownEach t known.new.seen known.new.heights (map entry_of_node (node_entries tree.now))) }
+        OnOk result (AreKnownEach t known.new.seen known.new.heights
+        (map entry_of_node (node_entries tree.now))) }
     ensures counts { OnOk result (IsCounted known.old → IsCounted known.new) }
 {
     for entry in tree.nodes() {

@@ -25,7 +25,8 @@ pub struct Page<'a> {
     ghost inside: { bref.ib + 512 ≤ length (bytes_of image) },
     ghost fits: { bref.ib + 512 < 2 ^ 64 },
     // It has its shape.
-    ghost wide: { entry_size kind (level_at (bytes_of image) bref.ib) ≤ width_at (bytes_of image) bref.ib },
+    ghost wide: { entry_size kind (level_at (bytes_of image) bref.ib)
+        ≤ width_at (bytes_of image) bref.ib },
     ghost room: { count_at (bytes_of image) bref.ib * width_at (bytes_of image) bref.ib ≤ 488 },
     ghost low: { level_at (bytes_of image) bref.ib ≤ 15 },
 }

@@ -30,7 +30,8 @@ fn check_property(heap: &Heap, index: &SubIndex, id: u32, content: Span) -> Resu
     requires behind { 2 ≤ content.at }
     requires size { content.len ≡ 6 }
     ensures exact { let node = node_of heap.now in let r = roots_of node in
-        Checks result (option_map (told_under r) (property_fault (table_of_node node) r (id, content))) }
+        Checks result
+        (option_map (told_under r) (property_fault (table_of_node node) r (id, content))) }
 {
     let kind = PropType(heap.image().number16(content.at));
     let raw = Span {

@@ -100,7 +100,8 @@ impl<'a> Pc<'a> {
     #[tactic(auto, using(crate::proofs::PcLemmas::found_sound, crate::proofs::PcLemmas::found_property, crate::proofs::PcLemmas::found_nothing))]
     pub fn get(&self, id: u16) -> Option<Prop<'a>>
         ensures value { let node = node_of_pc self.now in
-            option_map property_of result ≡ first_with id_of id (props_of (table_of_node node) (roots_of node)) }
+            option_map property_of result
+            ≡ first_with id_of id (props_of (table_of_node node) (roots_of node)) }
         ensures lent { IfSome result (IsPropWith (node_of_pc self.now) id) }
     {
         let Some(content) = self.bth().find(u32::from(id)) else {

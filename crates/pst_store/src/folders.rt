@@ -14,7 +14,8 @@ use pst_ndb::{Ndb, Nodes};
 pub struct Folders<'a> {
     ndb: Ndb<'a>,
     rest: Nodes<'a>,
-    ghost sound: { first_of (typed_node_fault (table_of_ndb ndb) (nodes_of ndb)) (roots_left rest) ≡ None },
+    ghost sound: { first_of (typed_node_fault (table_of_ndb ndb) (nodes_of ndb))
+        (roots_left rest) ≡ None },
     ghost table: { table_left rest ≡ table_of_ndb ndb },
     ghost image: { image_left rest ≡ image_of_ndb ndb },
 }

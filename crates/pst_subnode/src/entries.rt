@@ -72,8 +72,10 @@ pub struct Subs<'a> {
     leaves: Rest<'a>,
     ghost entries_few: { entries.next + entries.left < 65536 },
     ghost leaves_few: { leaves.next + leaves.left < 65536 },
-    ghost entries_fit: { 0 < entries.left → 8 + 24 * (entries.next + entries.left) ≤ length (bytes_of entries.body) },
-    ghost leaves_fit: { 0 < leaves.left → 8 + 16 * (leaves.next + leaves.left) ≤ length (bytes_of leaves.body) },
+    ghost entries_fit: { 0 < entries.left → 8 + 24 * (entries.next + entries.left)
+        ≤ length (bytes_of entries.body) },
+    ghost leaves_fit: { 0 < leaves.left → 8 + 16 * (leaves.next + leaves.left)
+        ≤ length (bytes_of leaves.body) },
 }
 
 impl<'a> Subs<'a> {
@@ -119,7 +121,8 @@ impl<'a> Subs<'a> {
     fn of_leaves(blocks: &Blocks<'a>, body: Image<'a>) -> Subs<'a>
         requires { 8 + 16 * count_in (bytes_of body) ≤ length (bytes_of body) }
         ensures { subs_left result ≡ join_below
-            (leaf_subs (table_of blocks.now) (bytes_of body.entry)) (count_in (bytes_of body.entry)) }
+            (leaf_subs (table_of blocks.now) (bytes_of body.entry))
+            (count_in (bytes_of body.entry)) }
     {
         Subs {
             blocks: *blocks,

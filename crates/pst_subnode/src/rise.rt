@@ -74,7 +74,8 @@ fn leaves_rise(blocks: &Blocks, body: Image, ranges: &mut Ranges) -> Result<bool
     ensures known { AreRangesTrue (table_of blocks.now) ranges.new }
     ensures value { let b = bytes_of body.entry in
         IfOk result (λ r. r ≡ true →
-        distinct (map sub_nid (join_below (leaf_subs (table_of blocks.now) b) (count_in b))) ≡ true) }
+        distinct (map sub_nid (join_below (leaf_subs (table_of blocks.now) b) (count_in b)))
+        ≡ true) }
     ensures memory { IfErr result (λ f. f ≡ no_memory) }
 {
     let mut end = 0;

@@ -40,7 +40,8 @@ fn height_of_entry(
     requires begun { let t = table_of blocks.now in
         IsBegun t seen.old heights.old (at_entry t sub) 1 limit }
     ensures exact { let t = table_of blocks.now in
-        Tells result (entry_fault t (sub_fault t limit) sub) (entry_height (sub_height t limit) sub) }
+        Tells result (entry_fault t (sub_fault t limit) sub)
+        (entry_height (sub_height t limit) sub) }
     ensures small { IfOk result (λ h. h ≤ limit) }
     ensures walked { let t = table_of blocks.now in
         IsWalked t (λ from. AreLedTo t from sub) seen.old heights.old seen.new heights.new }
@@ -142,7 +143,8 @@ fn height_of_leaf(
         Tells result (at_leaf t holder limit i) (leaf_height t holder limit i) }
     ensures small { IfOk result (λ h. h ≤ limit) }
     ensures walked { let t = table_of blocks.now in
-        IsWalked t (λ from. Leads t from (leaf_bid_in (body_of t holder) i)) seen.old heights.old seen.new heights.new }
+        IsWalked t (λ from. Leads t from (leaf_bid_in (body_of t holder) i)) seen.old heights.old
+        seen.new heights.new }
     ensures counts { OnOk result (KeepsCounts seen.old heights.old seen.new heights.new) }
     ensures there { let t = table_of blocks.now in
         OnOk result (IsKnownList t heights.new (leaf_bid_in (body_of t holder) i)) }
@@ -173,7 +175,8 @@ fn height_of_leaves(
     requires begun { let t = table_of blocks.now in
         IsBegun t seen.old heights.old (at_leaves t holder count) 0 limit }
     ensures exact { let t = table_of blocks.now in
-        Tells result (at_leaves t holder count limit) (most_below (leaf_height t holder limit) count) }
+        Tells result (at_leaves t holder count limit)
+        (most_below (leaf_height t holder limit) count) }
     ensures small { IfOk result (λ h. h ≤ limit) }
     ensures walked { let t = table_of blocks.now in
         IsWalked t (AreLedBelow t holder count) seen.old heights.old seen.new heights.new }

@@ -21,7 +21,8 @@ pub(crate) struct Blocks<'a> {
     next: u64,
     rest: Pieces<'a>,
     ghost found: { block ≡ slice_get (data_spans (table_of_node node) (data_bid_of node)) number },
-    ghost left: { spans_left rest ≡ drop next (data_spans (table_of_node node) (data_bid_of node)) },
+    ghost left: { spans_left rest
+        ≡ drop next (data_spans (table_of_node node) (data_bid_of node)) },
 }
 
 impl<'a> Blocks<'a> {

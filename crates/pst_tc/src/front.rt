@@ -24,7 +24,8 @@ pub(crate) struct Front<'a> {
     item: Span,
     ghost is: { item ≡ info_of (table_of_node (node_of_tc tc)) (roots_of (node_of_tc tc)) },
     ghost inside: { IsInside (table_of_node (node_of_tc tc)).image item },
-    ghost sound: { tc_body_fault (table_of_node (node_of_tc tc)) (roots_of (node_of_tc tc)) item ≡ None },
+    ghost sound: { tc_body_fault (table_of_node (node_of_tc tc)) (roots_of (node_of_tc tc)) item
+        ≡ None },
 }
 
 impl<'a> Front<'a> {
@@ -90,7 +91,8 @@ impl<'a> Front<'a> {
         ensures heap { node_of (heap_of result) ≡ node_of_tc (front_tc self.now) }
         ensures sizes { sizes_in result ≡ tc_sizes }
         ensures records { let node = node_of_tc (front_tc self.now) in
-            records_of result ≡ tc_records (table_of_node node) (roots_of node) (front_item self.now) }
+            records_of result ≡ tc_records (table_of_node node) (roots_of node)
+            (front_item self.now) }
     {
         let heap = self.heap();
         let image = heap.image();

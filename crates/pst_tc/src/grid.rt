@@ -17,8 +17,15 @@ use pst_bytes::Span;
 pub(crate) struct Grid<'a> {
     front: Front<'a>,
     matrix: Matrix<'a>,
-    ghost inside: { LiesIn (table_of_node (node_of_tc (front_tc front))).image matrix } by { LiesIn-prop (table_of_node (node_of_tc (front_tc front))).image matrix },
-    ghost rows: { HasRowsOf (table_of_node (node_of_tc (front_tc front))) (roots_of (node_of_tc (front_tc front))) (matrix_hnid (table_of_node (node_of_tc (front_tc front))).image (front_item front)) matrix } by { HasRowsOf-prop (table_of_node (node_of_tc (front_tc front))) (roots_of (node_of_tc (front_tc front))) (matrix_hnid (table_of_node (node_of_tc (front_tc front))).image (front_item front)) matrix },
+    ghost inside: { LiesIn (table_of_node (node_of_tc (front_tc front))).image
+        matrix } by { LiesIn-prop (table_of_node (node_of_tc (front_tc front))).image matrix },
+    ghost rows: { HasRowsOf (table_of_node (node_of_tc (front_tc front)))
+        (roots_of (node_of_tc (front_tc front)))
+        (matrix_hnid (table_of_node (node_of_tc (front_tc front))).image (front_item front))
+        matrix } by { HasRowsOf-prop (table_of_node (node_of_tc (front_tc front)))
+            (roots_of (node_of_tc (front_tc front)))
+            (matrix_hnid (table_of_node (node_of_tc (front_tc front))).image (front_item front))
+            matrix },
 }
 
 impl<'a> Grid<'a> {

@@ -23,8 +23,10 @@ pub struct Row<'a> {
     at: u64,
     place: Span,
     ghost inside: { IsInside (table_of_node (node_of_tc (front_tc front))).image place },
-    ghost size: { place.len ≡ row_size (table_of_node (node_of_tc (front_tc front))).image (front_item front) },
-    ghost sound: { cells_fault (table_of_node (node_of_tc (front_tc front))) (roots_of (node_of_tc (front_tc front))) (front_item front) place.at ≡ None },
+    ghost size: { place.len ≡ row_size (table_of_node (node_of_tc (front_tc front))).image
+        (front_item front) },
+    ghost sound: { cells_fault (table_of_node (node_of_tc (front_tc front)))
+        (roots_of (node_of_tc (front_tc front))) (front_item front) place.at ≡ None },
 }
 
 impl<'a> Row<'a> {

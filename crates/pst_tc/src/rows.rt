@@ -22,9 +22,11 @@ use pst_bth::Records;
 pub struct Rows<'a> {
     grid: Grid<'a>,
     rest: Records<'a>,
-    ghost image: { (data_of (heap_of (bth_left rest))).image ≡ (table_of_node (node_of_tc (grid_tc grid))).image },
+    ghost image: { (data_of (heap_of (bth_left rest))).image
+        ≡ (table_of_node (node_of_tc (grid_tc grid))).image },
     ghost sizes: { sizes_in (bth_left rest) ≡ tc_sizes },
-    ghost sound: { first_of (row_record_fault (table_of_node (node_of_tc (grid_tc grid))) (roots_of (node_of_tc (grid_tc grid))) (grid_item grid)) (records_left rest) ≡ None },
+    ghost sound: { first_of (row_record_fault (table_of_node (node_of_tc (grid_tc grid)))
+        (roots_of (node_of_tc (grid_tc grid))) (grid_item grid)) (records_left rest) ≡ None },
 }
 
 impl<'a> Rows<'a> {

@@ -17,7 +17,8 @@ use pst_ndb::SubIndex;
 pub fn named_value_by<'a>(heap: &Heap<'a>, index: &SubIndex, hnid: u32) -> Option<Value<'a>>
     requires { IsIndexedBy (node_of heap.now) index.now }
     ensures { let node = node_of heap.now in
-        IsValueOf (file_of_heap heap.now) (hnid_spans (table_of_node node) (roots_of node) hnid) result }
+        IsValueOf (file_of_heap heap.now)
+        (hnid_spans (table_of_node node) (roots_of node) hnid) result }
 {
     let image = heap.image();
     if hnid == 0 {
@@ -39,7 +40,8 @@ pub fn named_value_by<'a>(heap: &Heap<'a>, index: &SubIndex, hnid: u32) -> Optio
 /// None exactly where there is no such item or subnode.
 pub fn named_value<'a>(heap: &Heap<'a>, hnid: u32) -> Option<Value<'a>>
     ensures { let node = node_of heap.now in
-        IsValueOf (file_of_heap heap.now) (hnid_spans (table_of_node node) (roots_of node) hnid) result }
+        IsValueOf (file_of_heap heap.now)
+        (hnid_spans (table_of_node node) (roots_of node) hnid) result }
 {
     named_value_by(heap, &SubIndex::none(), hnid)
 }

@@ -76,7 +76,8 @@ fn cell_doc(alloc: Global, column: Column, value: Value) -> Result<Doc, AllocErr
 #[tactic(auto, using(crate::proofs::CellLemmas::value_bytes))]
 fn cell_at<'a>(row: Row<'a>, tag: u32) -> Option<Value<'a>>
     ensures { let node = node_of_tc (tc_of_row row.entry) in
-        option_map bytes_in result ≡ cell_bytes (table_of_node node) (roots_of node) (row_parts row.entry).place.at tag }
+        option_map bytes_in result ≡ cell_bytes (table_of_node node) (roots_of node)
+        (row_parts row.entry).place.at tag }
 {
     row.cell(tag)
 }
@@ -101,7 +102,8 @@ fn push_cell(
 #[tactic(auto, using(crate::proofs::CellLemmas::cells_at, crate::proofs::CellLemmas::cells_past))]
 fn cells_doc(alloc: Global, row: Row, columns: &[Column]) -> Result<Doc, AllocError>
     ensures { let node = node_of_tc (tc_of_row row.entry) in
-        let cells = cells_of (table_of_node node) (roots_of node) (row_parts row.entry).place.at (map column_of columns.now) in
+        let cells = cells_of (table_of_node node) (roots_of node) (row_parts row.entry).place.at
+        (map column_of columns.now) in
         IfOk result (λ d. view d ≡ list_data cell_data cells) }
 {
     let mut docs = Vec::new(alloc);
@@ -115,7 +117,8 @@ fn cells_doc(alloc: Global, row: Row, columns: &[Column]) -> Result<Doc, AllocEr
 #[tactic(auto, unfolding(crate::specs::Cells::row_data))]
 fn row_doc(alloc: Global, row: Row, columns: &[Column]) -> Result<Doc, AllocError>
     ensures { let node = node_of_tc (tc_of_row row.entry) in
-        IfOk result (λ d. view d ≡ row_data (table_of_node node) (roots_of node) (map column_of columns.now) (row_parts row.entry)) }
+        IfOk result (λ d. view d ≡ row_data (table_of_node node) (roots_of node)
+        (map column_of columns.now) (row_parts row.entry)) }
 {
     let cells = cells_doc(alloc, row, columns)?;
     let id = nid_text(alloc, row.id())?;
@@ -142,7 +145,8 @@ pub fn table_doc(alloc: Global, tc: &Tc) -> Result<Doc, AllocError>
 #[tactic(auto, using(crate::proofs::RowLemmas::put_next, crate::proofs::RowLemmas::put_end, crate::proofs::CellLemmas::row_has_none))]
 pub fn put_table(alloc: Global, tc: &Tc, text: &mut Vec<u8>) -> Result<(), AllocError>
     ensures { let node = node_of_tc tc.now in let t = table_of_node node in let r = roots_of node in
-        OnOk result (text.new.items ≡ text.old.items ++ rows_text (table_row_data t r) false (tc_rows t r)) }
+        OnOk result (text.new.items ≡ text.old.items ++ rows_text (table_row_data t r) false
+        (tc_rows t r)) }
 {
     let columns = shown_columns(alloc, tc.columns())?;
     let mut later = false;

@@ -43,7 +43,8 @@ fn list_doc(alloc: Global, props: Props) -> Result<Doc, AllocError>
 /// identifier, its type, and its value as `value_doc` gives it.
 pub fn pc_doc(alloc: Global, pc: &Pc) -> Result<Doc, AllocError>
     ensures { let node = node_of_pc pc.now in
-        IfOk result (λ d. view d ≡ list_data prop_data (props_of (table_of_node node) (roots_of node))) }
+        IfOk result (λ d. view d
+        ≡ list_data prop_data (props_of (table_of_node node) (roots_of node))) }
 {
     list_doc(alloc, pc.props())
 }
