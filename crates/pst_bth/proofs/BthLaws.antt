@@ -50,7 +50,7 @@ name_law h z named other hid e =
 
 -- ---- keys
 
-keys_are : (I : List ℕ) (z : Sizes) (rows : List ℕ) → map record_key (map (record_at I z) rows) ≡ map (row_key I z.key) rows
+pub keys_are : (I : List ℕ) (z : Sizes) (rows : List ℕ) → map record_key (map (record_at I z) rows) ≡ map (row_key I z.key) rows
 keys_are I z [] = refl
 keys_are I z (at ∷ rest) = ap (λ (ks : List ℕ). row_key I z.key at ∷ ks) (keys_are I z rest)
 

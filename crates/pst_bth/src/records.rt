@@ -27,9 +27,11 @@ pub struct Records<'a> {
 }
 
 impl<'a> Records<'a> {
-    ghost use Rattle.std.specs.Prelude.{◌≡◌, ◌<◌, Some, ◌∷◌};
+    ghost use Rattle.std.specs.Prelude.{◌≡◌, ◌+◌, ◌<◌, Some, None, ◌∷◌, length, map};
+    ghost use Rattle.pst_btree.specs.Order.{Rises};
     ghost use Rattle.pst_bth.specs.Rows.{row_count};
     ghost use Rattle.pst_bth.specs.View.{rows_item, rows_size};
+    ghost use Rattle.pst_bth.specs.Values.{record_key};
     ghost use Rattle.pst_bth.specs.Left.{bth_left, records_left, Reaches, HasPlace};
 
     // Goes on to the leaf that has the next record; false where no record is left.
@@ -61,6 +63,23 @@ impl<'a> Records<'a> {
         self.next += 1;
         record
     }
+
+    // Passes over what is left of the leaf that is gone through. So many records came before, and so many do then.
+    fn pass_leaf(&mut self, before: u64) -> u64
+        requires there { self.old.next < row_count (rows_size self.old.leaf) (rows_item self.old.leaf) }
+        requires rises { Rises before None (map record_key (records_left self.old)) }
+        ensures count { result + length (records_left self.new) ≡
+            before + length (records_left self.old) }
+        ensures rises { Rises result None (map record_key (records_left self.new)) }
+        ensures more { before < result }
+        ensures bth { bth_left self.new ≡ bth_left self.old }
+    {
+        let count = self.leaf.count();
+        let _last = self.leaf.key(count - 1);
+        let passed = count - self.next;
+        self.next = count;
+        before + passed
+    }
 }
 
 impl<'a> Iterator for Records<'a> {
@@ -82,7 +101,7 @@ impl<'a> Iterator for Records<'a> {
 }
 
 impl<'a> Bth<'a> {
-    ghost use Rattle.std.specs.Prelude.{◌≡◌};
+    ghost use Rattle.std.specs.Prelude.{◌≡◌, length};
     ghost use Rattle.pst_bth.specs.View.{records_of};
     ghost use Rattle.pst_bth.specs.Left.{bth_left, records_left};
 
@@ -97,5 +116,17 @@ impl<'a> Bth<'a> {
             next: 0,
             low: 0,
         }
+    }
+
+    /// How many records there are. Each leaf is looked at once, and none of its records but the last.
+    pub fn count(&self) -> u64
+        ensures { result ≡ length (records_of self.now) }
+    {
+        let mut rest = self.records();
+        let mut count = 0;
+        while rest.reach() {
+            count = rest.pass_leaf(count);
+        }
+        count
     }
 }

@@ -20,7 +20,7 @@ pub struct Tc<'a> {
 }
 
 impl<'a> Tc<'a> {
-    ghost use Rattle.std.specs.Prelude.{◌≡◌, IfSome, None, option_map};
+    ghost use Rattle.std.specs.Prelude.{◌≡◌, IfSome, None, length, option_map};
     ghost use Rattle.pst_bytes.specs.Image.{IsInside};
     ghost use Rattle.pst_btree.specs.Entries.{first_with};
     ghost use Rattle.pst_ndb.specs.Views.{table_of_node, roots_of};
@@ -92,6 +92,17 @@ impl<'a> Tc<'a> {
         ensures tc { tc_left result ≡ self.now }
     {
         Rows::all(Front::of(*self))
+    }
+
+    /// How many rows there are. The row index is gone through leaf by leaf, and the matrix is not.
+    #[tactic(auto, unfolding(crate::specs::Values::tc_rows))]
+    pub fn row_count(&self) -> u64
+        ensures { let node = node_of_tc self.now in
+            result ≡ length (tc_rows (table_of_node node) (roots_of node)) }
+    {
+        let front = Front::of(*self);
+        front.is_sound();
+        front.index().count()
     }
 
     /// The row with an identifier; None exactly where there is none. It is found as a record of the row index is.

@@ -112,6 +112,7 @@ fn cells_are_lent(rt: HostRuntime) -> Result<(), Fail> {
     for id in [0, 0x141, 0x143, 0xffff_ffff] {
         assert!(rt; tc.row(id).is_none(), "row {id:x}");
     }
+    assert_eq!(rt; tc.row_count(), 1);
     let row = tc.row(0x142).ok_or("no row")?;
     for tag in [0, 0x3602_0002, 0x3602_001f, 0x3601_0003] {
         assert!(rt; row.cell(tag).is_none(), "cell {tag:x}");
