@@ -36,6 +36,9 @@ bytes_of_nonempty I (s ∷ rest) =
       | inr le ↦ rw (without_bytes s rest le, no_bytes I s le) (bytes_of_nonempty I rest)
     ]
 
+pub bytes_with_bytes : (I : List ℕ) (few spans : List Span) → few ≡ nonempty spans → concat (slices_of I few) ≡ concat (slices_of I spans)
+bytes_with_bytes I few spans is = rw is (bytes_of_pieces I (nonempty spans) ∙ bytes_of_nonempty I spans ∙ sym (bytes_of_pieces I spans))
+
 size_of_nonempty : (spans : List Span) → size_of (nonempty spans) ≡ size_of spans
 size_of_nonempty [] = refl
 size_of_nonempty (s ∷ rest) =

@@ -100,6 +100,17 @@ impl<'a> Value<'a> {
         })
     }
 
+    /// The same bytes, each piece with some: spans without bytes are passed over, and XBLOCKs of such spans in one step each.
+    #[tactic(auto, using(crate::proofs::ValueLemmas::bytes_with_bytes))]
+    pub fn with_bytes(&self) -> Value<'a>
+        ensures bytes { bytes_in result ≡ bytes_in self.now }
+    {
+        match self {
+            Value::Whole(_, _) => *self,
+            Value::Pieces(pieces) => Value::Pieces(pieces.with_bytes()),
+        }
+    }
+
     /// Its slices in order: the one slice of a whole value, else one for each span.
     #[tactic(auto, using(crate::proofs::SliceLemmas::value_bytes))]
     pub fn slices(&self) -> Slices<'a>

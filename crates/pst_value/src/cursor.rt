@@ -46,7 +46,7 @@ impl<'a> Cursor<'a> {
         ensures { cursor_left result ≡ bytes_in value.entry }
     {
         Cursor {
-            rest: value,
+            rest: value.with_bytes(),
             skip: 0,
         }
     }

@@ -122,6 +122,44 @@ fn one_span_with_bytes_among_a_million(rt: HostRuntime) -> Result<(), Fail> {
     Ok(())
 }
 
+// The first span and the last of a million have a byte each, and no other has one.
+#[test]
+fn spans_with_bytes_alone(rt: HostRuntime) -> Result<(), Fail> {
+    let alloc = rt.alloc();
+    let empty = often(alloc, 4, 1021)?;
+    let mut first = often(alloc, 8, 1)?;
+    first.extend_from_slice(&often(alloc, 4, 1020)?)?;
+    let mut last = often(alloc, 4, 1020)?;
+    last.push(8)?;
+    let mut children = often(alloc, 0x0e, 1)?;
+    children.extend_from_slice(&often(alloc, 0x0a, 1019)?)?;
+    children.push(0x12)?;
+    let lists: [(u64, u8, u32, &[u64]); 4] = [
+        (0x0a, 1, 0, &empty),
+        (0x0e, 1, 1, &first),
+        (0x12, 1, 1, &last),
+        (0x16, 2, 2, &children),
+    ];
+    let image = store(alloc, &[(4, 0, 0), (8, 0x41, 1)], &lists)?;
+    let Ok(blocks) = blocks_in(alloc, Image::new(&image)) else {
+        return Err(Fail::from("no blocks"));
+    };
+    let mut seen = Seen::new(alloc);
+    let Ok(()) = check_data(alloc, &blocks, 0x16, NODE, &mut seen) else {
+        return Err(Fail::from("no data tree"));
+    };
+    let few = value(&blocks, 0x16).with_bytes();
+    assert_eq!(rt;
+        (few.len(), few.byte(1), few.byte(2)),
+        (2, Some(0x41), None)
+    );
+    let mut slices = few.slices();
+    assert_eq!(rt; slices.next().map(|slice| slice.len()), Some(1));
+    assert_eq!(rt; slices.next().map(|slice| slice.len()), Some(1));
+    assert!(rt; slices.next().is_none());
+    Ok(())
+}
+
 // Numbers whose bytes lie in several bodies.
 #[test]
 fn numbers_across_pieces(rt: HostRuntime) -> Result<(), Fail> {
