@@ -54,7 +54,7 @@ fn hex_of_pieces(alloc: Global, pieces: Pieces) -> Result<String, AllocError>
 pub(crate) fn bytes_doc(alloc: Global, value: Value) -> Result<Doc, AllocError>
     ensures { IfOk result (λ d. view d ≡ hex_data (bytes_in value.entry)) }
 {
-    let text = match value {
+    let text = match value.with_bytes() {
         Value::Whole(_, slice) => hex::encode(alloc, slice)?,
         Value::Pieces(pieces) => hex_of_pieces(alloc, pieces)?,
     };
