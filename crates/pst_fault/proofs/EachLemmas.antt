@@ -1,11 +1,11 @@
 -- The parts of a list, one after another.
-use Rattle.std.proofs.Common.{◌≡◌, ℕ, zero, suc, ◌<◌, List, [], ◌∷◌, length, Option, Some, None, refl, sym, ◌∙◌, arith}
+use Rattle.std.proofs.Common.{◌≡◌, ℕ, zero, suc, ◌<◌, List, [], ◌∷◌, ◌++◌, length, Option, Some, None, refl, sym, ap, ◌∙◌, arith}
 use Rattle.std.specs.Prelude.{slice_index_or}
 use Rattle.std.specs.List.{Contains}
 use Rattle.pst_fault.specs.declared.fault.Fault.{Fault}
-use Rattle.pst_fault.specs.First.{IsFirst}
+use Rattle.pst_fault.specs.First.{◌then◌, first_below, join_below, IsFirst}
 use Rattle.pst_fault.specs.Each.{first_of}
-use Rattle.pst_fault.proofs.FirstLemmas.{then_none, then_some, none_then, is_first_then}
+use Rattle.pst_fault.proofs.FirstLemmas.{then_none, then_some, then_assoc, none_then, is_first_then}
 
 -- one more part without a fault
 pub each_next : {X : Type 0} (part : X → Option Fault) (xs rest : List X) (x : X) (total : Option Fault) → xs ≡ x ∷ rest → part x ≡ None → first_of part xs ≡ total → first_of part rest ≡ total
@@ -65,3 +65,15 @@ pub first_of_same : {X : Type 0} (part other : X → Option Fault) → ((x : X) 
 unfolding first_of
 first_of_same part other same [] = refl
 first_of_same part other same (x ∷ rest) = rw (same x, first_of_same part other same rest) refl
+
+-- ---- lists that are joined
+
+pub first_append : {X : Type 0} (part : X → Option Fault) (xs ys : List X) → first_of part (xs ++ ys) ≡ (first_of part xs then first_of part ys)
+unfolding first_of
+first_append part [] ys = refl
+first_append part (x ∷ xs) ys = ap (λ o. part x then o) (first_append part xs ys) ∙ then_assoc (part x) (first_of part xs) (first_of part ys)
+
+pub first_join : {X : Type 0} (part : X → Option Fault) (list : ℕ → List X) (n : ℕ) → first_of part (join_below list n) ≡ first_below (λ i. first_of part (list i)) n
+unfolding first_of
+first_join part list zero = refl
+first_join part list (suc n) = first_append part (join_below list n) (list n) ∙ ap (λ o. o then first_of part (list n)) (first_join part list n)

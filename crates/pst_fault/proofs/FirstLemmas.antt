@@ -26,6 +26,11 @@ none_then None b e = (refl, e)
 pub both_none : (a b : Option Fault) → a ≡ None → b ≡ None → (a then b) ≡ None
 both_none a b e g = then_none a b e ∙ g
 
+-- of three, it is the same which two are taken together
+pub then_assoc : (a b c : Option Fault) → (a then b then c) ≡ ((a then b) then c)
+then_assoc (Some f) b c = refl
+then_assoc None b c = refl
+
 -- ---- a condition
 
 pub holds_or_none : (b : Bool) (f : Fault) → holds_or b f ≡ None → b ≡ true

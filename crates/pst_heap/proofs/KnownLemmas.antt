@@ -9,9 +9,11 @@ use Rattle.std.proofs.lemmas.Map.Views.{tells_apart}
 use Rattle.pst_fault.specs.declared.fault.Fault.{Fault}
 use Rattle.pst_fault.specs.First.{◌then◌, first_below, join_below, IsFirst}
 use Rattle.pst_fault.specs.Each.{first_of}
-use Rattle.pst_fault.proofs.FirstLemmas.{first_at, both_none}
+use Rattle.pst_fault.proofs.FirstLemmas.{first_at, both_none, then_assoc}
+use Rattle.pst_fault.proofs.EachLemmas.{first_join}
 use Rattle.pst_fault.proofs.ToldLemmas.{told_none, told_some, told_first}
 use Rattle.pst_datatree.specs.Parts.{part_count, part_in, part_spans, HasParts}
+use Rattle.pst_datatree.proofs.SeenLemmas.{only_new}
 use Rattle.pst_ndb.specs.pst_block.Table.{Table}
 use Rattle.pst_heap.specs.declared.check.TheConstants.{SPANS}
 use Rattle.pst_heap.specs.declared.maps.Maps.{Maps}
@@ -26,14 +28,6 @@ pub nothing_true : (t : Table) (m : Maps) → IsEmpty m.trees → AreMapsTrue t 
 unfolding has_maps
 nothing_true t m empty = record { holds = λ bid known. let bad : false ≡ true = (rw empty at known) in cc }
 
--- what is in a set after an insertion was there, or is what was put in
-only_new : (old new : BTreeSet ℕ) (k : ℕ) → ((q : ℕ) → contains nat_cmp new q ≡ cond (is_at (nat_cmp k) q) true (contains nat_cmp old q)) → (q : ℕ) → contains nat_cmp new q ≡ true → (contains nat_cmp old q ≡ true) ⊎ (k ≡ q)
-only_new old new k more q e = by_test (eq_by_cmp nat_cmp k q) refl (sym (more q) ∙ e)
-  where
-    by_test : (v : Bool) → eq_by_cmp nat_cmp k q ≡ v → cond v true (contains nat_cmp old q) ≡ true → (contains nat_cmp old q ≡ true) ⊎ (k ≡ q)
-    by_test true here h = inr (tells_apart exact_unsigned k q here)
-    by_test false here h = inl h
-
 -- one more is known
 pub put_true : (t : Table) (old new : Maps) (bid : ℕ) → ((q : ℕ) → contains nat_cmp new.trees q ≡ cond (is_at (nat_cmp bid) q) true (contains nat_cmp old.trees q)) → maps_fault t bid ≡ None → AreMapsTrue t old → AreMapsTrue t new
 unfolding has_maps
@@ -43,21 +37,6 @@ put_true t old new bid more none true_of = record { holds = each }
     each q known = elim (only_new old.trees new.trees bid more q known) [ inl was ↦ true_of.holds q was | inr same ↦ rw (← same) none ]
 
 -- ---- the spans of parts
-
-then_assoc : (a b c : Option Fault) → (a then b then c) ≡ ((a then b) then c)
-then_assoc (Some f) b c = refl
-then_assoc None b c = refl
-
--- of joined lists
-first_append : {X : Type 0} (part : X → Option Fault) (xs ys : List X) → first_of part (xs ++ ys) ≡ (first_of part xs then first_of part ys)
-unfolding first_of
-first_append part [] ys = refl
-first_append part (x ∷ xs) ys = ap (λ o. part x then o) (first_append part xs ys) ∙ then_assoc (part x) (first_of part xs) (first_of part ys)
-
-first_join : {X : Type 0} (part : X → Option Fault) (list : ℕ → List X) (n : ℕ) → first_of part (join_below list n) ≡ first_below (λ i. first_of part (list i)) n
-unfolding first_of
-first_join part list zero = refl
-first_join part list (suc n) = first_append part (join_below list n) (list n) ∙ ap (λ o. o then first_of part (list n)) (first_join part list n)
 
 -- the page maps of a data tree are those of its parts
 maps_of_parts : (t : Table) (bid : ℕ) → HasParts t bid → maps_fault t bid ≡ first_below (λ i. maps_fault t (part_in t bid i)) (part_count t bid)

@@ -6,6 +6,7 @@ use Rattle.std.proofs.lemmas.Bool.Decides.{nat_tests}
 use Rattle.pst_fault.specs.declared.fault.Fault.{Fault}
 use Rattle.pst_fault.specs.First.{◌then◌, holds_or, first_below, join_below}
 use Rattle.pst_fault.proofs.FirstLemmas.{then_none, none_then, none_below, holds_or_none, holds_or_true, guard_then}
+use Rattle.pst_fault.proofs.EachLemmas.{first_append}
 use Rattle.pst_page.specs.declared.entry.BlockEntry.{BlockEntry}
 use Rattle.pst_block.specs.Table.{Table, entry_of, body_of}
 use Rattle.pst_datatree.specs.Bid.{is_internal, is_no_block}
@@ -129,15 +130,6 @@ leaf_list t bid e i is lt =
 
 -- ---- the walk of an SIBLOCK is that of its SLBLOCKs
 
-then_assoc : (a b c : Option Fault) → ((a then b) then c) ≡ (a then (b then c))
-then_assoc None b c = refl
-then_assoc (Some f) b c = refl
-
-among_append : (part : Sub → Option Fault) (xs ys : List Sub) → first_of part (xs ++ ys) ≡ (first_of part xs then first_of part ys)
-unfolding first_of
-among_append part [] ys = refl
-among_append part (x ∷ rest) ys = ap (λ o. part x then o) (among_append part rest ys) ∙ sym (then_assoc (part x) (first_of part rest) (first_of part ys))
-
 max_assoc : (a b c : ℕ) → max a (max b c) ≡ max (max a b) c
 max_assoc a b c = omega arith
 
@@ -154,7 +146,7 @@ leaves_at t e k (suc n) each =
     let body = body_of t e in
     let part = entry_fault t (sub_fault t k) in
     let leaf = each n (omega arith) in
-    among_append part (join_below (leaf_subs t body) n) (leaf_subs t body n)
+    first_append part (join_below (leaf_subs t body) n) (leaf_subs t body n)
     ∙ ap (λ o. o then first_of part (leaf_subs t body n)) (leaves_at t e k n (λ i lt. each i (omega arith)))
     ∙ ap (λ o. first_below (at_leaf t e (suc k)) n then o) (sym (sub_fault_list t (suc k) k (leaf_bid_in body n) (omega arith) leaf.is_list.named ∙ (then_none _ _ leaf.is_list.list ∙ ap (first_of part) leaf.subs)))
 
