@@ -1,5 +1,4 @@
 pub mod CheckLemmas
-pub mod CountLemmas
 pub mod FolderLemmas
 pub mod HeadLemmas
 pub mod NodeLemmas

@@ -14,26 +14,10 @@ ghost use Rattle.pst_value_json.specs.Line.{rows_text};
 ghost use Rattle.pst_value_json.specs.Parts.{list_data};
 
 use crate::texts::{NAME, text_property_doc};
-use pst_value_json::{Tc, nid_text, put_row, tc_ids_rise};
+use pst_value_json::{Tc, nid_text, put_row};
 use pst_verify::{Folder, Folders, Store};
 use serde_json::{Value as Doc, json};
 use std::alloc::{AllocError, Global};
-
-// How many rows a table has.
-#[tactic(auto, using(crate::proofs::CountLemmas::counts_on))]
-fn row_count(tc: &Tc) -> u64
-    ensures { let node = node_of_tc tc.now in
-        result ≡ length (tc_rows (table_of_node node) (roots_of node)) }
-{
-    tc.is_sound();
-    tc_ids_rise();
-    let mut count = 0;
-    for row in tc.rows() {
-        let _id = row.id();
-        count += 1;
-    }
-    count
-}
 
 // How many rows a table has, 0 where it is not there.
 fn count_of(table: Option<Tc>) -> u64
@@ -41,7 +25,7 @@ fn count_of(table: Option<Tc>) -> u64
         → result ≡ length (rows_there t (option_map tc_roots table.entry)) }
 {
     match table {
-        Some(tc) => row_count(&tc),
+        Some(tc) => tc.row_count(),
         None => 0,
     }
 }
