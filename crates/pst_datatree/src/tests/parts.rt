@@ -2,8 +2,8 @@
 
 use super::*;
 
-// The parts of a data tree without fault: the block identifier of each, and how many spans it has.
-fn parts_of(alloc: Global, blocks: &Blocks, bid: u64) -> Result<Vec<(u64, usize)>, Fail> {
+// The parts of a data tree without fault: the block identifier of each, and behind it the length of each of its spans.
+fn parts_of(alloc: Global, blocks: &Blocks, bid: u64) -> Result<Vec<u64>, Fail> {
     let mut seen = Seen::new(alloc);
     let Ok(()) = check_data(alloc, blocks, bid, NODE, &mut seen) else {
         return Err(Fail::from("no data tree"));
@@ -11,7 +11,10 @@ fn parts_of(alloc: Global, blocks: &Blocks, bid: u64) -> Result<Vec<(u64, usize)
     let parts = Parts::of(blocks, bid);
     let mut found = Vec::new(alloc);
     for i in 0..parts.count() {
-        found.push((parts.bid(i), parts.spans(i).count()))?;
+        found.push(parts.bid(i))?;
+        for slice in parts.spans(i) {
+            found.push(slice.len() as u64)?;
+        }
     }
     Ok(found)
 }
@@ -34,14 +37,17 @@ fn xblocks_of_an_xxblock(rt: HostRuntime) -> Result<(), Fail> {
     // In order, as often as they are named, and as they are written.
     assert_eq!(rt;
         parts_of(alloc, &blocks, 0x12)?.as_slice(),
-        [(0x0a, 0), (0x0f, 3), (0x0a, 0), (0x0e, 3)].as_slice()
+        [0x0a, 0x0f, 0, 3, 0, 0x0a, 0x0e, 0, 3, 0].as_slice()
     );
     // What is no XXBLOCK is one part.
-    for (bid, count) in [(0, 0), (5, 1), (0x0a, 0), (0x0e, 3)] {
-        assert_eq!(rt;
-            parts_of(alloc, &blocks, bid)?.as_slice(),
-            [(bid, count)].as_slice()
-        );
+    let alone: [(u64, &[u64]); 4] = [
+        (0, &[0]),
+        (5, &[5, 3]),
+        (0x0a, &[0x0a]),
+        (0x0e, &[0x0e, 0, 3, 0]),
+    ];
+    for (bid, part) in alone {
+        assert_eq!(rt; parts_of(alloc, &blocks, bid)?.as_slice(), part);
     }
     Ok(())
 }

@@ -1,10 +1,16 @@
 //! Heaps that share spans, checked by one who remembers page maps.
 
+ghost use Rattle.pst_ndb.specs.Views.{table_of_ndb};
+ghost use Rattle.pst_heap.specs.Maps.{AreMapsTrue};
+
 use super::*;
 use pst_ndb::Ndb;
 
 // What a node's data is answered with as a heap, by what is known.
-fn line_of(alloc: Global, ndb: Ndb, nid: u32, maps: &mut Maps) -> Result<String, Fail> {
+fn line_of(alloc: Global, ndb: Ndb, nid: u32, maps: &mut Maps) -> Result<String, Fail>
+    requires { AreMapsTrue (table_of_ndb ndb) maps.old }
+    ensures { AreMapsTrue (table_of_ndb ndb.entry) maps.new }
+{
     let node = ndb.node(nid).ok_or("no node")?;
     match check_heap_with(node, maps) {
         Ok(heap) => Ok(format!(in alloc; "yes: {:x}", heap.client())?),
@@ -52,16 +58,18 @@ fn shared_spans(rt: HostRuntime) -> Result<(), Fail> {
         return Err(Fail::from("refused"));
     };
     // A fault is told of each node afresh, whatever is known.
+    let ndb = checked.ndb;
     let mut maps = Maps::new(alloc);
-    for (nid, line) in [
-        (0x21, "yes: bc"),
-        (0x41, "no: 21 Heap at 0x4c80 bid 0x2a nid 0x41"),
-        (0x61, "yes: bc"),
-        (0x41, "no: 21 Heap at 0x4c80 bid 0x2a nid 0x41"),
-        (0x81, "no: 21 Heap at 0x4cc0 bid 0x2e nid 0x81"),
-    ] {
-        let told = line_of(alloc, checked.ndb, nid, &mut maps)?;
-        assert_eq!(rt; told.as_str(), line, "node {nid:x}");
-    }
+    let bad = "no: 21 Heap at 0x4c80 bid 0x2a nid 0x41";
+    let told = line_of(alloc, ndb, 0x21, &mut maps)?;
+    assert_eq!(rt; told.as_str(), "yes: bc");
+    let told = line_of(alloc, ndb, 0x41, &mut maps)?;
+    assert_eq!(rt; told.as_str(), bad);
+    let told = line_of(alloc, ndb, 0x61, &mut maps)?;
+    assert_eq!(rt; told.as_str(), "yes: bc");
+    let told = line_of(alloc, ndb, 0x41, &mut maps)?;
+    assert_eq!(rt; told.as_str(), bad);
+    let told = line_of(alloc, ndb, 0x81, &mut maps)?;
+    assert_eq!(rt; told.as_str(), "no: 21 Heap at 0x4cc0 bid 0x2e nid 0x81");
     Ok(())
 }

@@ -161,7 +161,7 @@ fn a_subnode_twice_in_shared_slblocks(rt: HostRuntime) -> Result<(), Fail> {
     };
     let mut seen = Seen::new(alloc);
     let mut heights = Heights::new(alloc);
-    for (bid, is_list) in [
+    for (top, is_list) in [
         (10, false),
         (6, true),
         (14, false),
@@ -173,12 +173,12 @@ fn a_subnode_twice_in_shared_slblocks(rt: HostRuntime) -> Result<(), Fail> {
         (38, true),
         (10, false),
     ] {
-        let told = check_sub(alloc, &blocks, bid, NODE, &mut seen, &mut heights);
-        let place = FIRST.saturating_add(bid.saturating_sub(6).saturating_mul(16));
+        let told = check_sub(alloc, &blocks, top, NODE, &mut seen, &mut heights);
+        let place = FIRST.saturating_add(top.saturating_sub(6).saturating_mul(16));
         let answer = if is_list {
             Ok(1)
         } else {
-            Err(fault_of(Kind::Subnode, place, bid))
+            Err(fault_of(Kind::Subnode, place, top))
         };
         assert_eq!(rt; told, answer);
     }
