@@ -66,7 +66,8 @@ impl<'a> Records<'a> {
 
     // Passes over what is left of the leaf that is gone through. So many records came before, and so many do then.
     fn pass_leaf(&mut self, before: u64) -> u64
-        requires there { self.old.next < row_count (rows_size self.old.leaf) (rows_item self.old.leaf) }
+        requires there { self.old.next
+            < row_count (rows_size self.old.leaf) (rows_item self.old.leaf) }
         requires rises { Rises before None (map record_key (records_left self.old)) }
         ensures count { result + length (records_left self.new) ≡
             before + length (records_left self.old) }

@@ -19,7 +19,7 @@ use Rattle.pst_heap.specs.declared.check.TheConstants.{SPANS}
 use Rattle.pst_heap.specs.declared.maps.Maps.{Maps}
 use Rattle.pst_heap.specs.Values.{HeapData}
 use Rattle.pst_heap.specs.Fault.{extra_fault, front_fault, page_map_fault, heap_fault}
-use Rattle.pst_heap.specs.Maps.{maps_fault, has_maps, AreMapsTrue, start_fault}
+use Rattle.pst_heap.specs.Maps.{page_maps_fault, has_maps, AreMapsTrue, start_fault}
 
 -- ---- the set
 
@@ -29,28 +29,28 @@ unfolding has_maps
 nothing_true t m empty = record { holds = λ bid known. let bad : false ≡ true = (rw empty at known) in cc }
 
 -- one more is known
-pub put_true : (t : Table) (old new : Maps) (bid : ℕ) → ((q : ℕ) → contains nat_cmp new.trees q ≡ cond (is_at (nat_cmp bid) q) true (contains nat_cmp old.trees q)) → maps_fault t bid ≡ None → AreMapsTrue t old → AreMapsTrue t new
+pub put_true : (t : Table) (old new : Maps) (bid : ℕ) → ((q : ℕ) → contains nat_cmp new.trees q ≡ cond (is_at (nat_cmp bid) q) true (contains nat_cmp old.trees q)) → page_maps_fault t bid ≡ None → AreMapsTrue t old → AreMapsTrue t new
 unfolding has_maps
 put_true t old new bid more none true_of = record { holds = each }
   where
-    each : (q : ℕ) → contains nat_cmp new.trees q ≡ true → maps_fault t q ≡ None
+    each : (q : ℕ) → contains nat_cmp new.trees q ≡ true → page_maps_fault t q ≡ None
     each q known = elim (only_new old.trees new.trees bid more q known) [ inl was ↦ true_of.holds q was | inr same ↦ rw (← same) none ]
 
 -- ---- the spans of parts
 
 -- the page maps of a data tree are those of its parts
-maps_of_parts : (t : Table) (bid : ℕ) → HasParts t bid → maps_fault t bid ≡ first_below (λ i. maps_fault t (part_in t bid i)) (part_count t bid)
+maps_of_parts : (t : Table) (bid : ℕ) → HasParts t bid → page_maps_fault t bid ≡ first_below (λ i. page_maps_fault t (part_in t bid i)) (part_count t bid)
 maps_of_parts t bid joined = ap (first_of (page_map_fault t.image)) joined ∙ first_join (page_map_fault t.image) (part_spans t bid) (part_count t bid)
 
-pub parts_done : (t : Table) (bid n : ℕ) → HasParts t bid → n ≡ part_count t bid → first_below (λ i. maps_fault t (part_in t bid i)) n ≡ None → maps_fault t bid ≡ None
+pub parts_done : (t : Table) (bid n : ℕ) → HasParts t bid → n ≡ part_count t bid → first_below (λ i. page_maps_fault t (part_in t bid i)) n ≡ None → page_maps_fault t bid ≡ None
 parts_done t bid n joined is none = maps_of_parts t bid joined ∙ (rw is at none)
 
-pub part_fails : (g : Fault → Fault) (t : Table) (bid n i : ℕ) (f : Fault) → HasParts t bid → n ≡ part_count t bid → i < n → first_below (λ j. maps_fault t (part_in t bid j)) i ≡ None → IsFirst (option_map g (maps_fault t (part_in t bid i))) f → IsFirst (option_map g (maps_fault t bid)) f
+pub part_fails : (g : Fault → Fault) (t : Table) (bid n i : ℕ) (f : Fault) → HasParts t bid → n ≡ part_count t bid → i < n → first_below (λ j. page_maps_fault t (part_in t bid j)) i ≡ None → IsFirst (option_map g (page_maps_fault t (part_in t bid i))) f → IsFirst (option_map g (page_maps_fault t bid)) f
 part_fails g t bid n i f joined is lt none (inl out) = inl out
 part_fails g t bid n i f joined is lt none (inr e) =
-    let part : ℕ → Option Fault = λ j. maps_fault t (part_in t bid j) in
+    let part : ℕ → Option Fault = λ j. page_maps_fault t (part_in t bid j) in
     let w = told_some g (part i) f e in
-    let all : maps_fault t bid ≡ Some w.0 = maps_of_parts t bid joined ∙ first_at part (part_count t bid) i w.0 none w.1 (rw is at lt) in
+    let all : page_maps_fault t bid ≡ Some w.0 = maps_of_parts t bid joined ∙ first_at part (part_count t bid) i w.0 none w.1 (rw is at lt) in
     inr (ap (option_map g) all ∙ ap (λ x. Some x) w.2)
 
 -- ---- a heap by what comes before its page maps

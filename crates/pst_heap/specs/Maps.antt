@@ -14,8 +14,8 @@ use Rattle.pst_heap.specs.Values.{HeapData}
 use Rattle.pst_heap.specs.Fault.{extra_fault, front_fault, page_map_fault}
 
 -- of the page maps of a data tree's spans
-abbrev pub maps_fault : Table → ℕ → Option Fault
-maps_fault t bid = first_of (page_map_fault t.image) (data_spans t bid)
+abbrev pub page_maps_fault : Table → ℕ → Option Fault
+page_maps_fault t bid = first_of (page_map_fault t.image) (data_spans t bid)
 
 -- a block identifier is known, as it is written
 unfoldable pub has_maps : Maps → ℕ → Bool
@@ -23,7 +23,7 @@ has_maps m bid = contains nat_cmp m.trees bid
 
 -- what is known is true
 pub record AreMapsTrue (t : Table) (m : Maps) : Type 0 where
-  pub holds : (bid : ℕ) → has_maps m bid ≡ true → maps_fault t bid ≡ None
+  pub holds : (bid : ℕ) → has_maps m bid ≡ true → page_maps_fault t bid ≡ None
 
 -- of a heap, before its page maps: how many spans it has, and the first one
 abbrev pub start_fault : HeapData → Option Fault

@@ -10,7 +10,7 @@ ghost use Rattle.pst_datatree.specs.Spans.{first_span};
 ghost use Rattle.pst_ndb.specs.Views.{table_of_node, image_of_node, data_bid_of};
 ghost use Rattle.pst_heap.specs.Values.{data_of_node};
 ghost use Rattle.pst_heap.specs.Fault.{page_map_fault, heap_fault, told_of as told};
-ghost use Rattle.pst_heap.specs.Maps.{maps_fault, start_fault, AreMapsTrue};
+ghost use Rattle.pst_heap.specs.Maps.{page_maps_fault, start_fault, AreMapsTrue};
 ghost use Rattle.pst_heap.specs.View.{node_of};
 
 use crate::check::{check_few, check_front, check_spans};
@@ -38,7 +38,7 @@ fn check_start(node: &Node) -> Result<Span, Fault>
 // The page maps of all spans of a node's data.
 fn check_all_maps(node: &Node) -> Result<(), Fault>
     ensures { let t = table_of_node node.now in
-        Tells result (option_map (told node.now) (maps_fault t (data_bid_of node.now))) tt }
+        Tells result (option_map (told node.now) (page_maps_fault t (data_bid_of node.now))) tt }
 {
     match check_spans(node.image(), node.spans()) {
         Ok(()) => Ok(()),
@@ -54,7 +54,7 @@ fn check_part(node: &Node, parts: Parts, i: u16, maps: &mut Maps) -> Result<(), 
     requires known { AreMapsTrue (table_of_node node.now) maps.old }
     ensures known { AreMapsTrue (table_of_node node.now) maps.new }
     ensures exact { let t = table_of_node node.now in
-        let first = maps_fault t (part_in t (tree_of_parts parts.entry) i) in
+        let first = page_maps_fault t (part_in t (tree_of_parts parts.entry) i) in
         Tells result (option_map (told node.now) first) tt }
 {
     let bid = parts.bid(i);
@@ -72,7 +72,7 @@ fn check_parts(node: &Node, maps: &mut Maps) -> Result<(), Fault>
     requires known { AreMapsTrue (table_of_node node.now) maps.old }
     ensures known { AreMapsTrue (table_of_node node.now) maps.new }
     ensures exact { let t = table_of_node node.now in
-        Tells result (option_map (told node.now) (maps_fault t (data_bid_of node.now))) tt }
+        Tells result (option_map (told node.now) (page_maps_fault t (data_bid_of node.now))) tt }
 {
     let parts = node.parts();
     let count = parts.count();
@@ -87,7 +87,7 @@ fn check_maps_with(node: &Node, maps: &mut Maps) -> Result<(), Fault>
     requires known { AreMapsTrue (table_of_node node.now) maps.old }
     ensures known { AreMapsTrue (table_of_node node.now) maps.new }
     ensures exact { let t = table_of_node node.now in
-        Tells result (option_map (told node.now) (maps_fault t (data_bid_of node.now))) tt }
+        Tells result (option_map (told node.now) (page_maps_fault t (data_bid_of node.now))) tt }
 {
     if node.leaf(FEW).is_none() {
         return check_all_maps(node);

@@ -16,7 +16,7 @@ impl Maps {
     ghost use Rattle.std.specs.Prelude.{◌≡◌, None, IfErr};
     ghost use Rattle.pst_fault.specs.Fault.{no_memory};
     ghost use Rattle.pst_ndb.specs.pst_block.Table.{Table};
-    ghost use Rattle.pst_heap.specs.Maps.{maps_fault, has_maps, AreMapsTrue};
+    ghost use Rattle.pst_heap.specs.Maps.{page_maps_fault, has_maps, AreMapsTrue};
 
     /// Nothing is known. No memory is taken.
     #[tactic(auto, using(crate::proofs::KnownLemmas::nothing_true))]
@@ -39,7 +39,7 @@ impl Maps {
     // They are known from now on; or memory is refused.
     #[tactic(auto, using(crate::proofs::KnownLemmas::put_true))]
     pub(crate) fn put(&mut self, bid: u64) -> Result<(), Fault>
-        ensures known { (t : Table) → maps_fault t bid ≡ None →
+        ensures known { (t : Table) → page_maps_fault t bid ≡ None →
             AreMapsTrue t self.old → AreMapsTrue t self.new }
         ensures memory { IfErr result (λ f. f ≡ no_memory) }
     {
