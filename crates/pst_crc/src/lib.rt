@@ -4,9 +4,11 @@
 ghost use Rattle.std.specs.Prelude.{◌≡◌, ◌+◌, ◌*◌, ◌%◌, ◌<◌, length, fold, bit_xor};
 ghost use Rattle.pst_crc.specs.Crc.{after_byte, crc, shifted_by, signature_of};
 
+mod streams;
 mod table;
 
 use byteorder::{ByteOrder, LittleEndian};
+use streams::after_streams;
 use table::leaving;
 
 // The register after one more byte, by the first row of the tables.
@@ -89,13 +91,20 @@ fn after_sixteen(register: u32, bytes: &[u8]) -> u32
 }
 
 /// The check value of bytes ([MS-PST] 5.3): the reflected CRC with the polynomial 0xEDB88320, a register that starts at 0,
-/// and no final inversion. Sixteen bytes are taken at a time, by sixteen tables of 256 words.
+/// and no final inversion. Sixteen bytes are taken at a time, by sixteen tables of 256 words, and of each 256 bytes
+/// both halves side by side.
 #[tactic(auto, unfolding(crate::specs::Crc::crc))]
 pub fn check(bytes: &[u8]) -> u32
     ensures { result ≡ crc bytes.now }
 {
     let mut register = 0;
-    let mut rest = bytes;
+    let mut long = bytes;
+    while long.len() >= 256 {
+        let (streams, others) = long.split_at(256);
+        register = after_streams(register, streams);
+        long = others;
+    }
+    let mut rest = long;
     while rest.len() >= 16 {
         let (sixteen, others) = rest.split_at(16);
         register = after_sixteen(register, sixteen);
