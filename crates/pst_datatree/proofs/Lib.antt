@@ -15,3 +15,4 @@ pub mod SeenLemmas
 pub mod SliceLemmas
 pub mod AddLemmas
 pub mod PartsLemmas
+pub mod LeafLemmas

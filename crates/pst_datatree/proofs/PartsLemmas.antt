@@ -80,7 +80,7 @@ part_sound t bid i none lt = by_name (named_by t bid) refl lt
     by_name (Xblock e) is lt = none
     by_name (Xxblock e) is lt = child_sound t e i (child_of_xxblock t e (tree_none t bid (Xxblock e) is none) i lt)
 
-named_are : (t : Table) (bid : ℕ) (n : Named) → n ≡ named_by t bid → data_spans t bid ≡ named_spans t n
+pub named_are : (t : Table) (bid : ℕ) (n : Named) → n ≡ named_by t bid → data_spans t bid ≡ named_spans t n
 unfolding data_spans
 named_are t bid n is = rw is refl
 

@@ -15,3 +15,5 @@ pub mod After
 pub mod Shown
 pub mod Laws
 pub mod Slices
+pub mod Marks
+pub mod Leaves

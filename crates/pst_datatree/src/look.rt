@@ -10,7 +10,7 @@ ghost use Rattle.pst_datatree.specs.Named.{IfBlock};
 ghost use Rattle.pst_datatree.specs.Data.{leaf_spans, data_leaf_fault, xblock_spans, xblock_fault, child_spans, child_fault, xxblock_spans, xxblock_fault, named_spans, tree_fault, data_spans, data_fault, size_of};
 
 use crate::list::{bid_at, body_in};
-use crate::named::{Named, named_in};
+use crate::named::{Named, sound_in};
 use pst_block::{BlockEntry, Blocks};
 use pst_bytes::Span;
 
@@ -118,18 +118,27 @@ fn xxblock_count(blocks: &Blocks, entry: BlockEntry) -> u64
     total
 }
 
-/// How many spans the data tree of a block identifier has: one for each data block, as often as it is named.
-#[tactic(auto, unfolding(crate::specs::Data::data_spans, crate::specs::Data::data_fault))]
-pub fn leaf_count(blocks: &Blocks, bid: u64) -> u64
-    requires { data_fault (table_of blocks.now) bid ≡ None }
-    ensures { result ≡ length (data_spans (table_of blocks.now) bid) }
+// How many spans what an identifier names has.
+pub(crate) fn span_count(blocks: &Blocks, named: Named) -> u64
+    requires within { IfBlock named (IsWithin (table_of blocks.now).image) }
+    requires sound { tree_fault (table_of blocks.now) named ≡ None }
+    ensures { result ≡ length (named_spans (table_of blocks.now) named) }
 {
-    match named_in(blocks, bid) {
+    match named {
         Named::Nothing | Named::Missing => 0,
         Named::Data(_) => 1,
         Named::Xblock(entry) => u64::from(xblock_count(blocks, entry)),
         Named::Xxblock(entry) => xxblock_count(blocks, entry),
     }
+}
+
+/// How many spans the data tree of a block identifier has: one for each data block, as often as it is named.
+#[tactic(auto, unfolding(crate::specs::Data::data_spans))]
+pub fn leaf_count(blocks: &Blocks, bid: u64) -> u64
+    requires { data_fault (table_of blocks.now) bid ≡ None }
+    ensures { result ≡ length (data_spans (table_of blocks.now) bid) }
+{
+    span_count(blocks, sound_in(blocks, bid))
 }
 
 // How many bytes what an identifier names has.

@@ -1,5 +1,6 @@
 mod breaches;
 mod large;
+mod leaves;
 mod parts;
 mod sharing;
 
