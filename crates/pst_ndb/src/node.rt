@@ -9,7 +9,7 @@ ghost use Rattle.pst_subnode.specs.Tree.{sub_fault};
 use pst_block::Blocks;
 use pst_btree::NodeEntry;
 use pst_bytes::{Image, Span};
-use pst_datatree::{Parts, Pieces, Value, data_lies_inside, leaf, leaf_count, spans, value};
+use pst_datatree::{Leaves, Parts, Pieces, Value, data_lies_inside, leaf, leaf_count, spans, value};
 use pst_fault::Fault;
 use pst_subnode::{Sub, SubIndex, Subs, find_sub_by, subs};
 use std::alloc::Global;
@@ -35,6 +35,7 @@ impl<'a> Node<'a> {
     ghost use Rattle.pst_datatree.specs.Data.{data_spans, data_fault, size_of};
     ghost use Rattle.pst_datatree.specs.Spans.{nonempty, first_span, joined_bytes, AreInside};
     ghost use Rattle.pst_datatree.specs.Left.{spans_left, file_of};
+    ghost use Rattle.pst_datatree.specs.Leaves.{leaves_spans, leaves_file};
     ghost use Rattle.pst_datatree.specs.Parts.{HasParts};
     ghost use Rattle.pst_datatree.specs.PartsView.{table_of_parts, tree_of_parts, image_of_parts};
     ghost use Rattle.pst_datatree.specs.Shown.{ShowsSpans, bytes_in, size_in, place_in};
@@ -156,6 +157,15 @@ impl<'a> Node<'a> {
         ensures inside { IfSome result (IsInside (table_of_node self.now).image) }
     {
         leaf(&self.blocks, self.bid_data, n)
+    }
+
+    /// The spans of its data by their numbers, for many look-ups in any order.
+    pub fn leaves(&self) -> Leaves<'a>
+        ensures spans { leaves_spans result ≡
+            data_spans (table_of_node self.now) (data_bid_of self.now) }
+        ensures file { leaves_file result ≡ image_of_node self.now }
+    {
+        Leaves::of(&self.blocks, self.bid_data)
     }
 
     /// How many spans its data has: one for each data block, as often as it is named.

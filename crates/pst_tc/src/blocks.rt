@@ -1,28 +1,25 @@
-//! The blocks of a row matrix, gone through.
+//! The blocks of a row matrix.
 
-ghost use Rattle.std.specs.Prelude.{◌≡◌, slice_get, drop};
+ghost use Rattle.std.specs.Prelude.{◌≡◌, slice_get};
 ghost use Rattle.pst_ndb.specs.Views.{table_of_node, data_bid_of};
 ghost use Rattle.pst_datatree.specs.Data.{data_spans};
-ghost use Rattle.pst_datatree.specs.Left.{spans_left};
+ghost use Rattle.pst_datatree.specs.Leaves.{leaves_spans};
 
 use pst_bytes::Span;
-use pst_datatree::Pieces;
+use pst_datatree::Leaves;
 use pst_ndb::Node;
 
-/// The blocks of a subnode: the one that was asked for last, and those that were not come to yet. Blocks that are asked for in
-/// order, each as often as one likes, take one step each; any other is looked up.
+/// The blocks of a subnode by their numbers, in any order, and the one that was asked for last: blocks that are asked for in
+/// order, each as often as one likes, take one step each.
 #[derive(Clone, Copy)]
 pub(crate) struct Blocks<'a> {
     node: Node<'a>,
     // The number of the block that was asked for last, and where it lies; None behind the last one.
     number: u64,
     block: Option<Span>,
-    // The number of the first block that was not come to, and the blocks from it on.
-    next: u64,
-    rest: Pieces<'a>,
+    leaves: Leaves<'a>,
     ghost found: { block ≡ slice_get (data_spans (table_of_node node) (data_bid_of node)) number },
-    ghost left: { spans_left rest
-        ≡ drop next (data_spans (table_of_node node) (data_bid_of node)) },
+    ghost all: { leaves_spans leaves ≡ data_spans (table_of_node node) (data_bid_of node) },
 }
 
 impl<'a> Blocks<'a> {
@@ -35,28 +32,14 @@ impl<'a> Blocks<'a> {
     pub(crate) fn of(node: Node<'a>) -> Blocks<'a>
         ensures { blocks_node result ≡ node.entry }
     {
-        let mut rest = node.spans();
-        let block = rest.next_span();
+        let mut leaves = node.leaves();
+        let block = leaves.leaf(0);
         Blocks {
             node,
             number: 0,
             block,
-            next: 1,
-            rest,
+            leaves,
         }
-    }
-
-    // The first block that was not come to; it is then the one that was asked for last.
-    fn step(&mut self) -> Option<Span>
-        requires { self.old.next < 2 ^ 32 }
-        ensures value { result ≡ slice_get (matrix_spans self.old) self.old.next }
-        ensures same { blocks_node self.new ≡ blocks_node self.old }
-    {
-        let block = self.rest.next_span();
-        self.number = self.next;
-        self.block = block;
-        self.next += 1;
-        block
     }
 
     /// The block with a number, which is then the one that was asked for last; None exactly where there is none.
@@ -71,10 +54,7 @@ impl<'a> Blocks<'a> {
         if number == self.number {
             return self.block;
         }
-        if number == self.next {
-            return self.step();
-        }
-        let block = self.node.leaf(number);
+        let block = self.leaves.leaf(number);
         self.number = number;
         self.block = block;
         block

@@ -40,6 +40,10 @@ fn a_node_of_two_blocks(rt: HostRuntime) -> Result<(), Fail> {
     let node = checked.ndb.node(0x21).ok_or("no node")?;
     assert_eq!(rt; node.leaf_count(), 2);
     assert_eq!(rt; node.leaf(1), Some(Span { at: 0x6c00, len: 1 }));
+    let mut leaves = node.leaves();
+    assert_eq!(rt; leaves.leaf(2), None);
+    assert_eq!(rt; leaves.leaf(1), node.leaf(1));
+    assert_eq!(rt; leaves.leaf(0), node.leaf(0));
     let Value::Pieces(pieces) = node.bytes() else {
         panic!(rt; "one slice");
     };
@@ -119,6 +123,9 @@ fn a_block_may_be_named_often(rt: HostRuntime) -> Result<(), Fail> {
     assert_eq!(rt; node.bytes().len(), 1021);
     assert_eq!(rt; (node.leaf(0), node.leaf(1020)), (span, span));
     assert_eq!(rt; node.leaf(1021), None);
+    let mut leaves = node.leaves();
+    assert_eq!(rt; (leaves.leaf(1020), leaves.leaf(0)), (span, span));
+    assert_eq!(rt; leaves.leaf(1021), None);
     Ok(())
 }
 
