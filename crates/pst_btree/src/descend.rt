@@ -1,4 +1,4 @@
-//! Look-ups that go down one path, and search each page by halving.
+//! Look-ups that go down one path.
 
 ghost use Rattle.std.specs.Prelude.{◌≡◌, ◌+◌, ◌<◌, ◌≤◌, length, OnSome, IfSome};
 ghost use Rattle.pst_page.specs.Entry.{entry_size};

@@ -53,19 +53,16 @@ pub fn bound_of(page: &Page, i: u8, high: Option<u64>) -> Option<u64>
     }
 }
 
-/// How many entries of a page have a key of at most this one, by halving.
+/// How many entries of a page have a key of at most this one. A page has at most 20: they are gone through, which a
+/// processor foresees better than halving.
 pub fn up_to(page: &Page, key: u64) -> u8
     ensures { IsUpTo page.now.kind (bytes_of page.now.image) page.now.bref.ib key result }
 {
-    let mut low = 0;
-    let mut high = page.count();
-    while low < high {
-        let middle = low + (high - low) / 2;
-        if page.key(middle) <= key {
-            low = middle + 1;
-        } else {
-            high = middle;
+    let count = page.count();
+    for i in 0..count {
+        if page.key(i) > key {
+            return i;
         }
     }
-    low
+    count
 }

@@ -169,9 +169,9 @@ impl<'a> Pieces<'a> {
         ensures { AreInside (bytes_of (file_of self.now)) (spans_left self.now) }
     {}
 
-    // How many bytes are left.
+    /// How many bytes are left, in all spans together.
     #[tactic(auto, using(crate::proofs::PartLemmas::length_of_slices))]
-    pub(crate) fn size(&self) -> u64
+    pub fn size(&self) -> u64
         ensures size { result ≡ size_of (spans_left self.now) }
         ensures bytes { result ≡ length (concat (slices_left self.now)) }
     {

@@ -49,18 +49,19 @@ impl ListIndex {
         self.list == cleared(node.bid_sub())
     }
 
-    /// Makes the index of a node's list, where the node has long data; unless it is that one already.
+    /// Makes the index of a node's list, where there is one and the node has long data; unless it is that one already.
     #[tactic(auto, using(crate::proofs::IndexLemmas::index_of_list))]
     pub(crate) fn turn(&mut self, alloc: Global, node: Node) -> Result<(), Fault>
         requires { IsIndexIn (table_of_node node) self.old }
         ensures index { IsIndexIn (table_of_node node.entry) self.new }
         ensures memory { IfErr result (λ f. f ≡ no_memory) }
     {
-        if self.is_of(node) || node.bytes().len() <= FEW {
+        let list = cleared(node.bid_sub());
+        if list == 0 || self.is_of(node) || node.spans().size() <= FEW {
             return Ok(());
         }
         let index = node.index(alloc)?;
-        self.list = cleared(node.bid_sub());
+        self.list = list;
         self.index = index;
         Ok(())
     }
