@@ -13,9 +13,9 @@ use crate::step::next_of;
 use pst_block::Blocks;
 use pst_bytes::Span;
 
-/// The spans of a data tree by their numbers, in any order. Those of one part that are asked for one after another cost no
-/// look-up of the part. The way to another part begins at the last part before it that is marked, every 32nd one of the first
-/// 1,024 that were come to, so fewer than 32 are passed. It takes no memory.
+/// The spans of a data tree by their numbers, in any order. It takes no memory. Spans of one part that are asked for one after
+/// another cost no look-up of the part. Of the first 1,024 parts, every 32nd one is marked when it is first come to: a look-up
+/// begins at the last mark that does not lie behind the span, and passes fewer than 32 parts where all before it were passed.
 #[derive(Clone, Copy)]
 pub struct Leaves<'a> {
     pub(crate) parts: Parts<'a>,
@@ -73,7 +73,8 @@ impl<'a> Leaves<'a> {
         }
     }
 
-    // A part that the span with a number does not lie before, as near to it as is known, and how many spans come before that.
+    // A part from which the span with a number is sought: the last one that is marked, or that was asked for last where that is
+    // nearer; and how many spans come before it.
     fn start(&self, n: u64) -> (u16, u64)
         ensures start { result.1 ≡
             start_of (leaves_table self.now) (leaves_tree self.now) result.0 }
@@ -86,8 +87,7 @@ impl<'a> Leaves<'a> {
         (part, before)
     }
 
-    // The part that has the span with a number, None where none has; and the marks, those of the parts that were passed among
-    // them.
+    // The part that has the span with a number, None where none has; and the marks, with those of the parts that were passed.
     fn find(&self, n: u64) -> (Option<FoundPart>, Marks)
         ensures found { IfSome result.0 (IsFound (leaves_table self.now) (leaves_tree self.now)) }
         ensures has { IfSome result.0 (λ f. HasSpan f n) }

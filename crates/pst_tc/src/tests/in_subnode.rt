@@ -173,7 +173,23 @@ const FULL_BLOCK: Row<'static> = (
     "yes, 1 4c32 67f20003 4 4c80 1, 2 4c3a 67f20003 4 5c78 2, 3 4c42 67f20003 4 6c80 3",
 );
 
-// Rows of 8,176 bytes, a block each, below an XXBLOCK.
+// Rows of 8,176 bytes, a block each, below an XXBLOCK: two of them below its first XBLOCK, and one below its second.
+const TWO_XBLOCKS: [(u64, &[u8]); 3] = [
+    (
+        18,
+        &[
+            1, 1, 2, 0, 0xe0, 0x3f, 0, 0, 8, 0, 0, 0, 0, 0, 0, 0, 12, 0, 0, 0, 0, 0, 0, 0,
+        ],
+    ),
+    (22, &[1, 1, 1, 0, 0xf0, 0x1f, 0, 0, 16, 0, 0, 0, 0, 0, 0, 0]),
+    (
+        26,
+        &[
+            1, 2, 2, 0, 0xd0, 0x5f, 0, 0, 18, 0, 0, 0, 0, 0, 0, 0, 22, 0, 0, 0, 0, 0, 0, 0,
+        ],
+    ),
+];
+
 const LONGEST_ROWS: Row<'static> = (
     &[(18, &[0xef, 0x1f, 0xf0, 0x1f])],
     &[
@@ -181,23 +197,27 @@ const LONGEST_ROWS: Row<'static> = (
         (12, 8176, &[(0, &[2]), (8175, &[0x80])]),
         (16, 8176, &[(0, &[3]), (8175, &[0x80])]),
     ],
-    &[
-        (
-            18,
-            &[
-                1, 1, 2, 0, 0xe0, 0x3f, 0, 0, 8, 0, 0, 0, 0, 0, 0, 0, 12, 0, 0, 0, 0, 0, 0, 0,
-            ],
-        ),
-        (22, &[1, 1, 1, 0, 0xf0, 0x1f, 0, 0, 16, 0, 0, 0, 0, 0, 0, 0]),
-        (
-            26,
-            &[
-                1, 2, 2, 0, 0xd0, 0x5f, 0, 0, 18, 0, 0, 0, 0, 0, 0, 0, 22, 0, 0, 0, 0, 0, 0, 0,
-            ],
-        ),
-    ],
+    &TWO_XBLOCKS,
     26,
     "yes, 1 4c32 67f20003 4 4c80 1, 2 4c3a 67f20003 4 6c80 2, 3 4c42 67f20003 4 8c80 3",
+);
+
+// The same, where the numbers of the rows do not rise: the last block, then the first, then the second.
+const LONGEST_ROWS_SHUFFLED: Row<'static> = (
+    &[
+        (18, &[0xef, 0x1f, 0xf0, 0x1f]),
+        (54, &[2]),
+        (62, &[0]),
+        (70, &[1]),
+    ],
+    &[
+        (8, 8176, &[(0, &[2]), (8175, &[0x80])]),
+        (12, 8176, &[(0, &[3]), (8175, &[0x80])]),
+        (16, 8176, &[(0, &[1]), (8175, &[0x80])]),
+    ],
+    &TWO_XBLOCKS,
+    26,
+    "yes, 1 4c32 67f20003 4 8c80 1, 2 4c3a 67f20003 4 4c80 2, 3 4c42 67f20003 4 6c80 3",
 );
 
 // Rows of 4 bytes, 2,044 to a block, in a table without columns: the first, the last of a block, and the one behind it.
@@ -221,7 +241,13 @@ fn tables_in_subnodes(rt: HostRuntime) -> Result<(), Fail> {
         let image = store(alloc, row)?;
         is_answered(&rt, alloc, &image, 0x21, row.4)?;
     }
-    for row in [IN_ONE_BLOCK, FULL_BLOCK, LONGEST_ROWS, SHORTEST_ROWS] {
+    for row in [
+        IN_ONE_BLOCK,
+        FULL_BLOCK,
+        LONGEST_ROWS,
+        LONGEST_ROWS_SHUFFLED,
+        SHORTEST_ROWS,
+    ] {
         let image = store(alloc, row)?;
         is_answered(&rt, alloc, &image, 0x21, row.4)?;
     }
