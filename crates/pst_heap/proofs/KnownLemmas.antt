@@ -1,13 +1,11 @@
 -- What is known of page maps, and the first fault of a heap by what is looked at before them.
-use Rattle.std.proofs.Common.{◌≡◌, ℕ, zero, suc, ◌<◌, Bool, true, false, List, [], ◌∷◌, ◌++◌, Option, Some, None, refl, sym, ap, ◌∙◌, BTreeSet, ◌⊎◌, inl, inr}
+use Rattle.std.proofs.Common.{◌≡◌, ℕ, ◌<◌, true, false, Option, Some, None, ap, ◌∙◌, inl, inr}
 use Rattle.std.specs.Prelude.{cond, option_map, slice_get}
-use Rattle.std.specs.Ordering.{nat_cmp, eq_by_cmp}
+use Rattle.std.specs.Ordering.{nat_cmp}
 use Rattle.std.specs.BTreeMap.{is_at}
 use Rattle.std.specs.BTreeSet.{contains, IsEmpty}
-use Rattle.std.proofs.lemmas.Map.Lookups.{exact_unsigned}
-use Rattle.std.proofs.lemmas.Map.Views.{tells_apart}
 use Rattle.pst_fault.specs.declared.fault.Fault.{Fault}
-use Rattle.pst_fault.specs.First.{◌then◌, first_below, join_below, IsFirst}
+use Rattle.pst_fault.specs.First.{◌then◌, first_below, IsFirst}
 use Rattle.pst_fault.specs.Each.{first_of}
 use Rattle.pst_fault.proofs.FirstLemmas.{first_at, both_none, then_assoc}
 use Rattle.pst_fault.proofs.EachLemmas.{first_join}

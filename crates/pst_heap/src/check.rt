@@ -12,6 +12,7 @@ ghost use Rattle.pst_heap.specs.Grammar.{IsHeap};
 ghost use Rattle.pst_heap.specs.Fault.{bad_span as bad, extra_fault, front_fault, page_map_fault, heap_fault, client_fault, told_of as told};
 ghost use Rattle.pst_heap.specs.View.{node_of, data_of};
 
+use crate::alone::{check_alone, only_span};
 use crate::heap::Heap;
 use crate::page_map::has_page_map;
 use crate::told::told_of;
@@ -24,7 +25,7 @@ use pst_ndb::Node;
 pub const SPANS: u64 = 65_536;
 
 // The fault of a span.
-fn bad_span(span: Span) -> Fault
+pub(crate) fn bad_span(span: Span) -> Fault
     ensures { result ≡ bad span }
 {
     Fault::at(Kind::Heap, span.at)
@@ -32,7 +33,7 @@ fn bad_span(span: Span) -> Fault
 
 // Whether a span begins with the header of a heap.
 #[tactic(auto, unfolding(crate::specs::PageMap::has_front))]
-fn has_front(image: Image, span: Span) -> bool
+pub(crate) fn has_front(image: Image, span: Span) -> bool
     requires { IsInside (bytes_of image) span }
     ensures { result ≡ front (bytes_of image.entry) span }
 {
@@ -68,7 +69,7 @@ pub(crate) fn check_front(node: &Node) -> Result<Span, Fault>
 
 // The page map of a span.
 #[tactic(auto, unfolding(crate::specs::Fault::page_map_fault))]
-fn check_map(image: Image, span: Span) -> Result<(), Fault>
+pub(crate) fn check_map(image: Image, span: Span) -> Result<(), Fault>
     requires { IsInside (bytes_of image) span }
     ensures exact { result ≡ answer (page_map_fault (bytes_of image.entry) span) tt }
 {
@@ -99,6 +100,9 @@ fn check_all(node: &Node) -> Result<Span, Fault>
         result ≡ answer (heap_fault h) (first_span h.spans) }
     ensures inside { IfOk result (IsInside (data_of_node node.now).image) }
 {
+    if let Some(only) = only_span(node) {
+        return check_alone(node, only);
+    }
     check_few(node)?;
     let first = check_front(node)?;
     check_spans(node.image(), node.spans())?;

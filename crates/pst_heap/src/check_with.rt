@@ -13,6 +13,7 @@ ghost use Rattle.pst_heap.specs.Fault.{page_map_fault, heap_fault, told_of as to
 ghost use Rattle.pst_heap.specs.Maps.{page_maps_fault, start_fault, AreMapsTrue};
 ghost use Rattle.pst_heap.specs.View.{node_of};
 
+use crate::alone::{heap_alone, only_span};
 use crate::check::{check_few, check_front, check_spans};
 use crate::heap::Heap;
 use crate::maps::Maps;
@@ -108,6 +109,9 @@ pub fn check_heap_with<'a>(node: Node<'a>, maps: &mut Maps) -> Result<Heap<'a>, 
         TellsFirst result (option_map (told node.entry) first) }
     ensures node { IfOk result (λ h. node_of h ≡ node.entry) }
 {
+    if let Some(only) = only_span(&node) {
+        return heap_alone(node, only);
+    }
     match check_start(&node) {
         Ok(first) => {
             check_maps_with(&node, maps)?;

@@ -9,6 +9,7 @@
 //! ```
 #![tactic(auto)]
 
+mod alone;
 mod check;
 mod check_with;
 mod heap;
