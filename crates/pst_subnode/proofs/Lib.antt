@@ -2,6 +2,8 @@ pub mod LeftLemmas
 pub mod FindLemmas
 pub mod DistinctLemmas
 pub mod RiseLemmas
+pub mod StampLemmas
+pub mod NumberLemmas
 pub mod RangeLemmas
 pub mod SubLemmas
 pub mod TopLemmas

@@ -1,5 +1,5 @@
 -- What is known of the identifiers in SLBLOCKs is true.
-use Rattle.std.proofs.Common.{◌≡◌, ℕ, Bool, true, false, List, [], Option, Some, None, refl, sym, ap, ◌∙◌}
+use Rattle.std.proofs.Common.{◌≡◌, ℕ, Bool, true, false, Some, None, refl, sym, ◌∙◌}
 use Rattle.std.specs.Prelude.{cond}
 use Rattle.std.specs.Ordering.{nat_cmp, eq_by_cmp}
 use Rattle.std.specs.BTreeMap.{get, IsEmpty, IsUnchanged}
@@ -10,27 +10,28 @@ use Rattle.pst_block.specs.Table.{Table}
 use Rattle.pst_datatree.proofs.KeyLemmas.{entry_same}
 use Rattle.pst_subnode.specs.declared.ranges.NidRange.{NidRange}
 use Rattle.pst_subnode.specs.declared.ranges.Ranges.{Ranges}
-use Rattle.pst_subnode.specs.List.{subs_at, slblock_subs}
-use Rattle.pst_subnode.specs.Ranges.{RiseIn, IsRangeOf, range_of, AreRangesTrue}
+use Rattle.pst_subnode.specs.Numbers.{AreNumbersTrue}
+use Rattle.pst_subnode.specs.Ranges.{IsRangeOf, range_of, AreRangesTrue}
 
 -- nothing is known
-pub no_ranges : (t : Table) (r : Ranges) → IsEmpty r.ranges → AreRangesTrue t r
+pub no_ranges : (t : Table) (r : Ranges) → IsEmpty r.ranges → AreNumbersTrue t r.numbers → AreRangesTrue t r
 unfolding range_of
-no_ranges t r empty = record { holds = λ bid range known. let bad : None ≡ Some range = (rw empty at known) in cc }
+no_ranges t r empty none = record { holds = λ bid range known. let bad : None ≡ Some range = (rw empty at known) in cc; numbers = none }
 
 -- bit 0 of an identifier says nothing
 range_same : (t : Table) (a b : ℕ) (range : NidRange) → bid_key a ≡ bid_key b → IsRangeOf t a range → IsRangeOf t b range
 range_same t a b range same is = rw (← entry_same t a b same) is
 
 -- nothing is put in
-pub range_kept : (t : Table) (old new : Ranges) → IsUnchanged old.ranges new.ranges → AreRangesTrue t old → AreRangesTrue t new
+pub range_kept : (t : Table) (old new : Ranges) → IsUnchanged old.ranges new.ranges → AreRangesTrue t old → new.numbers ≡ old.numbers → AreRangesTrue t new
 unfolding range_of
-range_kept t old new same are = record { holds = λ bid range known. are.holds bid range (rw same at known) }
+range_kept t old new same are others = record { holds = λ bid range known. are.holds bid range (rw same at known); numbers = rw others are.numbers }
 
 -- a range is put in
-pub range_put : (t : Table) (old new : Ranges) (bid : ℕ) (range : NidRange) → ((key : ℕ) → get nat_cmp new.ranges key ≡ cond (eq_by_cmp nat_cmp (bid_key bid) key) (Some range) (get nat_cmp old.ranges key)) → IsRangeOf t bid range → AreRangesTrue t old → AreRangesTrue t new
+pub range_put : (t : Table) (old new : Ranges) (bid : ℕ) (range : NidRange) → ((key : ℕ) → get nat_cmp new.ranges key ≡ cond (eq_by_cmp nat_cmp (bid_key bid) key) (Some range) (get nat_cmp old.ranges key)) → IsRangeOf t bid range → AreRangesTrue t old → new.numbers ≡ old.numbers → AreRangesTrue t new
 unfolding range_of
-range_put t old new bid range put is are = record {
+range_put t old new bid range put is are others = record {
+  numbers = rw others are.numbers;
   holds = λ q other known. by_test q other (eq_by_cmp nat_cmp (bid_key bid) (bid_key q)) refl (sym (put (bid_key q)) ∙ known);
 }
   where

@@ -1,10 +1,9 @@
 -- The equations of a tree of lists.
-use Rattle.std.proofs.Common.{◌≡◌, ℕ, zero, suc, ◌+◌, ◌<◌, max, Bool, true, false, List, [], ◌∷◌, length, Option, Some, None, refl, sym, ◌∙◌, arith}
-use Rattle.std.specs.Prelude.{cond, slice_index_or}
-use Rattle.std.specs.List.{Contains}
+use Rattle.std.proofs.Common.{◌≡◌, ℕ, zero, suc, ◌+◌, max, Bool, true, false, List, [], ◌∷◌, Option, Some, None, refl, sym, ◌∙◌, arith}
+use Rattle.std.specs.Prelude.{cond}
 use Rattle.pst_fault.specs.declared.fault.Fault.{Fault}
-use Rattle.pst_fault.specs.First.{◌then◌, IsFirst}
-use Rattle.pst_fault.proofs.FirstLemmas.{then_none, none_then, is_first_then}
+use Rattle.pst_fault.specs.First.{◌then◌}
+use Rattle.pst_fault.proofs.FirstLemmas.{then_none, none_then}
 use Rattle.pst_block.specs.Table.{Table}
 use Rattle.pst_datatree.specs.Bid.{is_no_block}
 use Rattle.pst_datatree.specs.Data.{data_fault}

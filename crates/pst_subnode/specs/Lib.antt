@@ -4,6 +4,7 @@ pub mod ListBlock
 pub mod Tree
 pub mod Left
 pub mod Index
+pub mod Numbers
 pub mod Ranges
 pub mod Heights
 pub mod Marks

@@ -1,4 +1,4 @@
--- What is known of the identifiers in SLBLOCKs: that they rise, and where they lie.
+-- What is known of the identifiers in SLBLOCKs: that they rise, and where they lie; else their numbers.
 use Rattle.std.specs.Prelude.{◌≡◌, ℕ, ◌+◌, Bool, true, ◌&&◌, nat_le, nat_lt, Option, Some, List, [], ◌∷◌, map}
 use Rattle.std.specs.Ordering.{nat_cmp}
 use Rattle.std.specs.BTreeMap.{get}
@@ -8,6 +8,7 @@ use Rattle.pst_subnode.specs.declared.sub.Sub.{Sub}
 use Rattle.pst_subnode.specs.declared.ranges.NidRange.{NidRange}
 use Rattle.pst_subnode.specs.declared.ranges.Ranges.{Ranges}
 use Rattle.pst_subnode.specs.List.{sub_nid, subs_at, slblock_subs}
+use Rattle.pst_subnode.specs.Numbers.{AreNumbersTrue}
 
 -- Numbers rise: each is above the one before, the first is not below one number, and all are below another.
 unfoldable pub rise_within : ℕ → ℕ → List ℕ → Bool
@@ -26,6 +27,7 @@ IsRangeOf t bid range = RiseIn range (subs_at (slblock_subs t) (entry_of t bid))
 unfoldable pub range_of : Ranges → ℕ → Option NidRange
 range_of r bid = get nat_cmp r.ranges (bid_key bid)
 
--- each range is true
+-- each range is true, and each number
 pub record AreRangesTrue (t : Table) (r : Ranges) : Type 0 where
   pub holds : (bid : ℕ) (range : NidRange) → range_of r bid ≡ Some range → IsRangeOf t bid range
+  pub numbers : AreNumbersTrue t r.numbers

@@ -9,6 +9,7 @@ ghost use Rattle.pst_subnode.specs.List.{bad_list, slblock_fault, list_leaf_faul
 ghost use Rattle.pst_subnode.specs.Left.{subs_left};
 ghost use Rattle.pst_subnode.specs.Ranges.{AreRangesTrue};
 
+use crate::apart::block_is_apart;
 use crate::body::{bid_at, body_in};
 use crate::entries::Subs;
 use crate::list_block::{ListBlock, list_block};
@@ -114,6 +115,9 @@ fn are_distinct(
     ensures memory { IfErr result (λ f. f ≡ no_memory) }
 {
     if block_rises(blocks, entry, ranges)? {
+        return Ok(true);
+    }
+    if block_is_apart(alloc, blocks, entry, ranges)? {
         return Ok(true);
     }
     stand_once(alloc, Subs::of_block(blocks, entry))

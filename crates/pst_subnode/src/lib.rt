@@ -2,6 +2,7 @@
 //! then looked up.
 #![tactic(auto)]
 
+mod apart;
 mod body;
 mod check;
 mod entries;
@@ -12,9 +13,11 @@ mod heights;
 mod index;
 mod laws;
 mod list_block;
+mod numbers;
 mod ranges;
 mod rise;
 mod scan;
+mod stamps;
 mod steps;
 mod sub;
 mod walk;

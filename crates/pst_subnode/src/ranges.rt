@@ -1,5 +1,7 @@
 //! What is already known of the identifiers in SLBLOCKs.
 
+use crate::numbers::Numbers;
+use crate::stamps::Stamps;
 use pst_fault::Fault;
 use pst_page::PageKind;
 use std::alloc::Global;
@@ -12,11 +14,14 @@ pub(crate) struct NidRange {
     pub(crate) end: u64,
 }
 
-// The SLBLOCKs whose identifiers were found to rise, each of which was gone through for that, and where these lie.
+// The SLBLOCKs whose identifiers were found to rise, each of which was gone through for that, and where these lie; and the
+// numbers of identifiers, where they do not rise through an SIBLOCK.
 #[derive(Drop)]
 pub(crate) struct Ranges {
     // By the keys of the SLBLOCKs.
     ranges: BTreeMap<u64, NidRange>,
+    pub(crate) numbers: Numbers,
+    pub(crate) stamps: Stamps,
 }
 
 impl Ranges {
@@ -26,12 +31,13 @@ impl Ranges {
     ghost use Rattle.pst_subnode.specs.Ranges.{range_of, IsRangeOf, AreRangesTrue};
 
     // Nothing is known. No memory is taken.
-    #[tactic(auto, using(crate::proofs::RangeLemmas::no_ranges))]
     pub(crate) fn new(alloc: Global) -> Ranges
         ensures { (t : Table) → AreRangesTrue t result }
     {
         Ranges {
             ranges: BTreeMap::new(alloc),
+            numbers: Numbers::new(alloc),
+            stamps: Stamps::new(alloc),
         }
     }
 
@@ -44,7 +50,6 @@ impl Ranges {
     }
 
     // The identifiers in an SLBLOCK rise within this range; or memory is refused, and all stays as it is.
-    #[tactic(auto, using(crate::proofs::RangeLemmas::range_put, crate::proofs::RangeLemmas::range_kept))]
     pub(crate) fn put(&mut self, bid: u64, range: NidRange) -> Result<(), Fault>
         ensures known { (t : Table) → IsRangeOf t bid range →
             AreRangesTrue t self.old → AreRangesTrue t self.new }

@@ -1,5 +1,6 @@
 mod breaches;
 mod index;
+mod numbers;
 mod sharing;
 
 use super::*;

@@ -104,8 +104,7 @@ fn height_of_slblock(
     ensures walked { let t = table_of blocks.now in
         IsWalked t (λ from. Leads t from bid) seen.old heights.old seen.new heights.new }
     ensures counts { OnOk result (KeepsCounts seen.old heights.old seen.new heights.new) }
-    ensures there { let t = table_of blocks.now in
-        OnOk result (IsKnownList t heights.new bid) }
+    ensures there { let t = table_of blocks.now in OnOk result (IsKnownList t heights.new bid) }
 {
     let list = subs(blocks, bid);
     heights.begin(bid)?;
@@ -214,8 +213,7 @@ fn height_of_siblock(
     ensures walked { let t = table_of blocks.now in
         IsWalked t (λ from. Leads t from bid) seen.old heights.old seen.new heights.new }
     ensures counts { OnOk result (KeepsCounts seen.old heights.old seen.new heights.new) }
-    ensures there { let t = table_of blocks.now in
-        OnOk result (IsKnownList t heights.new bid) }
+    ensures there { let t = table_of blocks.now in OnOk result (IsKnownList t heights.new bid) }
 {
     let count = leaf_count(blocks, bid, entry);
     heights.begin(bid)?;
@@ -253,8 +251,7 @@ fn height_of_list(
     ensures walked { let t = table_of blocks.now in
         IsWalked t (λ from. Leads t from bid) seen.old heights.old seen.new heights.new }
     ensures counts { OnOk result (KeepsCounts seen.old heights.old seen.new heights.new) }
-    ensures there { let t = table_of blocks.now in
-        OnOk result (IsKnownList t heights.new bid) }
+    ensures there { let t = table_of blocks.now in OnOk result (IsKnownList t heights.new bid) }
 {
     check_own_blocks(alloc, blocks, bid, heights)?;
     let Some(entry) = blocks.entry(bid) else {
@@ -286,8 +283,7 @@ pub(crate) fn height_of(
     ensures walked { let t = table_of blocks.now in
         IsWalked t (λ from. Leads t from bid) seen.old heights.old seen.new heights.new }
     ensures counts { OnOk result (KeepsCounts seen.old heights.old seen.new heights.new) }
-    ensures there { let t = table_of blocks.now in
-        OnOk result (IsKnownList t heights.new bid) }
+    ensures there { let t = table_of blocks.now in OnOk result (IsKnownList t heights.new bid) }
 {
     if is_no_block(bid) {
         return Ok(0);

@@ -14,7 +14,7 @@ use Rattle.pst_subnode.specs.Tree.{entry_fault, entry_height, sub_fault, sub_hei
 use Rattle.pst_subnode.proofs.LeafLemmas.{leaf_list, si_fault, si_tells, list_tells, most_start, most_next, most_least}
 use Rattle.pst_subnode.proofs.AddLemmas.{both_known, put_known}
 use Rattle.pst_subnode.proofs.PartLemmas.{slblock_known, siblock_known, entries_done, leaf_next, entry_next}
-use Rattle.pst_subnode.proofs.MarkLemmas.{begin_come, rank_small, rank_none, lower_rank, past_entry, to_entry}
+use Rattle.pst_subnode.proofs.MarkLemmas.{begin_come, rank_small, rank_none, lower_rank, past_entry, to_entry, to_below}
 use Rattle.pst_subnode.proofs.StateLemmas.{to_leaf, to_leaves, same_place, begin_true, same_true, alike_same, alike_marks, known_tells}
 use Rattle.pst_subnode.proofs.SubLemmas.{sub_fault_below, sub_fault_list, most_more, most_end}
 use Rattle.pst_subnode.proofs.WalkLemmas.{IsMarking, walked_alike, walked_behind, counts_behind, walked_none, walked_data, walked_both, walked_entry, walked_leaf, walked_list, walked_leaves, walked_same, walked_forget, walked_settle, counts_none, counts_then, counts_data}
@@ -280,6 +280,13 @@ height_of_siblock-returns-in_ok-settle-in-Ok-clause-there t c =
     put_known table c.height_of_leaves.new.heights c.settle.new.self c.args.bid c.in-Ok.most (omega (arith, least, c.in-Ok.ensures.exact.1)) c.in_ok-settle-in-Ok.ensures.put
 
 -- ---- entries
+
+pub height_of_entry-height_of-requires : goal.height_of_entry-height_of-requires
+height_of_entry-height_of-requires t c =
+    let begun = c.requires.begun in
+    let own = c.in_ok-check_entry_data.ensures in
+    let come = to_below (table_of c.args.blocks.now) c.args.heights.now c.args.limit c.args.sub own.exact.0 begun.come in
+    (omega (arith), record { trees = own.seen; lists = begun.lists; come = come })
 
 pub height_of_entry-returns-in_err-check_entry_data-clause-walked : goal.height_of_entry-returns-in_err-check_entry_data-clause-walked
 height_of_entry-returns-in_err-check_entry_data-clause-walked t c =

@@ -1,0 +1,84 @@
+//! Whether the identifiers in an SIBLOCK are apart, told by their numbers: each SLBLOCK is gone through once for these, however
+//! many SIBLOCKs name it.
+
+ghost use Rattle.std.specs.Prelude.{◌≡◌, ◌+◌, ◌*◌, ◌≤◌, length, map, true, IfOk, IfErr};
+ghost use Rattle.pst_bytes.specs.Image.{bytes_of};
+ghost use Rattle.pst_fault.specs.Fault.{no_memory};
+ghost use Rattle.pst_fault.specs.First.{join_below};
+ghost use Rattle.pst_block.specs.Table.{Table, IsWithin};
+ghost use Rattle.pst_block.specs.Blocks.{table_of};
+ghost use Rattle.pst_datatree.specs.List.{count_in};
+ghost use Rattle.pst_subnode.specs.List.{sub_nid, leaf_subs, block_subs, are_distinct as distinct};
+ghost use Rattle.pst_subnode.specs.Numbers.{AreNumbersTrue};
+ghost use Rattle.pst_subnode.specs.Ranges.{AreRangesTrue};
+
+use crate::body::bid_at;
+use crate::list_block::{ListBlock, list_block};
+use crate::numbers::Numbers;
+use crate::ranges::Ranges;
+use crate::stamps::Stamps;
+use pst_block::{BlockEntry, Blocks};
+use pst_bytes::Image;
+use pst_fault::Fault;
+use std::alloc::Global;
+
+// The SLBLOCKs that an SIBLOCK's body names are gone through, each that was not; or memory ran out.
+fn learn_leaves(
+    alloc: Global,
+    blocks: &Blocks,
+    body: Image,
+    numbers: &mut Numbers,
+) -> Result<(), Fault>
+    requires fits { 8 + 16 * count_in (bytes_of body) ≤ length (bytes_of body) }
+    requires known { AreNumbersTrue (table_of blocks.now) numbers.old }
+    ensures known { AreNumbersTrue (table_of blocks.now) numbers.new }
+    ensures memory { IfErr result (λ f. f ≡ no_memory) }
+{
+    for i in 0..body.number16(2) {
+        numbers.learn(alloc, blocks, bid_at(body, i))?;
+    }
+    Ok(())
+}
+
+// Whether each identifier in the SLBLOCKs that an SIBLOCK's body names is met in this turn for the first time, as far as
+// their numbers are kept.
+fn meet_leaves(body: Image, numbers: &Numbers, stamps: &mut Stamps) -> bool
+    requires { 8 + 16 * count_in (bytes_of body) ≤ length (bytes_of body) }
+    ensures { result ≡ true → (t : Table) → AreNumbersTrue t numbers.now →
+        distinct (map sub_nid
+        (join_below (leaf_subs t (bytes_of body.entry)) (count_in (bytes_of body.entry))))
+        ≡ true }
+{
+    for i in 0..body.number16(2) {
+        let Some(kept) = numbers.kept(bid_at(body, i)) else {
+            return false;
+        };
+        if !stamps.meet_all(kept) {
+            return false;
+        }
+    }
+    true
+}
+
+// Whether the identifiers in a block are apart, if it is an SIBLOCK; or memory ran out. Of other blocks it says nothing.
+#[tactic(auto, using(crate::proofs::BlockLemmas::siblock_all))]
+pub(crate) fn block_is_apart(
+    alloc: Global,
+    blocks: &Blocks,
+    entry: BlockEntry,
+    ranges: &mut Ranges,
+) -> Result<bool, Fault>
+    requires within { IsWithin (table_of blocks.now).image entry }
+    requires known { AreRangesTrue (table_of blocks.now) ranges.old }
+    ensures known { AreRangesTrue (table_of blocks.now) ranges.new }
+    ensures value { IfOk result (λ b. b ≡ true →
+        distinct (map sub_nid (block_subs (table_of blocks.now) entry)) ≡ true) }
+    ensures memory { IfErr result (λ f. f ≡ no_memory) }
+{
+    let ListBlock::Siblock(body) = list_block(blocks, entry) else {
+        return Ok(false);
+    };
+    learn_leaves(alloc, blocks, body, &mut ranges.numbers)?;
+    ranges.stamps.begin(ranges.numbers.count())?;
+    Ok(meet_leaves(body, &ranges.numbers, &mut ranges.stamps))
+}
