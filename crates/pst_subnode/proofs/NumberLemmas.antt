@@ -98,40 +98,36 @@ leaf_have t n bid e b numbers named w have = rw (named, w.is, ← w.bytes) have
 -- ---- what is known
 
 pub no_numbers : (t : Table) (n : Numbers) → IsEmpty n.leaves → AreNumbersTrue t n
-unfolding numbers_kept
-no_numbers t n empty = record { holds = λ bid numbers known. let bad : None ≡ Some numbers = (rw empty at known) in cc }
+unfolding numbers_kept AreNumbersTrue
+no_numbers t n empty = λ bid numbers known. let bad : None ≡ Some numbers = (rw empty at known) in cc
 
 -- a new identifier has a number
 pub numbers_keep : (t : Table) (old new : Numbers) → KeepsNumbers old new → AreNumbersTrue t old → AreNumbersTrue t new
-unfolding numbers_kept
-numbers_keep t old new keeps are = record {
-  holds = λ bid numbers known.
-    record { each = each_kept (number_of old) (number_of new) keeps.stay (map sub_nid (subs_at (slblock_subs t) (entry_of t bid))) numbers.items (are.holds bid numbers (rw keeps.leaves at known)).each };
-}
+unfolding numbers_kept AreNumbersTrue
+numbers_keep t old new keeps are = λ bid numbers known.
+    record { each = each_kept (number_of old) (number_of new) keeps.stay (map sub_nid (subs_at (slblock_subs t) (entry_of t bid))) numbers.items (are bid numbers (rw keeps.leaves at known)).each }
 
 -- nothing is put in
 pub numbers_same : (t : Table) (old new : Numbers) → new.numbers ≡ old.numbers → IsUnchanged old.leaves new.leaves → AreNumbersTrue t old → AreNumbersTrue t new
-unfolding numbers_kept
-numbers_same t old new others same are = record { holds = λ bid numbers known. have_same old new _ _ others (are.holds bid numbers (rw same at known)) }
+unfolding numbers_kept AreNumbersTrue
+numbers_same t old new others same are = λ bid numbers known. have_same old new _ _ others (are bid numbers (rw same at known))
 
 -- the numbers of an SLBLOCK are put in
 pub numbers_put : (t : Table) (old new : Numbers) (bid : ℕ) (numbers : Vec ℕ) → new.numbers ≡ old.numbers → ((key : ℕ) → get nat_cmp new.leaves key ≡ cond (eq_by_cmp nat_cmp (bid_key bid) key) (Some numbers) (get nat_cmp old.leaves key)) → HaveNumbers old (subs_at (slblock_subs t) (entry_of t bid)) numbers.items → AreNumbersTrue t old → AreNumbersTrue t new
-unfolding numbers_kept
-numbers_put t old new bid numbers others put have are = record {
-  holds = λ q kept known. by_test q kept (eq_by_cmp nat_cmp (bid_key bid) (bid_key q)) refl (sym (put (bid_key q)) ∙ known);
-}
+unfolding numbers_kept AreNumbersTrue
+numbers_put t old new bid numbers others put have are = λ q kept known. by_test q kept (eq_by_cmp nat_cmp (bid_key bid) (bid_key q)) refl (sym (put (bid_key q)) ∙ known)
   where
     by_test : (q : ℕ) (kept : Vec ℕ) (v : Bool) → eq_by_cmp nat_cmp (bid_key bid) (bid_key q) ≡ v → cond v (Some numbers) (get nat_cmp old.leaves (bid_key q)) ≡ Some kept → HaveNumbers new (subs_at (slblock_subs t) (entry_of t q)) kept.items
     by_test q kept true here known =
         let same : numbers ≡ kept = cc in
         let entry : entry_of t bid ≡ entry_of t q = entry_same t bid q (tells_apart exact_unsigned (bid_key bid) (bid_key q) here) in
         rw (← same, ← entry) (have_same old new _ _ others have)
-    by_test q kept false here known = have_same old new _ _ others (are.holds q kept known)
+    by_test q kept false here known = have_same old new _ _ others (are q kept known)
 
 -- beside the ranges
 pub with_numbers : (t : Table) (r : Ranges) (n : Numbers) (s : Stamps) → AreRangesTrue t r → AreNumbersTrue t n → AreRangesTrue t (record { ranges = r.ranges; numbers = n; stamps = s })
-unfolding range_of
-with_numbers t r n s are numbers = record { holds = are.holds; numbers = numbers }
+unfolding range_of AreRangesTrue
+with_numbers t r n s are numbers = (are.0, numbers)
 
 -- ---- identifiers whose numbers are distinct
 
@@ -165,10 +161,10 @@ pub no_leaves : (n : Numbers) (s : Stamps) → AreSubsMet n s []
 no_leaves n s = record { numbers = []; have = no_entries n; met = none_met s }
 
 pub leaf_met : (t : Table) (n : Numbers) (s new : Stamps) (body : List ℕ) (i bid : ℕ) (kept : Vec ℕ) → bid ≡ leaf_bid_in body i → numbers_kept n bid ≡ Some kept → ((before : List ℕ) → AreMetOnce s before → AreMetOnce new (before ++ kept.items)) → AreNumbersTrue t n → AreSubsMet n s (join_below (leaf_subs t body) i) → AreSubsMet n new (join_below (leaf_subs t body) (i + 1))
-unfolding leaf_subs
+unfolding leaf_subs AreNumbersTrue
 leaf_met t n s new body i bid kept named is meets are met = record {
   numbers = met.numbers ++ kept.items;
-  have = rw (join_more (leaf_subs t body) i) (joined n (join_below (leaf_subs t body) i) (leaf_subs t body i) met.numbers kept.items met.have (rw named at (are.holds bid kept is)));
+  have = rw (join_more (leaf_subs t body) i) (joined n (join_below (leaf_subs t body) i) (leaf_subs t body i) met.numbers kept.items met.have (rw named at (are bid kept is)));
   met = meets met.numbers met.met;
 }
 

@@ -30,8 +30,8 @@ pub record KeepsNumbers (old new : Numbers) : Type 0 where
   pub leaves : new.leaves ≡ old.leaves
 
 -- those that are kept of each SLBLOCK are the numbers of its identifiers
-pub record AreNumbersTrue (t : Table) (n : Numbers) : Type 0 where
-  pub holds : (bid : ℕ) (numbers : Vec ℕ) → numbers_kept n bid ≡ Some numbers → HaveNumbers n (subs_at (slblock_subs t) (entry_of t bid)) numbers.items
+unfoldable pub AreNumbersTrue : Table → Numbers → Type 0
+AreNumbersTrue t n = (bid : ℕ) (numbers : Vec ℕ) → numbers_kept n bid ≡ Some numbers → HaveNumbers n (subs_at (slblock_subs t) (entry_of t bid)) numbers.items
 
 -- numbers were met in this turn, and none stands twice among them
 pub record AreMetOnce (s : Stamps) (numbers : List ℕ) : Type 0 where

@@ -28,6 +28,5 @@ unfoldable pub range_of : Ranges → ℕ → Option NidRange
 range_of r bid = get nat_cmp r.ranges (bid_key bid)
 
 -- each range is true, and each number
-pub record AreRangesTrue (t : Table) (r : Ranges) : Type 0 where
-  pub holds : (bid : ℕ) (range : NidRange) → range_of r bid ≡ Some range → IsRangeOf t bid range
-  pub numbers : AreNumbersTrue t r.numbers
+unfoldable pub AreRangesTrue : Table → Ranges → Type 0
+AreRangesTrue t r = ((bid : ℕ) (range : NidRange) → range_of r bid ≡ Some range → IsRangeOf t bid range) × AreNumbersTrue t r.numbers

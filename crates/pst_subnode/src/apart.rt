@@ -61,7 +61,7 @@ fn meet_leaves(body: Image, numbers: &Numbers, stamps: &mut Stamps) -> bool
 }
 
 // Whether the identifiers in a block are apart, if it is an SIBLOCK; or memory ran out. Of other blocks it says nothing.
-#[tactic(auto, using(crate::proofs::BlockLemmas::siblock_all))]
+#[tactic(auto, using(crate::proofs::BlockLemmas::siblock_all, crate::proofs::RangeLemmas::known_numbers))]
 pub(crate) fn block_is_apart(
     alloc: Global,
     blocks: &Blocks,

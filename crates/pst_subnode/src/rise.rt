@@ -50,6 +50,7 @@ fn range_of_leaf(blocks: &Blocks, bid: u64) -> Option<NidRange>
 }
 
 // The same, which is known from now on; or memory ran out.
+#[tactic(auto, using(crate::proofs::RangeLemmas::known_range))]
 fn known_range(blocks: &Blocks, bid: u64, ranges: &mut Ranges) -> Result<Option<NidRange>, Fault>
     requires { AreRangesTrue (table_of blocks.now) ranges.old }
     ensures known { AreRangesTrue (table_of blocks.now) ranges.new }
