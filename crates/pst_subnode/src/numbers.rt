@@ -1,4 +1,5 @@
-//! Numbers of identifiers, which are smaller than a set of them is: each identifier that was met has one, and keeps it.
+//! Numbers of identifiers: each that was met has one and keeps it, so that a table with a place for each number tells whether it
+//! was met before, and no set is made anew.
 
 use crate::body::nid_at;
 use crate::list_block::{ListBlock, list_block};
@@ -54,7 +55,8 @@ impl Numbers {
         self.leaves.get(&PageKind::Bbt.key_of(bid))
     }
 
-    // The number of an identifier: a new one, where it was not met; or memory is refused.
+    // The number of an identifier: a new one, where it was not met; or memory is refused. Where numbers run out several
+    // identifiers have the last.
     fn number(&mut self, nid: u32) -> Result<u32, Fault>
         ensures value { IfOk result (λ number. number_of self.new nid ≡ Some number) }
         ensures keeps { KeepsNumbers self.old self.new }
