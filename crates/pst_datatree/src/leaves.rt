@@ -92,7 +92,8 @@ impl<'a> Leaves<'a> {
         ensures found { IfSome result.0 (IsFound (leaves_table self.now) (leaves_tree self.now)) }
         ensures has { IfSome result.0 (λ f. HasSpan f n) }
         ensures none { IfNone result.0 (slice_get (leaves_spans self.now) n ≡ None) }
-        ensures marks { AreMarks (start_of (leaves_table self.now) (leaves_tree self.now)) result.1 }
+        ensures marks { let start = start_of (leaves_table self.now) (leaves_tree self.now) in
+            AreMarks start result.1 }
     {
         let count = self.parts.count();
         let mut marks = self.marks;

@@ -26,7 +26,7 @@ use Rattle.pst_subnode.specs.declared.stamps.Stamps.{Stamps}
 use Rattle.pst_subnode.specs.Body.{leaf_bid_in, sub_in, sub_at, subs_in}
 use Rattle.pst_subnode.specs.List.{sub_nid, subs_at, slblock_subs, leaf_subs, are_distinct}
 use Rattle.pst_subnode.specs.ListBlock.{HasEntries}
-use Rattle.pst_subnode.specs.Numbers.{number_of, numbers_kept, HaveNumbers, KeepsNumbers, AreNumbersTrue, AreMetOnce, AreSubsMet}
+use Rattle.pst_subnode.specs.Numbers.{nid_number, numbers_kept, HaveNumbers, KeepsNumbers, AreNumbersTrue, AreMetOnce, AreSubsMet}
 use Rattle.pst_subnode.specs.Ranges.{range_of, AreRangesTrue}
 use Rattle.pst_subnode.proofs.StampLemmas.{none_met}
 
@@ -49,12 +49,12 @@ keeps_more a b c one two = record { stay = λ nid number known. two.stay nid num
 
 -- no identifier has another number
 pub keeps_same : (old new : Numbers) → IsUnchanged old.numbers new.numbers → new.leaves ≡ old.leaves → KeepsNumbers old new
-unfolding number_of
+unfolding nid_number
 keeps_same old new same leaves = record { stay = λ nid number known. rw same known; leaves = leaves }
 
 -- an identifier that had no number has one
 pub keeps_put : (old new : Numbers) (nid number : ℕ) → get nat_cmp old.numbers nid ≡ None → ((key : ℕ) → get nat_cmp new.numbers key ≡ cond (eq_by_cmp nat_cmp nid key) (Some number) (get nat_cmp old.numbers key)) → new.leaves ≡ old.leaves → KeepsNumbers old new
-unfolding number_of
+unfolding nid_number
 keeps_put old new nid number none put leaves = record { stay = λ q k known. put q ∙ by_test q k (eq_by_cmp nat_cmp nid q) refl known; leaves = leaves }
   where
     by_test : (q k : ℕ) (v : Bool) → eq_by_cmp nat_cmp nid q ≡ v → get nat_cmp old.numbers q ≡ Some k → cond v (Some number) (get nat_cmp old.numbers q) ≡ Some k
@@ -64,14 +64,14 @@ keeps_put old new nid number none put leaves = record { stay = λ q k known. put
         let bad : None ≡ Some k = sym none ∙ rw (← same) at known in
         cc
 
-pub number_put : (n : Numbers) (old : BTreeMap ℕ ℕ) (nid number : ℕ) → ((key : ℕ) → get nat_cmp n.numbers key ≡ cond (is_at (nat_cmp nid) key) (Some number) (get nat_cmp old key)) → number_of n nid ≡ Some number
-unfolding number_of
+pub number_put : (n : Numbers) (old : BTreeMap ℕ ℕ) (nid number : ℕ) → ((key : ℕ) → get nat_cmp n.numbers key ≡ cond (is_at (nat_cmp nid) key) (Some number) (get nat_cmp old key)) → nid_number n nid ≡ Some number
+unfolding nid_number
 number_put n old nid number put = put nid ∙ ap (λ b. cond b (Some number) (get nat_cmp old nid)) (unsigned_tied nid nid ∙ test_of_number nid nid refl)
 
 -- the numbers of identifiers are as they were
 have_same : (old new : Numbers) (subs : List Sub) (numbers : List ℕ) → new.numbers ≡ old.numbers → HaveNumbers old subs numbers → HaveNumbers new subs numbers
-unfolding number_of
-have_same old new subs numbers same have = record { each = each_kept (number_of old) (number_of new) (λ nid number known. rw same known) (map sub_nid subs) numbers have.each }
+unfolding nid_number
+have_same old new subs numbers same have = record { each = each_kept (nid_number old) (nid_number new) (λ nid number known. rw same known) (map sub_nid subs) numbers have.each }
 
 -- ---- numbers of entries
 
@@ -80,13 +80,13 @@ no_entries n = record { each = refl }
 
 joined : (n : Numbers) (xs ys : List Sub) (ks js : List ℕ) → HaveNumbers n xs ks → HaveNumbers n ys js → HaveNumbers n (xs ++ ys) (ks ++ js)
 joined n xs ys ks js one two = record {
-  each = rw (map-append sub_nid xs ys, map-append (number_of n) (map sub_nid xs) (map sub_nid ys), one.each, two.each) (sym (map-append Some ks js));
+  each = rw (map-append sub_nid xs ys, map-append (nid_number n) (map sub_nid xs) (map sub_nid ys), one.each, two.each) (sym (map-append Some ks js));
 }
 
 -- one entry more
-pub entry_numbered : (old new : Numbers) (body : List ℕ) (i nid number : ℕ) (numbers : List ℕ) → nid ≡ (sub_in body i).nid → number_of new nid ≡ Some number → KeepsNumbers old new → HaveNumbers old (join_below (sub_at body) i) numbers → HaveNumbers new (join_below (sub_at body) (i + 1)) (numbers ++ number ∷ [])
+pub entry_numbered : (old new : Numbers) (body : List ℕ) (i nid number : ℕ) (numbers : List ℕ) → nid ≡ (sub_in body i).nid → nid_number new nid ≡ Some number → KeepsNumbers old new → HaveNumbers old (join_below (sub_at body) i) numbers → HaveNumbers new (join_below (sub_at body) (i + 1)) (numbers ++ number ∷ [])
 entry_numbered old new body i nid number numbers is known keeps have =
-    let before : HaveNumbers new (join_below (sub_at body) i) numbers = record { each = each_kept (number_of old) (number_of new) keeps.stay (map sub_nid (join_below (sub_at body) i)) numbers have.each } in
+    let before : HaveNumbers new (join_below (sub_at body) i) numbers = record { each = each_kept (nid_number old) (nid_number new) keeps.stay (map sub_nid (join_below (sub_at body) i)) numbers have.each } in
     let one : HaveNumbers new (sub_at body i) (number ∷ []) = record { each = rw (← is, known) refl } in
     rw (join_more (sub_at body) i) (joined new (join_below (sub_at body) i) (sub_at body i) numbers (number ∷ []) before one)
 
@@ -105,7 +105,7 @@ no_numbers t n empty = λ bid numbers known. let bad : None ≡ Some numbers = (
 pub numbers_keep : (t : Table) (old new : Numbers) → KeepsNumbers old new → AreNumbersTrue t old → AreNumbersTrue t new
 unfolding numbers_kept AreNumbersTrue
 numbers_keep t old new keeps are = λ bid numbers known.
-    record { each = each_kept (number_of old) (number_of new) keeps.stay (map sub_nid (subs_at (slblock_subs t) (entry_of t bid))) numbers.items (are bid numbers (rw keeps.leaves at known)).each }
+    record { each = each_kept (nid_number old) (nid_number new) keeps.stay (map sub_nid (subs_at (slblock_subs t) (entry_of t bid))) numbers.items (are bid numbers (rw keeps.leaves at known)).each }
 
 -- nothing is put in
 pub numbers_same : (t : Table) (old new : Numbers) → new.numbers ≡ old.numbers → IsUnchanged old.leaves new.leaves → AreNumbersTrue t old → AreNumbersTrue t new
@@ -169,4 +169,4 @@ leaf_met t n s new body i bid kept named is meets are met = record {
 }
 
 pub met_distinct : (n : Numbers) (s : Stamps) (subs : List Sub) → AreSubsMet n s subs → are_distinct (map sub_nid subs) ≡ true
-met_distinct n s subs met = by_numbers (number_of n) (map sub_nid subs) met.numbers met.have.each met.met.once
+met_distinct n s subs met = by_numbers (nid_number n) (map sub_nid subs) met.numbers met.have.each met.met.once

@@ -13,8 +13,8 @@ use Rattle.pst_subnode.specs.declared.stamps.Stamps.{Stamps}
 use Rattle.pst_subnode.specs.List.{sub_nid, subs_at, slblock_subs, are_distinct}
 
 -- the number of an identifier, if it has one
-unfoldable pub number_of : Numbers → ℕ → Option ℕ
-number_of n nid = get nat_cmp n.numbers nid
+unfoldable pub nid_number : Numbers → ℕ → Option ℕ
+nid_number n nid = get nat_cmp n.numbers nid
 
 -- the numbers that are kept of the SLBLOCK of a block identifier, whose bit 0 says nothing
 unfoldable pub numbers_kept : Numbers → ℕ → Option (Vec ℕ)
@@ -22,11 +22,11 @@ numbers_kept n bid = get nat_cmp n.leaves (bid_key bid)
 
 -- the identifiers of entries have these numbers, in order
 pub record HaveNumbers (n : Numbers) (subs : List Sub) (numbers : List ℕ) : Type 0 where
-  pub each : map (number_of n) (map sub_nid subs) ≡ map Some numbers
+  pub each : map (nid_number n) (map sub_nid subs) ≡ map Some numbers
 
 -- each number stays, and so do those that are kept of SLBLOCKs
 pub record KeepsNumbers (old new : Numbers) : Type 0 where
-  pub stay : (nid number : ℕ) → number_of old nid ≡ Some number → number_of new nid ≡ Some number
+  pub stay : (nid number : ℕ) → nid_number old nid ≡ Some number → nid_number new nid ≡ Some number
   pub leaves : new.leaves ≡ old.leaves
 
 -- those that are kept of each SLBLOCK are the numbers of its identifiers

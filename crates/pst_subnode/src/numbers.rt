@@ -29,7 +29,7 @@ impl Numbers {
     ghost use Rattle.pst_datatree.specs.List.{count_in};
     ghost use Rattle.pst_subnode.specs.Body.{subs_in};
     ghost use Rattle.pst_subnode.specs.List.{subs_at, slblock_subs};
-    ghost use Rattle.pst_subnode.specs.Numbers.{number_of, numbers_kept, HaveNumbers, KeepsNumbers, AreNumbersTrue};
+    ghost use Rattle.pst_subnode.specs.Numbers.{nid_number, numbers_kept, HaveNumbers, KeepsNumbers, AreNumbersTrue};
 
     // No identifier was met. No memory is taken.
     #[tactic(auto, using(crate::proofs::NumberLemmas::no_numbers))]
@@ -58,7 +58,7 @@ impl Numbers {
     // The number of an identifier: a new one, where it was not met; or memory is refused. Where numbers run out several
     // identifiers have the last.
     fn number(&mut self, nid: u32) -> Result<u32, Fault>
-        ensures value { IfOk result (λ number. number_of self.new nid ≡ Some number) }
+        ensures value { IfOk result (λ number. nid_number self.new nid ≡ Some number) }
         ensures keeps { KeepsNumbers self.old self.new }
         ensures memory { IfErr result (λ f. f ≡ no_memory) }
     {

@@ -1,12 +1,12 @@
 use Rattle.std.proofs.Common.{rules, ◌≡◌, None, refl}
 use Rattle.std.specs.Ordering.{nat_cmp}
 use Rattle.std.specs.BTreeMap.{get}
-use Rattle.pst_subnode.specs.Numbers.{number_of}
+use Rattle.pst_subnode.specs.Numbers.{nid_number}
 use Rattle.pst_subnode.proofs.NumberLemmas.{keeps_same, keeps_put, number_put}
 use Rattle.pst_subnode.proofs.numbers.Numbers.number.Goals as goal
 
 pub returns-in-Some-clause-value : goal.returns-in-Some-clause-value
-unfolding number_of
+unfolding nid_number
 returns-in-Some-clause-value c = search rules
 
 pub returns-in_err-_new-clause-keeps : goal.returns-in_err-_new-clause-keeps
