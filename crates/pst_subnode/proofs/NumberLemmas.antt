@@ -6,7 +6,7 @@ use Rattle.std.specs.List.{list_any}
 use Rattle.std.specs.Ordering.{nat_cmp, eq_by_cmp}
 use Rattle.std.specs.BTreeMap.{BTreeMap, get, is_at, IsEmpty, IsUnchanged}
 use Rattle.std.specs.Cmp.{unsigned_tied}
-use Rattle.std.proofs.lemmas.Bool.{ne_eqb, and_parts, or_parts}
+use Rattle.std.proofs.lemmas.Bool.{ne_eqb, and_parts, or_parts, not-true}
 use Rattle.std.proofs.lemmas.List.{map-append}
 use Rattle.std.proofs.lemmas.Map.Lookups.{exact_unsigned}
 use Rattle.std.proofs.lemmas.Map.Views.{tells_apart}
@@ -141,10 +141,6 @@ none_numbered f x k (y ∷ ys) (j ∷ js) is are none =
     let other : x ≡ y → ⊥ = λ same. (let one : k ≡ j = cc in true_false (nat_eq k j) (test_of_number k j one) p.0) in
     rw (ne_eqb x y other, none_numbered f x k ys js is others p.1) refl
 
-is_not : (b : Bool) → not b ≡ true → b ≡ false
-is_not true e = cc
-is_not false e = refl
-
 by_numbers : (f : ℕ → Option ℕ) (xs ks : List ℕ) → map f xs ≡ map Some ks → are_distinct ks ≡ true → are_distinct xs ≡ true
 unfolding are_distinct
 by_numbers f [] ks have are = refl
@@ -153,7 +149,7 @@ by_numbers f (x ∷ xs) (k ∷ ks) have are =
     let first : f x ≡ Some k = cc in
     let others : map f xs ≡ map Some ks = cc in
     let p = and_parts (not (list_any (nat_eq k) ks)) (are_distinct ks) are in
-    rw (none_numbered f x k xs ks first others (is_not _ p.0), by_numbers f xs ks others p.1) refl
+    rw (none_numbered f x k xs ks first others (not-true _ p.0), by_numbers f xs ks others p.1) refl
 
 -- ---- SLBLOCK after SLBLOCK
 

@@ -3,7 +3,7 @@ use Rattle.std.proofs.Common.{◌≡◌, ◌≢◌, ℕ, ◌<◌, Bool, true, fa
 use Rattle.std.specs.Prelude.{not, ◌||◌, nat_eq, slice_get}
 use Rattle.std.specs.List.{list_any}
 use Rattle.std.proofs.Math.ListN.{set, length-set}
-use Rattle.std.proofs.lemmas.Bool.{ne_eqb, and_parts, or_parts}
+use Rattle.std.proofs.lemmas.Bool.{ne_eqb, and_parts, or_parts, not-true}
 use Rattle.std.proofs.lemmas.List.{get_or-set_same, get_or-set_other}
 use Rattle.std.proofs.lemmas.List.Folds.{list_any-append}
 use Rattle.std.proofs.lemmas.Option.{slice_get-get_or, slice_get_within, get_or_from_slice_get}
@@ -17,17 +17,13 @@ use Rattle.pst_subnode.specs.Numbers.{AreMetOnce}
 none_more : (x n : ℕ) (xs : List ℕ) → (n ≡ x → ⊥) → list_any (nat_eq x) xs ≡ false → list_any (nat_eq x) (xs ++ n ∷ []) ≡ false
 none_more x n xs other none = list_any-append (nat_eq x) xs (n ∷ []) ∙ rw (none, ne_eqb x n (λ same. other (sym same))) refl
 
-is_not : (b : Bool) → not b ≡ true → b ≡ false
-is_not true e = cc
-is_not false e = refl
-
 distinct_more : (xs : List ℕ) (n : ℕ) → are_distinct xs ≡ true → list_any (nat_eq n) xs ≡ false → are_distinct (xs ++ n ∷ []) ≡ true
 unfolding are_distinct
 distinct_more [] n are none = refl
 distinct_more (x ∷ rest) n are none =
     let p = and_parts (not (list_any (nat_eq x) rest)) (are_distinct rest) are in
     let q = or_parts (nat_eq n x) (list_any (nat_eq n) rest) none in
-    rw (none_more x n rest (λ same. true_false (nat_eq n x) (test_of_number n x same) q.0) (is_not _ p.0), distinct_more rest n p.1 q.1) refl
+    rw (none_more x n rest (λ same. true_false (nat_eq n x) (test_of_number n x same) q.0) (not-true _ p.0), distinct_more rest n p.1 q.1) refl
 
 -- ---- stamps
 
@@ -70,7 +66,3 @@ one_met old new n before turn items within other are = record {
         by_other true met =
             let stamp : slice_get old.stamps.items q ≡ Some old.turn = are.met q met in
             slice_get-set_other old.stamps.items n q old.turn (λ same. true_false (nat_eq q n) (test_of_number q n same) is) (slice_get_within old.stamps.items q old.turn stamp) ∙ stamp
-
--- numbers after numbers
-pub more_met : (s : Stamps) (one two : List ℕ) → one ≡ two → AreMetOnce s one → AreMetOnce s two
-more_met s one two same are = rw (← same) are
