@@ -19,6 +19,9 @@ use pst_verify::{Folder, Folders, Store};
 use serde_json::{Value as Doc, json};
 use std::alloc::{AllocError, Global};
 
+// How many bytes the row of a folder takes, where its name is short and it has no subfolders.
+const ROOM: usize = 96;
+
 // How many rows a table has, 0 where it is not there.
 fn count_of(table: Option<Tc>) -> u64
     ensures { (t : Table) → IfSome table.entry (λ x. table_of_node (node_of_tc x) ≡ t)
@@ -92,6 +95,15 @@ pub fn folders_doc(alloc: Global, store: &Store) -> Result<Doc, AllocError>
     json!(in alloc; {"folders": docs})
 }
 
+// How many bytes the rows of folders take, where their names are short.
+fn room_for(folders: Folders) -> usize {
+    let mut room = 0usize;
+    for _folder in folders {
+        room = room.saturating_add(ROOM);
+    }
+    room
+}
+
 // Puts folders and the bracket that closes their list behind a text.
 #[tactic(auto, using(pst_value_json::proofs::RowLemmas::put_next, pst_value_json::proofs::RowLemmas::put_end, crate::proofs::FolderLemmas::folder_has_none))]
 fn put_folders(alloc: Global, folders: Folders, text: &mut Vec<u8>) -> Result<(), AllocError>
@@ -111,13 +123,14 @@ fn put_folders(alloc: Global, folders: Folders, text: &mut Vec<u8>) -> Result<()
 }
 
 /// The line that shows the folders of a store: the compact text of their document, and a line feed. It is made folder by
-/// folder: beside the text, memory is taken for one folder at a time.
+/// folder: beside the text, memory is taken for one folder at a time. Room for all of them is taken at the start, so that a
+/// long text need not be moved while it grows.
 #[tactic(auto, using(crate::proofs::FolderLemmas::folders_line_of))]
 pub fn folders_line(alloc: Global, store: &Store) -> Result<Vec<u8>, AllocError>
     ensures { let ndb = ndb_of_store store.now in
         IfOk result (λ t. t.items ≡ line_of_folders (table_of_ndb ndb) (nodes_of ndb)) }
 {
-    let mut text = Vec::new(alloc);
+    let mut text = Vec::with_capacity(alloc, room_for(store.folders()))?;
     text.extend_from_slice(b"{\"folders\":[")?;
     put_folders(alloc, store.folders(), &mut text)?;
     text.extend_from_slice(b"}\n")?;
