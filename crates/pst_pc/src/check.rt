@@ -20,7 +20,7 @@ use pst_bytes::Span;
 use pst_fault::Fault;
 use pst_heap::{Heap, Maps, check_client, check_heap, check_heap_with};
 use pst_ndb::{Node, SubIndex};
-use pst_value::{PropType, resolve_by};
+use pst_value::{PropType, check_value_by};
 
 // The value of a record.
 #[tactic(auto, unfolding(crate::specs::Fault::property_fault))]
@@ -38,8 +38,7 @@ fn check_property(heap: &Heap, index: &SubIndex, id: u32, content: Span) -> Resu
         at: content.at + 2,
         len: 4,
     };
-    resolve_by(heap, index, kind, content.at - 2, raw)?;
-    Ok(())
+    check_value_by(heap, index, kind, content.at - 2, raw)
 }
 
 // The values of all records, in order.

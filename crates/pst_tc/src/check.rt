@@ -24,7 +24,7 @@ use pst_bytes::Span;
 use pst_fault::{Fault, Kind};
 use pst_heap::{Heap, check_client, check_heap, told_of};
 use pst_ndb::{Node, SubIndex};
-use pst_value::{PropType, missing_at, resolve_by};
+use pst_value::{PropType, check_value_by, missing_at};
 
 // The cell of a column in a row.
 #[tactic(auto, unfolding(crate::specs::Fault::cell_fault), using(crate::proofs::InfoLemmas::cell_inside, crate::proofs::TypedLemmas::typed_room, crate::proofs::TypedLemmas::typed_is))]
@@ -57,8 +57,7 @@ fn check_cell(
         at: row.at + u64::from(image.number16(column + 4)),
         len: u64::from(image.number8(column + 6)),
     };
-    resolve_by(heap, index, kind, raw.at, raw)?;
-    Ok(())
+    check_value_by(heap, index, kind, raw.at, raw)
 }
 
 // The cells of a row, in the order of their columns.

@@ -137,6 +137,32 @@ pub fn resolve_by<'a>(
     }
 }
 
+/// Checks the value of a type in a raw span as `resolve_by` does, and gives none: a value that stands in the raw span itself
+/// costs no look-up.
+#[tactic(auto, unfolding(crate::specs::Fault::value_fault))]
+pub fn check_value_by(
+    heap: &Heap,
+    index: &SubIndex,
+    kind: PropType,
+    place: u64,
+    raw: Span,
+) -> Result<(), Fault>
+    requires index { IsIndexedBy (node_of heap.now) index.now }
+    requires inside { IsInside (data_of heap.now).image raw }
+    requires hnid { held_of kind.0 raw.len ≡ None → 4 ≤ raw.len }
+    ensures exact { let node = node_of heap.now in
+        let first = value_fault (table_of_node node) (roots_of node) kind.0 place raw in
+        Checks result (option_map (told node) first) }
+{
+    if held(kind, raw.len).is_some() {
+        return Ok(());
+    }
+    match hnid_value(heap, index, kind, place, raw.at) {
+        Ok(_) => Ok(()),
+        Err(fault) => Err(told_of(&heap.node(), fault)),
+    }
+}
+
 /// The value of a type in a raw span, as `resolve` gives it; Property is told at `place`, where the record or the cell begins
 /// that has the raw span.
 pub fn resolve_at<'a>(

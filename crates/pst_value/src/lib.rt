@@ -22,7 +22,7 @@ mod read;
 mod several;
 mod units;
 
-pub use check::{known_value, resolve, resolve_at, resolve_by};
+pub use check::{check_value_by, known_value, resolve, resolve_at, resolve_by};
 pub use class::Class;
 pub use elements::{Elements, elements_from, multi};
 pub use laws::{value_decides, value_is_of_no_place, values_are_of_keys};

@@ -7,15 +7,15 @@ use Rattle.pst_tc.proofs.InfoLemmas.{cell_inside}
 use Rattle.pst_tc.proofs.TypedLemmas.{typed_is, typed_room}
 use Rattle.pst_tc.proofs.check.check_cell.Goals as goal
 
-pub resolve_by-requires-clause-inside : goal.resolve_by-requires-clause-inside
-resolve_by-requires-clause-inside c =
+pub check_value_by-requires-clause-inside : goal.check_value_by-requires-clause-inside
+check_value_by-requires-clause-inside c =
     let I = (table_of_node (node_of c.args.heap.now)).image in
     let at : c.from.result ≡ column_start I c.args.column = cc (c.from.ensures, c.number16-2.ensures, c.image-image.ensures.bytes) in
     let len : c.from-2.result ≡ column_width I c.args.column = cc (c.from-2.ensures, c.number8.ensures, c.image-image.ensures.bytes) in
     omega (arith, at, len, c.requires.row, c.requires.size, cell_inside I c.args.info c.args.column c.requires.good)
 
-pub resolve_by-requires-clause-hnid : goal.resolve_by-requires-clause-hnid
-resolve_by-requires-clause-hnid c = λ none.
+pub check_value_by-requires-clause-hnid : goal.check_value_by-requires-clause-hnid
+check_value_by-requires-clause-hnid c = λ none.
     let I = (table_of_node (node_of c.args.heap.now)).image in
     let len : c.from-2.result ≡ column_width I c.args.column = cc (c.from-2.ensures, c.number8.ensures, c.image-image.ensures.bytes) in
     let kind : c.number16.result ≡ column_kind I c.args.column = cc (c.number16.ensures, c.image-image.ensures.bytes) in
