@@ -9,7 +9,9 @@ ghost use Rattle.pst_subnode.specs.Tree.{sub_fault};
 use pst_block::Blocks;
 use pst_btree::NodeEntry;
 use pst_bytes::{Image, Span};
-use pst_datatree::{Leaves, Parts, Pieces, Value, data_lies_inside, leaf, leaf_count, spans, value};
+use pst_datatree::{
+    Leaves, Parts, Pieces, Value, data_lies_inside, leaf, leaf_count, spans, value,
+};
 use pst_fault::Fault;
 use pst_subnode::{Sub, SubIndex, Subs, find_sub_by, subs};
 use std::alloc::Global;

@@ -8,7 +8,7 @@ use pst_datatree::Value;
 use pst_fault::Place;
 use pst_heap::{Heap, check_heap};
 use pst_make::{BlockPlan, NodePlan, Plan, build};
-use pst_ndb::check_ndb;
+use pst_ndb::{SubIndex, check_ndb};
 use std::alloc::Global;
 use std::process::Abort;
 use std::test::Fail;
@@ -149,18 +149,21 @@ fn heap_in(alloc: Global, image: &[u8]) -> Result<Heap<'_>, Fail> {
     check_heap(node).map_err(|_| Fail::from("no heap"))
 }
 
-// What a type has in the four bytes at an offset, as a byte of ROWS.
+// What a type has in the four bytes at an offset, as a byte of ROWS. A check says the same.
 fn told<R: Abort>(rt: &R, heap: &Heap, kind: u16, at: u64) -> Result<u8, Fail> {
     if heap.image().len() < 100_000 || at > 50_000 {
         return Err(Fail::from("past the end"));
     }
     let raw = Span { at, len: 4 };
+    let checked = check_value_by(heap, &SubIndex::none(), PropType(kind), at, raw);
     match resolve(heap.node(), heap, PropType(kind), raw) {
         Ok(value) => {
+            assert!(rt; checked.is_ok());
             let digits = b"0123456789abcdefgh";
             Ok(*digits.get(value.len() as usize).ok_or("too long")?)
         }
         Err(fault) => {
+            assert_eq!(rt; checked, Err(fault));
             assert_eq!(rt;
                 fault.place,
                 Place {
