@@ -1,7 +1,7 @@
 #!/usr/bin/env python3
-"""Prints the tables of pst_crc/src/table.rt: column i of a row is what a register of 32 bits becomes when the byte i alone
-leaves it, and so many bytes of 0 after it: k bytes in row k of the first table, 124 + k in row k of the second. The
-crate's own proof computes them again from the definition."""
+"""Prints the tables of pst_crc/src/table.rt and pst_crc/src/far_table.rt: column i of a row is what a register of 32
+bits becomes when the byte i alone leaves it, and so many bytes of 0 after it: k bytes in row k of the first table,
+124 + k in row k of the second. The crate's own proof computes them again from the definition."""
 
 POLYNOMIAL = 0xEDB88320
 

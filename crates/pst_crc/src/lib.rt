@@ -4,6 +4,7 @@
 ghost use Rattle.std.specs.Prelude.{◌≡◌, ◌+◌, ◌*◌, ◌%◌, ◌<◌, length, fold, bit_xor};
 ghost use Rattle.pst_crc.specs.Crc.{after_byte, crc, shifted_by, signature_of};
 
+mod far_table;
 mod streams;
 mod table;
 

@@ -5,7 +5,7 @@ ghost use Rattle.std.specs.Prelude.{◌≡◌, ◌+◌, ◌*◌, ◌%◌, ◌<�
 ghost use Rattle.pst_crc.specs.Crc.{after_byte, shifted_by};
 
 use crate::after_sixteen;
-use crate::table::leaving_far;
+use crate::far_table::leaving_far;
 
 // What the lowest byte of a register adds, where 124 + k bytes stand above it.
 fn lowest_far(k: usize, register: u32) -> u32
