@@ -56,9 +56,6 @@ some_unmarked order I claimed f e =
 
 -- ---- the order
 
-none_is_some : (o : Option Fault) (f : Fault) → o ≡ None → o ≡ Some f → ⊥
-none_is_some o f e g = cc
-
 order_known : (I : List ℕ) (claimed : Claimed) (high low : Option Fault) → marks_fault High I claimed ≡ high → marks_fault Low I claimed ≡ low → missing_of high low ≡ None
     → IsMarked (order_from high) I claimed × (order_from high ≡ Low → (unit : ℕ) × (unit < length claimed) × (flag_of claimed unit ≡ true) × (is_marked High I unit ≡ false))
 order_known I claimed None low h l e = (marks_none High I claimed h, λ is. absurd (high_is_low is))

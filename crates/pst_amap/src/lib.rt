@@ -1,4 +1,13 @@
 //! Allocation maps ([MS-PST] 2.2.2.7.2): whether they mark what is claimed, and what they mark besides.
+//!
+//! Begin with `compare`, when all pages and blocks are claimed:
+//!
+//! ```
+//! let report = compare(alloc, image, &header, &mut claims)?;
+//! for lost in &report.lost {
+//!     ..
+//! }
+//! ```
 #![tactic(auto)]
 
 mod comparison;

@@ -7,19 +7,17 @@ ghost use Rattle.pst_header.specs.Head.{Head};
 ghost use Rattle.pst_header.specs.Header.{amap_place, amap_count_of};
 ghost use Rattle.pst_amap.specs.Map.{has_map_trailer as map_trailer, is_amap as amap, amap_fault, amaps_fault};
 
-use pst_bytes::{Image, Span};
+use pst_bytes::Image;
 use pst_fault::{Fault, Kind};
 use pst_header::{FIRST_AMAP, Header, REGION};
+use pst_page::has_trailer;
 
 /// Whether the page at an offset has the trailer of a map page, its type aside.
-#[tactic(auto, unfolding(crate::specs::Map::has_map_trailer))]
 pub fn has_map_trailer(image: Image, at: u64) -> bool
     requires { at + 512 ≤ length (bytes_of image) }
     ensures { result ≡ map_trailer (bytes_of image.entry) at }
 {
-    image.number16(at + 498) == 0
-        && image.number64(at + 504) == at
-        && image.number32(at + 500) == pst_crc::check(image.slice(Span { at, len: 496 }))
+    has_trailer(image, at, 0, at)
 }
 
 #[tactic(auto, unfolding(crate::specs::Map::is_amap))]

@@ -4,27 +4,10 @@ use super::*;
 use pst_bytes::{Image, Span};
 use pst_fault::{Fault, Kind};
 use pst_header::{Header, read_header};
-use pst_make::{m0, seal_header, seal_page};
+use pst_make::{Change, m0, set};
 use pst_space::Claims;
 use std::alloc::Global;
 use std::test::Fail;
-
-fn set(image: &mut [u8], at: usize, bytes: &[u8]) -> Result<(), Fail> {
-    for (i, byte) in bytes.iter().enumerate() {
-        let there = image.get_mut(at.saturating_add(i)).ok_or("past the end")?;
-        *there = *byte;
-    }
-    Ok(())
-}
-
-// The check value of a page, right for what stands there.
-fn seal(image: &mut [u8], at: u64) -> Result<(), Fail> {
-    if at > 1_000_000 || image.len() < 1_000 || at > image.len() as u64 - 512 {
-        return Err(Fail::from("past the end"));
-    }
-    seal_page(image, at);
-    Ok(())
-}
 
 fn claim(claims: &mut Claims, at: u64, len: u64) -> Result<(), Fail>
     ensures { length claims.new ≡ length claims.old }
@@ -68,7 +51,7 @@ const SMALL: [(u64, u64); 4] = [(0x4800, 512), (0x4a00, 512), (0x4c00, 64), (0x4
 fn small_store(alloc: Global, byte: u8) -> Result<Vec<u8>, Fail> {
     let mut image = m0(alloc)?;
     set(&mut image, 0x4404, &[byte])?;
-    seal(&mut image, 0x4400)?;
+    Change::Page(0x4400).apply(&mut image)?;
     Ok(image)
 }
 
@@ -156,7 +139,7 @@ fn bytes_are_seen_as_eight_units(rt: HostRuntime) -> Result<(), Fail> {
     for (bytes, wanted) in rows {
         let mut image = m0(rt.alloc())?;
         set(&mut image, 0x4404, &bytes)?;
-        seal(&mut image, 0x4400)?;
+        Change::Page(0x4400).apply(&mut image)?;
         let (report, _) = compared(rt.alloc(), &image, &spans, 0)?;
         match (report, wanted) {
             (Ok(report), Ok(lost)) => assert_eq!(rt; report.lost.as_slice(), lost.as_slice()),
@@ -182,7 +165,7 @@ fn a_map_page_has_to_be_good(rt: HostRuntime) -> Result<(), Fail> {
         let mut image = m0(rt.alloc())?;
         set(&mut image, 0x4400_usize.saturating_add(place), &[byte])?;
         if sealed {
-            seal(&mut image, 0x4400)?;
+            Change::Page(0x4400).apply(&mut image)?;
         }
         let (report, _) = compared(rt.alloc(), &image, &SMALL, 0)?;
         assert!(rt;
@@ -200,25 +183,25 @@ fn two_regions(alloc: Global, at: u64, kinds: [u8; 2], marks: [u8; 2]) -> Result
     set(&mut image, 0, small.get(..564).ok_or("too short")?)?;
     set(&mut image, 184, &[0x00, 0x04, 0x08])?;
     set(&mut image, 192, &[0x00, 0x24, 0x04])?;
-    seal_header(&mut image);
+    Change::Header.apply(&mut image)?;
     set(&mut image, 0x4400, &[0xff, 0xff])?;
     set(
         &mut image,
         0x4400 + 496,
         &[0x84, 0x84, 0, 0, 0, 0, 0, 0, 0x00, 0x44],
     )?;
-    seal(&mut image, 0x4400)?;
+    Change::Page(0x4400).apply(&mut image)?;
     set(&mut image, 271_360, &[0xff, 0x00, marks[0], marks[1]])?;
     set(
         &mut image,
         271_360 + 496,
         &[0x84, 0x84, 0, 0, 0, 0, 0, 0, 0x00, 0x24, 0x04],
     )?;
-    seal(&mut image, 271_360)?;
+    Change::Page(271_360).apply(&mut image)?;
     let page = usize::try_from(at)?;
     set(&mut image, page.saturating_add(496), &kinds)?;
     set(&mut image, page.saturating_add(504), &at.to_le_bytes())?;
-    seal(&mut image, at)?;
+    Change::Page(at).apply(&mut image)?;
     Ok(image)
 }
 
@@ -274,7 +257,7 @@ fn one_order_is_read_everywhere(rt: HostRuntime) -> Result<(), Fail> {
     for (mark, order, kind, marks, old_maps, lost) in rows {
         let mut image = two_regions(rt.alloc(), 272_384, [0x82, kind], [marks, 0])?;
         set(&mut image, 0x4402, &[mark])?;
-        seal(&mut image, 0x4400)?;
+        Change::Page(0x4400).apply(&mut image)?;
         let (report, _) = compared(rt.alloc(), &image, &[(0x4800, 64)], 0)?;
         let report = report.map_err(|_| Fail::from("refused"))?;
         let lost = lost.map(|(at, len)| Span { at, len });

@@ -2,9 +2,12 @@
 use Rattle.std.proofs.Common.{◌≡◌, ℕ, ◌+◌, ◌%◌, ◌≤◌, true, List, arith}
 use Rattle.std.proofs.lemmas.Bool.{eqb-true, leb-true, eq-eqb, le-leb, and_parts, and_from}
 use Rattle.pst_page.specs.declared.entry.BlockEntry.{BlockEntry}
-use Rattle.pst_block.specs.Block.{block_size}
-use Rattle.pst_block.specs.Fault.{is_block_place, has_block_trailer}
-use Rattle.pst_block.specs.Good.{IsBlockPlace, HasBlockTrailer}
+use Rattle.std.specs.Prelude.{◌&&◌, nat_le}
+use Rattle.pst_header.specs.Place.{is_place, IsPlace}
+use Rattle.pst_header.proofs.PlaceLemmas.{is_place_good as place_good, good_is_place as good_place}
+use Rattle.pst_block.specs.Block.{block_size, block_span}
+use Rattle.pst_block.specs.Fault.{has_block_trailer}
+use Rattle.pst_block.specs.Good.{HasBlockTrailer}
 
 -- ---- its size
 
@@ -16,28 +19,13 @@ pub size_whole : (cb : ℕ) → block_size cb % 64 ≡ 0
 unfolding block_size
 size_whole cb = omega arith
 
-pub size_small : (cb : ℕ) → block_size cb ≤ cb + 79
-unfolding block_size
-size_small cb = omega arith
-
 -- ---- the place
 
-pub is_place_good : (end : ℕ) (e : BlockEntry) → is_block_place end e ≡ true → IsBlockPlace end e
-unfolding is_block_place
-is_place_good end e is =
-    let p = and_parts _ _ is in
-    let q = and_parts _ _ p.0 in
-    let r = and_parts _ _ q.0 in
-    record {
-      small = leb-true _ _ r.0;
-      whole_units = eqb-true _ _ r.1;
-      mapped = leb-true _ _ q.1;
-      inside = leb-true _ _ p.1;
-    }
+pub is_place_good : (end : ℕ) (e : BlockEntry) → (nat_le e.cb 8176 && is_place end (block_span e)) ≡ true → (e.cb ≤ 8176) × IsPlace end (block_span e)
+is_place_good end e is = let p = and_parts _ _ is in (leb-true _ _ p.0, place_good end (block_span e) p.1)
 
-pub good_is_place : (end : ℕ) (e : BlockEntry) → IsBlockPlace end e → is_block_place end e ≡ true
-unfolding is_block_place
-good_is_place end e p = and_from _ _ (and_from _ _ (and_from _ _ (le-leb _ _ p.small) (eq-eqb _ _ p.whole_units)) (le-leb _ _ p.mapped)) (le-leb _ _ p.inside)
+pub good_is_place : (end : ℕ) (e : BlockEntry) → (e.cb ≤ 8176) × IsPlace end (block_span e) → (nat_le e.cb 8176 && is_place end (block_span e)) ≡ true
+good_is_place end e (small, place) = and_from _ _ (le-leb _ _ small) (good_place end (block_span e) place)
 
 -- ---- the trailer
 

@@ -48,11 +48,12 @@ step_good : (end : ℕ) (I : List ℕ) (old new : Claimed) (e : BlockEntry) → 
 unfolding block_step
 step_good end I old new e h =
     let p = ok_parts (block_place_fault end e) (claim_of old (block_span e)) (block_trailer_fault I e) (block_span e) e.bid old new h in
-    (record { place = (place_law end e).1 p.0; trailer = (trailer_law I e).1 p.2 }, p.1)
+    let lies = (place_law end e).1 p.0 in
+    (record { small = lies.0; place = lies.1; trailer = (trailer_law I e).1 p.2 }, p.1)
 
 good_step : (end : ℕ) (I : List ℕ) (old new : Claimed) (e : BlockEntry) → GoodBlock I end e → claim_of old (block_span e) ≡ Some new → block_step end I old e ≡ Ok new
 unfolding block_step
-good_step end I old new e g c = rw ((place_law end e).0 g.place, c, (trailer_law I e).0 g.trailer) refl
+good_step end I old new e g c = rw ((place_law end e).0 (g.small, g.place), c, (trailer_law I e).0 g.trailer) refl
 
 step_claims : (end : ℕ) (I : List ℕ) (old new : Claimed) (e : BlockEntry) (f : Fault) → block_step end I old e ≡ Err (new, f) → (new ≡ old) ⊎ (claim_of old (block_span e) ≡ Some new)
 unfolding block_step
@@ -121,10 +122,6 @@ walked_no_fault end I old new entries h = no_fault end I entries (walked_good en
 pub good_if : {X : Type 0} (end : ℕ) (I : List ℕ) (old new : Claimed) (entries : List BlockEntry) (r : Result X Fault) → EndsStep r new (blocks_walk end I old entries) → OnOk r (AreGood I end entries)
 good_if end I old new entries (Ok x) h = (walked_good end I old new entries h).0
 good_if end I old new entries (Err f) h = tt
-
-pub claimed_if : {X : Type 0} (end : ℕ) (I : List ℕ) (old new : Claimed) (entries : List BlockEntry) (r : Result X Fault) → EndsStep r new (blocks_walk end I old entries) → OnOk r (claim_all old (block_spans entries) ≡ Some new)
-claimed_if end I old new entries (Ok x) h = (walked_good end I old new entries h).1
-claimed_if end I old new entries (Err f) h = tt
 
 pub only_if : {X : Type 0} (end : ℕ) (I : List ℕ) (old left new : Claimed) (entries : List BlockEntry) (r : Result X Fault) → EndsStep r left (blocks_walk end I old entries) → AreGood I end entries → claim_all old (block_spans entries) ≡ Some new → IsOk r
 only_if end I old left new entries (Ok x) h g c = refl

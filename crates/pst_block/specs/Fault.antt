@@ -1,19 +1,14 @@
 -- The first fault of a block. Each is told where the block lies, with the identifier of its entry.
-use Rattle.std.specs.Prelude.{ℕ, ◌+◌, ◌%◌, Bool, ◌&&◌, nat_eq, nat_le, List, Option}
+use Rattle.std.specs.Prelude.{ℕ, ◌+◌, Bool, ◌&&◌, nat_eq, nat_le, List, Option}
 use Rattle.pst_bytes.specs.Image.{num, bytes_at}
 use Rattle.pst_crc.specs.Crc.{crc, signature_of}
 use Rattle.pst_fault.specs.declared.fault.Fault.{Fault}
 use Rattle.pst_fault.specs.declared.kind.Kind.TheVariants.{BlockPlace, BlockTrailer}
 use Rattle.pst_fault.specs.Fault.{fault_in}
 use Rattle.pst_fault.specs.First.{◌then◌, holds_or}
-use Rattle.pst_header.specs.declared.header.TheConstants.{FIRST_AMAP, UNIT}
+use Rattle.pst_header.specs.Place.{is_place}
 use Rattle.pst_page.specs.declared.entry.BlockEntry.{BlockEntry}
-use Rattle.pst_block.specs.Block.{block_size, body_span, trailer_at, bid_key}
-
--- A body has at most 8,176 bytes, and the block lies in the mapped part, which begins at the first allocation map and ends at
--- `end`, in whole units.
-unfoldable pub is_block_place : ℕ → BlockEntry → Bool
-is_block_place end e = nat_le e.cb 8176 && nat_eq (e.ib % UNIT) 0 && nat_le FIRST_AMAP e.ib && nat_le (e.ib + block_size e.cb) end
+use Rattle.pst_block.specs.Block.{block_span, body_span, trailer_at, bid_key}
 
 -- The trailer that begins at an offset: cb is the entry's, bid the entry's apart from its bit 0, wSig the signature of
 -- the block's place and the bid that stands here, and dwCRC the check value of the body.
@@ -27,8 +22,9 @@ is_trailer I e at =
 unfoldable pub has_block_trailer : List ℕ → BlockEntry → Bool
 has_block_trailer I e = is_trailer I e (trailer_at e)
 
+-- A body has at most 8,176 bytes, and the block lies in the mapped part, which ends at `end`.
 unfoldable pub block_place_fault : ℕ → BlockEntry → Option Fault
-block_place_fault end e = holds_or (is_block_place end e) (fault_in BlockPlace e.ib e.bid)
+block_place_fault end e = holds_or (nat_le e.cb 8176 && is_place end (block_span e)) (fault_in BlockPlace e.ib e.bid)
 
 -- of a block that is in its place
 unfoldable pub block_trailer_fault : List ℕ → BlockEntry → Option Fault

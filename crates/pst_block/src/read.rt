@@ -14,7 +14,7 @@ ghost use Rattle.pst_block.specs.Good.{GoodBlock};
 use crate::size::{block_size, body_span};
 use pst_bytes::{Image, Span};
 use pst_fault::{Fault, Kind};
-use pst_header::{FIRST_AMAP, Header, UNIT};
+use pst_header::Header;
 use pst_page::{BlockEntry, PageKind};
 
 // How many bytes a body has at most.
@@ -30,7 +30,7 @@ pub struct Block<'a> {
 }
 
 /// The span of a block, or BlockPlace.
-#[tactic(auto, unfolding(crate::specs::Fault::block_place_fault, crate::specs::Fault::is_block_place))]
+#[tactic(auto, unfolding(crate::specs::Fault::block_place_fault, pst_header::specs::Place::is_place))]
 pub(crate) fn block_place(header: &Header, entry: BlockEntry) -> Result<Span, Fault>
     ensures exact { result ≡ answer (block_place_fault (end_of header.now) entry)
         (block_span entry) }
@@ -38,14 +38,14 @@ pub(crate) fn block_place(header: &Header, entry: BlockEntry) -> Result<Span, Fa
     ensures mapped { OnOk result (FIRST_AMAP ≤ entry.ib) }
     ensures inside { OnOk result (entry.ib + size_of entry.cb ≤ end_of header.now) }
 {
-    let end = header.end();
-    let ib = entry.ib;
-    let size = block_size(entry.cb);
-    let is_mapped = ib.is_multiple_of(UNIT) && ib >= FIRST_AMAP && ib <= end && end - ib >= size;
-    if entry.cb <= MOST && is_mapped {
-        Ok(Span { at: ib, len: size })
+    let span = Span {
+        at: entry.ib,
+        len: block_size(entry.cb),
+    };
+    if entry.cb <= MOST && header.has_place(span) {
+        Ok(span)
     } else {
-        Err(Fault::within(Kind::BlockPlace, ib, entry.bid))
+        Err(Fault::within(Kind::BlockPlace, entry.ib, entry.bid))
     }
 }
 

@@ -6,7 +6,7 @@ use pst_btree::walk_blocks;
 use pst_bytes::{Image, Span};
 use pst_fault::{Fault, Kind, Place};
 use pst_header::{Header, read_header};
-use pst_make::{BlockPlan, Plan, build, m0, seal_block, seal_header, seal_page};
+use pst_make::{BlockPlan, Change, Plan, build, flip, m0, set};
 use pst_space::Claims;
 use std::alloc::Global;
 use std::process::Abort;
@@ -30,28 +30,10 @@ const TRAILER: usize = 0x4c70;
 
 const ENTRY: usize = 0x4a18;
 
-fn set(image: &mut [u8], at: usize, bytes: &[u8]) -> Result<(), Fail> {
-    for (i, byte) in bytes.iter().enumerate() {
-        let there = image.get_mut(at.saturating_add(i)).ok_or("past the end")?;
-        *there = *byte;
-    }
-    Ok(())
-}
-
-// Flips the lowest bit of a byte.
-fn flip(image: &mut [u8], at: usize) -> Result<(), Fail> {
-    let byte = *image.get(at).ok_or("past the end")?;
-    set(image, at, &[byte ^ 1])
-}
-
 // Sets a part of the second entry, and makes the page of the block B-tree right for it.
-fn set_entry(image: &mut [u8], offset: usize, bytes: &[u8]) -> Result<(), Fail> {
+fn set_entry(image: &mut Vec<u8>, offset: usize, bytes: &[u8]) -> Result<(), Fail> {
     set(image, ENTRY.saturating_add(offset), bytes)?;
-    if image.len() < 0x4c00 {
-        return Err(Fail::from("too short"));
-    }
-    seal_page(image, 0x4a00);
-    Ok(())
+    Ok(Change::Page(0x4a00).apply(image)?)
 }
 
 fn fault_of(kind: Kind, entry: BlockEntry) -> Fault {
@@ -245,7 +227,7 @@ fn padding_is_free(rt: HostRuntime) -> Result<(), Fail> {
 fn a_trailer_may_have_bit_0_of_its_bid(rt: HostRuntime) -> Result<(), Fail> {
     let mut bytes = m0(rt.alloc())?;
     flip(&mut bytes, TRAILER.saturating_add(8))?;
-    seal_block(&mut bytes, 0x4c40, 38);
+    Change::Block(0x4c40, 38).apply(&mut bytes)?;
     assert!(rt; blocks_in(rt.alloc(), Image::new(&bytes)).is_ok());
     Ok(())
 }

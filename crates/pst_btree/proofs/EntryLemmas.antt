@@ -7,8 +7,6 @@ use Rattle.pst_fault.proofs.GeneralLemmas.{some_is}
 use Rattle.pst_fault.proofs.EachLemmas.{contains_later}
 use Rattle.pst_header.specs.declared.header.Bref.{Bref}
 use Rattle.pst_page.specs.declared.kind.PageKind.TheVariants.{Bbt, Nbt}
-use Rattle.pst_page.specs.declared.entry.BlockEntry.{BlockEntry}
-use Rattle.pst_page.specs.declared.entry.NodeEntry.{NodeEntry}
 use Rattle.pst_page.specs.Entry.{key_at, block_entry_at, node_entry_at}
 use Rattle.pst_page.proofs.EntryLemmas.{block_entry_key}
 use Rattle.pst_btree.specs.Entries.{block_key, node_key, first_with, block_with, node_with, BlockMapLaw, NodeMapLaw}
@@ -95,20 +93,3 @@ block_keys_rise I end level page t = rw (block_keys_at I (entries_of (tree_at Bb
 
 pub node_keys_rise : (I : List ℕ) (end level : ℕ) (page : Bref) → IsTreeAt Nbt I end level page 0 None → Rises 0 None (map node_key (map (node_entry_at I) (entries_of (tree_at Nbt I level page))))
 node_keys_rise I end level page t = rw (node_keys_at I (entries_of (tree_at Nbt I level page))) (tree_rises Nbt I (tree_at Nbt I level page) 0 None t.bounded)
-
--- ---- for the layers above
-
-pub block_contained : (entries : List BlockEntry) (key : ℕ) (e : BlockEntry) → block_with key entries ≡ Some e → Contains entries e
-block_contained entries key e h = (with_contains block_key entries key e h).0
-
-pub block_keyed : (entries : List BlockEntry) (key : ℕ) (e : BlockEntry) → block_with key entries ≡ Some e → block_key e ≡ key
-block_keyed entries key e h = (with_contains block_key entries key e h).1
-
-pub block_again : (entries : List BlockEntry) (key : ℕ) (e : BlockEntry) → block_with key entries ≡ Some e → block_with (block_key e) entries ≡ Some e
-block_again entries key e h = rw (block_keyed entries key e h) h
-
-pub node_contained : (entries : List NodeEntry) (nid : ℕ) (e : NodeEntry) → node_with nid entries ≡ Some e → Contains entries e
-node_contained entries nid e h = (with_contains node_key entries nid e h).0
-
-pub node_keyed : (entries : List NodeEntry) (nid : ℕ) (e : NodeEntry) → node_with nid entries ≡ Some e → e.nid ≡ nid
-node_keyed entries nid e h = (with_contains node_key entries nid e h).1

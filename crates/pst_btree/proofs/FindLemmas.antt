@@ -1,5 +1,5 @@
 -- Looking through a tree that the image spells.
-use Rattle.std.proofs.Common.{◌≡◌, ◌≢◌, ℕ, suc, zero, ◌+◌, ◌*◌, ◌<◌, ◌≤◌, Bool, true, false, cond, eqb, List, [], ◌∷◌, ◌++◌, Some, None, refl, subst, arith}
+use Rattle.std.proofs.Common.{◌≡◌, ◌≢◌, ℕ, suc, zero, ◌+◌, ◌*◌, ◌<◌, ◌≤◌, Bool, true, false, cond, eqb, List, [], ◌∷◌, ◌++◌, Some, None, refl, arith}
 use Rattle.std.proofs.lemmas.Bool.{eq-eqb, ne_eqb}
 use Rattle.pst_header.specs.declared.header.Bref.{Bref}
 use Rattle.pst_page.specs.declared.kind.PageKind.{PageKind}
@@ -9,7 +9,7 @@ use Rattle.pst_page.specs.Fault.{has_shape}
 use Rattle.pst_page.proofs.EntryLemmas.{entries_from_start, entries_from_next, entries_from_end}
 use Rattle.pst_page.proofs.PageLemmas.{good_has_shape}
 use Rattle.pst_btree.specs.Find.{first_at}
-use Rattle.pst_btree.specs.Tree.{Forest, entries_of, forest_entries, IsPage, Spells, SpellsEach, tree_at, forest_at}
+use Rattle.pst_btree.specs.Tree.{Forest, entries_of, forest_entries, IsPage, Spells, tree_at, forest_at}
 
 -- ---- a page
 
@@ -47,33 +47,10 @@ first_none-append kind I key (x ∷ xs) ys e = by_test (eqb (key_at kind I x) ke
 unfoldable pub forest_from : PageKind → List ℕ → ℕ → ℕ → ℕ → Forest
 forest_from kind I level ib i = forest_at kind I (tree_at kind I level) (entries_from I ib i)
 
--- the image spells them
-unfoldable pub AreSpelt : PageKind → List ℕ → ℕ → ℕ → ℕ → ℕ → Type 0
-AreSpelt kind I end level ib i = SpellsEach kind I end level (forest_from kind I level ib i) (entries_from I ib i)
-
 pub spelt_page : (kind : PageKind) (I : List ℕ) (end level : ℕ) (page : Bref) → Spells kind I end level (tree_at kind I level page) → IsPage kind I end level page
 unfolding tree_at
 spelt_page kind I end zero page s = s.0
 spelt_page kind I end (suc level) page s = s.0
-
-pub spelt_start : (kind : PageKind) (I : List ℕ) (end level below : ℕ) (page : Bref) → Spells kind I end level (tree_at kind I level page) → level ≡ below + 1 → AreSpelt kind I end below page.ib 0
-unfolding tree_at AreSpelt forest_from
-spelt_start kind I end zero below page s e = absurd (omega arith)
-spelt_start kind I end (suc level) below page s e =
-    let same : level ≡ below = omega arith in
-    rw (entries_from_start I page.ib, ← same) s.1
-
-pub spelt_child : (kind : PageKind) (I : List ℕ) (end level ib i : ℕ) → AreSpelt kind I end level ib i → i < count_at I ib → Spells kind I end level (tree_at kind I level (child_at I (ib + i * width_at I ib)))
-unfolding AreSpelt forest_from
-spelt_child kind I end level ib i s lt =
-    let P : List ℕ → Type 0 = λ ps. SpellsEach kind I end level (forest_at kind I (tree_at kind I level) ps) ps in
-    (subst P (entries_from_next I ib i lt) s).2
-
-pub spelt_rest : (kind : PageKind) (I : List ℕ) (end level ib i : ℕ) → AreSpelt kind I end level ib i → i < count_at I ib → AreSpelt kind I end level ib (i + 1)
-unfolding AreSpelt forest_from
-spelt_rest kind I end level ib i s lt =
-    let P : List ℕ → Type 0 = λ ps. SpellsEach kind I end level (forest_at kind I (tree_at kind I level) ps) ps in
-    (subst P (entries_from_next I ib i lt) s).3
 
 -- the entries below them
 unfoldable pub below_from : PageKind → List ℕ → ℕ → ℕ → ℕ → List ℕ

@@ -3,14 +3,14 @@ use Rattle.std.proofs.Common.{◌≡◌, ℕ, suc, zero, ◌-◌, ◌/◌, List,
 use Rattle.std.proofs.lemmas.List.{map-append}
 use Rattle.pst_header.specs.declared.header.Bref.{Bref}
 use Rattle.pst_page.specs.declared.kind.PageKind.{PageKind}
-use Rattle.pst_page.specs.Page.{entries_at}
-use Rattle.pst_page.specs.Good.{IsPagePlace}
+use Rattle.pst_page.specs.Page.{entries_at, page_span}
+use Rattle.pst_header.specs.Place.{IsPlace}
 use Rattle.pst_space.specs.Claimed.{Claimed, IsUnits}
 use Rattle.pst_space.specs.Apart.{AreUnits}
 use Rattle.pst_space.proofs.ApartLemmas.{units_append}
 use Rattle.pst_btree.specs.Tree.{Tree, leaf, branch, Forest, none, more, pages_of, forest_pages, span_of, page_spans, Spells, SpellsEach}
 
-page_units : (end : ℕ) (m : Claimed) (page : Bref) → length m ≡ (end - 17408) / 64 → IsPagePlace end page.ib → IsUnits m (span_of page)
+page_units : (end : ℕ) (m : Claimed) (page : Bref) → length m ≡ (end - 17408) / 64 → IsPlace end (page_span page.ib) → IsUnits m (span_of page)
 page_units end m page long p = record {
   mapped = p.mapped;
   whole = p.whole_units;

@@ -3,20 +3,22 @@ use Rattle.std.specs.Prelude.{ℕ, zero, suc, ◌+◌, List, [], ◌∷◌, map,
 use Rattle.std.proofs.Props.{props}
 use Rattle.pst_header.specs.declared.header.Bref.{Bref}
 use Rattle.pst_page.specs.declared.kind.PageKind.{PageKind}
-use Rattle.pst_page.specs.Page.{entries_at}
+use Rattle.pst_header.specs.Place.{IsPlace}
+use Rattle.pst_bytes.specs.declared.span.Span.{Span}
+use Rattle.pst_page.specs.Page.{entries_at, page_span}
 use Rattle.pst_page.specs.Entry.{key_at}
-use Rattle.pst_page.specs.Good.{IsPagePlace, HasPageTrailer, GoodPage, HasShape}
+use Rattle.pst_page.specs.Good.{HasPageTrailer, GoodPage, HasShape}
 use Rattle.pst_btree.specs.Order.{Rises}
 use Rattle.pst_btree.specs.Tree.{Tree, leaf, branch, Forest, none, more, Spells, SpellsEach, Bounded, BoundedEach, tree_at, IsTreeAt, IsPage, forest_keys, next_of}
 
-pub IsPlace-prop : (end ib : ℕ) → IsProp (IsPagePlace end ib)
-IsPlace-prop end ib = hlevel props
+pub IsPlace-prop : (end : ℕ) (s : Span) → IsProp (IsPlace end s)
+IsPlace-prop end s = hlevel props
 
 pub HasTrailer-prop : (I : List ℕ) (kind : PageKind) (page : Bref) → IsProp (HasPageTrailer I kind page)
 HasTrailer-prop I kind page = hlevel props
 
 pub GoodPage-prop : (I : List ℕ) (end : ℕ) (kind : PageKind) (page : Bref) → IsProp (GoodPage I end kind page)
-GoodPage-prop I end kind page = hlevel (props, IsPlace-prop end page.ib, HasTrailer-prop I kind page)
+GoodPage-prop I end kind page = hlevel (props, IsPlace-prop end (page_span page.ib), HasTrailer-prop I kind page)
 
 pub HasShape-prop : (I : List ℕ) (kind : PageKind) (ib : ℕ) → IsProp (HasShape I kind ib)
 HasShape-prop I kind ib = hlevel props

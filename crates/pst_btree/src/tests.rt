@@ -6,83 +6,18 @@ use super::*;
 use pst_bytes::Image;
 use pst_fault::{Fault, Kind};
 use pst_header::{Bref, read_header};
+use pst_make::{Change, m0, set};
 use pst_page::PageKind;
 use pst_space::Claims;
-use std::alloc::{AllocError, Global};
+use std::alloc::Global;
 use std::process::Abort;
 use std::test::Fail;
-
-// How long the small store is.
-const LENGTH: usize = 271_360;
 
 // The root page of its block B-tree.
 const BBT: Bref = Bref { bid: 8, ib: 0x4a00 };
 
 // Where test trees are put: the pages of a tree follow each other from here, and each has its place as its identifier.
 const PAGES: u64 = 0x8000;
-
-// Places and bytes of a small store of 271,360 bytes, other than 0: its header, as [MS-PST] 2.2.2.6 orders the fields,
-// and its two root pages, of two entries each. All check values and signatures are another program's.
-const BYTES: [(usize, &[u8]); 27] = [
-    (0, b"!BDN"),
-    (4, &[0x24, 0x6d, 0x4c, 0xff]),
-    (8, b"SM"),
-    (10, &[23]),
-    (32, &[12]),
-    (184, &[0x00, 0x24, 0x04]),
-    (192, &[0x00, 0x44]),
-    (200, &[0x80, 0xd7, 0x03]),
-    (216, &[4, 0, 0, 0, 0, 0, 0, 0, 0x00, 0x48]),
-    (232, &[8, 0, 0, 0, 0, 0, 0, 0, 0x00, 0x4a]),
-    (248, &[2]),
-    (512, &[0x80]),
-    (516, &[12]),
-    (524, &[0x9a, 0xda, 0x53, 0x0f]),
-    (0x4800, &[0x21, 0, 0, 0, 0, 0, 0, 0, 4]),
-    (0x4820, &[0x22, 0x01, 0, 0, 0, 0, 0, 0, 8]),
-    (0x4838, &[0x22, 0x01]),
-    (0x49e8, &[2, 15, 32, 0]),
-    (0x49f0, &[0x81, 0x81, 0x04, 0x48, 0x91, 0x90, 0xfc, 0x1c]),
-    (0x49f8, &[4]),
-    (0x4a00, &[4, 0, 0, 0, 0, 0, 0, 0, 0x00, 0x4c]),
-    (0x4a10, &[44, 0, 2]),
-    (0x4a18, &[8, 0, 0, 0, 0, 0, 0, 0, 0x40, 0x4c]),
-    (0x4a28, &[38, 0, 2]),
-    (0x4be8, &[2, 20, 24, 0]),
-    (0x4bf0, &[0x80, 0x80, 0x08, 0x4a, 0xf0, 0x16, 0x98, 0x2d]),
-    (0x4bf8, &[8]),
-];
-
-fn set(image: &mut [u8], at: usize, bytes: &[u8]) -> Result<(), Fail> {
-    for (i, byte) in bytes.iter().enumerate() {
-        let there = image.get_mut(at.saturating_add(i)).ok_or("past the end")?;
-        *there = *byte;
-    }
-    Ok(())
-}
-
-fn zeros(alloc: Global, len: usize) -> Result<Vec<u8>, AllocError> {
-    vec![in alloc; 0; len]
-}
-
-fn small_store(alloc: Global) -> Result<Vec<u8>, Fail> {
-    let mut image = zeros(alloc, LENGTH)?;
-    for (at, bytes) in BYTES {
-        set(&mut image, at, bytes)?;
-    }
-    Ok(image)
-}
-
-// The check value of some bytes, right for what stands there, is set at a place.
-fn seal(image: &mut [u8], from: usize, to: usize, at: usize) -> Result<(), Fail> {
-    let check = pst_crc::check(image.get(from..to).ok_or("too short")?);
-    set(image, at, &check.to_le_bytes())
-}
-
-fn seal_page(image: &mut [u8], at: usize) -> Result<(), Fail> {
-    let end = at.saturating_add(496);
-    seal(image, at, end, end.saturating_add(4))
-}
 
 // The reference of the page with this number behind PAGES.
 fn page_at(number: u64) -> Bref {
@@ -99,7 +34,7 @@ fn page_type(kind: PageKind) -> u8 {
 
 // Writes a page whose entries are numbers of 8 bytes each.
 fn put_page<const N: usize>(
-    image: &mut [u8],
+    image: &mut Vec<u8>,
     kind: PageKind,
     bref: Bref,
     level: u8,
@@ -118,22 +53,19 @@ fn put_page<const N: usize>(
     set(image, at.saturating_add(488), &[count, 15, width, level])?;
     let page_type = page_type(kind);
     set(image, at.saturating_add(496), &[page_type, page_type])?;
-    let signature = pst_crc::signature(bref.ib, bref.bid);
-    set(image, at.saturating_add(498), &signature.to_le_bytes())?;
     set(image, at.saturating_add(504), &bref.bid.to_le_bytes())?;
-    seal_page(image, at)
+    Ok(Change::Page(bref.ib).apply(image)?)
 }
 
 // Sets the root of a tree in the header, and makes the header's check values right.
-fn set_root(image: &mut [u8], kind: PageKind, root: Bref) -> Result<(), Fail> {
+fn set_root(image: &mut Vec<u8>, kind: PageKind, root: Bref) -> Result<(), Fail> {
     let at = match kind {
         PageKind::Bbt => 232,
         PageKind::Nbt => 216,
     };
     set(image, at, &root.bid.to_le_bytes())?;
     set(image, at.saturating_add(8), &root.ib.to_le_bytes())?;
-    seal(image, 8, 479, 4)?;
-    seal(image, 8, 524, 524)
+    Ok(Change::Header.apply(image)?)
 }
 
 // The entry of a branch: a key, and the page with this number.
@@ -170,7 +102,7 @@ fn blocks_fault(alloc: Global, image: &[u8]) -> Option<Fault> {
 
 // A branch over three leaves, of which the second ends with this key. The third has the key 40 in the branch.
 fn three_leaves(alloc: Global, last: u64) -> Result<Vec<u8>, Fail> {
-    let mut image = small_store(alloc)?;
+    let mut image = m0(alloc)?;
     let root = [branch(4, 1), branch(20, 2), branch(40, 3)];
     put_page(&mut image, PageKind::Bbt, page_at(0), 1, &root)?;
     let leaves = [
@@ -187,7 +119,7 @@ fn three_leaves(alloc: Global, last: u64) -> Result<Vec<u8>, Fail> {
 
 #[test]
 fn the_trees_of_a_small_store(rt: HostRuntime) -> Result<(), Fail> {
-    let bytes = small_store(rt.alloc())?;
+    let bytes = m0(rt.alloc())?;
     let image = Image::new(&bytes);
     let Ok(header) = read_header(image) else {
         panic!(rt; "no header");
@@ -261,7 +193,7 @@ fn the_trees_of_a_small_store(rt: HostRuntime) -> Result<(), Fail> {
 
 #[test]
 fn the_node_tree_without_a_list(rt: HostRuntime) -> Result<(), Fail> {
-    let bytes = small_store(rt.alloc())?;
+    let bytes = m0(rt.alloc())?;
     let image = Image::new(&bytes);
     let Ok(header) = read_header(image) else {
         panic!(rt; "no header");

@@ -17,7 +17,7 @@ ghost use Rattle.pst_btree.specs.Walk.{tree_walk};
 
 use crate::block_tree::BlockTree;
 use crate::node_tree::NodeTree;
-use crate::walked::walk;
+use crate::walk::walk;
 use pst_bytes::Image;
 use pst_fault::Fault;
 use pst_header::Header;

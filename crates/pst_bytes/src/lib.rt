@@ -1,4 +1,15 @@
 //! The bytes of a file, and the little-endian numbers in them.
+//!
+//! Begin with `Image::new`. Numbers and slices are read at offsets: by calls that answer None past the end of the file, or by
+//! calls for places that the caller knows to lie in it, which test nothing:
+//!
+//! ```
+//! let image = Image::new(&bytes);
+//! let magic = image.u32_at(0);
+//! if let Some(front) = image.lend(Span { at: 0, len: 564 }) {
+//!     ..
+//! }
+//! ```
 #![tactic(auto)]
 
 ghost use Rattle.std.specs.Prelude.{◌≡◌, ◌+◌, ◌≤◌, ◌↔◌, [], length, option_map, IfSome, IsTrue};
@@ -48,9 +59,7 @@ impl<'a> Image<'a> {
         if span.at > len || span.len > len - span.at {
             return None;
         }
-        let at = span.at as usize;
-        let end = at + span.len as usize;
-        Some(&self.bytes[at..end])
+        Some(self.slice(span))
     }
 
     /// The byte at an offset; None exactly past the end.
@@ -90,38 +99,42 @@ impl<'a> Image<'a> {
     }
 }
 
-// Readers of bytes that the caller knows to be there.
+// Readers of bytes that the caller knows to be there: nothing is tested when they run.
 impl<'a> Image<'a> {
     /// The byte at an offset inside the file.
+    #[tactic(auto, unfolding(crate::specs::Image::num))]
     pub fn number8(self, at: u64) -> u8
         requires { at + 1 ≤ length (bytes_of self) }
         ensures { result ≡ num (bytes_of self.entry) at 1 }
     {
-        self.u8_at(at).unwrap()
+        self.bytes[at as usize]
     }
 
     /// The number of 2 bytes inside the file.
+    #[tactic(auto, unfolding(crate::specs::Image::num))]
     pub fn number16(self, at: u64) -> u16
         requires { at + 2 ≤ length (bytes_of self) }
         ensures { result ≡ num (bytes_of self.entry) at 2 }
     {
-        self.u16_at(at).unwrap()
+        LittleEndian::read_u16(self.slice(Span { at, len: 2 }))
     }
 
     /// The number of 4 bytes inside the file.
+    #[tactic(auto, unfolding(crate::specs::Image::num))]
     pub fn number32(self, at: u64) -> u32
         requires { at + 4 ≤ length (bytes_of self) }
         ensures { result ≡ num (bytes_of self.entry) at 4 }
     {
-        self.u32_at(at).unwrap()
+        LittleEndian::read_u32(self.slice(Span { at, len: 4 }))
     }
 
     /// The number of 8 bytes inside the file.
+    #[tactic(auto, unfolding(crate::specs::Image::num))]
     pub fn number64(self, at: u64) -> u64
         requires { at + 8 ≤ length (bytes_of self) }
         ensures { result ≡ num (bytes_of self.entry) at 8 }
     {
-        self.u64_at(at).unwrap()
+        LittleEndian::read_u64(self.slice(Span { at, len: 8 }))
     }
 
     /// The bytes of a span inside the file, in the file's own memory.
@@ -130,7 +143,9 @@ impl<'a> Image<'a> {
         ensures value { result.now ≡ bytes_at (bytes_of self.entry) span }
         ensures own { IsPartOf self.entry span result }
     {
-        self.lend(span).unwrap()
+        let at = span.at as usize;
+        let end = at + span.len as usize;
+        &self.bytes[at..end]
     }
 }
 

@@ -1,4 +1,10 @@
 //! The check value of a piece of a file ([MS-PST] 5.3), and the signature of a place (5.5).
+//!
+//! Begin with `check`, and with specs/Crc.antt, which defines both by the bit:
+//!
+//! ```
+//! let is_right = check(body) == trailer_crc && signature(ib, bid) == trailer_signature;
+//! ```
 #![tactic(auto)]
 
 ghost use Rattle.std.specs.Prelude.{◌≡◌, ◌+◌, ◌*◌, ◌%◌, ◌<◌, length, fold, bit_xor};
@@ -92,16 +98,16 @@ fn after_sixteen(register: u32, bytes: &[u8]) -> u32
 }
 
 /// The check value of bytes ([MS-PST] 5.3): the reflected CRC with the polynomial 0xEDB88320, a register that starts at 0,
-/// and no final inversion. Sixteen bytes are taken at a time, by sixteen tables of 256 words, and of each 256 bytes
-/// both halves side by side.
+/// and no final inversion. Sixteen bytes are taken at a time, by sixteen tables of 256 words, and of each 384 bytes
+/// the three thirds side by side.
 #[tactic(auto, unfolding(crate::specs::Crc::crc))]
 pub fn check(bytes: &[u8]) -> u32
     ensures { result ≡ crc bytes.now }
 {
     let mut register = 0;
     let mut long = bytes;
-    while long.len() >= 256 {
-        let (streams, others) = long.split_at(256);
+    while long.len() >= 384 {
+        let (streams, others) = long.split_at(384);
         register = after_streams(register, streams);
         long = others;
     }

@@ -1,4 +1,4 @@
-//! Two streams of bytes side by side: a processor goes on with one while it waits for the tables of the other.
+//! Three streams of bytes side by side: a processor goes on with one while it waits for the tables of the others.
 #![tactic(auto)]
 
 ghost use Rattle.std.specs.Prelude.{◌≡◌, ◌+◌, ◌*◌, ◌%◌, ◌<◌, length, fold};
@@ -28,22 +28,27 @@ fn past_stream(register: u32) -> u32
         ^ lowest_far(3, register)
 }
 
-/// The register after 256 more bytes: what their first half makes of it goes past the second, and what the second
-/// makes of 0 is added.
+/// The register after 384 more bytes, a third of them in each stream: what a third makes of the register goes past the next
+/// one, and what that makes of 0 is added.
 pub(crate) fn after_streams(register: u32, bytes: &[u8]) -> u32
-    requires { length bytes.now ≡ 256 }
+    requires { length bytes.now ≡ 384 }
     ensures { result ≡ fold after_byte register bytes.now }
 {
-    let (mut front, mut back) = bytes.split_at(128);
+    let (mut front, others) = bytes.split_at(128);
+    let (mut middle, mut back) = others.split_at(128);
     let mut first = register;
     let mut second = 0;
+    let mut third = 0;
     while front.len() >= 16 {
         let (of_front, front_rest) = front.split_at(16);
+        let (of_middle, middle_rest) = middle.split_at(16);
         let (of_back, back_rest) = back.split_at(16);
         first = after_sixteen(first, of_front);
-        second = after_sixteen(second, of_back);
+        second = after_sixteen(second, of_middle);
+        third = after_sixteen(third, of_back);
         front = front_rest;
+        middle = middle_rest;
         back = back_rest;
     }
-    past_stream(first) ^ second
+    past_stream(past_stream(first) ^ second) ^ third
 }

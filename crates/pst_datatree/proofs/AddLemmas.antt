@@ -113,13 +113,6 @@ xblock_names t s e none next x names internal =
     let bad : true ≡ false = sym internal.1 ∙ (ap is_internal names.1.2 ∙ leaf_external t e i (none_below (data_leaf_fault t e) (count_in (body_of t e)) i leaves names.1.1)) in
     cc
 
--- an XXBLOCK names those that it was gone through with
-pub xxblock_names : (t : Table) (s : Seen) (e : BlockEntry) (n : ℕ) → n ≡ count_in (body_of t e) → ((i : ℕ) → i < n → IsKnownTree t s (bid_in (body_of t e) i)) → NamesKnown t s e
-xxblock_names t s e n is known next x names internal =
-    let i = names.1.0 in
-    let there : IsInternal t (bid_in (body_of t e) i) x = rw (← names.1.2) internal in
-    rw names.1.2 (known i (omega (arith, is, names.1.1)) x there)
-
 pub list_type : (level : ℕ) (body : List ℕ) → is_block_list level body ≡ true → btype_in body ≡ 1
 unfolding is_block_list
 list_type level body h = grind (arith, nat_tests)

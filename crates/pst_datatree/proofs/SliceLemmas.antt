@@ -6,8 +6,8 @@ use Rattle.std.proofs.lemmas.Slice.{take-put_mid}
 use Rattle.std.proofs.lemmas.Grind.{common_steps}
 use borrow.Rule.Slice.PartMut.{put_mid}
 use Rattle.std.specs.List.{concat}
-use Rattle.pst_datatree.specs.declared.bytes.Value.{Value}
-use Rattle.pst_datatree.specs.declared.bytes.Value.TheVariants.{Whole, Pieces}
+use Rattle.pst_datatree.specs.declared.value_view.Value.{Value}
+use Rattle.pst_datatree.specs.declared.value_view.Value.TheVariants.{Whole, Pieces}
 use Rattle.pst_datatree.specs.Shown.{bytes_in}
 use Rattle.pst_datatree.specs.Slices.{value_slices}
 

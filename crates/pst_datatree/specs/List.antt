@@ -19,10 +19,13 @@ total_in body = num body 4 4
 abbrev pub bid_in : List ℕ → ℕ → ℕ
 bid_in body i = num body (8 + 8 * i) 8
 
--- btype is 1, cLevel is this level, and the block identifiers fit in the body
+-- the body of a list of blocks or of subnodes (2.2.2.8.3.3): btype and cLevel are these, and cEnt entries of this size fit
+abbrev pub is_list_body : ℕ → ℕ → ℕ → List ℕ → Bool
+is_list_body btype level size body =
+    nat_le 8 (length body) && nat_eq (btype_in body) btype && nat_eq (level_in body) level && nat_le (8 + size * count_in body) (length body)
+
 unfoldable pub is_block_list : ℕ → List ℕ → Bool
-is_block_list level body =
-    nat_le 8 (length body) && nat_eq (btype_in body) 1 && nat_eq (level_in body) level && nat_le (8 + 8 * count_in body) (length body)
+is_block_list level body = is_list_body 1 level 8 body
 
 -- cLevel is 2: the body is an XXBLOCK's, if it is any
 unfoldable pub has_level_two : List ℕ → Bool

@@ -5,8 +5,8 @@ use Rattle.std.specs.List.{concat}
 use Rattle.pst_bytes.specs.declared.Image.{Image}
 use Rattle.pst_bytes.specs.declared.span.Span.{Span}
 use Rattle.pst_bytes.specs.Image.{bytes_of, bytes_at, IsPartOf}
-use Rattle.pst_datatree.specs.declared.bytes.Value.{Value}
-use Rattle.pst_datatree.specs.declared.bytes.Value.TheVariants.{Whole, Pieces}
+use Rattle.pst_datatree.specs.declared.value_view.Value.{Value}
+use Rattle.pst_datatree.specs.declared.value_view.Value.TheVariants.{Whole, Pieces}
 use Rattle.pst_datatree.specs.Data.{size_of}
 use Rattle.pst_datatree.specs.Cut.{cut}
 use Rattle.pst_datatree.specs.Spans.{nonempty, first_span}

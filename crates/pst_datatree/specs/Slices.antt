@@ -2,8 +2,8 @@
 use Rattle.std.specs.Prelude.{◌≡◌, ℕ, Option, Some, None, IfSome, List, [], ◌∷◌, ◌++◌}
 use Rattle.std.specs.Borrow.{Bor}
 use Rattle.std.specs.Iterator.{YieldsFirstRef}
-use Rattle.pst_datatree.specs.declared.bytes.Value.{Value}
-use Rattle.pst_datatree.specs.declared.bytes.Value.TheVariants.{Whole, Pieces as InPieces}
+use Rattle.pst_datatree.specs.declared.value_view.Value.{Value}
+use Rattle.pst_datatree.specs.declared.value_view.Value.TheVariants.{Whole, Pieces as InPieces}
 use Rattle.pst_datatree.specs.declared.pieces.Pieces.{Pieces}
 use Rattle.pst_datatree.specs.declared.slices.Slices.{Slices}
 use Rattle.pst_datatree.specs.Left.{slices_left, LendsFirst}

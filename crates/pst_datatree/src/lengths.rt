@@ -11,7 +11,7 @@ ghost use Rattle.pst_datatree.specs.Names.{IsKeyOf, IsOfFirst, IsChildKey, IsUnd
 ghost use Rattle.pst_datatree.specs.Seen.{tree_expansions, has_tree, holds_tree, IsSeenTrue, IsKnownTree, NamesKnown, AddsTrees, KeepsCount, RaisesCount, NoNewTwo};
 
 use crate::bid::is_internal;
-use crate::list::{bid_at, body_in, is_list, is_xxblock};
+use crate::list::{bid_at, body_in, is_block_list, is_xxblock};
 use crate::look::{xblock_size, xxblock_size};
 use crate::named::{Named, named_in};
 use crate::seen::Seen;
@@ -81,7 +81,7 @@ fn xblock_len(blocks: &Blocks, entry: BlockEntry, seen: &mut Seen) -> Result<u64
     ensures grows { tree_expansions seen.old ≤ tree_expansions seen.new }
 {
     let body = body_in(blocks, entry);
-    if !is_list(1, body) {
+    if !is_block_list(1, body) {
         return Err(tree_breach(entry));
     }
     seen.expand();
@@ -195,7 +195,7 @@ fn xxblock_len(blocks: &Blocks, entry: BlockEntry, seen: &mut Seen) -> Result<u6
     ensures grows { tree_expansions seen.old ≤ tree_expansions seen.new }
 {
     let body = body_in(blocks, entry);
-    if !is_list(2, body) {
+    if !is_block_list(2, body) {
         return Err(tree_breach(entry));
     }
     seen.expand();

@@ -4,7 +4,7 @@ ghost use Rattle.std.specs.Prelude.{◌≡◌, ◌+◌, ◌*◌, ◌≤◌, IsTr
 ghost use Rattle.pst_bytes.specs.Image.{bytes_of};
 ghost use Rattle.pst_block.specs.Table.{body_of, IsWithin};
 ghost use Rattle.pst_block.specs.Blocks.{table_of};
-ghost use Rattle.pst_datatree.specs.List.{count_in, bid_in, is_block_list, has_level_two};
+ghost use Rattle.pst_datatree.specs.List.{count_in, bid_in, is_list_body, is_block_list as block_list, has_level_two};
 
 use pst_block::{BlockEntry, Blocks};
 use pst_bytes::Image;
@@ -17,17 +17,27 @@ pub(crate) fn body_in<'a>(blocks: &Blocks<'a>, entry: BlockEntry) -> Image<'a>
     Image::new(blocks.body_at(entry))
 }
 
+/// Whether a body is that of a list, of blocks or of subnodes, whose btype and cLevel are these, and its entries, each of so
+/// many bytes, fit in it ([MS-PST] 2.2.2.8.3.2, 2.2.2.8.3.3).
+pub fn has_entries(body: Image, btype: u8, level: u8, size: u8) -> bool
+    ensures value { result ≡ is_list_body btype level size (bytes_of body.entry) }
+    ensures fits { IsTrue result →
+        8 + size * count_in (bytes_of body.entry) ≤ length (bytes_of body.entry) }
+{
+    body.len() >= 8
+        && body.number8(0) == btype
+        && body.number8(1) == level
+        && 8 + u64::from(size) * u64::from(body.number16(2)) <= body.len()
+}
+
 // Whether a body is that of a list of blocks with this level, whose identifiers fit.
 #[tactic(auto, unfolding(crate::specs::List::is_block_list))]
-pub(crate) fn is_list(level: u8, body: Image) -> bool
-    ensures value { result ≡ is_block_list level (bytes_of body.entry) }
+pub(crate) fn is_block_list(level: u8, body: Image) -> bool
+    ensures value { result ≡ block_list level (bytes_of body.entry) }
     ensures fits { IsTrue result →
         8 + 8 * count_in (bytes_of body.entry) ≤ length (bytes_of body.entry) }
 {
-    body.len() >= 8
-        && body.number8(0) == 1
-        && body.number8(1) == level
-        && 8 + 8 * u64::from(body.number16(2)) <= body.len()
+    has_entries(body, 1, level, 8)
 }
 
 // Whether the level of an internal block is 2, an XXBLOCK's.

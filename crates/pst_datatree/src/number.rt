@@ -4,8 +4,8 @@ ghost use Rattle.std.specs.Prelude.{◌≡◌, ◌≤◌, ◌+◌, ◌↔◌, Is
 ghost use Rattle.std.specs.List.{concat};
 ghost use Rattle.pst_datatree.specs.Slices.{slices_in};
 
-use crate::bytes::Value;
 use crate::slices::Slices;
+use crate::value_view::Value;
 use pst_bytes::Image;
 
 // The bytes of slices that have at most eight, and what they do not fill.

@@ -1,7 +1,7 @@
 //! The slices of a value, one after another.
 
-use crate::bytes::Value;
 use crate::pieces::Pieces;
+use crate::value_view::Value;
 
 /// The slices of a value in order: the one slice of a whole one, an empty one too; else one for each span. Going through
 /// all of them takes no memory, and one step for each.

@@ -164,13 +164,6 @@ answer-first_at part n i f x y e sound h = rw (first_at part n i f sound (answer
 
 -- ---- what a check tells that may run out of memory
 
--- an answer is told
-pub tells_answer : {X : Type 0} (r : Result X Fault) (first : Option Fault) (x : X) → r ≡ answer first x → Tells r first x
-tells_answer (Ok y) None x e = (refl, cc)
-tells_answer (Ok y) (Some f) x e = cc
-tells_answer (Err f) None x e = cc
-tells_answer (Err f) (Some g) x e = inr cc
-
 -- a refusal of the first part is one of both
 pub is_first_then : (a b : Option Fault) (f : Fault) → IsFirst a f → IsFirst (a then b) f
 is_first_then a b f (inl out) = inl out

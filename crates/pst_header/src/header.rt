@@ -2,6 +2,9 @@
 
 ghost use Rattle.std.specs.Prelude.{◌≡◌};
 ghost use Rattle.pst_header.specs.Header.{end_of, amap_count_of};
+ghost use Rattle.pst_header.specs.Place.{is_place};
+
+use pst_bytes::Span;
 
 /// Where the mapped part of a file begins, and with it the first allocation map ([MS-PST] 2.2.2.7.2).
 pub const FIRST_AMAP: u64 = 0x4400;
@@ -58,5 +61,15 @@ impl Header {
         ensures { result ≡ amap_count_of self.now }
     {
         self.last_amap.saturating_sub(FIRST_AMAP) / REGION + 1
+    }
+
+    /// Whether a page or a block may lie in a span: it lies in the mapped part, which begins at `FIRST_AMAP` and ends at
+    /// `end()`, and begins at a multiple of `UNIT` ([MS-PST] 2.2.2.7, 2.2.2.8).
+    #[tactic(auto, unfolding(crate::specs::Place::is_place))]
+    pub fn has_place(&self, span: Span) -> bool
+        ensures { result ≡ is_place (end_of self.now) span }
+    {
+        let (at, end) = (span.at, self.end());
+        at.is_multiple_of(UNIT) && at >= FIRST_AMAP && at <= end && end - at >= span.len
     }
 }

@@ -1,50 +1,15 @@
 use super::*;
 use pst_bytes::Image;
 use pst_fault::{Fault, Kind, Place};
+use pst_make::{Change, flip, m0, set};
 use std::alloc::Global;
 use std::test::Fail;
 
-// Places and bytes of the fields of a small store's header, as [MS-PST] 2.2.2.6 orders them: a store of 271,360 bytes
-// with one allocation map. The two check values are another program's.
-const FIELDS: [(usize, &[u8]); 14] = [
-    (0, b"!BDN"),
-    (4, &[0x24, 0x6d, 0x4c, 0xff]),
-    (8, b"SM"),
-    (10, &[23]),
-    (32, &[12]),
-    (184, &[0x00, 0x24, 0x04]),
-    (192, &[0x00, 0x44]),
-    (200, &[0x80, 0xd7, 0x03]),
-    (216, &[4, 0, 0, 0, 0, 0, 0, 0, 0x00, 0x48]),
-    (232, &[8, 0, 0, 0, 0, 0, 0, 0, 0x00, 0x4a]),
-    (248, &[2]),
-    (512, &[0x80]),
-    (516, &[12]),
-    (524, &[0x9a, 0xda, 0x53, 0x0f]),
-];
-
-fn set(image: &mut [u8], at: usize, bytes: &[u8]) -> Result<(), Fail> {
-    for (i, byte) in bytes.iter().enumerate() {
-        let there = image.get_mut(at.saturating_add(i)).ok_or("past the end")?;
-        *there = *byte;
-    }
-    Ok(())
-}
-
+// The small store, cut to this length, or with zeros behind it.
 fn small_store(alloc: Global, len: usize) -> Result<Vec<u8>, Fail> {
-    let mut image = vec![in alloc; 0u8; len]?;
-    for (at, bytes) in FIELDS {
-        set(&mut image, at, bytes)?;
-    }
+    let mut image = m0(alloc)?;
+    image.resize(len, 0)?;
     Ok(image)
-}
-
-// The check values of the header, right for what stands there.
-fn seal(image: &mut [u8]) -> Result<(), Fail> {
-    let partial = pst_crc::check(image.get(8..479).ok_or("too short")?);
-    set(image, 4, &partial.to_le_bytes())?;
-    let full = pst_crc::check(image.get(8..524).ok_or("too short")?);
-    set(image, 524, &full.to_le_bytes())
 }
 
 fn refused(kind: Kind, at: u64) -> Result<Header, Fault> {
@@ -121,7 +86,7 @@ fn the_first_fault_of_a_sealed_header(rt: HostRuntime) -> Result<(), Fail> {
     for (at, bytes, kind, place) in rows {
         let mut image = small_store(rt.alloc(), 271_360)?;
         set(&mut image, at, bytes)?;
-        seal(&mut image)?;
+        Change::Header.apply(&mut image)?;
         assert_eq!(rt;
             read_header(Image::new(&image)),
             refused(kind, place),
@@ -135,8 +100,7 @@ fn the_first_fault_of_a_sealed_header(rt: HostRuntime) -> Result<(), Fail> {
 fn a_flipped_bit_breaks_a_check_value(rt: HostRuntime) -> Result<(), Fail> {
     for (at, place) in [(300, 4), (520, 524), (4, 4), (524, 524)] {
         let mut image = small_store(rt.alloc(), 271_360)?;
-        let byte = image.get_mut(at).ok_or("too short")?;
-        *byte ^= 1;
+        flip(&mut image, at)?;
         let answer = read_header(Image::new(&image));
         assert_eq!(rt; answer, refused(Kind::HeaderCheck, place), "at {at}");
     }
@@ -185,7 +149,7 @@ fn the_page_map_behind_a_map(rt: HostRuntime) -> Result<(), Fail> {
     ] {
         set(&mut image, 184, &eof.to_le_bytes())?;
         set(&mut image, 192, &last.to_le_bytes())?;
-        seal(&mut image)?;
+        Change::Header.apply(&mut image)?;
         let fault = read_header(Image::new(&image)).err();
         let root = refused(Kind::Root, 192).err();
         assert_eq!(rt; fault, if is_good { None } else { root }, "eof {eof}");

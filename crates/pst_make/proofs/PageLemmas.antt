@@ -11,13 +11,3 @@ place_below Blocks level i n below room = omega arith
 
 pub entry_place : (tree : Tree) (level i n size : ℕ) → i < n → n ≤ capacity_of tree level → size ≡ entry_size_of tree level → i * size ≤ 456
 entry_place tree level i n size below room is = rw is (place_below tree level i n below room)
-
-pub capacity_most : (tree : Tree) (level : ℕ) → capacity_of tree level ≤ 20
-capacity_most Nodes zero = omega arith
-capacity_most Nodes (suc level) = omega arith
-capacity_most Blocks level = omega arith
-
-pub capacity_least : (tree : Tree) (level : ℕ) → 15 ≤ capacity_of tree level
-capacity_least Nodes zero = omega arith
-capacity_least Nodes (suc level) = omega arith
-capacity_least Blocks level = omega arith

@@ -1,3 +1,4 @@
+pub mod Change
 pub mod Elsewhere
 pub mod Layout
 pub mod Made

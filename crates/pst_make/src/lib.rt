@@ -1,5 +1,12 @@
-//! Test images: small stores ([MS-PST]) made from a plan of their blocks and nodes, and seals that make the check
-//! values of changed bytes right again.
+//! Test images: small stores ([MS-PST]) made from a plan of their blocks and nodes, changes to their bytes, and seals that
+//! make the check values of changed bytes right again.
+//!
+//! Begin with `m0`, a store of two nodes, and `Change`; a store of one's own comes of a `Plan`, by `build`:
+//!
+//! ```
+//! let mut image = m0(alloc)?;
+//! change_all(&mut image, &[Change::Set(0x4a18, &[6]), Change::Page(0x4a00)])?;
+//! ```
 //!
 //! It is the one place where the layout of a store can be read as code, from the top:
 //! `build` (`store`) places the pages and blocks of a plan (`layout`), writes the blocks (`block`), the pages of the two B-trees
@@ -8,6 +15,7 @@
 
 mod block;
 mod bodies;
+mod change;
 mod header;
 mod images;
 mod layout;
@@ -18,6 +26,7 @@ mod plan;
 mod seal;
 mod store;
 
+pub use change::{Change, ChangeFault, change_all, flip, set};
 pub use images::{m0, m0_plan, m1, m1_plan, m2, m2_plan};
 pub use plan::{BlockPlan, MakeFault, NodePlan, Plan};
 pub use seal::{seal_block, seal_header, seal_page};

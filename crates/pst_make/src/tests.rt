@@ -154,3 +154,62 @@ fn refused_memory(rt: HostRuntime) {
         MakeFault::Memory
     );
 }
+
+// The check values are set to 0 and made right again, a bit is flipped to and fro, and bytes are added and cut off.
+#[test]
+fn changes_that_undo_each_other(rt: HostRuntime) -> Result<(), Fail> {
+    let mut image = m0(rt.alloc())?;
+    change_all(
+        &mut image,
+        &[
+            Change::Set(4, &[0; 4]),
+            Change::Set(524, &[0; 4]),
+            Change::Set(0x49f2, &[0; 6]),
+            Change::Set(0x4c32, &[0; 6]),
+            Change::Flip(0x4c00),
+            Change::Flip(0x4c00),
+            Change::Header,
+            Change::Page(0x4800),
+            Change::Block(0x4c00, 44),
+            Change::Grow(64),
+            Change::Cut(271_360),
+        ],
+    )?;
+    assert_eq!(rt;
+        digest_of(rt.alloc(), &image)?.as_str(),
+        "fad9565623624ccd53baedac897c48ca75dbda38b419cb8b6967b97ea848d681"
+    );
+    Ok(())
+}
+
+#[test]
+fn nothing_past_the_end_is_changed(rt: HostRuntime) -> Result<(), Fail> {
+    let mut image = vec![in rt.alloc(); 7u8; 563]?;
+    for change in [
+        Change::Set(560, &[1; 4]),
+        Change::Set(usize::MAX, &[1; 2]),
+        Change::Flip(563),
+        Change::Header,
+        Change::Page(52),
+        Change::Page(u64::MAX),
+        Change::Block(500, 1),
+    ] {
+        assert_eq!(rt; change.apply(&mut image), Err(ChangeFault::PastEnd));
+    }
+    assert!(rt; image.iter().all(|byte| *byte == 7));
+    set(&mut image, 561, &[1, 2])?;
+    flip(&mut image, 562)?;
+    assert_eq!(rt; image.last().copied(), Some(3));
+    Change::Grow(2).apply(&mut image)?;
+    Change::Cut(564).apply(&mut image)?;
+    assert_eq!(rt;
+        (image.get(562).copied(), image.get(563).copied()),
+        (Some(3), Some(0))
+    );
+    assert_eq!(rt; image.len(), 564);
+    assert_eq!(rt;
+        Change::Grow(usize::MAX).apply(&mut image),
+        Err(ChangeFault::Memory)
+    );
+    Ok(())
+}

@@ -8,7 +8,7 @@ use Rattle.pst_fault.specs.First.{◌then◌, holds_or}
 use Rattle.pst_fault.proofs.FirstLemmas.{none_then, both_none, holds_or_none, holds_or_true}
 use Rattle.pst_page.specs.declared.entry.NodeEntry.{NodeEntry}
 use Rattle.pst_block.specs.Table.{Table}
-use Rattle.pst_subnode.specs.declared.height.TheConstants.{LISTS}
+use Rattle.pst_subnode.specs.declared.check.TheConstants.{LISTS}
 use Rattle.pst_subnode.specs.Tree.{sub_fault}
 use Rattle.pst_ndb.specs.Fault.{node_fault as trees_fault, nodes_fault}
 use Rattle.pst_ndb.proofs.NodeLemmas.{none_subs}

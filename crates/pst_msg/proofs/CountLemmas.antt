@@ -16,17 +16,6 @@ use Rattle.pst_msg.proofs.KnownLemmas.{OneMore, Kept}
 
 -- ---- steps one after another
 
-pub grows_none : (t : Table) (H : List NodeEntry → Type 0) (k : Known) → Grows t H k k
-grows_none t H k = record {
-  contexts = λ q h. h;
-  messages = λ q h. h;
-  attachments = λ q h. h;
-  lists = λ q h. h;
-  risen = omega arith;
-  counted = λ start h. h;
-  named = λ nodes held are. are;
-}
-
 pub grows_then : (t : Table) (H : List NodeEntry → Type 0) (a b c : Known) → Grows t H a b → Grows t H b c → Grows t H a c
 grows_then t H a b c g h = record {
   contexts = λ q is. h.contexts q (g.contexts q is);
@@ -50,50 +39,6 @@ grows_of t H K a b of g = record {
 }
 
 -- ---- one more
-
-pub context_grows : (t : Table) (role : Role) (r : Roots) (k : Known) (new : Keys) (count : ℕ) → OneMore k.contexts new (key (role_number role) r) → Kept k.contexts new → k.count ≤ count → ((start : ℕ) → AreContextsCounted start k → count ≡ capped (start + length (keys_in new))) → Grows t (λ nodes. Names t nodes role r) k (record k { contexts = new; count = count })
-context_grows t role r k new count more kept risen counted = record {
-  contexts = kept;
-  messages = λ q h. h;
-  attachments = λ q h. h;
-  lists = λ q h. h;
-  risen = risen;
-  counted = counted;
-  named = λ nodes names are q is. elim (more q is) [ inl was ↦ are q was | inr e ↦ (role, r, names, e) ];
-}
-
-pub message_grows : (t : Table) (H : List NodeEntry → Type 0) (k : Known) (new : Keys) → Kept k.messages new → Grows t H k (record k { messages = new })
-message_grows t H k new kept = record {
-  contexts = λ q h. h;
-  messages = kept;
-  attachments = λ q h. h;
-  lists = λ q h. h;
-  risen = omega arith;
-  counted = λ start h. h;
-  named = λ nodes held are. are;
-}
-
-pub attachment_grows : (t : Table) (H : List NodeEntry → Type 0) (k : Known) (new : Keys) → Kept k.attachments new → Grows t H k (record k { attachments = new })
-attachment_grows t H k new kept = record {
-  contexts = λ q h. h;
-  messages = λ q h. h;
-  attachments = kept;
-  lists = λ q h. h;
-  risen = omega arith;
-  counted = λ start h. h;
-  named = λ nodes held are. are;
-}
-
-pub list_grows : (t : Table) (H : List NodeEntry → Type 0) (k : Known) (new : Keys) → Kept k.lists new → Grows t H k (record k { lists = new })
-list_grows t H k new kept = record {
-  contexts = λ q h. h;
-  messages = λ q h. h;
-  attachments = λ q h. h;
-  lists = kept;
-  risen = omega arith;
-  counted = λ start h. h;
-  named = λ nodes held are. are;
-}
 
 -- the count of one more
 pub one_more : (a b count : ℕ) → count ≡ capped a → b ≡ a + 1 → min (count + 1) (2 ^ 64 - 1) ≡ capped b

@@ -1,7 +1,7 @@
 -- What is remembered is true, and closed.
 use Rattle.std.proofs.Common.{◌≡◌, ℕ, zero, suc, true, None, refl, sym, ap, ◌∙◌, ◌⊎◌, inl, inr}
 use Rattle.pst_block.specs.Table.{Table}
-use Rattle.pst_subnode.specs.declared.height.TheConstants.{LISTS}
+use Rattle.pst_subnode.specs.declared.check.TheConstants.{LISTS}
 use Rattle.pst_subnode.specs.Tree.{sub_fault}
 use Rattle.pst_ndb.specs.declared.node.Node.{Node}
 use Rattle.pst_ndb.specs.Views.{table_of_node, roots_of}

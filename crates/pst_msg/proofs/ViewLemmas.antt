@@ -7,7 +7,7 @@ use Rattle.pst_fault.proofs.EachLemmas.{of_none, each_first}
 use Rattle.pst_fault.proofs.FirstLemmas.{none_then}
 use Rattle.pst_block.specs.Table.{Table}
 use Rattle.pst_btree.specs.Entries.{first_with}
-use Rattle.pst_subnode.specs.declared.height.TheConstants.{LISTS}
+use Rattle.pst_subnode.specs.declared.check.TheConstants.{LISTS}
 use Rattle.pst_subnode.specs.declared.sub.Sub.{Sub}
 use Rattle.pst_subnode.specs.List.{sub_nid, subs_of}
 use Rattle.pst_subnode.specs.Tree.{sub_fault}

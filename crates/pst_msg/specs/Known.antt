@@ -5,7 +5,7 @@ use Rattle.std.specs.Prelude.{◌≡◌, true, None, Some, List}
 use Rattle.pst_fault.specs.Each.{first_of}
 use Rattle.pst_page.specs.declared.entry.NodeEntry.{NodeEntry}
 use Rattle.pst_block.specs.Table.{Table}
-use Rattle.pst_subnode.specs.declared.height.TheConstants.{LISTS}
+use Rattle.pst_subnode.specs.declared.check.TheConstants.{LISTS}
 use Rattle.pst_subnode.specs.Tree.{sub_fault}
 use Rattle.pst_ndb.specs.Roots.{Roots, subnode_of}
 use Rattle.pst_pc.specs.pst_heap.Maps.{AreMapsTrue}

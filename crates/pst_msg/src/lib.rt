@@ -1,7 +1,12 @@
 //! Messaging ([MS-PST] 2.4): the folders, messages and attachments of a store.
 //!
 //! Begin with `check_messaging`, which answers the first fault of a node database as a store's, and counts the contexts that it
-//! names.
+//! names; then `known_folder` and `known_message` give what pst_store finds:
+//!
+//! ```
+//! let mut checked = check_ndb(alloc, image)?;
+//! check_messaging(alloc, &checked.ndb, &mut checked.work)?;
+//! ```
 #![tactic(auto)]
 
 mod attachment_view;

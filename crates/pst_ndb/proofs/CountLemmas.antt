@@ -31,7 +31,7 @@ use Rattle.pst_subnode.specs.Known as both
 use Rattle.pst_subnode.proofs.StateLemmas.{state_key, key_state}
 use Rattle.pst_subnode.proofs.AddLemmas.{contains_cases}
 use Rattle.pst_subnode.proofs.ReachLemmas.{slblock_type, siblock_type, list_type}
-use Rattle.pst_ndb.specs.declared.nodes.Known.{Known}
+use Rattle.pst_ndb.specs.declared.check_nodes.Known.{Known}
 use Rattle.pst_ndb.specs.Counts.{roots_of, capped, AreExpanded, ExpansionLaw}
 use Rattle.pst_ndb.specs.Known.{IsKnownTrue, IsNew, IsCounted, AddsKnown, entry_of_node}
 

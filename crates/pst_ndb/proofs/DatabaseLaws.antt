@@ -32,7 +32,7 @@ use Rattle.pst_amap.specs.Report.{IsReport}
 use Rattle.pst_ndb.specs.declared.check.Checked.{Checked}
 use Rattle.pst_ndb.specs.Views.{header_of}
 use Rattle.pst_ndb.proofs.NodeLemmas.{node_none, none_data, none_subs}
-use Rattle.pst_subnode.specs.declared.height.TheConstants.{LISTS}
+use Rattle.pst_subnode.specs.declared.check.TheConstants.{LISTS}
 use Rattle.pst_subnode.specs.List.{subs_of}
 use Rattle.pst_subnode.specs.Tree.{sub_height}
 use Rattle.pst_subnode.proofs.TreeLaws.{sub_law}

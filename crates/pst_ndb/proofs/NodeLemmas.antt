@@ -10,7 +10,7 @@ use Rattle.pst_btree.specs.Entries.{first_with, node_with}
 use Rattle.pst_btree.proofs.EntryLemmas.{with_contains}
 use Rattle.pst_fault.specs.Fault.{at_node}
 use Rattle.pst_datatree.specs.Data.{data_fault}
-use Rattle.pst_subnode.specs.declared.height.TheConstants.{LISTS}
+use Rattle.pst_subnode.specs.declared.check.TheConstants.{LISTS}
 use Rattle.pst_subnode.specs.Tree.{sub_fault, at_top}
 use Rattle.pst_ndb.specs.Entries.{block_table, node_list}
 use Rattle.pst_fault.specs.declared.fault.Fault.{Fault}

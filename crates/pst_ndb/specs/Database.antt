@@ -20,7 +20,7 @@ use Rattle.pst_amap.specs.Marks.{bit_order_of}
 use Rattle.pst_amap.specs.Report.{Maps}
 use Rattle.pst_datatree.specs.Relation.{HasData}
 use Rattle.pst_subnode.specs.declared.sub.Sub.{Sub}
-use Rattle.pst_subnode.specs.declared.height.TheConstants.{LISTS}
+use Rattle.pst_subnode.specs.declared.check.TheConstants.{LISTS}
 use Rattle.pst_subnode.specs.Relation.{HasSubs}
 use Rattle.pst_ndb.specs.Entries.{tree_under}
 use Rattle.pst_ndb.specs.Fault.{ndb_fault}

@@ -9,7 +9,7 @@ use Rattle.pst_header.specs.Header.{header_fault, fields}
 use Rattle.pst_page.specs.declared.entry.NodeEntry.{NodeEntry}
 use Rattle.pst_block.specs.Table.{Table}
 use Rattle.pst_datatree.specs.Data.{data_fault}
-use Rattle.pst_subnode.specs.declared.height.TheConstants.{LISTS}
+use Rattle.pst_subnode.specs.declared.check.TheConstants.{LISTS}
 use Rattle.pst_subnode.specs.Tree.{sub_fault, at_top}
 use Rattle.pst_ndb.specs.Entries.{block_table, node_list}
 use Rattle.pst_ndb.specs.Space.{space_fault}

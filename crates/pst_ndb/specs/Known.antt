@@ -6,7 +6,7 @@ use Rattle.pst_datatree.specs.Seen as seen
 use Rattle.pst_subnode.specs.declared.sub.Sub.{Sub}
 use Rattle.pst_subnode.specs.Heights as heights
 use Rattle.pst_subnode.specs.Known as both
-use Rattle.pst_ndb.specs.declared.nodes.Known.{Known}
+use Rattle.pst_ndb.specs.declared.check_nodes.Known.{Known}
 
 -- What is known is true.
 pub record IsKnownTrue (t : Table) (k : Known) : Type 0 where

@@ -21,10 +21,6 @@ entry_roots e = record { top = e.nid; bid_data = e.bid_data; bid_sub = e.bid_sub
 abbrev pub sub_roots : Roots → Sub → Roots
 sub_roots r s = record { top = r.top; bid_data = s.bid_data; bid_sub = s.bid_sub }
 
--- of what is known of either
-abbrev pub parts_roots : NodeParts → Roots
-parts_roots p = record { top = p.top; bid_data = p.bid_data; bid_sub = p.bid_sub }
-
 -- the subnode with an identifier
 unfoldable pub subnode_of : Table → Roots → ℕ → Option Roots
 subnode_of t r nid = option_map (sub_roots r) (first_with sub_nid nid (subs_of t r.bid_sub))

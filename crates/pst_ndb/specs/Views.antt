@@ -10,10 +10,10 @@ use Rattle.pst_block.specs.Table.{Table}
 use Rattle.pst_block.specs.Blocks.{table_of, image_of}
 use Rattle.pst_ndb.specs.declared.ndb.Ndb.{Ndb}
 use Rattle.pst_ndb.specs.declared.node.Node.{Node}
-use Rattle.pst_ndb.specs.declared.each.Nodes.{Nodes}
+use Rattle.pst_ndb.specs.declared.nodes.Nodes.{Nodes}
 use Rattle.pst_ndb.specs.Node.{NodeParts, entry_parts}
 use Rattle.pst_ndb.specs.Roots.{Roots, all_roots}
-use Rattle.pst_subnode.specs.declared.height.TheConstants.{LISTS}
+use Rattle.pst_subnode.specs.declared.check.TheConstants.{LISTS}
 use Rattle.pst_subnode.specs.declared.index.SubIndex.{SubIndex}
 use Rattle.pst_subnode.specs.Index.{IsIndexOf}
 use Rattle.pst_subnode.specs.List.{subs_of}

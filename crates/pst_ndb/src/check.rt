@@ -19,8 +19,8 @@ ghost use Rattle.pst_ndb.specs.Marks.{MapsMark};
 ghost use Rattle.pst_ndb.specs.Space.{space_claimed};
 ghost use Rattle.pst_ndb.specs.Views.{image_of_ndb, header_of, table_of_ndb, nodes_of};
 
+use crate::check_nodes::check_nodes;
 use crate::ndb::Ndb;
-use crate::nodes::check_nodes;
 use crate::space::check_maps;
 use pst_amap::MapReport;
 use pst_bytes::Image;

@@ -1,9 +1,19 @@
 //! The node database of a file ([MS-PST] 2.2): one check of all that the header, the two B-trees, the blocks, the allocation
 //! maps and the trees of each node's blocks have to be, and the nodes as views that cannot fail.
+//!
+//! Begin with `check_ndb`:
+//!
+//! ```
+//! let checked = check_ndb(alloc, Image::new(&bytes))?;
+//! for node in checked.ndb.nodes() {
+//!     let data = node.bytes();
+//!     ..
+//! }
+//! ```
 #![tactic(auto)]
 
 mod check;
-mod each;
+mod check_nodes;
 mod laws;
 mod ndb;
 mod node;
@@ -12,10 +22,10 @@ mod space;
 mod trees;
 
 pub use check::{Checked, Work, check_ndb};
-pub use each::Nodes;
 pub use laws::{counts_agree, database_decides, listing_decides};
 pub use ndb::Ndb;
 pub use node::Node;
+pub use nodes::Nodes;
 pub use pst_subnode::SubIndex;
 pub use trees::read_nodes;
 

@@ -8,8 +8,8 @@ ghost use Rattle.pst_block.specs.Blocks.{table_of, image_of};
 ghost use Rattle.pst_ndb.specs.Entries.{block_table, node_list};
 ghost use Rattle.pst_ndb.specs.Fault.{nodes_fault, ndb_fault};
 
-use crate::each::Nodes;
 use crate::node::Node;
+use crate::nodes::Nodes;
 use pst_block::Blocks;
 use pst_btree::{NodeTree, node_keys_rise};
 use pst_bytes::Image;

@@ -3,7 +3,7 @@
 ghost use Rattle.std.specs.Prelude.{◌≡◌, None};
 ghost use Rattle.pst_block.specs.Blocks.{table_of};
 ghost use Rattle.pst_datatree.specs.Data.{data_fault};
-ghost use Rattle.pst_subnode.specs.declared.height.TheConstants.{LISTS};
+ghost use Rattle.pst_subnode.specs.declared.check.TheConstants.{LISTS};
 ghost use Rattle.pst_subnode.specs.Tree.{sub_fault};
 
 use pst_block::Blocks;
@@ -42,7 +42,7 @@ impl<'a> Node<'a> {
     ghost use Rattle.pst_datatree.specs.PartsView.{table_of_parts, tree_of_parts, image_of_parts};
     ghost use Rattle.pst_datatree.specs.Shown.{ShowsSpans, bytes_in, size_in, place_in};
     ghost use Rattle.pst_btree.specs.Entries.{first_with};
-    ghost use Rattle.pst_subnode.specs.declared.height.TheConstants.{LISTS};
+    ghost use Rattle.pst_subnode.specs.declared.check.TheConstants.{LISTS};
     ghost use Rattle.pst_subnode.specs.Index.{is_held, is_long};
     ghost use Rattle.pst_subnode.specs.List.{sub_nid, subs_of};
     ghost use Rattle.pst_subnode.specs.Left.{subs_left};

@@ -1,150 +1,63 @@
-//! The trees of the blocks of each node.
+//! All nodes, one after another.
 
-ghost use Rattle.std.specs.Prelude.{◌≡◌, None, IfOk, IfErr, OnOk, option_map, map};
-ghost use Rattle.pst_fault.specs.First.{Tells, IsFirst};
-ghost use Rattle.pst_btree.specs.Trees.{node_entries};
+ghost use Rattle.std.specs.Prelude.{◌≡◌, None};
 ghost use Rattle.pst_block.specs.Blocks.{table_of};
-ghost use Rattle.pst_subnode.specs.declared.height.TheConstants.{LISTS};
-ghost use Rattle.pst_subnode.specs.Tree.{sub_fault, at_top};
-ghost use Rattle.pst_ndb.specs.Fault.{node_fault, nodes_fault};
-ghost use Rattle.pst_subnode.specs.Reach.{Leads};
-ghost use Rattle.pst_subnode.specs.Known.{IsKnownList, AreLedTo, AreLedEach, AreKnownEach};
-ghost use Rattle.pst_ndb.specs.Counts.{AreExpanded};
-ghost use Rattle.pst_ndb.specs.Known.{IsKnownTrue, IsCounted, AddsKnown, KnowsEntry, entry_of_node};
+ghost use Rattle.pst_btree.specs.Nodes.{nodes_left};
+ghost use Rattle.pst_ndb.specs.Fault.{nodes_fault};
 
+use crate::node::Node;
 use pst_block::Blocks;
-use pst_btree::{NodeEntry, NodeTree};
-use pst_datatree::{Seen, check_data};
-use pst_fault::Fault;
-use pst_subnode::{Heights, check_sub};
-use std::alloc::Global;
+use pst_btree::{NodeTree, Nodes as Entries};
 
-// What is known of the trees that were looked at.
-#[derive(Drop)]
-struct Known {
-    seen: Seen,
-    heights: Heights,
+/// The nodes that are left, their identifiers rising: a `Node` each. Each step goes down the node B-tree once more, and no
+/// memory is taken.
+#[derive(Clone, Copy)]
+pub struct Nodes<'a> {
+    blocks: Blocks<'a>,
+    rest: Entries<'a>,
+    ghost sound: { nodes_fault (table_of blocks) (nodes_left rest) ≡ None },
 }
 
-impl Known {
-    ghost use Rattle.std.specs.Prelude.{◌≡◌, ◌+◌};
-    ghost use Rattle.std.specs.List.Sorted.{IsStrictlySortedBy};
-    ghost use Rattle.std.specs.Ordering.{nat_cmp};
-    ghost use Rattle.pst_block.specs.Table.{Table};
-    ghost use Rattle.pst_datatree.specs.Seen.{tree_expansions, tree_keys};
-    ghost use Rattle.pst_subnode.specs.Heights.{list_expansions, list_keys};
-    ghost use Rattle.pst_ndb.specs.Counts.{capped};
-    ghost use Rattle.pst_ndb.specs.Known.{IsKnownTrue, IsNew, IsCounted};
+impl<'a> Iterator for Nodes<'a> {
+    ghost use Rattle.std.specs.Iterator.{item_count};
+    ghost use Rattle.pst_ndb.specs.Views.{parts_left, TakesNode};
 
-    // Nothing yet.
-    fn new(alloc: Global) -> Known
-        ensures known { (t : Table) → IsKnownTrue t result }
-        ensures empty { IsNew result }
-        ensures counts { IsCounted result }
+    type Item = Node<'a>;
+
+    ghost next_gives = { TakesNode };
+
+    ghost remaining = { item_count parts_left };
+
+    #[tactic(auto, using(pst_fault::proofs::EachLemmas::each_first, pst_fault::proofs::EachLemmas::each_rest))]
+    fn next(&mut self) -> Option<Node<'a>> {
+        let mut rest = self.rest;
+        let entry = rest.next()?;
+        self.rest = rest;
+        Some(Node::of_entry(self.blocks, entry))
+    }
+}
+
+impl<'a> Nodes<'a> {
+    ghost use Rattle.std.specs.Prelude.{◌≡◌, None, map};
+    ghost use Rattle.pst_block.specs.Blocks.{table_of, image_of};
+    ghost use Rattle.pst_btree.specs.Trees.{node_entries};
+    ghost use Rattle.pst_ndb.specs.Fault.{nodes_fault};
+    ghost use Rattle.pst_ndb.specs.Node.{entry_parts};
+    ghost use Rattle.pst_ndb.specs.Roots.{all_roots};
+    ghost use Rattle.pst_ndb.specs.Views.{parts_left, roots_left, table_left, image_left};
+
+    // All nodes of a tree.
+    pub(crate) fn all(blocks: Blocks<'a>, tree: NodeTree<'a>) -> Nodes<'a>
+        requires { nodes_fault (table_of blocks) (node_entries tree) ≡ None }
+        ensures parts { parts_left result ≡ map (entry_parts (image_of blocks.entry)
+            (table_of blocks.entry)) (node_entries tree.entry) }
+        ensures roots { roots_left result ≡ all_roots (node_entries tree.entry) }
+        ensures table { table_left result ≡ table_of blocks.entry }
+        ensures image { image_left result ≡ image_of blocks.entry }
     {
-        Known {
-            seen: Seen::new(alloc),
-            heights: Heights::new(alloc),
+        Nodes {
+            blocks,
+            rest: tree.nodes(),
         }
     }
-
-    // How many internal blocks have been expanded; and that none is known twice.
-    fn expansions(&self) -> u64
-        ensures value { result ≡
-            capped (tree_expansions self.now.seen + list_expansions self.now.heights) }
-        ensures trees { IsStrictlySortedBy nat_cmp (tree_keys self.now.seen) }
-        ensures lists { IsStrictlySortedBy nat_cmp (list_keys self.now.heights) }
-    {
-        self.seen.keys_rise();
-        self.heights.keys_rise();
-        self.seen
-            .expansions()
-            .saturating_add(self.heights.expansions())
-    }
-}
-
-// The subnodes of a node.
-fn check_subs(
-    alloc: Global,
-    blocks: &Blocks,
-    entry: NodeEntry,
-    known: &mut Known,
-) -> Result<(), Fault>
-    requires { IsKnownTrue (table_of blocks.now) known.old }
-    ensures known { IsKnownTrue (table_of blocks.now) known.new }
-    ensures exact { Tells result (option_map (at_top entry.bid_sub entry.nid)
-        (sub_fault (table_of blocks.now) LISTS entry.bid_sub)) tt }
-    ensures adds { let t = table_of blocks.now in
-        AddsKnown t (λ from. Leads t from entry.bid_sub) known.old known.new }
-    ensures there { let t = table_of blocks.now in
-        OnOk result (IsKnownList t known.new.heights entry.bid_sub) }
-    ensures counts { OnOk result (IsCounted known.old → IsCounted known.new) }
-{
-    check_sub(
-        alloc,
-        blocks,
-        entry.bid_sub,
-        entry.nid,
-        &mut known.seen,
-        &mut known.heights,
-    )?;
-    Ok(())
-}
-
-// One node: its data, then its subnodes.
-#[tactic(auto, unfolding(crate::specs::Fault::node_fault))]
-fn check_node(
-    alloc: Global,
-    blocks: &Blocks,
-    entry: NodeEntry,
-    known: &mut Known,
-) -> Result<(), Fault>
-    requires { IsKnownTrue (table_of blocks.now) known.old }
-    ensures known { IsKnownTrue (table_of blocks.now) known.new }
-    ensures exact { Tells result (node_fault (table_of blocks.now) entry) tt }
-    ensures adds { let t = table_of blocks.now in
-        AddsKnown t (λ from. AreLedTo t from (entry_of_node entry)) known.old known.new }
-    ensures there { let t = table_of blocks.now in
-        OnOk result (KnowsEntry t known.new (entry_of_node entry)) }
-    ensures counts { OnOk result (IsCounted known.old → IsCounted known.new) }
-{
-    check_data(alloc, blocks, entry.bid_data, entry.nid, &mut known.seen)?;
-    check_subs(alloc, blocks, entry, known)
-}
-
-// All nodes, in order of their identifiers.
-#[tactic(auto, using(pst_fault::proofs::EachLemmas::each_next, pst_fault::proofs::EachLemmas::each_refused, pst_fault::proofs::EachLemmas::each_done))]
-fn check_each(
-    alloc: Global,
-    blocks: &Blocks,
-    tree: &NodeTree,
-    known: &mut Known,
-) -> Result<(), Fault>
-    requires { IsKnownTrue (table_of blocks.now) known.old }
-    ensures known { IsKnownTrue (table_of blocks.now) known.new }
-    ensures exact { Tells result (nodes_fault (table_of blocks.now) (node_entries tree.now)) tt }
-    ensures adds { let t = table_of blocks.now in
-        AddsKnown t (AreLedEach t (map entry_of_node (node_entries tree.now))) known.old known.new }
-    ensures there { let t = table_of blocks.now in
-        OnOk result (AreKnownEach t known.new.seen known.new.heights
-        (map entry_of_node (node_entries tree.now))) }
-    ensures counts { OnOk result (IsCounted known.old → IsCounted known.new) }
-{
-    for entry in tree.nodes() {
-        check_node(alloc, blocks, entry, known)?;
-    }
-    Ok(())
-}
-
-/// Checks the trees of each node's blocks, in order of the nodes' identifiers, and answers how many internal blocks were
-/// expanded for that, each once; or the first fault.
-pub(crate) fn check_nodes(alloc: Global, blocks: &Blocks, tree: &NodeTree) -> Result<u64, Fault>
-    ensures exact { IfErr result
-        (IsFirst (nodes_fault (table_of blocks.now) (node_entries tree.now))) }
-    ensures none { OnOk result (nodes_fault (table_of blocks.now) (node_entries tree.now) ≡ None) }
-    ensures expansions { IfOk result (AreExpanded (table_of blocks.now) (node_entries tree.now)) }
-{
-    let mut known = Known::new(alloc);
-    check_each(alloc, blocks, tree, &mut known)?;
-    Ok(known.expansions())
 }

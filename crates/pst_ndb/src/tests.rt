@@ -11,85 +11,15 @@ mod views;
 
 use crate::{check_ndb, counts_agree};
 use pst_bytes::Image;
-use pst_make::{BlockPlan, NodePlan, Plan, build, m0, seal_block, seal_header, seal_page};
+use pst_make::{BlockPlan, Change, NodePlan, Plan, build, change_all, flip, m0, set};
 use std::alloc::Global;
 use std::process::Abort;
 use std::test::Fail;
-
-/// What is done to an image.
-#[derive(Clone, Copy)]
-enum Change<'a> {
-    /// Sets bytes from an offset on.
-    Set(usize, &'a [u8]),
-    /// Flips the lowest bit of a byte.
-    Flip(usize),
-    /// Makes the check values of the header right.
-    Header,
-    /// Makes those of the page at an offset right.
-    Page(u64),
-    /// Makes those of the block at an offset right, whose body has so many bytes.
-    Block(u64, u16),
-}
 
 // Changes, and the line that is answered for them.
 type Row<'a> = (&'a [Change<'a>], &'a str);
 
 const GOOD: &str = "yes: 2 pages 2 blocks 2 nodes High 0 lost 0 old";
-
-fn set(image: &mut [u8], at: usize, bytes: &[u8]) -> Result<(), Fail> {
-    for (i, byte) in bytes.iter().enumerate() {
-        let there = image.get_mut(at.saturating_add(i)).ok_or("past the end")?;
-        *there = *byte;
-    }
-    Ok(())
-}
-
-fn flip(image: &mut [u8], at: usize) -> Result<(), Fail> {
-    let there = image.get_mut(at).ok_or("past the end")?;
-    *there ^= 1;
-    Ok(())
-}
-
-fn seal_first(image: &mut [u8]) -> Result<(), Fail> {
-    if image.len() < 564 {
-        return Err(Fail::from("past the end"));
-    }
-    seal_header(image);
-    Ok(())
-}
-
-fn seal_at(image: &mut [u8], at: u64) -> Result<(), Fail> {
-    if at > 1_000_000 || image.len() < 1_000 || at > image.len() as u64 - 512 {
-        return Err(Fail::from("past the end"));
-    }
-    seal_page(image, at);
-    Ok(())
-}
-
-fn seal_body(image: &mut [u8], at: u64, cb: u16) -> Result<(), Fail> {
-    if at > 1_000_000 || image.len() < 100_000 || at > image.len() as u64 - 100_000 {
-        return Err(Fail::from("past the end"));
-    }
-    seal_block(image, at, cb);
-    Ok(())
-}
-
-fn apply(image: &mut [u8], change: Change) -> Result<(), Fail> {
-    match change {
-        Change::Set(at, bytes) => set(image, at, bytes),
-        Change::Flip(at) => flip(image, at),
-        Change::Header => seal_first(image),
-        Change::Page(at) => seal_at(image, at),
-        Change::Block(at, cb) => seal_body(image, at, cb),
-    }
-}
-
-fn change_all(image: &mut [u8], changes: &[Change]) -> Result<(), Fail> {
-    for one in changes {
-        apply(image, *one)?;
-    }
-    Ok(())
-}
 
 // What the check answers of a file, in a line.
 fn answer(alloc: Global, image: &[u8]) -> Result<String, Fail> {

@@ -1,7 +1,7 @@
 -- The entries of a page, from one on; and their keys.
 use Rattle.std.proofs.Common.{◌≡◌, ℕ, zero, suc, ◌+◌, ◌-◌, ◌*◌, ◌<◌, ◌≤◌, List, [], ◌∷◌, length, refl, arith}
-use Rattle.pst_page.specs.declared.kind.PageKind.TheVariants.{Bbt, Nbt}
-use Rattle.pst_page.specs.Entry.{key_of, key_at, block_entry_at, node_entry_at}
+use Rattle.pst_page.specs.declared.kind.PageKind.TheVariants.{Bbt}
+use Rattle.pst_page.specs.Entry.{key_of, key_at, block_entry_at}
 use Rattle.pst_page.specs.Page.{entries_at, entries_from, count_at, width_at, places}
 
 -- ---- places, step by step
@@ -41,7 +41,3 @@ entries_count I ib = places_count ib (width_at I ib) (count_at I ib)
 pub block_entry_key : (I : List ℕ) (at : ℕ) → key_of Bbt (block_entry_at I at).bid ≡ key_at Bbt I at
 unfolding key_at block_entry_at
 block_entry_key I at = refl
-
-pub node_entry_key : (I : List ℕ) (at : ℕ) → (node_entry_at I at).nid ≡ key_at Nbt I at
-unfolding key_at node_entry_at
-node_entry_key I at = refl

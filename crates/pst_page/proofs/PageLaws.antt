@@ -6,19 +6,21 @@ use Rattle.pst_fault.proofs.FirstLemmas.{none_then, both_none, holds_or_none, ho
 use Rattle.pst_header.specs.declared.header.Bref.{Bref}
 use Rattle.pst_page.specs.declared.kind.PageKind.{PageKind}
 use Rattle.pst_fault.specs.First.{Checks}
-use Rattle.pst_page.specs.Page.{level_at}
+use Rattle.pst_header.specs.Place.{IsPlace}
+use Rattle.pst_header.proofs.PlaceLemmas.{is_place_good, good_is_place}
+use Rattle.pst_page.specs.Page.{level_at, page_span}
 use Rattle.pst_page.specs.Fault.{page_place_fault, page_trailer_fault, page_shape_fault, open_fault, page_fault, level_fault}
-use Rattle.pst_page.specs.Good.{IsPagePlace, HasPageTrailer, GoodPage, HasShape, PageLaw}
-use Rattle.pst_page.proofs.PageLemmas.{is_place_good, good_is_place, has_trailer_good, good_has_trailer, has_shape_good, good_has_shape}
+use Rattle.pst_page.specs.Good.{HasPageTrailer, GoodPage, HasShape, PageLaw}
+use Rattle.pst_page.proofs.PageLemmas.{has_trailer_good, good_has_trailer, has_shape_good, good_has_shape}
 use Rattle.std.proofs.lemmas.Bool.{eqb-true, eq-eqb}
 
 -- ---- the parts
 
-pub place_law : (end : ℕ) (bref : Bref) → IsPagePlace end bref.ib ↔ (page_place_fault end bref ≡ None)
+pub place_law : (end : ℕ) (bref : Bref) → IsPlace end (page_span bref.ib) ↔ (page_place_fault end bref ≡ None)
 unfolding page_place_fault
 place_law end bref = (
-  λ p. holds_or_true _ _ (good_is_place end bref.ib p),
-  λ e. is_place_good end bref.ib (holds_or_none _ _ e),
+  λ p. holds_or_true _ _ (good_is_place end (page_span bref.ib) p),
+  λ e. is_place_good end (page_span bref.ib) (holds_or_none _ _ e),
 )
 
 pub open_law : (kind : PageKind) (I : List ℕ) (bref : Bref) → (HasPageTrailer I kind bref × HasShape I kind bref.ib) ↔ (open_fault kind I bref ≡ None)

@@ -1,57 +1,37 @@
 -- What the tests of a page mean.
-use Rattle.std.proofs.Common.{◌≡◌, ℕ, ◌+◌, ◌*◌, ◌<◌, ◌≤◌, inl, inr, true, ◌||◌, eqb, ltb, List, arith}
+use Rattle.std.proofs.Common.{◌≡◌, ℕ, ◌*◌, ◌<◌, ◌≤◌, inl, inr, true, ◌||◌, eqb, ltb, List, arith}
 use Rattle.std.proofs.lemmas.Bool.{eqb-true, leb-true, ltb-true, eq-eqb, le-leb, lt-ltb, and_parts, and_from, or_cases, or_left, or_right, cases_eq}
 use Rattle.pst_header.specs.declared.header.Bref.{Bref}
 use Rattle.pst_page.specs.declared.kind.PageKind.{PageKind}
 use Rattle.pst_page.specs.Entry.{entry_size}
 use Rattle.pst_page.specs.Page.{count_at, width_at, level_at}
-use Rattle.pst_page.specs.Fault.{is_page_place, has_page_trailer, has_shape}
-use Rattle.pst_page.specs.Good.{IsPagePlace, HasPageTrailer, HasShape}
-
--- ---- the place
-
-pub is_place_good : (end ib : ℕ) → is_page_place end ib ≡ true → IsPagePlace end ib
-unfolding is_page_place
-is_place_good end ib e =
-    let p = and_parts _ _ e in
-    let q = and_parts _ _ p.0 in
-    record {
-      whole_units = eqb-true _ _ q.0;
-      mapped = leb-true _ _ q.1;
-      inside = leb-true _ _ p.1;
-    }
-
-pub good_is_place : (end ib : ℕ) → IsPagePlace end ib → is_page_place end ib ≡ true
-unfolding is_page_place
-good_is_place end ib p = and_from _ _ (and_from _ _ (eq-eqb _ _ p.whole_units) (le-leb _ _ p.mapped)) (le-leb _ _ p.inside)
-
--- a page in its place lies inside the mapped part
-pub place_inside : (end ib : ℕ) → is_page_place end ib ≡ true → ib + 512 ≤ end
-place_inside end ib e = (is_place_good end ib e).inside
+use Rattle.pst_page.specs.Fault.{has_page_trailer, has_shape}
+use Rattle.pst_page.specs.Good.{HasPageTrailer, HasShape}
+use Rattle.pst_page.specs.Trailer.{has_trailer}
 
 -- ---- the trailer
 
 pub has_trailer_good : (kind : PageKind) (I : List ℕ) (bref : Bref) → has_page_trailer kind I bref ≡ true → HasPageTrailer I kind bref
-unfolding has_page_trailer
+unfolding has_page_trailer has_trailer
 has_trailer_good kind I bref e =
-    let a = and_parts _ _ e in
-    let b = and_parts _ _ a.0 in
-    let c = and_parts _ _ b.0 in
-    let d = and_parts _ _ c.0 in
+    let both = and_parts _ _ e in
+    let types = and_parts _ _ both.0 in
+    let rest = and_parts _ _ both.1 in
+    let name = and_parts _ _ rest.0 in
     record {
-      ptype = eqb-true _ _ d.0;
-      ptype_repeat = eqb-true _ _ d.1;
-      signature = eqb-true _ _ b.1;
-      check = eqb-true _ _ a.1;
-      bid = eqb-true _ _ c.1;
+      ptype = eqb-true _ _ types.0;
+      ptype_repeat = eqb-true _ _ types.1;
+      signature = eqb-true _ _ name.1;
+      check = eqb-true _ _ rest.1;
+      bid = eqb-true _ _ name.0;
     }
 
 pub good_has_trailer : (kind : PageKind) (I : List ℕ) (bref : Bref) → HasPageTrailer I kind bref → has_page_trailer kind I bref ≡ true
-unfolding has_page_trailer
+unfolding has_page_trailer has_trailer
 good_has_trailer kind I bref t =
     let types = and_from _ _ (eq-eqb _ _ t.ptype) (eq-eqb _ _ t.ptype_repeat) in
-    let name = and_from _ _ types (eq-eqb _ _ t.bid) in
-    and_from _ _ (and_from _ _ name (eq-eqb _ _ t.signature)) (eq-eqb _ _ t.check)
+    let name = and_from _ _ (eq-eqb _ _ t.bid) (eq-eqb _ _ t.signature) in
+    and_from _ _ types (and_from _ _ name (eq-eqb _ _ t.check))
 
 -- ---- the shape
 

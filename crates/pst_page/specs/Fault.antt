@@ -1,28 +1,23 @@
 -- The first fault of a page. Each is told at the page, with the identifier of the reference (BREF) that names it.
-use Rattle.std.specs.Prelude.{ℕ, ◌+◌, ◌*◌, ◌%◌, Bool, ◌&&◌, ◌||◌, nat_eq, nat_le, nat_lt, List, Option}
-use Rattle.pst_bytes.specs.Image.{num, bytes_at}
-use Rattle.pst_crc.specs.Crc.{crc, signature_of}
+use Rattle.std.specs.Prelude.{ℕ, ◌+◌, ◌*◌, Bool, ◌&&◌, ◌||◌, nat_eq, nat_le, nat_lt, List, Option}
+use Rattle.pst_bytes.specs.Image.{num}
+use Rattle.pst_crc.specs.Crc.{signature_of}
 use Rattle.pst_fault.specs.declared.fault.Fault.{Fault}
 use Rattle.pst_fault.specs.declared.kind.Kind.TheVariants.{PagePlace, PageTrailer, PageShape}
 use Rattle.pst_fault.specs.Fault.{fault_in}
 use Rattle.pst_fault.specs.First.{◌then◌, holds_or}
-use Rattle.pst_header.specs.declared.header.TheConstants.{FIRST_AMAP, UNIT}
+use Rattle.pst_header.specs.Place.{is_place}
 use Rattle.pst_header.specs.declared.header.Bref.{Bref}
 use Rattle.pst_page.specs.declared.kind.PageKind.{PageKind}
 use Rattle.pst_page.specs.Entry.{entry_size}
-use Rattle.pst_page.specs.Page.{page_type, checked_span, count_at, width_at, level_at}
-
--- A page lies in the mapped part, which begins at the first allocation map and ends at `end`, in whole units.
-unfoldable pub is_page_place : ℕ → ℕ → Bool
-is_page_place end ib = nat_eq (ib % UNIT) 0 && nat_le FIRST_AMAP ib && nat_le (ib + 512) end
+use Rattle.pst_page.specs.Trailer.{has_trailer}
+use Rattle.pst_page.specs.Page.{page_type, page_span, count_at, width_at, level_at}
 
 -- The trailer (2.2.2.7.1): the type twice, the identifier, the signature and the check value.
 unfoldable pub has_page_trailer : PageKind → List ℕ → Bref → Bool
 has_page_trailer kind I bref =
     nat_eq (num I (bref.ib + 496) 1) (page_type kind) && nat_eq (num I (bref.ib + 497) 1) (page_type kind)
-    && nat_eq (num I (bref.ib + 504) 8) bref.bid
-    && nat_eq (num I (bref.ib + 498) 2) (signature_of bref.ib bref.bid)
-    && nat_eq (num I (bref.ib + 500) 4) (crc (bytes_at I (checked_span bref.ib)))
+    && has_trailer I bref.ib (signature_of bref.ib bref.bid) bref.bid
 
 -- The shape (2.2.2.7.7.1): entries are wide enough and fit, the level is at most 15, and a branch has an entry.
 unfoldable pub has_shape : PageKind → List ℕ → ℕ → Bool
@@ -32,8 +27,9 @@ has_shape kind I ib =
     && nat_le (level_at I ib) 15
     && (nat_eq (level_at I ib) 0 || nat_lt 0 (count_at I ib))
 
+-- A page lies in the mapped part, which ends at `end`.
 unfoldable pub page_place_fault : ℕ → Bref → Option Fault
-page_place_fault end bref = holds_or (is_page_place end bref.ib) (fault_in PagePlace bref.ib bref.bid)
+page_place_fault end bref = holds_or (is_place end (page_span bref.ib)) (fault_in PagePlace bref.ib bref.bid)
 
 abbrev pub page_trailer_fault : PageKind → List ℕ → Bref → Option Fault
 page_trailer_fault kind I bref = holds_or (has_page_trailer kind I bref) (fault_in PageTrailer bref.ib bref.bid)

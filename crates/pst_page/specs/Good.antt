@@ -1,19 +1,13 @@
 -- A good page of a B-tree, and its shape.
-use Rattle.std.specs.Prelude.{◌≡◌, ℕ, ◌+◌, ◌*◌, ◌%◌, ◌<◌, ◌≤◌, ◌↔◌, List, None}
+use Rattle.std.specs.Prelude.{◌≡◌, ℕ, ◌+◌, ◌*◌, ◌<◌, ◌≤◌, ◌↔◌, List, None}
 use Rattle.pst_bytes.specs.Image.{num, bytes_at}
 use Rattle.pst_crc.specs.Crc.{crc, signature_of}
-use Rattle.pst_header.specs.declared.header.TheConstants.{FIRST_AMAP, UNIT}
+use Rattle.pst_header.specs.Place.{IsPlace}
 use Rattle.pst_header.specs.declared.header.Bref.{Bref}
 use Rattle.pst_page.specs.declared.kind.PageKind.{PageKind}
 use Rattle.pst_page.specs.Entry.{entry_size}
-use Rattle.pst_page.specs.Page.{page_type, checked_span, count_at, width_at, level_at}
+use Rattle.pst_page.specs.Page.{page_type, page_span, checked_span, count_at, width_at, level_at}
 use Rattle.pst_page.specs.Fault.{page_fault}
-
--- a page's place in the mapped part, which ends at `end` ([MS-PST] 2.2.2.7)
-pub record IsPagePlace (end : ℕ) (ib : ℕ) : Type 0 where
-  pub whole_units : ib % UNIT ≡ 0
-  pub mapped : FIRST_AMAP ≤ ib
-  pub inside : ib + 512 ≤ end
 
 -- its trailer (2.2.2.7.1): ptype, ptypeRepeat, wSig, dwCRC, bid
 pub record HasPageTrailer (I : List ℕ) (kind : PageKind) (bref : Bref) : Type 0 where
@@ -25,7 +19,7 @@ pub record HasPageTrailer (I : List ℕ) (kind : PageKind) (bref : Bref) : Type 
 
 -- The page that a reference names is good: it is in the mapped part, and its trailer is right.
 pub record GoodPage (I : List ℕ) (end : ℕ) (kind : PageKind) (bref : Bref) : Type 0 where
-  pub place : IsPagePlace end bref.ib
+  pub place : IsPlace end (page_span bref.ib)
   pub trailer : HasPageTrailer I kind bref
 
 -- its shape (2.2.2.7.7.1)

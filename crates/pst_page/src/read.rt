@@ -13,18 +13,17 @@ ghost use Rattle.pst_page.specs.Good.{GoodPage, HasShape};
 
 use crate::kind::PageKind;
 use crate::page::Page;
+use crate::trailer::has_trailer;
 use pst_bytes::{Image, Span};
 use pst_fault::{Fault, Kind};
-use pst_header::{Bref, FIRST_AMAP, Header, UNIT};
+use pst_header::{Bref, Header};
 
-// How many bytes a page has, and how many of them stand before its trailer.
+// How many bytes a page has.
 const PAGE: u64 = 512;
-
-const CHECKED: u64 = 496;
 
 /// The span of the page that a reference names, or PagePlace at the page: it lies in the mapped part of the file, which
 /// begins at `FIRST_AMAP` and ends at `header.end()`, on a multiple of `UNIT` ([MS-PST] 2.2.2.7). The page is not read.
-#[tactic(auto, unfolding(crate::specs::Fault::page_place_fault, crate::specs::Fault::is_page_place))]
+#[tactic(auto, unfolding(crate::specs::Fault::page_place_fault, pst_header::specs::Place::is_place))]
 pub fn page_place(header: &Header, bref: Bref) -> Result<Span, Fault>
     // Where it lies, or which fault it is.
     ensures exact { result ≡ answer (page_place_fault (end_of header.now) bref)
@@ -35,12 +34,14 @@ pub fn page_place(header: &Header, bref: Bref) -> Result<Span, Fault>
     ensures mapped { OnOk result (FIRST_AMAP ≤ bref.ib) }
     ensures inside { OnOk result (bref.ib + 512 ≤ end_of header.now) }
 {
-    let end = header.end();
-    let ib = bref.ib;
-    if ib.is_multiple_of(UNIT) && ib >= FIRST_AMAP && ib <= end && end - ib >= PAGE {
-        Ok(Span { at: ib, len: PAGE })
+    let span = Span {
+        at: bref.ib,
+        len: PAGE,
+    };
+    if header.has_place(span) {
+        Ok(span)
     } else {
-        Err(Fault::within(Kind::PagePlace, ib, bref.bid))
+        Err(Fault::within(Kind::PagePlace, bref.ib, bref.bid))
     }
 }
 
@@ -52,15 +53,9 @@ fn check_trailer(image: Image, bref: Bref, kind: PageKind) -> Result<(), Fault>
 {
     let ib = bref.ib;
     let page_type = kind.page_type();
-    let checked = Span {
-        at: ib,
-        len: CHECKED,
-    };
     if image.number8(ib + 496) == page_type
         && image.number8(ib + 497) == page_type
-        && image.number64(ib + 504) == bref.bid
-        && image.number16(ib + 498) == pst_crc::signature(ib, bref.bid)
-        && image.number32(ib + 500) == pst_crc::check(image.slice(checked))
+        && has_trailer(image, ib, pst_crc::signature(ib, bref.bid), bref.bid)
     {
         Ok(())
     } else {

@@ -2,6 +2,7 @@ use super::*;
 use pst_bytes::Image;
 use pst_fault::{Fault, Kind, Place};
 use pst_header::{Bref, Header, read_header};
+use pst_make::{Change, m0, set};
 use std::alloc::Global;
 use std::process::Abort;
 use std::test::Fail;
@@ -10,61 +11,6 @@ use std::test::Fail;
 const NBT: Bref = Bref { bid: 4, ib: 0x4800 };
 
 const BBT: Bref = Bref { bid: 8, ib: 0x4a00 };
-
-// Places and bytes of a small store of 271,360 bytes, other than 0: its header, as [MS-PST] 2.2.2.6 orders the fields,
-// and its two pages, of two entries each. All check values and signatures are another program's.
-const BYTES: [(usize, &[u8]); 27] = [
-    (0, b"!BDN"),
-    (4, &[0x24, 0x6d, 0x4c, 0xff]),
-    (8, b"SM"),
-    (10, &[23]),
-    (32, &[12]),
-    (184, &[0x00, 0x24, 0x04]),
-    (192, &[0x00, 0x44]),
-    (200, &[0x80, 0xd7, 0x03]),
-    (216, &[4, 0, 0, 0, 0, 0, 0, 0, 0x00, 0x48]),
-    (232, &[8, 0, 0, 0, 0, 0, 0, 0, 0x00, 0x4a]),
-    (248, &[2]),
-    (512, &[0x80]),
-    (516, &[12]),
-    (524, &[0x9a, 0xda, 0x53, 0x0f]),
-    (0x4800, &[0x21, 0, 0, 0, 0, 0, 0, 0, 4]),
-    (0x4820, &[0x22, 0x01, 0, 0, 0, 0, 0, 0, 8]),
-    (0x4838, &[0x22, 0x01]),
-    (0x49e8, &[2, 15, 32, 0]),
-    (0x49f0, &[0x81, 0x81, 0x04, 0x48, 0x91, 0x90, 0xfc, 0x1c]),
-    (0x49f8, &[4]),
-    (0x4a00, &[4, 0, 0, 0, 0, 0, 0, 0, 0x00, 0x4c]),
-    (0x4a10, &[44, 0, 2]),
-    (0x4a18, &[8, 0, 0, 0, 0, 0, 0, 0, 0x40, 0x4c]),
-    (0x4a28, &[38, 0, 2]),
-    (0x4be8, &[2, 20, 24, 0]),
-    (0x4bf0, &[0x80, 0x80, 0x08, 0x4a, 0xf0, 0x16, 0x98, 0x2d]),
-    (0x4bf8, &[8]),
-];
-
-fn set(image: &mut [u8], at: usize, bytes: &[u8]) -> Result<(), Fail> {
-    for (i, byte) in bytes.iter().enumerate() {
-        let there = image.get_mut(at.saturating_add(i)).ok_or("past the end")?;
-        *there = *byte;
-    }
-    Ok(())
-}
-
-fn small_store(alloc: Global, len: usize) -> Result<Vec<u8>, Fail> {
-    let mut image = vec![in alloc; 0u8; len]?;
-    for (at, bytes) in BYTES {
-        set(&mut image, at, bytes)?;
-    }
-    Ok(image)
-}
-
-// The check value of a page, right for what stands there.
-fn seal(image: &mut [u8], at: usize) -> Result<(), Fail> {
-    let end = at.saturating_add(496);
-    let check = pst_crc::check(image.get(at..end).ok_or("too short")?);
-    set(image, end.saturating_add(4), &check.to_le_bytes())
-}
 
 fn fault_of(kind: Kind, bref: Bref) -> Fault {
     let place = Place {
@@ -91,7 +37,7 @@ fn is_refused<R: Abort>(rt: &R, image: &[u8], bref: Bref, kind: PageKind, fault:
 
 #[test]
 fn a_page_of_nodes_is_read(rt: HostRuntime) -> Result<(), Fail> {
-    let bytes = small_store(rt.alloc(), 271_360)?;
+    let bytes = m0(rt.alloc())?;
     let image = Image::new(&bytes);
     let Ok(header) = read_header(image) else {
         panic!(rt; "no header");
@@ -127,7 +73,7 @@ fn a_page_of_nodes_is_read(rt: HostRuntime) -> Result<(), Fail> {
 #[test]
 #[tactic(auto, using(crate::proofs::PageLemmas::good_has_shape))]
 fn a_page_of_blocks_is_read(rt: HostRuntime) -> Result<(), Fail> {
-    let bytes = small_store(rt.alloc(), 271_360)?;
+    let bytes = m0(rt.alloc())?;
     let image = Image::new(&bytes);
     let Ok(header) = read_header(image) else {
         panic!(rt; "no header");
@@ -158,14 +104,14 @@ fn a_page_of_blocks_is_read(rt: HostRuntime) -> Result<(), Fail> {
 // A branch of one entry, that names the page of blocks.
 #[test]
 fn a_branch_names_its_children(rt: HostRuntime) -> Result<(), Fail> {
-    let mut bytes = small_store(rt.alloc(), 271_360)?;
+    let mut bytes = m0(rt.alloc())?;
     let entry = [5, 0, 0, 0, 0, 0, 0, 0, 8, 0, 0, 0, 0, 0, 0, 0, 0x00, 0x4a];
     set(&mut bytes, 0x4c00, &entry)?;
     set(&mut bytes, 0x4de8, &[1, 20, 24, 15])?;
     // 0x4C00 exclusive or 12 is 0x4C0C.
     set(&mut bytes, 0x4df0, &[0x80, 0x80, 0x0c, 0x4c])?;
     set(&mut bytes, 0x4df8, &[12])?;
-    seal(&mut bytes, 0x4c00)?;
+    Change::Page(0x4c00).apply(&mut bytes)?;
     let branch = Bref {
         bid: 12,
         ib: 0x4c00,
@@ -194,9 +140,9 @@ fn shapes_that_cannot_be(rt: HostRuntime) -> Result<(), Fail> {
         (0x49e8, &[1, 15, 23, 1]),
     ];
     for (at, shape) in rows {
-        let mut image = small_store(rt.alloc(), 271_360)?;
+        let mut image = m0(rt.alloc())?;
         set(&mut image, at, shape)?;
-        seal(&mut image, 0x4800)?;
+        Change::Page(0x4800).apply(&mut image)?;
         is_refused(&rt, &image, NBT, PageKind::Nbt, Kind::PageShape);
     }
     let fine: [&[u8]; 4] = [
@@ -206,9 +152,9 @@ fn shapes_that_cannot_be(rt: HostRuntime) -> Result<(), Fail> {
         &[20, 15, 24, 15],
     ];
     for shape in fine {
-        let mut image = small_store(rt.alloc(), 271_360)?;
+        let mut image = m0(rt.alloc())?;
         set(&mut image, 0x49e8, shape)?;
-        seal(&mut image, 0x4800)?;
+        Change::Page(0x4800).apply(&mut image)?;
         assert_eq!(rt; fault_at(&image, NBT, PageKind::Nbt), None);
     }
     Ok(())
@@ -227,11 +173,11 @@ fn trailers_that_are_wrong(rt: HostRuntime) -> Result<(), Fail> {
         (0x4900, &[1]),
     ];
     for (at, bytes) in rows {
-        let mut image = small_store(rt.alloc(), 271_360)?;
+        let mut image = m0(rt.alloc())?;
         set(&mut image, at, bytes)?;
         is_refused(&rt, &image, NBT, PageKind::Nbt, Kind::PageTrailer);
     }
-    let image = small_store(rt.alloc(), 271_360)?;
+    let image = m0(rt.alloc())?;
     is_refused(&rt, &image, NBT, PageKind::Bbt, Kind::PageTrailer);
     let other = Bref { bid: 6, ..NBT };
     is_refused(&rt, &image, other, PageKind::Nbt, Kind::PageTrailer);
@@ -241,7 +187,8 @@ fn trailers_that_are_wrong(rt: HostRuntime) -> Result<(), Fail> {
 // The file goes on behind the mapped part, which ends at 271,360.
 #[test]
 fn places_where_no_page_may_lie(rt: HostRuntime) -> Result<(), Fail> {
-    let image = small_store(rt.alloc(), 272_384)?;
+    let mut image = m0(rt.alloc())?;
+    Change::Grow(1024).apply(&mut image)?;
     for ib in [
         0,
         0x43c0,

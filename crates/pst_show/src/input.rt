@@ -77,7 +77,12 @@ fn read_once<R: Read>(input: &mut R, piece: &mut [u8], reads: &mut Reads) -> io:
 
 // All bytes that the reader gives, or why they were not taken; and how much was read.
 #[tactic(auto, using(crate::proofs::Loading::loading))]
-fn fill<R: Read>(alloc: Global, input: &mut R, reads: &mut Reads) -> Result<Vec<u8>, Stop>
+fn fill<R: Read>(
+    alloc: Global,
+    input: &mut R,
+    expected: usize,
+    reads: &mut Reads,
+) -> Result<Vec<u8>, Stop>
     requires count { reads.old.count ≡ 0 }
     requires bytes { reads.old.bytes ≡ 0 }
     ensures whole { IfOk result (λ bytes.
@@ -90,10 +95,9 @@ fn fill<R: Read>(alloc: Global, input: &mut R, reads: &mut Reads) -> Result<Vec<
     ensures ends { reads.new.count ≤ 16777216 }
 {
     let mut bytes = Vec::new(alloc);
-    let mut piece = match zeros(alloc, PIECE) {
-        Ok(piece) => piece,
-        Err(_) => return Err(Stop::Memory),
-    };
+    // Where there is no room for all at once, it is asked for as the bytes come.
+    let _ = bytes.reserve_exact(expected);
+    let mut piece = zeros(alloc, PIECE).map_err(|_| Stop::Memory)?;
     while reads.count < MOST_READS {
         match read_once(input, &mut piece, reads) {
             Ok(0) => return Ok(bytes),
@@ -101,9 +105,8 @@ fn fill<R: Read>(alloc: Global, input: &mut R, reads: &mut Reads) -> Result<Vec<
                 if n > MOST_BYTES - bytes.len() {
                     return Err(Stop::Bytes);
                 }
-                if bytes.extend_from_slice(&piece[..n]).is_err() {
-                    return Err(Stop::Memory);
-                }
+                let new = &piece[..n];
+                bytes.extend_from_slice(new).map_err(|_| Stop::Memory)?;
             }
             Err(error) => {
                 if error.kind() != ErrorKind::Interrupted {
@@ -116,7 +119,11 @@ fn fill<R: Read>(alloc: Global, input: &mut R, reads: &mut Reads) -> Result<Vec<
 }
 
 /// All bytes that a reader gives, or why they were not taken, as `load` says; and how much was read.
-pub fn load_counted<R: Read>(alloc: Global, input: &mut R) -> (Result<Vec<u8>, LoadFault>, Reads)
+pub fn load_counted<R: Read>(
+    alloc: Global,
+    input: &mut R,
+    expected: usize,
+) -> (Result<Vec<u8>, LoadFault>, Reads)
     // What is given is all that the reader had, within the limit.
     ensures whole { IfOk result.0 (λ bytes.
         IfSome (R.remaining input.old) (λ known. bytes.items ≡ known)) }
@@ -132,7 +139,7 @@ pub fn load_counted<R: Read>(alloc: Global, input: &mut R) -> (Result<Vec<u8>, L
     ensures ends { result.1.count ≤ 16777216 }
 {
     let mut reads = Reads { count: 0, bytes: 0 };
-    let filled = fill(alloc, input, &mut reads);
+    let filled = fill(alloc, input, expected, &mut reads);
     let loaded = filled.map_err(|stop| match stop {
         Stop::Read => LoadFault::Read,
         Stop::Bytes | Stop::Reads => LoadFault::TooLong,
@@ -144,8 +151,9 @@ pub fn load_counted<R: Read>(alloc: Global, input: &mut R) -> (Result<Vec<u8>, L
 /// All bytes that a reader gives, in at most 16,777,216 reads of up to 65,536 bytes each. A read that is interrupted
 /// is made again, and counts. `TooLong` comes where more than 17,179,869,184 bytes came, or where the most reads
 /// have not shown the end; `Memory` where the buffer could not grow; `Read` where a read failed. After an error
-/// nothing is given, and what was read is lost. `load_counted` says how much was read, too.
-pub fn load<R: Read>(alloc: Global, input: &mut R) -> Result<Vec<u8>, LoadFault>
+/// nothing is given, and what was read is lost. Room for `expected` bytes is taken at once, where it can be had; the answer
+/// is the same for any number. `load_counted` says how much was read, too.
+pub fn load<R: Read>(alloc: Global, input: &mut R, expected: usize) -> Result<Vec<u8>, LoadFault>
     // What is given is all that the reader had.
     ensures whole { IfOk result (λ bytes.
         IfSome (R.remaining input.old) (λ known. bytes.items ≡ known)) }
@@ -153,5 +161,5 @@ pub fn load<R: Read>(alloc: Global, input: &mut R) -> Result<Vec<u8>, LoadFault>
     // It is within the limit.
     ensures fits { IfOk result (λ bytes. vec_len bytes ≤ 17179869184) }
 {
-    load_counted(alloc, input).0
+    load_counted(alloc, input, expected).0
 }

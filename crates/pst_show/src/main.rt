@@ -19,9 +19,18 @@ use std::{env, io};
 
 // Shows what is asked for of what the file's name stands for. Where that cannot be read, a line says why.
 fn show(rt: &HostRuntime, order: Order<'_>) -> u8 {
-    let mut input = Watched::new(Source::named(rt, order.file));
+    let source = Source::named(rt, order.file);
+    let expected = source.expected();
+    let mut input = Watched::new(source);
     let (mut out, mut err) = (rt.stdout(), rt.stderr());
-    let status = carry_out(rt.alloc(), order.ask, &mut input, &mut out, &mut err);
+    let status = carry_out(
+        rt.alloc(),
+        order.ask,
+        &mut input,
+        expected,
+        &mut out,
+        &mut err,
+    );
     match input.fault() {
         Some(error) if status == Refusal::Input.status() => {
             explain(rt.alloc(), order.file, error, &mut err);

@@ -22,12 +22,13 @@ fn show<R: Read, W: Write>(
     alloc: Global,
     ask: Ask,
     input: &mut R,
+    expected: usize,
     out: &mut W,
 ) -> Result<bool, Refusal>
     ensures { IfSome (R.remaining input.old) (λ bytes.
         Ends result (answer_to ask bytes) (W.contents out.old) (W.contents out.new)) }
 {
-    let bytes = load(alloc, input)?;
+    let bytes = load(alloc, input, expected)?;
     let shown = answer(alloc, ask, &bytes)?;
     emit(&shown.text, out)?;
     Ok(shown.fails)
@@ -75,11 +76,13 @@ pub fn decline<W: Write, E: Write>(none: NoOrder, out: &mut W, err: &mut E) -> u
     }
 }
 
-/// Shows what is asked for of what the reader gives, and gives the status with which the program ends, as `run` says.
+/// Shows what is asked for of what the reader gives, and gives the status with which the program ends, as `run` says. So
+/// many bytes are expected of the reader, as `load` says.
 pub fn carry_out<R: Read, W: Write, E: Write>(
     alloc: Global,
     ask: Ask,
     input: &mut R,
+    expected: usize,
     out: &mut W,
     err: &mut E,
 ) -> u8
@@ -90,7 +93,7 @@ pub fn carry_out<R: Read, W: Write, E: Write>(
     // It is not that of words that are refused.
     ensures accepted { result ≢ 2 }
 {
-    match show(alloc, ask, input, out) {
+    match show(alloc, ask, input, expected, out) {
         Ok(false) => 0,
         Ok(true) => 1,
         Err(refusal) => refuse(refusal, err),
@@ -129,7 +132,7 @@ pub fn run<R: Read, W: Write, E: Write>(
     ensures quiet { result ≡ 2 → out.new ≡ out.old }
 {
     match parse(alloc, words) {
-        Ok(order) => carry_out(alloc, order.ask, input, out, err),
+        Ok(order) => carry_out(alloc, order.ask, input, 0, out, err),
         Err(none) => decline(none, out, err),
     }
 }

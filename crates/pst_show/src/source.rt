@@ -15,8 +15,8 @@ const STANDARD_INPUT: &str = "-";
 /// What a word names.
 #[derive(Drop)]
 pub enum Source {
-    /// A file, open.
-    File(File),
+    /// A file, open, and how many bytes it says that it has; 0 where it is no regular one.
+    File(File, usize),
     /// Standard input.
     Input(Stdin),
     /// Nothing that can be read, and why: each read fails so.
@@ -30,18 +30,27 @@ impl Source {
             return Source::Input(rt.stdin());
         }
         match open(rt, name) {
-            Ok(file) => Source::File(file),
+            Ok((file, len)) => Source::File(file, len),
             Err(error) => Source::Missing(error),
+        }
+    }
+
+    /// How many bytes it says that it has; 0 where it does not say.
+    pub fn expected(&self) -> usize {
+        match self {
+            Source::File(_, len) => *len,
+            Source::Input(_) | Source::Missing(_) => 0,
         }
     }
 }
 
-// A file, open. A regular one that says that it is too long is not read.
-fn open(rt: &HostRuntime, name: &str) -> io::Result<File> {
+// A file, open, and how many bytes it says that it has. A regular one that says that it is too long is not read.
+fn open(rt: &HostRuntime, name: &str) -> io::Result<(File, usize)> {
     let file = fs::open(rt, name)?;
     match file.metadata() {
         Ok(about) if about.is_file() && about.len() > MOST_BYTES as u64 => Err(too_long()),
-        _ => Ok(file),
+        Ok(about) if about.is_file() => Ok((file, about.len() as usize)),
+        _ => Ok((file, 0)),
     }
 }
 
@@ -56,7 +65,7 @@ fn endless() -> io::Error {
 impl Read for Source {
     fn read(&mut self, buf: &mut [u8]) -> io::Result<usize> {
         match self {
-            Source::File(file) => file.read(buf),
+            Source::File(file, _) => file.read(buf),
             Source::Input(input) => input.read(buf),
             Source::Missing(error) => Err(*error),
         }

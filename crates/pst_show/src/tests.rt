@@ -1,6 +1,5 @@
 //! Runs of the program, from the words to the status: over small images, and over readers and writers that fail.
 
-mod change;
 mod check_cases;
 mod check_contexts;
 mod check_files;
@@ -23,44 +22,14 @@ mod words;
 mod writing;
 
 use crate::run::run;
-use crate::tests::change::set;
 use std::alloc::Global;
 use std::io::Read;
 use std::process::Abort;
 use std::test::Fail;
 
-// Bytes of a header and their places, in the order of [MS-PST] 2.2.2.6. All others are 0.
-type Fields = [(usize, &'static [u8]); 14];
-
-// A store of two nodes: 271,360 bytes, one allocation map. Its check values are those of another program.
-const SMALL: Fields = [
-    (0, b"!BDN"),
-    (4, &[0x24, 0x6d, 0x4c, 0xff]),
-    (8, b"SM"),
-    (10, &[23]),
-    (32, &[12]),
-    (184, &[0x00, 0x24, 0x04]),
-    (192, &[0x00, 0x44]),
-    (200, &[0x80, 0xd7, 0x03]),
-    (216, &[4, 0, 0, 0, 0, 0, 0, 0, 0x00, 0x48]),
-    (232, &[8, 0, 0, 0, 0, 0, 0, 0, 0x00, 0x4a]),
-    (248, &[2]),
-    (512, &[0x80]),
-    (516, &[12]),
-    (524, &[0x9a, 0xda, 0x53, 0x0f]),
-];
-
+// What `head` prints of the small store.
 const SMALL_LINE: &str =
     "{\"bbt\":{\"bid\":8,\"ib\":18944},\"eof\":271360,\"free\":251776,\"last_amap\":17408,\"maps_valid\":2,\"nbt\":{\"bid\":4,\"ib\":18432},\"next_block\":12,\"next_page\":12,\"version\":23}\n";
-
-// A file of this length whose header has these fields.
-fn image_of(alloc: Global, fields: &Fields, len: usize) -> Result<Vec<u8>, Fail> {
-    let mut image = vec![in alloc; 0u8; len]?;
-    for (at, bytes) in fields {
-        set(&mut image, *at, bytes)?;
-    }
-    Ok(image)
-}
 
 fn words_of(alloc: Global, words: &[&str]) -> Result<Vec<String>, Fail> {
     let mut all = Vec::new(alloc);

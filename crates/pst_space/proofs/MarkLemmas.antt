@@ -75,19 +75,6 @@ unset zero i = refl
 unset (suc units) zero = refl
 unset (suc units) (suc i) = unset units i
 
--- what is not clear stays so
-kept_set : (m : Claimed) (i a n : ℕ) → is_clear m a n ≡ false → is_clear (set m i true) a n ≡ false
-kept_set m i a zero e = e
-kept_set m i a (suc n) e = by_flag (get_or m a false) refl (λ h. kept_set m i (a + 1) n h) e
-  where
-    by_flag : (f : Bool) → get_or m a false ≡ f → (is_clear m (a + 1) n ≡ false → is_clear (set m i true) (a + 1) n ≡ false) → (not f && is_clear m (a + 1) n) ≡ false → (not (get_or (set m i true) a false) && is_clear (set m i true) (a + 1) n) ≡ false
-    by_flag true is ih h = rw (get_set m i a is) refl
-    by_flag false is ih h = and_false (not (get_or (set m i true) a false)) (is_clear (set m i true) (a + 1) n) (ih h)
-
-pub kept_filled : (m : Claimed) (b k a n : ℕ) → is_clear m a n ≡ false → is_clear (filled m b k) a n ≡ false
-kept_filled m b zero a n e = e
-kept_filled m b (suc k) a n e = kept_filled (set m b true) (b + 1) k a n (kept_set m b a n e)
-
 pub overlap : (m : Claimed) (b k a n : ℕ) → 0 < k → 0 < n → a < b + k → b < a + n → b + k ≤ length m → is_clear (filled m b k) a n ≡ false
 overlap m b k a n some more lt gt in' =
     elim (cases_lt a b) [

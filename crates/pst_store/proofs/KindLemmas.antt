@@ -4,7 +4,7 @@ use Rattle.std.specs.Prelude.{map}
 use Rattle.pst_page.specs.declared.entry.NodeEntry.{NodeEntry}
 use Rattle.pst_bytes.specs.declared.Image.{Image}
 use Rattle.pst_block.specs.Table.{Table}
-use Rattle.pst_ndb.specs.declared.each.Nodes.{Nodes}
+use Rattle.pst_ndb.specs.declared.nodes.Nodes.{Nodes}
 use Rattle.pst_ndb.specs.declared.node.Node.{Node}
 use Rattle.pst_ndb.specs.Node.{NodeParts, entry_parts}
 use Rattle.pst_ndb.specs.Roots.{Roots}

@@ -22,10 +22,6 @@ first nid xs = first_with sub_nid nid xs
 abbrev pub HasSoFar : BTreeMap ℕ Sub → List Sub → List Sub → Type 0
 HasSoFar m left all = (nid : ℕ) → option_or (get nat_cmp m nid) (first_with sub_nid nid left) ≡ first_with sub_nid nid all
 
--- nothing is in the map
-pub so_far_none : (m : BTreeMap ℕ Sub) (all : List Sub) → m.entries ≡ [] → HasSoFar m all all
-so_far_none m all none nid = rw none refl
-
 -- nothing is left
 pub so_far_all : (m : BTreeMap ℕ Sub) (left all : List Sub) → left ≡ [] → HasSoFar m left all → HasFirst m all
 unfolding first_with

@@ -6,7 +6,6 @@ pub mod StampLemmas
 pub mod NumberLemmas
 pub mod RangeLemmas
 pub mod SubLemmas
-pub mod TopLemmas
 pub mod ListLaws
 pub mod BlockLemmas
 pub mod TreeLaws

@@ -21,7 +21,7 @@ use Rattle.pst_subnode.specs.List.{list_fault}
 use Rattle.pst_subnode.specs.Tree.{nesting, sub_fault, sub_height}
 use Rattle.pst_subnode.specs.declared.ranges.Ranges.{Ranges}
 use Rattle.pst_subnode.specs.Ranges.{AreRangesTrue}
-use Rattle.pst_subnode.specs.Heights.{list_keys, state_at, state_of, AreTrue, AreAlike, NoMarks, NoNewMarks, AreHeightsTrue}
+use Rattle.pst_subnode.specs.Heights.{list_keys, state_at, state_of, AreTrue, AreAlike, NoNewMarks, AreHeightsTrue}
 use Rattle.pst_subnode.specs.Marks.{at_list, at_leaf, at_leaves, IsSiList, rank_of, LeadsTo, HaveCome}
 use Rattle.pst_datatree.specs.List.{count_in}
 use Rattle.pst_subnode.specs.Body.{leaf_bid_in}
@@ -100,10 +100,6 @@ nothing_known t h empty ranges = record {
   heights = record { ranges = ranges; holds = λ bid height more known. let bad : None ≡ Some height = (rw empty at known) in cc };
   unmarked = λ bid marked. let bad : None ≡ Some 0 = (rw empty at marked) in cc;
 }
-
--- a walk that begins has come from no mark
-pub first_come : (t : Table) (h : Heights) (place : ℕ → Option Fault) (rank limit : ℕ) → NoMarks h → HaveCome t h place rank limit
-first_come t h place rank limit none = record { from = λ bid marked. absurd (none bid marked) }
 
 -- what is known tells what the walk afresh would
 pub known_tells : (t : Table) (h : Heights) (bid height rank limit : ℕ) (r : Result ℕ Fault) → rank_of t bid ≤ rank → AreTrue t h → HaveCome t h (at_list t bid) rank limit → state_of h bid ≡ Some height → (height ≡ 0 → r ≡ Err nesting) → (0 < height → height ≤ limit → r ≡ Ok height) → (limit < height → r ≡ Err nesting) → Tells r (sub_fault t limit bid) (sub_height t limit bid)

@@ -5,7 +5,7 @@ use Rattle.pst_bytes.specs.Image.{num}
 use Rattle.pst_fault.specs.First.{join_below}
 use Rattle.pst_page.specs.declared.kind.PageKind.TheVariants.{Nbt}
 use Rattle.pst_page.specs.Entry.{key_of}
-use Rattle.pst_datatree.specs.List.{btype_in, level_in, count_in}
+use Rattle.pst_datatree.specs.List.{level_in, count_in, is_list_body}
 use Rattle.pst_subnode.specs.declared.sub.Sub.{Sub}
 
 -- the SLENTRY with a number (2.2.2.8.3.3.1.1): nid, 8 bytes of which the low 32 bits are the node's; bidData; bidSub
@@ -20,16 +20,12 @@ sub_in body i = record {
 abbrev pub leaf_bid_in : List ℕ → ℕ → ℕ
 leaf_bid_in body i = num body (16 + 16 * i) 8
 
--- the body is a list's: btype is 2, cLevel is this level, and the entries, each of this size, fit in it
-abbrev pub is_list_body : ℕ → ℕ → List ℕ → Bool
-is_list_body level size body =
-    nat_le 8 (length body) && nat_eq (btype_in body) 2 && nat_eq (level_in body) level && nat_le (8 + size * count_in body) (length body)
-
+-- btype is 2
 unfoldable pub is_slblock : List ℕ → Bool
-is_slblock body = is_list_body 0 24 body
+is_slblock body = is_list_body 2 0 24 body
 
 unfoldable pub is_siblock : List ℕ → Bool
-is_siblock body = is_list_body 1 16 body
+is_siblock body = is_list_body 2 1 16 body
 
 -- cLevel is 1: the body is an SIBLOCK's, if it is any
 unfoldable pub has_level_one : List ℕ → Bool

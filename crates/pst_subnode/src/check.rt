@@ -1,165 +1,102 @@
-//! The check of a subnode list: of its own blocks, and that no subnode stands in it twice.
+//! The check of subnodes and of the subnodes of each of them, and how many lists nest.
 
-ghost use Rattle.std.specs.Prelude.{◌≡◌, ◌+◌, ◌*◌, ◌≤◌, length, map, IfOk, IfErr};
+ghost use Rattle.std.specs.Prelude.{◌≡◌, ℕ, ◌≤◌, None, IfOk, IfErr, OnOk, List, option_map};
 ghost use Rattle.pst_fault.specs.Fault.{no_memory};
-ghost use Rattle.pst_fault.specs.First.{answer, Tells, first_below};
-ghost use Rattle.pst_block.specs.Table.{body_of, IsWithin};
+ghost use Rattle.pst_fault.specs.First.{Tells};
 ghost use Rattle.pst_block.specs.Blocks.{table_of};
-ghost use Rattle.pst_subnode.specs.List.{bad_list, slblock_fault, list_leaf_fault, shape_fault, list_block_fault, list_fault, block_subs, are_distinct as distinct, sub_nid};
-ghost use Rattle.pst_subnode.specs.Left.{subs_left};
-ghost use Rattle.pst_subnode.specs.Ranges.{AreRangesTrue};
+ghost use Rattle.pst_datatree.specs.Seen.{tree_expansions, IsSeenTrue, KeepsCount};
+ghost use Rattle.pst_subnode.specs.declared.sub.Sub.{Sub};
+ghost use Rattle.pst_subnode.specs.List.{subs_of};
+ghost use Rattle.pst_subnode.specs.Tree.{sub_fault, sub_height, at_top};
+ghost use Rattle.pst_subnode.specs.Reach.{Leads};
+ghost use Rattle.pst_subnode.specs.Known.{Adds, IsKnownList};
+ghost use Rattle.pst_subnode.specs.Heights.{list_expansions, AreHeightsCounted, AreHeightsTrue};
+ghost use Rattle.pst_subnode.specs.Relation.{HasSubs};
 
-use crate::apart::block_is_apart;
-use crate::body::{bid_at, body_in};
-use crate::entries::Subs;
-use crate::list_block::{ListBlock, list_block};
-use crate::ranges::Ranges;
-use crate::rise::block_rises;
-use pst_block::{BlockEntry, Blocks};
-use pst_datatree::{is_internal, missing_block};
-use pst_fault::{Fault, Kind};
+use crate::heights::Heights;
+use crate::walk::height_of;
+use pst_block::Blocks;
+use pst_datatree::Seen;
+use pst_fault::{Fault, Kind, Place};
 use std::alloc::Global;
-use std::collections::BTreeSet;
 
-// The fault of a breach in a block of a list.
-fn list_breach(entry: BlockEntry) -> Fault
-    ensures { result ≡ bad_list entry }
-{
-    Fault::within(Kind::Subnode, entry.ib, entry.bid)
-}
+/// How many lists may nest.
+pub const LISTS: u32 = 64;
 
-// A block that has to be an SLBLOCK.
-#[tactic(auto, unfolding(crate::specs::List::slblock_fault))]
-fn check_slblock(blocks: &Blocks, entry: BlockEntry) -> Result<(), Fault>
-    requires { IsWithin (table_of blocks.now).image entry }
-    ensures { result ≡ answer (slblock_fault (table_of blocks.now) entry) tt }
+// A fault, under the node whose subnodes begin with a block identifier.
+fn fault_at_top(fault: Fault, bid: u64, nid: u32) -> Fault
+    ensures { result ≡ at_top bid nid fault }
 {
-    match list_block(blocks, entry) {
-        ListBlock::Slblock(_) => Ok(()),
-        _ => Err(list_breach(entry)),
+    match fault.kind {
+        Kind::NoMemory => fault,
+        Kind::Nesting => Fault {
+            kind: fault.kind,
+            place: Place {
+                bid,
+                nid,
+                ..fault.place
+            },
+        },
+        _ => fault.at_node(nid),
     }
 }
 
-// The SLBLOCK that an SIBLOCK names with a number.
-#[tactic(auto, unfolding(crate::specs::List::list_leaf_fault))]
-fn check_leaf(blocks: &Blocks, holder: BlockEntry, i: u16) -> Result<(), Fault>
-    requires within { IsWithin (table_of blocks.now).image holder }
-    requires fits { 24 + 16 * i ≤ length (body_of (table_of blocks.now) holder) }
-    ensures { result ≡ answer (list_leaf_fault (table_of blocks.now) holder i) tt }
-{
-    let bid = bid_at(body_in(blocks, holder), i);
-    let Some(entry) = blocks.entry(bid) else {
-        return Err(missing_block(bid));
-    };
-    if !is_internal(bid) {
-        return Err(list_breach(holder));
-    }
-    check_slblock(blocks, entry)
-}
-
-// The first SLBLOCKs that an SIBLOCK names.
-#[tactic(auto, using(pst_fault::proofs::FirstLemmas::first_more))]
-fn check_leaves(blocks: &Blocks, holder: BlockEntry, count: u16) -> Result<(), Fault>
-    requires within { IsWithin (table_of blocks.now).image holder }
-    requires fits { 8 + 16 * count ≤ length (body_of (table_of blocks.now) holder) }
-    ensures { result ≡
-        answer (first_below (list_leaf_fault (table_of blocks.now) holder) count) tt }
-{
-    for i in 0..count {
-        check_leaf(blocks, holder, i)?;
-    }
-    Ok(())
-}
-
-// The shape of a block: an SLBLOCK, or an SIBLOCK with the SLBLOCKs that it names.
-#[tactic(auto, using(crate::proofs::BlockLemmas::slblock_shape, crate::proofs::BlockLemmas::siblock_shape, crate::proofs::BlockLemmas::neither_shape))]
-fn check_shape(blocks: &Blocks, entry: BlockEntry) -> Result<(), Fault>
-    requires { IsWithin (table_of blocks.now).image entry }
-    ensures { result ≡ answer (shape_fault (table_of blocks.now) entry) tt }
-{
-    match list_block(blocks, entry) {
-        ListBlock::Slblock(_) => Ok(()),
-        ListBlock::Siblock(body) => check_leaves(blocks, entry, body.number16(2)),
-        ListBlock::Neither => Err(list_breach(entry)),
-    }
-}
-
-// Whether no subnode stands twice among entries, in whatever order; or memory ran out.
-fn stand_once(alloc: Global, subs: Subs) -> Result<bool, Fault>
-    ensures value { IfOk result (λ b. b ≡ distinct (map sub_nid (subs_left subs.entry))) }
-    ensures memory { IfErr result (λ f. f ≡ no_memory) }
-{
-    let mut met = BTreeSet::new(alloc);
-    let mut rest = subs;
-    while let Some(sub) = rest.next() {
-        if !met.insert(sub.nid)? {
-            return Ok(false);
-        }
-    }
-    Ok(true)
-}
-
-// Whether no subnode stands twice among the entries of a block; or memory ran out. Where identifiers rise, as the format
-// has them, none is taken but for what is known.
-fn are_distinct(
-    alloc: Global,
-    blocks: &Blocks,
-    entry: BlockEntry,
-    ranges: &mut Ranges,
-) -> Result<bool, Fault>
-    requires within { IsWithin (table_of blocks.now).image entry }
-    requires known { AreRangesTrue (table_of blocks.now) ranges.old }
-    ensures known { AreRangesTrue (table_of blocks.now) ranges.new }
-    ensures value { let t = table_of blocks.now in
-        IfOk result (λ b. b ≡ distinct (map sub_nid (block_subs t entry))) }
-    ensures memory { IfErr result (λ f. f ≡ no_memory) }
-{
-    if block_rises(blocks, entry, ranges)? {
-        return Ok(true);
-    }
-    if block_is_apart(alloc, blocks, entry, ranges)? {
-        return Ok(true);
-    }
-    stand_once(alloc, Subs::of_block(blocks, entry))
-}
-
-// A block of a list, all of it.
-#[tactic(auto, unfolding(crate::specs::List::list_block_fault))]
-fn check_block(
-    alloc: Global,
-    blocks: &Blocks,
-    entry: BlockEntry,
-    ranges: &mut Ranges,
-) -> Result<(), Fault>
-    requires within { IsWithin (table_of blocks.now).image entry }
-    requires known { AreRangesTrue (table_of blocks.now) ranges.old }
-    ensures known { AreRangesTrue (table_of blocks.now) ranges.new }
-    ensures exact { Tells result (list_block_fault (table_of blocks.now) entry) tt }
-{
-    check_shape(blocks, entry)?;
-    if !are_distinct(alloc, blocks, entry, ranges)? {
-        return Err(list_breach(entry));
-    }
-    Ok(())
-}
-
-// The list of a block identifier that names a block.
-#[tactic(auto, unfolding(crate::specs::List::list_fault))]
-pub(crate) fn check_list(
+/// Checks the subnodes of a node, by the identifier that the node has for them ([MS-PST] 2.2.2.8.3.3), and answers their
+/// height: how many lists nest. In order, with `nid` as the node:
+///
+/// - Nesting, with the identifier of the node's subnodes as it is written, where a list would begin below 64 others; it
+///   is not looked up;
+/// - BlockMissing, with the identifier as it is written, where the block B-tree lacks a block that is named;
+/// - Subnode, at the block of the list with the breach and with the identifier of its entry: the block is external, btype
+///   is not 2, cLevel is neither 0 nor 1 or not 0 below an SIBLOCK, the entries do not fit in the body, a block that an
+///   SIBLOCK names is external (told of the SIBLOCK), or a subnode stands twice in the list (told of the block that the
+///   identifier names);
+/// - then entry by entry the faults of its data, and those of its own subnodes.
+///
+/// An identifier that is 0 but for its bit 0 names no block: it has no fault, and the height is 0. Memory is taken to tell
+/// whether a subnode stands twice; where it is refused, that is NoMemory at once.
+pub fn check_sub(
     alloc: Global,
     blocks: &Blocks,
     bid: u64,
-    ranges: &mut Ranges,
-) -> Result<(), Fault>
-    requires { AreRangesTrue (table_of blocks.now) ranges.old }
-    ensures known { AreRangesTrue (table_of blocks.now) ranges.new }
-    ensures exact { Tells result (list_fault (table_of blocks.now) bid) tt }
+    nid: u32,
+    seen: &mut Seen,
+    heights: &mut Heights,
+) -> Result<u32, Fault>
+    // What is known is true, and stays so; no list is left marked.
+    requires seen { IsSeenTrue (table_of blocks.now) seen.old }
+    requires known { AreHeightsTrue (table_of blocks.now) heights.old }
+    ensures seen { IsSeenTrue (table_of blocks.now) seen.new }
+    ensures known { AreHeightsTrue (table_of blocks.now) heights.new }
+
+    // The height, or the first fault; or that memory ran out.
+    ensures exact { Tells result (option_map (at_top bid nid)
+        (sub_fault (table_of blocks.now) LISTS bid)) (sub_height (table_of blocks.now) LISTS bid) }
+    ensures small { IfOk result (λ h. h ≤ LISTS) }
+
+    ensures none { OnOk result (sub_fault (table_of blocks.now) LISTS bid ≡ None) }
+
+    // The identifier has the list of this height, as the format says.
+    ensures found { IfOk result (λ h.
+        HasSubs (table_of blocks.now) bid h (subs_of (table_of blocks.now) bid)) }
+
+    // Where it has a list whose height is within the limit, only memory is refused.
+    ensures only { (h : ℕ) (list : List Sub) → HasSubs (table_of blocks.now) bid h list →
+        h ≤ LISTS → IfErr result (λ f. f ≡ no_memory) }
+
+    // Chains from the identifier lead to all that is known since; where there is no fault, the list is known.
+    ensures adds { let t = table_of blocks.now in
+        Adds t (λ from. Leads t from bid) seen.old heights.old seen.new heights.new }
+    ensures there { OnOk result (IsKnownList (table_of blocks.now) heights.new bid) }
+
+    // What is counted never falls.
+    ensures seen_grows { tree_expansions seen.old ≤ tree_expansions seen.new }
+    ensures counts { OnOk result (KeepsCount seen.old seen.new) }
+    ensures keeps { OnOk result (AreHeightsCounted heights.old → AreHeightsCounted heights.new) }
+    ensures heights_grow { list_expansions heights.old ≤ list_expansions heights.new }
 {
-    let Some(entry) = blocks.entry(bid) else {
-        return Err(missing_block(bid));
-    };
-    if !is_internal(bid) {
-        return Err(list_breach(entry));
+    match height_of(alloc, blocks, bid, LISTS, seen, heights) {
+        Ok(height) => Ok(height),
+        Err(fault) => Err(fault_at_top(fault, bid, nid)),
     }
-    check_block(alloc, blocks, entry, ranges)
 }

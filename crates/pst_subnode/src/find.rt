@@ -6,7 +6,7 @@ ghost use Rattle.pst_btree.specs.Entries.{first_with};
 ghost use Rattle.pst_subnode.specs.List.{sub_nid, subs_of};
 ghost use Rattle.pst_subnode.specs.Left.{subs_left};
 ghost use Rattle.pst_subnode.specs.Tree.{sub_fault};
-ghost use Rattle.pst_subnode.specs.declared.height.TheConstants.{LISTS};
+ghost use Rattle.pst_subnode.specs.declared.check.TheConstants.{LISTS};
 
 use crate::entries::Subs;
 use crate::guess::guess;

@@ -4,7 +4,7 @@ ghost use Rattle.std.specs.Prelude.{◌≡◌, ℕ, IfOk, IfErr, None};
 ghost use Rattle.pst_fault.specs.Fault.{no_memory};
 ghost use Rattle.pst_block.specs.Blocks.{table_of};
 ghost use Rattle.pst_btree.specs.Entries.{first_with};
-ghost use Rattle.pst_subnode.specs.declared.height.TheConstants.{LISTS};
+ghost use Rattle.pst_subnode.specs.declared.check.TheConstants.{LISTS};
 ghost use Rattle.pst_subnode.specs.List.{sub_nid, subs_of};
 ghost use Rattle.pst_subnode.specs.Left.{subs_left};
 ghost use Rattle.pst_subnode.specs.Tree.{sub_fault};

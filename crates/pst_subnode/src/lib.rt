@@ -1,14 +1,23 @@
 //! Subnodes ([MS-PST] 2.2.2.8.3.3): the list of the subnodes of a node, and of the subnodes of each of them, checked once and
 //! then looked up.
+//!
+//! Begin with `check_sub`, which answers how many lists nest, or the first fault; then `subs` gives the subnodes in order, and
+//! `find_sub` the one with an identifier:
+//!
+//! ```
+//! let (mut seen, mut heights) = (Seen::new(alloc), Heights::new(alloc));
+//! check_sub(alloc, &blocks, entry.bid_sub, entry.nid, &mut seen, &mut heights)?;
+//! let table = find_sub(&blocks, entry.bid_sub, 0x671);
+//! ```
 #![tactic(auto)]
 
 mod apart;
 mod body;
 mod check;
+mod check_list;
 mod entries;
 mod find;
 mod guess;
-mod height;
 mod heights;
 mod index;
 mod laws;
@@ -22,9 +31,9 @@ mod steps;
 mod sub;
 mod walk;
 
+pub use check::{LISTS, check_sub};
 pub use entries::Subs;
 pub use find::{find_sub, subs};
-pub use height::{LISTS, check_sub};
 pub use heights::Heights;
 pub use index::{SubIndex, find_sub_by};
 pub use laws::{

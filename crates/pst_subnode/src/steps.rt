@@ -14,7 +14,7 @@ ghost use Rattle.pst_subnode.specs.Heights.{AreTrue, AreAlike};
 ghost use Rattle.pst_subnode.specs.Marks.{IsSiList};
 
 use crate::body::body_in;
-use crate::check::check_list;
+use crate::check_list::check_list;
 use crate::heights::Heights;
 use crate::sub::Sub;
 use pst_block::{BlockEntry, Blocks};

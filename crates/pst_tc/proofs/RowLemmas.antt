@@ -66,9 +66,6 @@ pub row_sound : (t : Table) (r : Roots) (s : Span) (x : ℕ × Span) (place : Sp
 unfolding row_record_fault
 row_sound t r s x place none is = let e : row_fault t r s x place ≡ None = (rw (← is) at none) in (none_then _ _ e).1
 
-pub row_parts_is : (t : Table) (r : Roots) (s : Span) (x : ℕ × Span) (place : Span) → s ≡ info_of t r → Some place ≡ row_of_record t r s x → row_parts_at t r x ≡ record { id = x.0; at = row_record_place x.1; place = place }
-row_parts_is t r s x place is e = let here : Some place ≡ row_of_record t r (info_of t r) x = (rw is at e) in rw (← here) refl
-
 -- ---- a cell
 
 pub found_cell : (t : Table) (r : Roots) (s : Span) (row tag c : ℕ) → cells_fault t r s row ≡ None → first_with (column_tag t.image) tag (column_places t.image s) ≡ Some c → cell_fault t r s row c ≡ None

@@ -8,7 +8,7 @@ use Rattle.pst_bytes.specs.declared.Image.{Image}
 use Rattle.pst_bytes.specs.declared.span.Span.{Span}
 use Rattle.pst_bytes.specs.Image.{bytes_of}
 use Rattle.pst_block.specs.Table.{Table}
-use Rattle.pst_datatree.specs.declared.bytes.Value.{Value}
+use Rattle.pst_datatree.specs.declared.value_view.Value.{Value}
 use Rattle.pst_datatree.specs.Shown.{bytes_in}
 use Rattle.pst_datatree.specs.Spans.{joined_bytes}
 use Rattle.pst_ndb.specs.Roots.{Roots}

@@ -2,7 +2,7 @@
 
 use super::*;
 use pst_amap::BitOrder;
-use pst_make::{Plan, build, m0, m0_plan, m1, m1_plan, seal_page};
+use pst_make::{Change, Plan, build, m0, m0_plan, m1, m1_plan, set};
 use std::alloc::Global;
 use std::test::Fail;
 
@@ -46,12 +46,6 @@ fn with_byte(
     build(alloc, &plan).map_err(|_| Fail::from("not made"))
 }
 
-fn set(image: &mut [u8], at: usize, byte: u8) -> Result<(), Fail> {
-    let there = image.get_mut(at).ok_or("past the end")?;
-    *there = byte;
-    Ok(())
-}
-
 #[test]
 fn stores_are_reported(rt: HostRuntime) -> Result<(), Fail> {
     let alloc = rt.alloc();
@@ -76,11 +70,8 @@ fn maps_are_compared(rt: HostRuntime) -> Result<(), Fail> {
     let alloc = rt.alloc();
     for (byte, line) in MAPS {
         let mut image = m0(alloc)?;
-        set(&mut image, 0x4404, byte)?;
-        if image.len() < 0x5000 {
-            return Err(Fail::from("too short"));
-        }
-        seal_page(&mut image, 0x4400);
+        set(&mut image, 0x4404, &[byte])?;
+        Change::Page(0x4400).apply(&mut image)?;
         let told = line_of(alloc, &image)?;
         assert_eq!(rt; told.as_str(), line);
     }
@@ -105,11 +96,11 @@ fn the_first_fault_is_told(rt: HostRuntime) -> Result<(), Fail> {
     let mut image = with_byte(alloc, plan, 1, 16, 0x60)?;
     let told = line_of(alloc, &image)?;
     assert_eq!(rt; told.as_str(), "no: 22 HeapId at 0x4c50 bid 0x8 nid 0x122");
-    set(&mut image, 0x4404, 0xff)?;
+    set(&mut image, 0x4404, &[0xff])?;
     let told = line_of(alloc, &image)?;
     assert_eq!(rt; told.as_str(), "no: 19 MapPage at 0x4400 bid 0x0 nid 0x0");
     for (at, line) in PHASES {
-        set(&mut image, at, 0xee)?;
+        set(&mut image, at, &[0xee])?;
         let told = line_of(alloc, &image)?;
         assert_eq!(rt; told.as_str(), line);
     }

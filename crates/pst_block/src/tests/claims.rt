@@ -51,10 +51,7 @@ fn fronts_that_cut_the_blocks(rt: HostRuntime) -> Result<(), Fail> {
         let front = whole.get(..len).ok_or("too short")?;
         let mut bytes = Vec::from_slice(rt.alloc(), front)?;
         set(&mut bytes, 184, &(len as u64).to_le_bytes())?;
-        if bytes.len() < 564 {
-            return Err(Fail::from("too short"));
-        }
-        seal_header(&mut bytes);
+        Change::Header.apply(&mut bytes)?;
         let fault = cut.map(|entry| fault_of(Kind::BlockPlace, entry));
         assert_eq!(rt;
             blocks_in(rt.alloc(), Image::new(&bytes)).err(),

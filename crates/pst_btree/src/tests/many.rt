@@ -4,7 +4,7 @@ use super::*;
 
 // Empty blocks with the identifiers 4, 8, .. up to four times as many as these; 20 entries a page, all levels needed.
 fn many_blocks(alloc: Global, count: u64) -> Result<Vec<u8>, Fail> {
-    let mut image = small_store(alloc)?;
+    let mut image = m0(alloc)?;
     let mut entries = Vec::new(alloc);
     for n in 0..count {
         entries.push(empty_block(n.saturating_mul(4).saturating_add(4)))?;
@@ -69,7 +69,7 @@ fn a_look_up_goes_down_one_path(rt: HostRuntime) -> Result<(), Fail> {
 // A branch over a branch over three leaves, of which the second has no entry.
 #[test]
 fn nodes_come_in_order(rt: HostRuntime) -> Result<(), Fail> {
-    let mut bytes = small_store(rt.alloc())?;
+    let mut bytes = m0(rt.alloc())?;
     let kind = PageKind::Nbt;
     put_page(&mut bytes, kind, page_at(0), 2, &[branch(0x21, 1)])?;
     let below = [branch(0x21, 2), branch(0x60, 3), branch(0x122, 4)];

@@ -5,13 +5,13 @@ use super::*;
 // Without bit 0, the keys 4 and 5 are the same.
 #[test]
 fn keys_of_blocks_rise_without_bit_zero(rt: HostRuntime) -> Result<(), Fail> {
-    let mut image = small_store(rt.alloc())?;
+    let mut image = m0(rt.alloc())?;
     set(&mut image, 0x4a18, &[5])?;
-    seal_page(&mut image, 0x4a00)?;
+    Change::Page(0x4a00).apply(&mut image)?;
     let fault = Fault::within(Kind::KeyOrder, 0x4a18, 8);
     assert_eq!(rt; blocks_fault(rt.alloc(), &image), Some(fault));
     set(&mut image, 0x4a18, &[6])?;
-    seal_page(&mut image, 0x4a00)?;
+    Change::Page(0x4a00).apply(&mut image)?;
     assert_eq!(rt; blocks_fault(rt.alloc(), &image), None);
     Ok(())
 }
@@ -70,7 +70,7 @@ fn leaf_with(alloc: Global, offset: u64, bytes: &[u8]) -> Result<Option<Fault>, 
     let leaf = usize::try_from(page_at(2).ib)?;
     let offset = usize::try_from(offset)?;
     set(&mut image, leaf.saturating_add(offset), bytes)?;
-    seal_page(&mut image, leaf)?;
+    Change::Page(leaf as u64).apply(&mut image)?;
     set(&mut image, usize::try_from(page_at(3).ib)?, &[1])?;
     Ok(blocks_fault(alloc, &image))
 }

@@ -42,7 +42,7 @@ fn a_file_that_ends_early(rt: HostRuntime) -> Result<(), Fail> {
         let len = 64 * n;
         if len >= 576 {
             set(&mut image, 184, &(len as u64).to_le_bytes())?;
-            seal_first(&mut image)?;
+            Change::Header.apply(&mut image)?;
         }
         let front = image.get(..len).ok_or("too short")?;
         let answer = check_ndb(rt.alloc(), Image::new(front)).err();

@@ -1,8 +1,8 @@
 //! The nodes that a file lists, by its header and both trees alone.
 
-use super::Change::{Flip, Header, Set};
 use super::*;
 use crate::read_nodes;
+use pst_make::Change::{Flip, Header, Set};
 
 // A block is damaged, which is not looked at.
 #[test]

@@ -1,8 +1,8 @@
 //! What the allocation maps may say.
 
-use super::Change::{Flip, Header, Page, Set};
 use super::*;
 use pst_bytes::Span;
+use pst_make::Change::{Flip, Header, Page, Set};
 
 #[test]
 fn page_maps_are_claimed_and_no_more(rt: HostRuntime) -> Result<(), Fail> {

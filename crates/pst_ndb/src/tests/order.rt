@@ -1,7 +1,7 @@
 //! Two faults in one file: the one of the earlier step is told.
 
-use super::Change::{Flip, Header, Page, Set};
 use super::*;
+use pst_make::Change::{Flip, Header, Page, Set};
 
 // A fault of each step, in the order of the steps: the header, the block B-tree, the node B-tree, the blocks, the maps, the
 // nodes.

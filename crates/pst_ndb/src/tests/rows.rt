@@ -1,7 +1,7 @@
 //! Faults of each kind, and files that have none.
 
-use super::Change::{Block, Flip, Header, Page, Set};
 use super::*;
+use pst_make::Change::{Block, Flip, Header, Page, Set};
 use pst_make::m1;
 
 #[test]

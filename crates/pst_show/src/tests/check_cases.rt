@@ -1,10 +1,9 @@
 //! Runs over stores with bytes changed: what a case is, and how it is run.
 
-use super::change::{Change, change_all};
 use super::heaps::{Numbered, Property, context_of, heap_of, numbered_of, table_of};
 use super::words_of;
 use crate::run::run;
-use pst_make::{BlockPlan, NodePlan, Plan, build, m0, m0_plan, m1, m2};
+use pst_make::{BlockPlan, Change, NodePlan, Plan, build, change_all, m0, m0_plan, m1, m2};
 use std::alloc::Global;
 use std::process::Abort;
 use std::str;
@@ -170,7 +169,7 @@ pub(super) fn store_of(alloc: Global, store: Store) -> Result<Vec<u8>, Fail> {
         Store::Nested(lists) => nested(alloc, lists),
         Store::TwoRegions => {
             let mut image = m0(alloc)?;
-            change_all(alloc, &mut image, &SECOND_REGION)?;
+            change_all(&mut image, &SECOND_REGION)?;
             Ok(image)
         }
     }
@@ -221,7 +220,7 @@ pub(super) fn are_asked<R: Abort + AllocGlobal>(
     rows: &[Asked],
 ) -> Result<(), Fail> {
     let mut image = store_of(rt.alloc(), store)?;
-    change_all(rt.alloc(), &mut image, changes)?;
+    change_all(&mut image, changes)?;
     for (words, answer) in rows {
         let what = words.last().copied().unwrap_or("no words");
         ends_with(rt, words, &image, end_of(*answer), what)?;
@@ -233,7 +232,7 @@ pub(super) fn are_asked<R: Abort + AllocGlobal>(
 pub(super) fn are_answered<R: Abort + AllocGlobal>(rt: &R, cases: &[Case]) -> Result<(), Fail> {
     for case in cases {
         let mut image = store_of(rt.alloc(), case.store)?;
-        change_all(rt.alloc(), &mut image, case.changes)?;
+        change_all(&mut image, case.changes)?;
         is_answered(rt, &image, case.answer, case.what)?;
     }
     Ok(())

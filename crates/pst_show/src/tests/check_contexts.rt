@@ -1,9 +1,9 @@
 //! `check` over stores whose property contexts and table contexts are good or bad.
 
-use super::change::Change::{Block, Set};
 use super::check_cases::Answer::{No, Yes};
 use super::check_cases::{Body, Case, LIST_OF_ONE, Store, are_answered};
 use super::check_good::{M0_YES, M1_YES};
+use pst_make::Change::{Block, Set};
 use std::test::Fail;
 
 /// Bad property contexts. The store's stands at 0x4c00: the header of its BTH at 12, its one record at 20, its value at 28, its page

@@ -1,8 +1,8 @@
 //! `check` over files whose header, trees, blocks or maps are bad, step by step.
 
-use super::change::Change::{Cut, Flip, Header, Page, Set};
 use super::check_cases::Answer::No;
 use super::check_cases::{Case, Store, are_answered};
+use pst_make::Change::{Cut, Flip, Header, Page, Set};
 use std::test::Fail;
 
 /// Bad headers.

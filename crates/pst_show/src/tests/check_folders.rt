@@ -1,9 +1,9 @@
 //! `check` over stores whose folders and tables belong together or do not.
 
-use super::change::Change::{Block, Page, Set};
 use super::check_cases::Answer::{No, Yes};
 use super::check_cases::{Case, Store, are_answered};
 use super::check_good::M1_YES;
+use pst_make::Change::{Block, Page, Set};
 use std::test::Fail;
 
 /// Nodes that are named or wanted, and missing or of another kind. The entries of M1's node B-tree stand from 0x4800, the fourth at

@@ -1,9 +1,9 @@
 //! `check` over files that are good, with lost runs and without.
 
-use super::change::Change::{Block, Flip, Grow, Header, Page, Set};
-use super::change::change_all;
 use super::check_cases::Answer::Yes;
 use super::check_cases::{Case, Store, are_answered, ends_with, store_of};
+use pst_make::Change::{Block, Flip, Grow, Header, Page, Set};
+use pst_make::change_all;
 use std::test::Fail;
 
 /// What is answered of M0.
@@ -110,7 +110,7 @@ fn lost_runs_give_a_status_where_one_is_strict(rt: HostRuntime) -> Result<(), Fa
     for (marks, status, document) in [(0xc0, 0, M0_YES), (0xe0, 1, LOST), (0x03, 0, LOW)] {
         let mut image = store_of(rt.alloc(), Store::M0)?;
         let changes = [Set(0x4404, &[marks]), Page(0x4400)];
-        change_all(rt.alloc(), &mut image, &changes)?;
+        change_all(&mut image, &changes)?;
         for words in [
             ["check", "--strict", "store.pst"],
             ["check", "store.pst", "--strict"],

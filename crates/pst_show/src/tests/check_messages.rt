@@ -1,8 +1,8 @@
 //! `check` over stores whose messages and attachments belong together or do not.
 
-use super::change::Change::{Block, Set};
 use super::check_cases::Answer::{No, Yes};
 use super::check_cases::{Body, Case, LIST_OF_ONE, LIST_OF_TWO, Store, are_answered};
+use pst_make::Change::{Block, Set};
 use std::test::Fail;
 
 // An attachment table of one row, 0x8025.

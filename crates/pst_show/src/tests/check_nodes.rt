@@ -1,8 +1,8 @@
 //! `check` over stores whose nodes have larger data and subnodes, good and bad.
 
-use super::change::Change::{Block, Page, Set};
 use super::check_cases::Answer::{No, Yes};
 use super::check_cases::{Body, Case, LIST_OF_ONE, LIST_OF_TWO, Store, are_answered};
+use pst_make::Change::{Block, Page, Set};
 use std::test::Fail;
 
 // Node 0x201 of 8,177 bytes: block 26 at 0x6d00 is an XBLOCK of two data blocks, 12 and 16. Block 20 is empty.

@@ -1,12 +1,12 @@
 //! `check` over fronts of a store, forged trailers, and files with two faults: the first one is told.
 
-use super::change::Change::{Flip, Page, Set};
-use super::change::{Change, change_all, flip, seal_front, set};
 use super::check_cases::Answer::{No, Yes};
 use super::check_cases::{Answer, Case, Store, is_answered, store_of};
 use super::check_files::{BLOCK_TREES, BLOCKS, HEADERS, MAPS, NODE_TREES};
 use super::check_good::{M0_YES, M1_YES};
 use super::check_nodes::NODES;
+use pst_make::Change::{Flip, Page, Set};
+use pst_make::{Change, change_all, flip, set};
 use std::process::Abort;
 use std::test::Fail;
 
@@ -48,7 +48,7 @@ fn fronts_that_say_so_are_good_behind_the_last_block(rt: HostRuntime) -> Result<
         let len = 64 * n;
         if len >= 576 {
             set(&mut image, 184, &(len as u64).to_le_bytes())?;
-            seal_front(&mut image)?;
+            Change::Header.apply(&mut image)?;
         }
         let front = image.get(..len).ok_or("too short")?;
         is_answered(&rt, front, answer_at(len), "a front that says so")?;
@@ -138,8 +138,8 @@ const LATER: [(&[Change<'static>], &str); 6] = [
 // A case in whose file there are other faults, too.
 fn is_told<R: Abort + AllocGlobal>(rt: &R, case: &Case, others: &[Change]) -> Result<(), Fail> {
     let mut image = store_of(rt.alloc(), case.store)?;
-    change_all(rt.alloc(), &mut image, others)?;
-    change_all(rt.alloc(), &mut image, case.changes)?;
+    change_all(&mut image, others)?;
+    change_all(&mut image, case.changes)?;
     is_answered(rt, &image, case.answer, case.what)
 }
 
@@ -159,7 +159,7 @@ fn the_fault_of_the_earlier_step_is_told(rt: HostRuntime) -> Result<(), Fail> {
 fn each_of_the_later_faults_is_one(rt: HostRuntime) -> Result<(), Fail> {
     for (changes, line) in LATER {
         let mut image = store_of(rt.alloc(), Store::M0)?;
-        change_all(rt.alloc(), &mut image, changes)?;
+        change_all(&mut image, changes)?;
         is_answered(&rt, &image, No(line), "a later fault")?;
     }
     Ok(())

@@ -1,9 +1,9 @@
 //! `folders`, `contents` and `props` over small stores: their documents, and each refusal.
 
-use super::change::Change::{Block, Flip, Set};
 use super::check_cases::Answer::{No, Yes};
 use super::check_cases::{Asked, Body, Store, are_asked};
 use super::heaps::{Held, PROPERTIES};
+use pst_make::Change::{Block, Flip, Set};
 use std::test::Fail;
 
 // The lines of M0 and M1 are those of another program.

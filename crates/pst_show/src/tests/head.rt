@@ -1,26 +1,27 @@
 //! `head` over small images, good and bad, from the words to the status.
 
-use super::change::{seal_front, set};
-use super::{Fields, SMALL, SMALL_LINE, head_of, image_of};
+use super::{SMALL_LINE, head_of};
+use pst_make::{Change, m0, set};
 use std::process::Abort;
 use std::test::Fail;
 
-// The header of samples/mail.pst, a store of five folders and four messages.
-const MAIL: Fields = [
-    (0, b"!BDN"),
-    (4, &[0x9a, 0x4c, 0xd4, 0x24]),
-    (8, b"SM"),
-    (10, &[23]),
-    (32, &[32]),
-    (184, &[0x00, 0x24, 0x04]),
-    (192, &[0x00, 0x44]),
-    (200, &[0xc0, 0xa1, 0x03]),
-    (216, &[12, 0, 0, 0, 0, 0, 0, 0, 0x00, 0x4c]),
-    (232, &[28, 0, 0, 0, 0, 0, 0, 0, 0x00, 0x54]),
-    (248, &[2]),
-    (512, &[0x80]),
-    (516, &[180]),
-    (524, &[0x3b, 0x58, 0x7c, 0x01]),
+// The header of samples/mail.pst, a store of five folders and four messages: its bytes and their places, in the order of
+// [MS-PST] 2.2.2.6. All others are 0.
+const MAIL: [(usize, &[u8]); 14] = [
+    (0, b"!BDN"), // dwMagic
+    (4, &[0x9a, 0x4c, 0xd4, 0x24]), // dwCRCPartial
+    (8, b"SM"), // wMagicClient
+    (10, &[23]), // wVer
+    (32, &[32]), // bidNextP
+    (184, &[0x00, 0x24, 0x04]), // ibFileEof
+    (192, &[0x00, 0x44]), // ibAMapLast
+    (200, &[0xc0, 0xa1, 0x03]), // cbAMapFree
+    (216, &[12, 0, 0, 0, 0, 0, 0, 0, 0x00, 0x4c]), // BREFNBT
+    (232, &[28, 0, 0, 0, 0, 0, 0, 0, 0x00, 0x54]), // BREFBBT
+    (248, &[2]), // fAMapValid
+    (512, &[0x80]), // bSentinel
+    (516, &[180]), // bidNextB
+    (524, &[0x3b, 0x58, 0x7c, 0x01]), // dwCRCFull
 ];
 
 const MAIL_LINE: &str =
@@ -34,23 +35,21 @@ fn refused<R: Abort + AllocGlobal>(rt: &R, image: &[u8], line: &str) -> Result<(
 
 #[test]
 fn head_shows_the_fields(rt: HostRuntime) -> Result<(), Fail> {
-    let rows: [(&Fields, usize, &str); 3] = [
-        (&SMALL, 271_360, SMALL_LINE),
-        (&SMALL, 271_424, SMALL_LINE),
-        (&MAIL, 271_360, MAIL_LINE),
-    ];
-    for (fields, len, line) in rows {
-        let image = image_of(rt.alloc(), fields, len)?;
-        let mut input = image.as_slice();
-        head_of(&rt, &mut input, 0, line, "")?;
+    let mut image = m0(rt.alloc())?;
+    head_of(&rt, &mut image.as_slice(), 0, SMALL_LINE, "")?;
+    Change::Grow(64).apply(&mut image)?;
+    head_of(&rt, &mut image.as_slice(), 0, SMALL_LINE, "")?;
+    let mut image = vec![in rt.alloc(); 0u8; 271_360]?;
+    for (at, bytes) in MAIL {
+        set(&mut image, at, bytes)?;
     }
-    Ok(())
+    head_of(&rt, &mut image.as_slice(), 0, MAIL_LINE, "")
 }
 
 #[test]
 fn a_file_without_a_whole_header_is_short(rt: HostRuntime) -> Result<(), Fail> {
     let line = "no: 1 Short at 0x0 bid 0x0 nid 0x0\n";
-    let image = image_of(rt.alloc(), &SMALL, 271_360)?;
+    let image = m0(rt.alloc())?;
     refused(&rt, &[], line)?;
     refused(&rt, image.get(..563).ok_or("too short")?, line)
 }
@@ -66,9 +65,9 @@ fn a_changed_field_is_refused(rt: HostRuntime) -> Result<(), Fail> {
         (248, 0, "no: 7 MapsInvalid at 0xf8 bid 0x0 nid 0x0\n"),
     ];
     for (at, byte, line) in rows {
-        let mut image = image_of(rt.alloc(), &SMALL, 271_360)?;
+        let mut image = m0(rt.alloc())?;
         set(&mut image, at, &[byte])?;
-        seal_front(&mut image)?;
+        Change::Header.apply(&mut image)?;
         refused(&rt, &image, line)?;
     }
     Ok(())
@@ -81,7 +80,7 @@ fn a_flipped_bit_is_refused(rt: HostRuntime) -> Result<(), Fail> {
         (520, "no: 5 HeaderCheck at 0x20c bid 0x0 nid 0x0\n"),
     ];
     for (at, line) in rows {
-        let mut image = image_of(rt.alloc(), &SMALL, 271_360)?;
+        let mut image = m0(rt.alloc())?;
         set(&mut image, at, &[1])?;
         refused(&rt, &image, line)?;
     }
@@ -90,6 +89,7 @@ fn a_flipped_bit_is_refused(rt: HostRuntime) -> Result<(), Fail> {
 
 #[test]
 fn a_file_that_is_cut_is_refused(rt: HostRuntime) -> Result<(), Fail> {
-    let image = image_of(rt.alloc(), &SMALL, 271_359)?;
+    let mut image = m0(rt.alloc())?;
+    Change::Cut(271_359).apply(&mut image)?;
     refused(&rt, &image, "no: 6 Root at 0xb8 bid 0x0 nid 0x0\n")
 }

@@ -1,6 +1,6 @@
 //! Bodies of blocks made by hand: heaps ([MS-PST] 2.3.1), and on them property contexts (2.3.3) and tables (2.3.4).
 
-use super::change::set;
+use pst_make::set;
 use std::alloc::Global;
 use std::test::Fail;
 

@@ -1,8 +1,9 @@
 //! Readers that fail, are interrupted or never end, and how many reads and bytes `load` takes of good ones.
 
-use super::{SMALL, SMALL_LINE, head_of, image_of};
+use super::{SMALL_LINE, head_of};
 use crate::input::{LoadFault, Reads, load, load_counted};
 use crate::source::Source;
+use pst_make::m0;
 use std::io;
 use std::io::{ErrorKind, Read};
 use std::test::Fail;
@@ -75,7 +76,7 @@ fn a_file_that_cannot_be_read(rt: HostRuntime) -> Result<(), Fail> {
 fn a_reader_that_fails_gives_nothing(rt: HostRuntime) {
     for good in [0, 1, 70_000] {
         let mut input = Failing::new(good, ErrorKind::PermissionDenied);
-        let got = load(rt.alloc(), &mut input).map(|bytes| bytes.len());
+        let got = load(rt.alloc(), &mut input, 0).map(|bytes| bytes.len());
         assert_eq!(rt; got, Err(LoadFault::Read));
     }
 }
@@ -83,14 +84,14 @@ fn a_reader_that_fails_gives_nothing(rt: HostRuntime) {
 #[test]
 fn a_reader_that_never_ends_is_too_long(rt: HostRuntime) {
     let mut input = Failing::new(0, ErrorKind::Interrupted);
-    let got = load(rt.alloc(), &mut input).map(|bytes| bytes.len());
+    let got = load(rt.alloc(), &mut input, 0).map(|bytes| bytes.len());
     assert_eq!(rt; got, Err(LoadFault::TooLong));
     assert_eq!(rt; input.reads, 16_777_216);
 }
 
 #[test]
 fn an_interrupted_read_is_made_again(rt: HostRuntime) -> Result<(), Fail> {
-    let image = image_of(rt.alloc(), &SMALL, 271_360)?;
+    let image = m0(rt.alloc())?;
     let mut input = Interrupted {
         bytes: &image,
         is_interrupted: false,
@@ -112,11 +113,14 @@ fn all_bytes_are_loaded(rt: HostRuntime) -> Result<(), Fail> {
         for (i, byte) in image.iter_mut().enumerate() {
             *byte = (i % 251) as u8;
         }
+        // Fewer bytes come than are expected, as many, more; and so many are expected that there is no room for them.
+        for expected in [len + 1, len, len / 2, usize::MAX] {
+            let mut input = image.as_slice();
+            let got = load(rt.alloc(), &mut input, expected).map_err(|_| "refused")?;
+            assert_eq!(rt; got.as_slice(), image.as_slice(), "expected {expected}");
+        }
         let mut input = image.as_slice();
-        let got = load(rt.alloc(), &mut input).map_err(|_| "refused")?;
-        assert_eq!(rt; got.as_slice(), image.as_slice());
-        let mut input = image.as_slice();
-        let (got, reads) = load_counted(rt.alloc(), &mut input);
+        let (got, reads) = load_counted(rt.alloc(), &mut input, len);
         assert_eq!(rt; got.map(|bytes| bytes.len()), Ok(len));
         let bytes = len as u64;
         assert_eq!(rt; reads, Reads { count, bytes });

@@ -1,8 +1,7 @@
 //! `nodes` over small stores, from the words to the status. The lines are those of another program.
 
-use super::change::{seal_front, seal_page_at, set};
 use super::outcome_of;
-use pst_make::{BlockPlan, NodePlan, Plan, build, m0, m1};
+use pst_make::{BlockPlan, Change, NodePlan, Plan, build, m0, m1, set};
 use std::alloc::Global;
 use std::process::Abort;
 use std::test::Fail;
@@ -75,7 +74,7 @@ fn refused_with<R: Abort + AllocGlobal>(
 ) -> Result<(), Fail> {
     let mut image = m0(rt.alloc())?;
     set(&mut image, (page as usize).saturating_add(offset), bytes)?;
-    seal_page_at(&mut image, page)?;
+    Change::Page(page).apply(&mut image)?;
     nodes_of(rt, &image, 1, "", line)
 }
 
@@ -173,7 +172,7 @@ fn a_root_that_cannot_be_there_is_refused(rt: HostRuntime) -> Result<(), Fail> {
     for (place, line) in rows {
         let mut image = m0(rt.alloc())?;
         set(&mut image, 224, place)?;
-        seal_front(&mut image)?;
+        Change::Header.apply(&mut image)?;
         nodes_of(&rt, &image, 1, "", line)?;
     }
     Ok(())
@@ -189,11 +188,11 @@ fn keys_keep_the_bounds_of_the_pages_above(rt: HostRuntime) -> Result<(), Fail> 
     let mut image = store_of(rt.alloc(), &bids, &[])?;
     nodes_of(&rt, &image, 0, NO_NODES, "")?;
     set(&mut image, 0x4dc8, &328u64.to_le_bytes())?;
-    seal_page_at(&mut image, 0x4c00)?;
+    Change::Page(0x4c00).apply(&mut image)?;
     let line = "no: 11 KeyOrder at 0x4dc8 bid 0xc nid 0x0\n";
     nodes_of(&rt, &image, 1, "", line)?;
     set(&mut image, 0x4dc8, &324u64.to_le_bytes())?;
-    seal_page_at(&mut image, 0x4c00)?;
+    Change::Page(0x4c00).apply(&mut image)?;
     nodes_of(&rt, &image, 0, NO_NODES, "")
 }
 
@@ -222,7 +221,7 @@ fn fronts_of_a_store(rt: HostRuntime) -> Result<(), Fail> {
     for (len, status, out, err) in rows {
         let mut image = m0(rt.alloc())?;
         set(&mut image, 184, &len.to_le_bytes())?;
-        seal_front(&mut image)?;
+        Change::Header.apply(&mut image)?;
         let front = image.get(..len as usize).ok_or("too short")?;
         nodes_of(&rt, front, status, out, err)?;
     }

@@ -191,7 +191,7 @@ fn the_error_of_a_read_is_remembered(rt: HostRuntime) -> Result<(), Fail> {
     for (code, reason) in rows {
         let error = io::Error::from_raw_os_error(code);
         let mut input = Watched::new(Source::Missing(error));
-        let got = load(rt.alloc(), &mut input).map(|bytes| bytes.len());
+        let got = load(rt.alloc(), &mut input, 0).map(|bytes| bytes.len());
         assert_eq!(rt; got, Err(LoadFault::Read));
         is_explained(&rt, &input, reason)?;
     }
@@ -202,10 +202,10 @@ fn the_error_of_a_read_is_remembered(rt: HostRuntime) -> Result<(), Fail> {
 fn a_word_names_what_is_read(rt: HostRuntime) -> Result<(), Fail> {
     assert!(rt; matches!(Source::named(&rt, "-"), Source::Input(_)));
     let mut input = Watched::new(Source::named(&rt, "no such folder/a.pst"));
-    assert!(rt; load(rt.alloc(), &mut input).is_err());
+    assert!(rt; load(rt.alloc(), &mut input, 0).is_err());
     is_explained(&rt, &input, "No such file or directory")?;
     let mut input = Watched::new(Source::named(&rt, "."));
-    assert!(rt; load(rt.alloc(), &mut input).is_err());
+    assert!(rt; load(rt.alloc(), &mut input, 0).is_err());
     is_explained(&rt, &input, "Is a directory")?;
     let image = m0(rt.alloc())?;
     let line = std::str::from_utf8(CHECK_LINE).map_err(|_| "no text")?;

@@ -1,8 +1,9 @@
 //! Writers that fail or take little: what is left of a line, and the status.
 
-use super::{SMALL, SMALL_LINE, image_of, words_of};
+use super::{SMALL_LINE, words_of};
 use crate::run::run;
 use pst_json::{EmitFault, emit};
+use pst_make::m0;
 use std::alloc::Global;
 use std::io;
 use std::io::{ErrorKind, Write};
@@ -89,7 +90,7 @@ fn interrupted_writes_are_made_again(rt: HostRuntime) {
 #[test]
 fn an_output_that_cannot_be_written(rt: HostRuntime) -> Result<(), Fail> {
     let alloc = rt.alloc();
-    let image = image_of(alloc, &SMALL, 271_360)?;
+    let image = m0(alloc)?;
     for words in [&["head", "store.pst"][..], &["--help"], &["--version"]] {
         let words = words_of(alloc, words)?;
         let mut input = image.as_slice();

@@ -1,6 +1,6 @@
 use Rattle.std.proofs.Common.{sym}
 use Rattle.pst_block.specs.Blocks.{table_of}
-use Rattle.pst_subnode.specs.declared.height.TheConstants.{LISTS}
+use Rattle.pst_subnode.specs.declared.check.TheConstants.{LISTS}
 use Rattle.pst_subnode.proofs.GuessLemmas.{guessed}
 use Rattle.pst_subnode.proofs.find.find_sub.Goals as goal
 
