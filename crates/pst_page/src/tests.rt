@@ -105,7 +105,9 @@ fn a_page_of_blocks_is_read(rt: HostRuntime) -> Result<(), Fail> {
 #[test]
 fn a_branch_names_its_children(rt: HostRuntime) -> Result<(), Fail> {
     let mut bytes = m0(rt.alloc())?;
-    let entry = [5, 0, 0, 0, 0, 0, 0, 0, 8, 0, 0, 0, 0, 0, 0, 0, 0x00, 0x4a];
+    let entry = [
+        5, 0, 0, 0, 0, 0, 0, 0, 8, 0, 0, 0, 0, 0, 0, 0, 0x00, 0x4a, 0, 0, 0, 0, 0, 0,
+    ];
     set(&mut bytes, 0x4c00, &entry)?;
     set(&mut bytes, 0x4de8, &[1, 20, 24, 15])?;
     // 0x4C00 exclusive or 12 is 0x4C0C.
