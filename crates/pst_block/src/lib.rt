@@ -1,9 +1,13 @@
 //! The blocks of a file ([MS-PST] 2.2.2.8): a good block is read, any other is refused with its first fault; and all
 //! blocks of a file, checked once, are looked up by their identifiers.
 //!
-//! Begin with `check_blocks`, for what `walk_blocks` of pst_btree gives:
+//! Begin with `check_blocks`, which gives the `Blocks` of a file, or the first fault of one. Their look-ups cannot fail
+//! otherwise than by "there is no such block", take no memory, and lend the file's own bytes. `read_block`
+//! reads a single block, of an entry of the block B-tree:
 //!
 //! ```
+//! let header = read_header(image)?;
+//! let mut claims = Claims::new(alloc, &header)?;
 //! let (tree, entries) = walk_blocks(alloc, image, &header, &mut claims)?;
 //! let blocks = check_blocks(image, &header, tree, &entries, &mut claims)?;
 //! let body = blocks.body(4);

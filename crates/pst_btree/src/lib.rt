@@ -2,12 +2,18 @@
 //! blocks each node has. A tree is walked once, page by page, and refused with its first fault; then it can be looked
 //! into without fault.
 //!
-//! Begin with `walk_blocks` and `walk_nodes`, which claim the space of the pages:
+//! Begin with `walk_blocks`, which gives the block B-tree and the list of its entries, and with `walk_node_tree`, which
+//! gives the node B-tree (`walk_nodes` gives it with the list of its entries). Both claim the pages of their tree.
+//! Look-ups in a tree take no memory:
 //!
 //! ```
+//! let header = read_header(image)?;
 //! let mut claims = Claims::new(alloc, &header)?;
 //! let (blocks, entries) = walk_blocks(alloc, image, &header, &mut claims)?;
-//! let entry = blocks.find(4);
+//! let nodes = walk_node_tree(alloc, image, &header, &mut claims)?;
+//! let block = blocks.find(4);
+//! let node = nodes.find(0x122);
+//! for node in nodes.nodes() { .. }
 //! ```
 #![tactic(auto)]
 

@@ -1,14 +1,13 @@
 //! The bytes of a file, and the little-endian numbers in them.
 //!
-//! Begin with `Image::new`. Numbers and slices are read at offsets: by calls that answer None past the end of the file, or by
-//! calls for places that the caller knows to lie in it, which test nothing:
+//! Begin with `Image::new`, which gives the `Image` of a file's bytes, without a copy. `u8_at` to `u64_at` read a
+//! number at an offset, and `lend` lends the bytes of a `Span`; they answer None where some byte lies past the end.
+//! `number8` to `number64` and `slice` test nothing, and are for bytes that the caller knows to be there:
 //!
 //! ```
-//! let image = Image::new(&bytes);
-//! let magic = image.u32_at(0);
-//! if let Some(front) = image.lend(Span { at: 0, len: 564 }) {
-//!     ..
-//! }
+//! let image = Image::new(bytes);
+//! let magic = image.u32_at(0)?;
+//! let page = image.lend(Span { at: 0x4800, len: 512 })?;
 //! ```
 #![tactic(auto)]
 

@@ -1,9 +1,11 @@
 //! The check value of a piece of a file ([MS-PST] 5.3), and the signature of a place (5.5).
 //!
-//! Begin with `check`, and with specs/Crc.antt, which defines both by the bit:
+//! Begin with `check`, which gives the check value of bytes, and with `signature`, which gives the signature of a page
+//! or block by its offset in the file and its identifier. Neither can fail:
 //!
 //! ```
-//! let is_right = check(body) == trailer_crc && signature(ib, bid) == trailer_signature;
+//! let value = pst_crc::check(image.slice(Span { at, len: 496 }));
+//! let wanted = pst_crc::signature(at, bid);
 //! ```
 #![tactic(auto)]
 

@@ -1,12 +1,16 @@
 //! Data trees ([MS-PST] 2.2.2.8.3): the bytes of a node's data, as the list of the spans that they lie in.
 //!
-//! Begin with `check_data`, which tells the first fault of the data tree of a block identifier; then `value` gives its bytes,
-//! as one slice of the file or in pieces, and `spans`, `leaf` and `Leaves` the spans:
+//! Begin with `check_data`, which tells the first fault of the data tree of a block identifier. A `Seen` remembers what
+//! was found without fault, so that it is passed over where it is met again. Of a tree without fault `value` gives the
+//! bytes, in one slice or in pieces, and `leaf` the span with a number. They take no memory, and the bytes are the
+//! file's own:
 //!
 //! ```
 //! let mut seen = Seen::new(alloc);
-//! check_data(alloc, &blocks, entry.bid_data, entry.nid, &mut seen)?;
-//! let value = value(&blocks, entry.bid_data);
+//! check_data(alloc, &blocks, node.bid_data, node.nid, &mut seen)?;
+//! let data = value(&blocks, node.bid_data);
+//! let len = data.len();
+//! for slice in data.slices() { .. }
 //! ```
 #![tactic(auto)]
 

@@ -1,12 +1,13 @@
 //! Why a file is no store of the profile, and where: the 28 kinds of fault, their places, and the line that each
 //! prints.
 //!
-//! Begin with `Fault`: each check of the crates above answers the first one. specs/First.antt and specs/Each.antt have the
-//! words in which contracts say which fault that is:
+//! Begin with `Kind`, the list of what can be wrong, and with `Fault`, which is a kind and its `Place`. `Fault::at` and
+//! `Fault::within` make one, `at_node` tells it of a node, and as text it is the line:
 //!
 //! ```
-//! let fault = Fault::within(Kind::PageTrailer, 0x4800, 4);
-//! println!(rt; "{fault}"); // no: 9 PageTrailer at 0x4800 bid 0x4 nid 0x0
+//! let fault = Fault::within(Kind::HeapId, 0x4c50, 8).at_node(0x122);
+//! let line = fault.to_string(alloc)?;
+//! // no: 22 HeapId at 0x4c50 bid 0x8 nid 0x122
 //! ```
 #![tactic(auto)]
 

@@ -1,11 +1,12 @@
 //! The header of a file ([MS-PST] 2.2.2.6): a good one is read, and a bad one is refused with its first fault.
 //!
-//! Begin with `read_header`. What it gives says where the trees' roots are, and where the mapped part of the file ends, in which
-//! all pages and blocks lie:
+//! Begin with `read_header`, which gives the `Header` of a file, or its first fault. Its fields name the root pages of
+//! the two B-trees; `end` tells where the mapped part of the file ends:
 //!
 //! ```
-//! let header = read_header(Image::new(&bytes))?;
-//! let may_lie_there = header.has_place(Span { at: header.bbt.ib, len: 512 });
+//! let header = read_header(Image::new(bytes))?;
+//! let root = header.nbt;
+//! let end = header.end();
 //! ```
 #![tactic(auto)]
 

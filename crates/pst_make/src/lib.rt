@@ -1,16 +1,19 @@
-//! Test images: small stores ([MS-PST]) made from a plan of their blocks and nodes, changes to their bytes, and seals that
-//! make the check values of changed bytes right again.
+//! Test images: small stores ([MS-PST]) made from a plan of their blocks and nodes, and seals that make the check
+//! values of changed bytes right again.
 //!
-//! Begin with `m0`, a store of two nodes, and `Change`; a store of one's own comes of a `Plan`, by `build`:
+//! It is the one place where the layout of a store can be read as code, from the top: `build` (`store`) places the
+//! pages and blocks of a plan (`layout`), writes the blocks (`block`), the pages of the two B-trees (`pages`), the
+//! allocation maps (`maps`) and the header (`header`), and seals each of them (`seal`).
+//!
+//! Begin with `build`, which makes the image of a `Plan`. `m0`, `m1` and `m2` give small images, and `m0_plan`,
+//! `m1_plan` and `m2_plan` their plans. `change_all` does each `Change` of a list to an image, seals among them:
 //!
 //! ```
-//! let mut image = m0(alloc)?;
-//! change_all(&mut image, &[Change::Set(0x4a18, &[6]), Change::Page(0x4a00)])?;
+//! let mut plan = m0_plan(alloc)?;
+//! plan.nodes.push(NodePlan { nid: 0x142, bid_data: 8, bid_sub: 0, parent: 0x122 })?;
+//! let mut image = build(alloc, &plan)?;
+//! change_all(&mut image, &[Change::Set(0x4404, &[0xe0]), Change::Page(0x4400)])?;
 //! ```
-//!
-//! It is the one place where the layout of a store can be read as code, from the top:
-//! `build` (`store`) places the pages and blocks of a plan (`layout`), writes the blocks (`block`), the pages of the two B-trees
-//! (`pages`), the allocation maps (`maps`) and the header (`header`), and seals each of them (`seal`).
 #![tactic(auto)]
 
 mod block;

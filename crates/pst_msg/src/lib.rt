@@ -1,11 +1,18 @@
 //! Messaging ([MS-PST] 2.4): the folders, messages and attachments of a store.
 //!
-//! Begin with `check_messaging`, which answers the first fault of a node database as a store's, and counts the contexts that it
-//! names; then `known_folder` and `known_message` give what pst_store finds:
+//! Begin with `check_messaging`, which answers the first fault of a node database as a store's, and counts the contexts
+//! that it names. Where there is no fault, `Store` of pst_store gives each `Folder` and each `Message`, and what they
+//! are asked cannot fail any more:
 //!
 //! ```
-//! let mut checked = check_ndb(alloc, image)?;
-//! check_messaging(alloc, &checked.ndb, &mut checked.work)?;
+//! let checked = check_ndb(alloc, Image::new(bytes))?;
+//! let ndb = checked.ndb;
+//! let mut work = checked.work;
+//! check_messaging(alloc, &ndb, &mut work)?;
+//! let store = Store::known(ndb);
+//! for message in store.messages() {
+//!     for attachment in message.attachments() { .. }
+//! }
 //! ```
 #![tactic(auto)]
 

@@ -1,10 +1,13 @@
-//! The node database of a file ([MS-PST] 2.2): one check of all that the header, the two B-trees, the blocks, the allocation
-//! maps and the trees of each node's blocks have to be, and the nodes as views that cannot fail.
+//! The node database of a file ([MS-PST] 2.2): one check of all that the header, the two B-trees, the blocks, the
+//! allocation maps and the trees of each node's blocks have to be, and the nodes as views that cannot fail.
 //!
-//! Begin with `check_ndb`:
+//! Begin with `check_ndb`, which gives the node database of a file as an `Ndb`, with what its maps say; or its first
+//! fault. An `Ndb` finds a node by its identifier, and goes through all of them. A `Node` lends its data, the file's
+//! own bytes, and finds its subnodes. `read_nodes` reads no more than the header and the two B-trees:
 //!
 //! ```
-//! let checked = check_ndb(alloc, Image::new(&bytes))?;
+//! let checked = check_ndb(alloc, Image::new(bytes))?;
+//! let root = checked.ndb.node(0x122);
 //! for node in checked.ndb.nodes() {
 //!     let data = node.bytes();
 //!     ..

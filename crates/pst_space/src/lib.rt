@@ -1,11 +1,15 @@
 //! What is claimed of a file: a flag for each unit of 64 bytes of the mapped part ([MS-PST] 2.2.2.7.2), so that no
 //! page or block lies on another.
 //!
-//! Begin with `Claims::new`, for a good header. A span is claimed whole, or not at all where a part of it is claimed already:
+//! Begin with `Claims::new`, which claims the map pages of a file and takes all the memory. Then `claim` claims the
+//! span of a page or a block, or tells the fault Overlap where a unit of it is claimed already. A span has to be whole
+//! units of the mapped part, as `page_place` of pst_page gives it:
 //!
 //! ```
+//! let header = read_header(image)?;
 //! let mut claims = Claims::new(alloc, &header)?;
-//! claims.claim(Span { at: 0x4800, len: 512 })?;
+//! let span = page_place(&header, header.nbt)?;
+//! claims.claim(span)?;
 //! ```
 #![tactic(auto)]
 

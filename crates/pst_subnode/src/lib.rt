@@ -1,13 +1,16 @@
-//! Subnodes ([MS-PST] 2.2.2.8.3.3): the list of the subnodes of a node, and of the subnodes of each of them, checked once and
-//! then looked up.
+//! Subnodes ([MS-PST] 2.2.2.8.3.3): the list of the subnodes of a node, and of the subnodes of each of them, checked
+//! once and then looked up.
 //!
-//! Begin with `check_sub`, which answers how many lists nest, or the first fault; then `subs` gives the subnodes in order, and
-//! `find_sub` the one with an identifier:
+//! Begin with `check_sub`, which answers how many lists nest, or the first fault of the subnodes of a node. A `Seen` of
+//! pst_datatree and a `Heights` remember what was found without fault. In a list without fault `find_sub` finds a
+//! subnode, and `subs` goes through all of them, and neither takes memory. A `SubIndex` is for many look-ups:
 //!
 //! ```
-//! let (mut seen, mut heights) = (Seen::new(alloc), Heights::new(alloc));
-//! check_sub(alloc, &blocks, entry.bid_sub, entry.nid, &mut seen, &mut heights)?;
-//! let table = find_sub(&blocks, entry.bid_sub, 0x671);
+//! let mut seen = Seen::new(alloc);
+//! let mut heights = Heights::new(alloc);
+//! let height = check_sub(alloc, &blocks, node.bid_sub, node.nid, &mut seen, &mut heights)?;
+//! let sub = find_sub(&blocks, node.bid_sub, 0x671);
+//! for sub in subs(&blocks, node.bid_sub) { .. }
 //! ```
 #![tactic(auto)]
 

@@ -1,11 +1,12 @@
 //! The check of a whole file: whether it is a store.
 //!
-//! Begin with `verify`, and with pst_store's `specs/Grammar.antt`, the page that says what a store is:
+//! Begin with `verify`, and with pst_store's `specs/Grammar.antt`, the page that says what a store is. `verify` gives
+//! the store that bytes are, with what is reported of it, or their first fault:
 //!
 //! ```
-//! let verified = verify(alloc, &bytes)?;
+//! let verified = verify(alloc, bytes)?;
 //! let messages = verified.report.messages;
-//! let root = verified.store.root();
+//! for folder in verified.store.folders() { .. }
 //! ```
 #![tactic(auto)]
 
