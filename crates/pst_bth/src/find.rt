@@ -11,6 +11,7 @@ ghost use Rattle.pst_bth.specs.Values.{tree_rows};
 ghost use Rattle.pst_bth.specs.Find.{HasBthTree, AreRising};
 ghost use Rattle.pst_bth.specs.View.{rows_image, rows_item, rows_key_size, rows_size};
 
+use crate::item::item_named;
 use crate::rows::Rows;
 use crate::sizes::Sizes;
 use pst_heap::Heap;
@@ -44,10 +45,7 @@ pub(crate) fn find_below(heap: &Heap, sizes: Sizes, level: u8, named: u64, key: 
         result ≡ first_with (row_key h.image sizes.key) key (tree_rows h sizes level named) }
     ensures inside { IfSome result (λ at. at + leaf_size sizes ≤ length (data_of heap.now).image) }
 {
-    let hid = heap.image().number32(named);
-    let Some(item) = heap.item_span(hid) else {
-        unreachable!()
-    };
+    let item = item_named(heap, named);
     if level == 0 {
         return find_in(sizes.leaf(heap.image(), item), key);
     }

@@ -11,6 +11,7 @@ ghost use Rattle.pst_bth.specs.Find.{HasBthTree, AreRising};
 ghost use Rattle.pst_bth.specs.Leaf.{FirstFrom, LeafFrom};
 ghost use Rattle.pst_bth.specs.View.{rows_image, rows_item, rows_key_size, rows_size};
 
+use crate::item::item_named;
 use crate::rows::Rows;
 use crate::sizes::Sizes;
 use pst_bytes::Span;
@@ -58,10 +59,7 @@ pub(crate) fn leaf_below(heap: &Heap, sizes: Sizes, level: u8, named: u64, low: 
         LeafFrom h.image sizes.key (leaf_size sizes) low (tree_rows h sizes level named) result }
     ensures inside { IfSome result (λ l. IsInside (data_of heap.now).image l.item) }
 {
-    let hid = heap.image().number32(named);
-    let Some(item) = heap.item_span(hid) else {
-        unreachable!()
-    };
+    let item = item_named(heap, named);
     if level == 0 {
         let Some(first) = first_in(sizes.leaf(heap.image(), item), low) else {
             return None;

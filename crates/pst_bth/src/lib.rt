@@ -14,6 +14,7 @@
 mod bth;
 mod check;
 mod find;
+mod item;
 mod laws;
 mod leaf;
 mod records;

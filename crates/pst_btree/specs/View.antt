@@ -1,12 +1,12 @@
 -- The tree that a view stands for, and its entries.
-use Rattle.std.specs.Prelude.{◌≡◌, ℕ, ◌+◌, ◌≤◌, Some, List, length, map, All}
+use Rattle.std.specs.Prelude.{◌≡◌, ℕ, Some, List, length, map}
 use Rattle.pst_bytes.specs.declared.Image.{Image}
 use Rattle.pst_bytes.specs.Image.{bytes_of}
 use Rattle.pst_header.specs.declared.header.Bref.{Bref}
 use Rattle.pst_page.specs.declared.kind.PageKind.{PageKind}
 use Rattle.pst_page.specs.declared.entry.BlockEntry.{BlockEntry}
 use Rattle.pst_page.specs.declared.entry.NodeEntry.{NodeEntry}
-use Rattle.pst_page.specs.Entry.{block_entry_at, node_entry_at, entry_size}
+use Rattle.pst_page.specs.Entry.{block_entry_at, node_entry_at}
 use Rattle.pst_page.specs.Page.{level_at}
 use Rattle.pst_btree.specs.declared.tree.TreeView.{TreeView}
 use Rattle.pst_space.specs.Claimed.{Claimed, claim_all}
@@ -34,15 +34,13 @@ node_entries_of view = map (node_entry_at (bytes_of_view view)) (entries view)
 abbrev pub found_in : Claimed → TreeView → Found
 found_in claimed view = found_so_far claimed (entries view) (length (pages_of (tree_of view)))
 
--- What the walk under a root answers: the view of the tree that the file spells there, whose pages are claimed, and the places
--- of its entries.
-pub record IsWalkedTree (file : Image) (last : ℕ) (which : PageKind) (top : Bref) (old new : Claimed) (view : TreeView) (places : List ℕ) : Type 0 where
+-- What the walk under a root answers: the view of a tree of this kind, which the file spells there with keys that keep their
+-- bounds, and whose pages are claimed.
+pub record IsWalkedTree (file : Image) (last : ℕ) (which : PageKind) (top : Bref) (old new : Claimed) (view : TreeView) : Type 0 where
   pub image : view.image ≡ file
   pub end : view.end ≡ last
   pub kind : view.kind ≡ which
   pub root : view.root ≡ top
   pub level : view.level ≡ level_at (bytes_of file) top.ib
   pub tree : IsTree which (bytes_of file) last top view.level (tree_of view)
-  pub entries : places ≡ entries view
-  pub inside : All (λ place. place + entry_size which 0 ≤ length (bytes_of file)) places
   pub claims : claim_all old (page_spans (tree_of view)) ≡ Some new

@@ -1,9 +1,10 @@
 //! The walk of a whole tree.
 
-ghost use Rattle.std.specs.Prelude.{◌≡◌, ◌+◌, ◌<◌, ◌≤◌, length, None, IfOk};
+ghost use Rattle.std.specs.Prelude.{◌≡◌, ◌+◌, ◌<◌, ◌≤◌, length, None, IfOk, All};
 ghost use Rattle.pst_bytes.specs.Image.{bytes_of};
 ghost use Rattle.pst_header.specs.Head.{Head};
 ghost use Rattle.pst_header.specs.Header.{end_of};
+ghost use Rattle.pst_page.specs.Entry.{entry_size};
 ghost use Rattle.pst_page.specs.Page.{level_at};
 ghost use Rattle.pst_space.specs.Claimed.{unit_total};
 ghost use Rattle.pst_space.specs.Step.{GivesStepBy, ClaimsSome};
@@ -44,8 +45,11 @@ pub fn walk<'a>(
     ensures same { length claims.new ≡ length claims.old }
     ensures exact { GivesStepBy (λ x. found_so_far claims.new (entries x.0) x.0.pages) result
         claims.new (tree_walk kind (bytes_of image.entry) (end_of header.now) claims.old root) }
-    ensures walked { IfOk result (λ x. IsWalkedTree image.entry (end_of header.now) kind root
-        claims.old claims.new x.0 x.1.items) }
+    ensures walked { IfOk result (λ x.
+        IsWalkedTree image.entry (end_of header.now) kind root claims.old claims.new x.0) }
+    ensures places { IfOk result (λ x. x.1.items ≡ entries x.0) }
+    ensures inside { IfOk result (λ x.
+        All (λ at. at + entry_size kind 0 ≤ length (bytes_of image.entry)) x.1.items) }
     ensures some { ClaimsSome claims.old claims.new
         (page_spans_at kind (bytes_of image.entry) (level_at (bytes_of image.entry) root.ib) root) }
 {

@@ -12,7 +12,7 @@ ghost use Rattle.pst_space.specs.Claimed.{Claimed, claim_all, unit_total};
 ghost use Rattle.pst_space.specs.Step.{GivesStepBy, ClaimsSome};
 ghost use Rattle.pst_btree.specs.Tree.{Tree, IsTree, page_spans, page_spans_at};
 ghost use Rattle.pst_btree.specs.Trees.{block_view, block_entries, node_view, node_entries};
-ghost use Rattle.pst_btree.specs.View.{tree_of, found_in, IsWalkedTree};
+ghost use Rattle.pst_btree.specs.View.{found_in, IsWalkedTree};
 ghost use Rattle.pst_btree.specs.Walk.{tree_walk};
 
 use crate::block_tree::BlockTree;
@@ -47,46 +47,6 @@ fn nodes_at(alloc: Global, image: Image, places: &[u64]) -> Result<Vec<NodeEntry
         .collect(alloc)
 }
 
-// The walk, with the fault that it gives.
-fn blocks_exact<'a>(
-    alloc: Global,
-    image: Image<'a>,
-    header: &Header,
-    claims: &mut Claims,
-) -> Result<(BlockTree<'a>, Vec<BlockEntry>), Fault>
-    requires head { Head (bytes_of image) header.now }
-    requires units { length claims.old ≡ unit_total header.now }
-    ensures same_units { length claims.new ≡ length claims.old }
-
-    // Whether there is a tree, what it is, and what is claimed; or which fault it is, and what is claimed by then.
-    ensures exact { GivesStepBy (λ x. found_in claims.new (block_view x.0)) result claims.new
-        (tree_walk Bbt (bytes_of image.entry) (end_of header.now) claims.old header.now.bbt) }
-
-    // What is answered is a tree that the image spells, whose keys keep their bounds. Its entries are these, and its pages
-    // are claimed.
-    ensures tree { IfOk result (λ x. IsTree Bbt (bytes_of image.entry)
-        (end_of header.now) header.now.bbt (block_view x.0).level (tree_of (block_view x.0))) }
-    ensures entries { IfOk result (λ x. x.1.items ≡ block_entries x.0) }
-    ensures claims { IfOk result (λ x.
-        claim_all claims.old (page_spans (tree_of (block_view x.0))) ≡ Some claims.new) }
-
-    // Whatever the answer, the pages from the first up to some one are claimed.
-    ensures some { ClaimsSome claims.old claims.new (page_spans_at Bbt
-        (bytes_of image.entry) (level_at (bytes_of image.entry) header.now.bbt.ib) header.now.bbt) }
-
-    // Which tree it is.
-    ensures image { IfOk result (λ x. (block_view x.0).image ≡ image.entry) }
-    ensures end { IfOk result (λ x. (block_view x.0).end ≡ end_of header.now) }
-    ensures kind { IfOk result (λ x. (block_view x.0).kind ≡ Bbt) }
-    ensures root { IfOk result (λ x. (block_view x.0).root ≡ header.now.bbt) }
-    ensures level { IfOk result (λ x.
-        (block_view x.0).level ≡ level_at (bytes_of image.entry) header.now.bbt.ib) }
-{
-    let (view, places) = walk(alloc, image, header, PageKind::Bbt, header.bbt, claims)?;
-    let entries = blocks_at(alloc, image, &places)?;
-    Ok((BlockTree { view }, entries))
-}
-
 /// Walks the block B-tree of a file whose header is this one, claims its pages, and gives it with its entries from left to
 /// right. The claims have to be of the same file. Each page comes before its children, and children from left to right.
 ///
@@ -110,53 +70,23 @@ pub fn walk_blocks<'a>(
     ensures exact { GivesStepBy (λ x. found_in claims.new (block_view x.0)) result claims.new
         (tree_walk Bbt (bytes_of image.entry) (end_of header.now) claims.old header.now.bbt) }
 
-    // What is answered is a tree that the image spells, whose keys keep their bounds. Its entries are these, and its pages
-    // are claimed.
-    ensures tree { IfOk result (λ x. IsTree Bbt (bytes_of image.entry)
-        (end_of header.now) header.now.bbt (block_view x.0).level (tree_of (block_view x.0))) }
+    // What is answered is the tree that the file spells there, and its entries.
+    ensures walked { IfOk result (λ x. IsWalkedTree image.entry (end_of header.now) Bbt
+        header.now.bbt claims.old claims.new (block_view x.0)) }
     ensures entries { IfOk result (λ x. x.1.items ≡ block_entries x.0) }
-    ensures claims { IfOk result (λ x.
-        claim_all claims.old (page_spans (tree_of (block_view x.0))) ≡ Some claims.new) }
 
     // Whatever the answer, the pages from the first up to some one are claimed.
     ensures some { ClaimsSome claims.old claims.new (page_spans_at Bbt
         (bytes_of image.entry) (level_at (bytes_of image.entry) header.now.bbt.ib) header.now.bbt) }
-
-    // Which tree it is.
-    ensures image { IfOk result (λ x. (block_view x.0).image ≡ image.entry) }
-    ensures end { IfOk result (λ x. (block_view x.0).end ≡ end_of header.now) }
-    ensures kind { IfOk result (λ x. (block_view x.0).kind ≡ Bbt) }
-    ensures root { IfOk result (λ x. (block_view x.0).root ≡ header.now.bbt) }
-    ensures level { IfOk result (λ x.
-        (block_view x.0).level ≡ level_at (bytes_of image.entry) header.now.bbt.ib) }
 
     // A tree whose pages can be claimed is answered, unless memory ran out.
     ensures only { (level : ℕ) (tree : Tree) (new : Claimed) →
         IsTree Bbt (bytes_of image.entry) (end_of header.now) header.now.bbt level tree →
         claim_all claims.old (page_spans tree) ≡ Some new → IfErr result (λ f. f ≡ no_memory) }
 {
-    blocks_exact(alloc, image, header, claims)
-}
-
-// The walk, with the fault that it gives, and the places of the entries.
-fn nodes_exact<'a>(
-    alloc: Global,
-    image: Image<'a>,
-    header: &Header,
-    claims: &mut Claims,
-) -> Result<(NodeTree<'a>, Vec<u64>), Fault>
-    requires head { Head (bytes_of image) header.now }
-    requires units { length claims.old ≡ unit_total header.now }
-    ensures exact { GivesStepBy (λ x. found_in claims.new (node_view x.0)) result claims.new
-        (tree_walk Nbt (bytes_of image.entry) (end_of header.now) claims.old header.now.nbt) }
-    ensures walked { IfOk result (λ x. IsWalkedTree image.entry (end_of header.now) Nbt
-        header.now.nbt claims.old claims.new (node_view x.0) x.1.items) }
-    ensures same_units { length claims.new ≡ length claims.old }
-    ensures some { ClaimsSome claims.old claims.new (page_spans_at Nbt
-        (bytes_of image.entry) (level_at (bytes_of image.entry) header.now.nbt.ib) header.now.nbt) }
-{
-    let (view, places) = walk(alloc, image, header, PageKind::Nbt, header.nbt, claims)?;
-    Ok((NodeTree { view }, places))
+    let (view, places) = walk(alloc, image, header, PageKind::Bbt, header.bbt, claims)?;
+    let entries = blocks_at(alloc, image, &places)?;
+    Ok((BlockTree { view }, entries))
 }
 
 /// Walks the node B-tree of a file whose header is this one, claims its pages, and gives it with its entries from left to
@@ -175,34 +105,23 @@ pub fn walk_nodes<'a>(
     ensures exact { GivesStepBy (λ x. found_in claims.new (node_view x.0)) result claims.new
         (tree_walk Nbt (bytes_of image.entry) (end_of header.now) claims.old header.now.nbt) }
 
-    // What is answered is a tree that the image spells, whose keys keep their bounds. Its entries are these, and its pages
-    // are claimed.
-    ensures tree { IfOk result (λ x. IsTree Nbt (bytes_of image.entry)
-        (end_of header.now) header.now.nbt (node_view x.0).level (tree_of (node_view x.0))) }
+    // What is answered is the tree that the file spells there, and its entries.
+    ensures walked { IfOk result (λ x. IsWalkedTree image.entry (end_of header.now) Nbt
+        header.now.nbt claims.old claims.new (node_view x.0)) }
     ensures entries { IfOk result (λ x. x.1.items ≡ node_entries x.0) }
-    ensures claims { IfOk result (λ x.
-        claim_all claims.old (page_spans (tree_of (node_view x.0))) ≡ Some claims.new) }
 
     // Whatever the answer, the pages from the first up to some one are claimed.
     ensures some { ClaimsSome claims.old claims.new (page_spans_at Nbt
         (bytes_of image.entry) (level_at (bytes_of image.entry) header.now.nbt.ib) header.now.nbt) }
-
-    // Which tree it is.
-    ensures image { IfOk result (λ x. (node_view x.0).image ≡ image.entry) }
-    ensures end { IfOk result (λ x. (node_view x.0).end ≡ end_of header.now) }
-    ensures kind { IfOk result (λ x. (node_view x.0).kind ≡ Nbt) }
-    ensures root { IfOk result (λ x. (node_view x.0).root ≡ header.now.nbt) }
-    ensures level { IfOk result (λ x.
-        (node_view x.0).level ≡ level_at (bytes_of image.entry) header.now.nbt.ib) }
 
     // A tree whose pages can be claimed is answered, unless memory ran out.
     ensures only { (level : ℕ) (tree : Tree) (new : Claimed) →
         IsTree Nbt (bytes_of image.entry) (end_of header.now) header.now.nbt level tree →
         claim_all claims.old (page_spans tree) ≡ Some new → IfErr result (λ f. f ≡ no_memory) }
 {
-    let (tree, places) = nodes_exact(alloc, image, header, claims)?;
+    let (view, places) = walk(alloc, image, header, PageKind::Nbt, header.nbt, claims)?;
     let entries = nodes_at(alloc, image, &places)?;
-    Ok((tree, entries))
+    Ok((NodeTree { view }, entries))
 }
 
 /// The walk of the node B-tree, as `walk_nodes` says, without a list of its entries: whoever goes through them asks the
@@ -221,29 +140,19 @@ pub fn walk_node_tree<'a>(
     ensures exact { GivesStepBy (λ t. found_in claims.new (node_view t)) result claims.new
         (tree_walk Nbt (bytes_of image.entry) (end_of header.now) claims.old header.now.nbt) }
 
-    // What is answered is a tree that the image spells, whose keys keep their bounds. Its pages are claimed.
-    ensures tree { IfOk result (λ t. IsTree Nbt (bytes_of image.entry)
-        (end_of header.now) header.now.nbt (node_view t).level (tree_of (node_view t))) }
-    ensures claims { IfOk result (λ t.
-        claim_all claims.old (page_spans (tree_of (node_view t))) ≡ Some claims.new) }
+    // What is answered is the tree that the file spells there.
+    ensures walked { IfOk result (λ t. IsWalkedTree image.entry (end_of header.now) Nbt
+        header.now.nbt claims.old claims.new (node_view t)) }
 
     // Whatever the answer, the pages from the first up to some one are claimed.
     ensures some { ClaimsSome claims.old claims.new (page_spans_at Nbt
         (bytes_of image.entry) (level_at (bytes_of image.entry) header.now.nbt.ib) header.now.nbt) }
-
-    // Which tree it is.
-    ensures image { IfOk result (λ t. (node_view t).image ≡ image.entry) }
-    ensures end { IfOk result (λ t. (node_view t).end ≡ end_of header.now) }
-    ensures kind { IfOk result (λ t. (node_view t).kind ≡ Nbt) }
-    ensures root { IfOk result (λ t. (node_view t).root ≡ header.now.nbt) }
-    ensures level { IfOk result (λ t.
-        (node_view t).level ≡ level_at (bytes_of image.entry) header.now.nbt.ib) }
 
     // A tree whose pages can be claimed is answered, unless memory ran out.
     ensures only { (level : ℕ) (tree : Tree) (new : Claimed) →
         IsTree Nbt (bytes_of image.entry) (end_of header.now) header.now.nbt level tree →
         claim_all claims.old (page_spans tree) ≡ Some new → IfErr result (λ f. f ≡ no_memory) }
 {
-    let (tree, _) = nodes_exact(alloc, image, header, claims)?;
-    Ok(tree)
+    let (view, _) = walk(alloc, image, header, PageKind::Nbt, header.nbt, claims)?;
+    Ok(NodeTree { view })
 }

@@ -4,4 +4,5 @@ pub mod Grammar
 pub mod Fault
 pub mod Maps
 pub mod View
+pub mod Items
 pub mod Laws

@@ -24,11 +24,11 @@ pub struct Heap<'a> {
 }
 
 impl<'a> Heap<'a> {
-    ghost use Rattle.std.specs.Prelude.{◌≡◌, ◌+◌, ◌≤◌, length, IfOk, IfSome, None, option_map, slice_get};
+    ghost use Rattle.std.specs.Prelude.{◌≡◌, ◌+◌, ◌≤◌, length, IfOk, IfSome, None, Some, option_map, slice_get};
     ghost use Rattle.pst_bytes.specs.Image.{bytes_of, bytes_at, IsInside, IsPartOf};
     ghost use Rattle.pst_fault.specs.First.{Checks};
     ghost use Rattle.pst_datatree.specs.Spans.{first_span};
-    ghost use Rattle.pst_heap.specs.Values.{item_of};
+    ghost use Rattle.pst_heap.specs.Values.{block_of, item_of};
     ghost use Rattle.pst_heap.specs.Fault.{item_fault};
     ghost use Rattle.pst_heap.specs.Fault.{heap_fault};
     ghost use Rattle.pst_heap.specs.Values.{client_of, user_root_of, user_root_place};
@@ -78,7 +78,7 @@ impl<'a> Heap<'a> {
 
     // The first span, with the header.
     #[tactic(auto, using(crate::proofs::HeapLemmas::first_long))]
-    fn first(&self) -> Span
+    pub(crate) fn first(&self) -> Span
         ensures value { result ≡ first_span (data_of self.now).spans }
         ensures inside { IsInside (data_of self.now).image result }
         ensures long { 12 ≤ result.len }
@@ -88,7 +88,7 @@ impl<'a> Heap<'a> {
 
     // The span with a number.
     #[tactic(auto, using(crate::proofs::HeapLemmas::first_there))]
-    fn span(&self, n: u32) -> Option<Span>
+    pub(crate) fn span(&self, n: u32) -> Option<Span>
         ensures value { result ≡ slice_get (data_of self.now).spans n }
         ensures inside { IfSome result (IsInside (data_of self.now).image) }
     {
@@ -121,18 +121,29 @@ impl<'a> Heap<'a> {
         self.image().number32(self.user_root_place())
     }
 
+    // Where the item with an identifier lies, in the span that it tells.
+    #[tactic(auto, using(crate::proofs::HeapLemmas::item_some))]
+    pub(crate) fn item_in(&self, span: Span, hid: u32) -> Option<Span>
+        requires there { slice_get (data_of self.now).spans (block_of hid) ≡ Some span }
+        requires inside { IsInside (data_of self.now).image span }
+        ensures value { result ≡ item_of (data_of self.now) hid }
+        ensures inside { IfSome result (IsInside (data_of self.now).image) }
+    {
+        let Some(map) = PageMap::open(self.image(), span) else {
+            unreachable!()
+        };
+        map.item(hid)
+    }
+
     /// Where the item with an identifier lies (HID, [MS-PST] 2.3.1.1): in one span of the node's data. None exactly where no
-    /// item has it. Nothing is gone through but the path to that span.
-    #[tactic(auto, using(crate::proofs::HeapLemmas::item_none, crate::proofs::HeapLemmas::item_some))]
+    /// item has it. Nothing is gone through but the path to that span. Whoever asks for many keeps their `Items`.
+    #[tactic(auto, using(crate::proofs::HeapLemmas::item_none))]
     pub fn item_span(&self, hid: u32) -> Option<Span>
         ensures value { result ≡ item_of (data_of self.now) hid }
         ensures inside { IfSome result (IsInside (data_of self.now).image) }
     {
         let span = self.span(hid / 65_536)?;
-        let Some(map) = PageMap::open(self.image(), span) else {
-            unreachable!()
-        };
-        map.item(hid)
+        self.item_in(span, hid)
     }
 
     /// The bytes of the item with an identifier, in the file's own memory. HeapId, at 0, with the node's bidData and the node

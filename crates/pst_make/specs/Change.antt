@@ -1,7 +1,9 @@
 -- What a change makes of the bytes of an image.
-use Rattle.std.specs.Prelude.{◌≡◌, ℕ, ◌+◌, List, [], ◌∷◌, ◌++◌, length, take, set, get_or, replicate, bit_xor}
+use Rattle.std.specs.Prelude.{◌≡◌, ℕ, ⊤, ◌+◌, ◌<◌, ◌⊎◌, List, [], ◌∷◌, ◌++◌, length, take, set, get_or, replicate, bit_xor}
 use Rattle.pst_make.specs.declared.change.Change.{Change}
 use Rattle.pst_make.specs.declared.change.Change.TheVariants.{Set, Flip, Cut, Grow, Header, Page, Block}
+use Rattle.pst_make.specs.declared.change.ChangeFault.{ChangeFault}
+use Rattle.pst_make.specs.declared.change.ChangeFault.TheVariants.{PastEnd, Memory}
 use Rattle.pst_make.specs.Elsewhere.{written, SameElsewhere}
 use Rattle.pst_make.specs.Sealed.{SealedHeader, SealedPage, SealedBlock, header_checks, page_checks, block_checks, sealed_size}
 
@@ -29,7 +31,23 @@ IsChanged Header old new = SealedHeader new × SameElsewhere old new header_chec
 IsChanged (Page at) old new = SealedPage new at × SameElsewhere old new (page_checks at)
 IsChanged (Block at cb) old new = SealedBlock new at cb × SameElsewhere old new (block_checks at cb)
 
+-- a change that makes the image longer, which alone needs memory
+abbrev pub IsGrowth : Change → Type 0
+IsGrowth (Grow more) = ⊤
+IsGrowth other = ⊥
+
+-- why a change can't be done
+abbrev pub IsRefused : Change → List ℕ → ChangeFault → Type 0
+IsRefused change old PastEnd = length old < reach_of change
+IsRefused change old Memory = IsGrowth change
+
 -- one after another
 unfoldable pub AreChanged : List Change → List ℕ → List ℕ → Type 0
 AreChanged [] old new = new ≡ old
 AreChanged (first ∷ rest) old new = (between : List ℕ) × IsChanged first old between × AreChanged rest between new
+
+-- those before the first that can't be done are done, and that one is not
+unfoldable pub StopsAt : List Change → List ℕ → List ℕ → ChangeFault → Type 0
+StopsAt [] old new fault = ⊥
+StopsAt (first ∷ rest) old new fault =
+    ((new ≡ old) × IsRefused first old fault) ⊎ ((between : List ℕ) × IsChanged first old between × StopsAt rest between new fault)

@@ -1,7 +1,7 @@
 //! Changes to the bytes of an image, and the seals that make its check values right again.
 
-ghost use Rattle.std.specs.Prelude.{◌≡◌, ◌+◌, ◌≤◌, ◌<◌, ◌↔◌, true, length, OnOk, OnErr, IsOk};
-ghost use Rattle.pst_make.specs.Change.{AreChanged, flipped};
+ghost use Rattle.std.specs.Prelude.{◌≡◌, ◌+◌, ◌≤◌, ◌<◌, ◌↔◌, true, length, OnOk, OnErr, IfErr, IsOk};
+ghost use Rattle.pst_make.specs.Change.{AreChanged, StopsAt, flipped};
 ghost use Rattle.pst_make.specs.Elsewhere.{written};
 ghost use Rattle.pst_make.specs.Sealed.{sealed_size};
 
@@ -51,6 +51,7 @@ fn has_bytes(image: &[u8], at: u64, len: u64) -> bool
 pub fn set(image: &mut [u8], at: usize, bytes: &[u8]) -> Result<(), ChangeFault>
     ensures done { OnOk result (image.new ≡ written image.old at bytes.now) }
     ensures fits { IsOk result ↔ at + length bytes.now ≤ length image.old }
+    ensures past { IfErr result (λ f. f ≡ ChangeFault.PastEnd) }
     ensures same { OnErr result (image.new ≡ image.old) }
 {
     let all = image.len();
@@ -65,6 +66,7 @@ pub fn set(image: &mut [u8], at: usize, bytes: &[u8]) -> Result<(), ChangeFault>
 pub fn flip(image: &mut [u8], at: usize) -> Result<(), ChangeFault>
     ensures done { OnOk result (image.new ≡ flipped image.old at) }
     ensures fits { IsOk result ↔ at < length image.old }
+    ensures past { IfErr result (λ f. f ≡ ChangeFault.PastEnd) }
     ensures same { OnErr result (image.new ≡ image.old) }
 {
     if at >= image.len() {
@@ -75,17 +77,16 @@ pub fn flip(image: &mut [u8], at: usize) -> Result<(), ChangeFault>
 }
 
 impl Change<'_> {
-    ghost use Rattle.std.specs.Prelude.{◌≡◌, ◌≤◌, ◌<◌, length, OnOk, OnErr, IsErrOf};
-    ghost use Rattle.pst_make.specs.Change.{IsChanged, reach_of};
+    ghost use Rattle.std.specs.Prelude.{◌≡◌, ◌≤◌, length, OnOk, OnErr, IfErr};
+    ghost use Rattle.pst_make.specs.Change.{IsChanged, IsRefused, reach_of};
 
     /// Changes an image. PastEnd where the image has not all bytes that are to be changed, or whose check values are to be made
     /// right; Memory where it can't grow. Nothing is changed then.
-    #[tactic(auto, unfolding(crate::specs::Change::IsChanged))]
+    #[tactic(auto, unfolding(crate::specs::Change::IsChanged, crate::specs::Change::IsRefused))]
     pub fn apply(self, image: &mut Vec<u8>) -> Result<(), ChangeFault>
         ensures done { OnOk result (IsChanged self.entry image.old.items image.new.items) }
         ensures fits { OnOk result (reach_of self.entry ≤ length image.old.items) }
-        ensures past { IsErrOf result ChangeFault.PastEnd →
-            length image.old.items < reach_of self.entry }
+        ensures refused { IfErr result (IsRefused self.entry image.old.items) }
         ensures same { OnErr result (image.new.items ≡ image.old.items) }
     {
         match self {
@@ -124,9 +125,10 @@ impl Change<'_> {
     }
 }
 
-/// Changes an image, one after another. The first fault ends it: what was changed before stays so.
+/// Changes an image, one after another. The first that can't be done ends it, with its fault: what was changed before stays so.
 pub fn change_all(image: &mut Vec<u8>, changes: &[Change]) -> Result<(), ChangeFault>
-    ensures { OnOk result (AreChanged changes.now image.old.items image.new.items) }
+    ensures done { OnOk result (AreChanged changes.now image.old.items image.new.items) }
+    ensures stops { IfErr result (StopsAt changes.now image.old.items image.new.items) }
 {
     for one in changes {
         one.apply(image)?;

@@ -5,6 +5,8 @@ use Rattle.pst_fault.specs.declared.fault.Fault.{Fault}
 use Rattle.pst_fault.specs.Fault.{no_memory}
 use Rattle.pst_fault.specs.First.{IsFirst}
 use Rattle.pst_fault.proofs.FirstLemmas.{none_then, both_none, only_memory}
+use Rattle.pst_bytes.specs.declared.Image.{Image}
+use Rattle.pst_bytes.specs.Image.{bytes_of}
 use Rattle.pst_header.specs.declared.header.Header.{Header}
 use Rattle.pst_header.specs.Header.{header_fault, fields, end_of}
 use Rattle.pst_header.specs.Head.{Head}
@@ -28,8 +30,8 @@ use Rattle.pst_ndb.specs.Space.{space_walk, space_spans, space_claimed, space_fa
 use Rattle.pst_fault.specs.Each.{first_of}
 use Rattle.pst_ndb.specs.Fault.{node_fault, nodes_fault, file_fault, ndb_fault}
 use Rattle.pst_ndb.specs.Database.{Database, DatabaseLaw, HasTrees, AllHaveTrees, blocks_in, nodes_in, used_spans, claimed_units}
-use Rattle.pst_amap.specs.Report.{IsReport}
 use Rattle.pst_ndb.specs.declared.check.Checked.{Checked}
+use Rattle.pst_ndb.specs.Checked.{IsCheckedOf}
 use Rattle.pst_ndb.specs.Views.{header_of}
 use Rattle.pst_ndb.proofs.NodeLemmas.{node_none, none_data, none_subs}
 use Rattle.pst_subnode.specs.declared.check.TheConstants.{LISTS}
@@ -137,8 +139,9 @@ not_refused I h blocks nodes order (Ok x) first d = tt
 not_refused I h blocks nodes order (Err f) first d = only_memory (ndb_fault I) f ((database_law I h blocks nodes order).0 d).0 first
 
 -- and is what is answered
-pub found_database : (I : List ℕ) (r : Result Checked Fault) → OnOk r (ndb_fault I ≡ None) → IfOk r (λ c. header_of c.ndb ≡ fields I) → IfOk r (λ c. IsReport I (fields I) (space_claimed I (fields I)) c.map)
-    → IfOk r (λ c. Database I (header_of c.ndb) (tree_under Bbt I (header_of c.ndb).bbt) (tree_under Nbt I (header_of c.ndb).nbt) c.map.order)
-found_database I (Ok c) none is report =
-    subst (λ (h : Header). Database I h (tree_under Bbt I h.bbt) (tree_under Nbt I h.nbt) c.map.order) (sym is) (is_database I c.map.order none report.order)
-found_database I (Err f) none is report = tt
+pub found_database : (file : Image) (r : Result Checked Fault) → OnOk r (ndb_fault (bytes_of file) ≡ None) → IfOk r (IsCheckedOf file (fields (bytes_of file)))
+    → IfOk r (λ c. Database (bytes_of file) (header_of c.ndb) (tree_under Bbt (bytes_of file) (header_of c.ndb).bbt) (tree_under Nbt (bytes_of file) (header_of c.ndb).nbt) c.map.order)
+found_database file (Ok c) none is =
+    let I = bytes_of file in
+    subst (λ (h : Header). Database I h (tree_under Bbt I h.bbt) (tree_under Nbt I h.nbt) c.map.order) (sym is.header) (is_database I c.map.order none is.report.order)
+found_database file (Err f) none is = tt

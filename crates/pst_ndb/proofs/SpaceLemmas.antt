@@ -5,14 +5,13 @@ use Rattle.pst_header.specs.declared.header.Bref.{Bref}
 use Rattle.pst_page.specs.declared.kind.PageKind.{PageKind}
 use Rattle.pst_page.specs.declared.kind.PageKind.TheVariants.{Bbt, Nbt}
 use Rattle.pst_page.specs.Entry.{block_entry_at, node_entry_at}
-use Rattle.pst_page.specs.Page.{level_at}
 use Rattle.pst_bytes.specs.declared.Image.{Image}
 use Rattle.pst_bytes.specs.Image.{bytes_of}
 use Rattle.pst_btree.specs.declared.block_tree.BlockTree.{BlockTree}
 use Rattle.pst_btree.specs.declared.node_tree.NodeTree.{NodeTree}
 use Rattle.pst_btree.specs.Trees.{block_view, node_view, block_entries, node_entries}
 use Rattle.pst_btree.specs.Tree.{Tree, tree_at, entries_of, pages_of, page_spans}
-use Rattle.pst_btree.specs.View.{tree_of}
+use Rattle.pst_btree.specs.View.{tree_of, IsWalkedTree}
 use Rattle.pst_btree.specs.Walk.{Found, tree_walk}
 use Rattle.pst_block.specs.Walk.{blocks_walk, block_spans}
 use Rattle.pst_header.specs.Header.{end_of}
@@ -28,24 +27,22 @@ use Rattle.pst_ndb.specs.Trees.{trees_walk, trees_spans}
 same_tree : (kind k : PageKind) (I J : List ℕ) (level l : ℕ) (root r : Bref) → J ≡ I → k ≡ kind → r ≡ root → l ≡ level → tree_at k J l r ≡ tree_at kind I level root
 same_tree kind k I J level l root r i e f g = rw (i, e, f, g) refl
 
-pub block_tree_is : (tree : BlockTree) (image : Image) (h : Header) → (block_view tree).image ≡ image → (block_view tree).kind ≡ Bbt → (block_view tree).root ≡ h.bbt
-    → (block_view tree).level ≡ level_at (bytes_of image) h.bbt.ib → tree_of (block_view tree) ≡ tree_under Bbt (bytes_of image) h.bbt
-block_tree_is tree image h i k r l = same_tree Bbt (block_view tree).kind (bytes_of image) (bytes_of (block_view tree).image) _ (block_view tree).level h.bbt (block_view tree).root (ap bytes_of i) k r l
+pub block_tree_is : (tree : BlockTree) (image : Image) (h : Header) (old new : Claimed) → IsWalkedTree image (end_of h) Bbt h.bbt old new (block_view tree) → tree_of (block_view tree) ≡ tree_under Bbt (bytes_of image) h.bbt
+block_tree_is tree image h old new w = same_tree Bbt (block_view tree).kind (bytes_of image) (bytes_of (block_view tree).image) _ (block_view tree).level h.bbt (block_view tree).root (ap bytes_of w.image) w.kind w.root w.level
 
-pub node_tree_is : (tree : NodeTree) (image : Image) (h : Header) → (node_view tree).image ≡ image → (node_view tree).kind ≡ Nbt → (node_view tree).root ≡ h.nbt
-    → (node_view tree).level ≡ level_at (bytes_of image) h.nbt.ib → tree_of (node_view tree) ≡ tree_under Nbt (bytes_of image) h.nbt
-node_tree_is tree image h i k r l = same_tree Nbt (node_view tree).kind (bytes_of image) (bytes_of (node_view tree).image) _ (node_view tree).level h.nbt (node_view tree).root (ap bytes_of i) k r l
+pub node_tree_is : (tree : NodeTree) (image : Image) (h : Header) (old new : Claimed) → IsWalkedTree image (end_of h) Nbt h.nbt old new (node_view tree) → tree_of (node_view tree) ≡ tree_under Nbt (bytes_of image) h.nbt
+node_tree_is tree image h old new w = same_tree Nbt (node_view tree).kind (bytes_of image) (bytes_of (node_view tree).image) _ (node_view tree).level h.nbt (node_view tree).root (ap bytes_of w.image) w.kind w.root w.level
 
 same_list : {X : Type 0} (item : List ℕ → ℕ → X) (I J : List ℕ) (tree t : Tree) → J ≡ I → t ≡ tree → map (item J) (entries_of t) ≡ map (item I) (entries_of tree)
 same_list item I J tree t i e = rw (i, e) refl
 
-pub block_list_is : (tree : BlockTree) (image : Image) (h : Header) → (block_view tree).image ≡ image → tree_of (block_view tree) ≡ tree_under Bbt (bytes_of image) h.bbt → block_entries tree ≡ block_list (bytes_of image) h
+pub block_list_is : (tree : BlockTree) (image : Image) (h : Header) (old new : Claimed) → IsWalkedTree image (end_of h) Bbt h.bbt old new (block_view tree) → block_entries tree ≡ block_list (bytes_of image) h
 unfolding block_list
-block_list_is tree image h i e = same_list block_entry_at (bytes_of image) (bytes_of (block_view tree).image) (tree_under Bbt (bytes_of image) h.bbt) (tree_of (block_view tree)) (ap bytes_of i) e
+block_list_is tree image h old new w = same_list block_entry_at (bytes_of image) (bytes_of (block_view tree).image) (tree_under Bbt (bytes_of image) h.bbt) (tree_of (block_view tree)) (ap bytes_of w.image) (block_tree_is tree image h old new w)
 
-pub node_list_is : (tree : NodeTree) (image : Image) (h : Header) → (node_view tree).image ≡ image → tree_of (node_view tree) ≡ tree_under Nbt (bytes_of image) h.nbt → node_entries tree ≡ node_list (bytes_of image) h
+pub node_list_is : (tree : NodeTree) (image : Image) (h : Header) (old new : Claimed) → IsWalkedTree image (end_of h) Nbt h.nbt old new (node_view tree) → node_entries tree ≡ node_list (bytes_of image) h
 unfolding node_list
-node_list_is tree image h i e = same_list node_entry_at (bytes_of image) (bytes_of (node_view tree).image) (tree_under Nbt (bytes_of image) h.nbt) (tree_of (node_view tree)) (ap bytes_of i) e
+node_list_is tree image h old new w = same_list node_entry_at (bytes_of image) (bytes_of (node_view tree).image) (tree_under Nbt (bytes_of image) h.nbt) (tree_of (node_view tree)) (ap bytes_of w.image) (node_tree_is tree image h old new w)
 
 -- the walks one after another
 pub trees_end : (I : List ℕ) (h : Header) (claimed : Claimed) (blocks nodes : Found) → tree_walk Bbt I (end_of h) claimed h.bbt ≡ Ok blocks → tree_walk Nbt I (end_of h) blocks.claimed h.nbt ≡ Ok nodes → trees_walk I h claimed ≡ Ok nodes

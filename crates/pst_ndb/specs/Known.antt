@@ -8,10 +8,9 @@ use Rattle.pst_subnode.specs.Heights as heights
 use Rattle.pst_subnode.specs.Known as both
 use Rattle.pst_ndb.specs.declared.check_nodes.Known.{Known}
 
--- What is known is true.
-pub record IsKnownTrue (t : Table) (k : Known) : Type 0 where
-  pub trees : seen.IsSeenTrue t k.seen
-  pub lists : heights.AreHeightsTrue t k.heights
+-- what is known is true
+abbrev pub IsKnownTrue : Table → Known → Type 0
+IsKnownTrue t k = both.AreBothTrue t k.seen k.heights
 
 -- Nothing is known yet.
 pub record IsNew (k : Known) : Type 0 where

@@ -1,4 +1,5 @@
 pub mod Alike
+pub mod Checked
 pub mod Database
 pub mod Entries
 pub mod Fault

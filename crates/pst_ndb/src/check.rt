@@ -1,6 +1,6 @@
 //! The check of a file up to its nodes.
 
-ghost use Rattle.std.specs.Prelude.{◌≡◌, None, length, IfOk, IfErr, OnOk};
+ghost use Rattle.std.specs.Prelude.{◌≡◌, None, IfOk, IfErr, OnOk};
 ghost use Rattle.pst_bytes.specs.Image.{bytes_of};
 ghost use Rattle.pst_fault.specs.Fault.{no_memory};
 ghost use Rattle.pst_fault.specs.First.{IsFirst};
@@ -10,14 +10,11 @@ ghost use Rattle.pst_header.specs.Header.{fields};
 ghost use Rattle.pst_page.specs.declared.kind.PageKind.TheVariants.{Bbt, Nbt};
 ghost use Rattle.pst_btree.specs.Tree.{Tree};
 ghost use Rattle.pst_amap.specs.declared.report.BitOrder.{BitOrder};
-ghost use Rattle.pst_amap.specs.Report.{IsReport};
-ghost use Rattle.pst_ndb.specs.Counts.{AreExpanded};
+ghost use Rattle.pst_ndb.specs.Checked.{IsCheckedOf};
 ghost use Rattle.pst_ndb.specs.Database.{Database};
-ghost use Rattle.pst_ndb.specs.Entries.{tree_under, page_total, block_list, node_list, block_table};
+ghost use Rattle.pst_ndb.specs.Entries.{tree_under};
 ghost use Rattle.pst_ndb.specs.Fault.{file_fault, ndb_fault};
-ghost use Rattle.pst_ndb.specs.Marks.{MapsMark};
-ghost use Rattle.pst_ndb.specs.Space.{space_claimed};
-ghost use Rattle.pst_ndb.specs.Views.{image_of_ndb, header_of, table_of_ndb, nodes_of};
+ghost use Rattle.pst_ndb.specs.Views.{header_of};
 
 use crate::check_nodes::check_nodes;
 use crate::ndb::Ndb;
@@ -58,21 +55,7 @@ fn check_file<'a>(alloc: Global, image: Image<'a>, header: &Header) -> Result<Ch
     requires { Head (bytes_of image) header.now }
     ensures exact { IfErr result (IsFirst (file_fault (bytes_of image.entry) header.now)) }
     ensures none { OnOk result (file_fault (bytes_of image.entry) header.now ≡ None) }
-    ensures image { IfOk result (λ c. image_of_ndb c.ndb ≡ image.entry) }
-    ensures header { IfOk result (λ c. header_of c.ndb ≡ header.now) }
-    ensures table { IfOk result (λ c.
-        table_of_ndb c.ndb ≡ block_table (bytes_of image.entry) header.now) }
-    ensures nodes { IfOk result (λ c.
-        nodes_of c.ndb ≡ node_list (bytes_of image.entry) header.now) }
-    ensures report { IfOk result (λ c. IsReport (bytes_of image.entry) header.now
-        (space_claimed (bytes_of image.entry) header.now) c.map) }
-    ensures marks { IfOk result (λ c. MapsMark (bytes_of image.entry) header.now c.map) }
-    ensures pages { IfOk result (λ c. c.work.pages ≡ page_total (bytes_of image.entry) header.now) }
-    ensures sums { IfOk result (λ c.
-        c.work.sums ≡ length (block_list (bytes_of image.entry) header.now)) }
-    ensures expansions { IfOk result (λ c.
-        AreExpanded (table_of_ndb c.ndb) (nodes_of c.ndb) c.work.expansions) }
-    ensures contexts { IfOk result (λ c. c.work.contexts ≡ 0) }
+    ensures checked { IfOk result (IsCheckedOf image.entry header.now) }
 {
     let (space, map) = check_maps(alloc, image, header)?;
     let expansions = check_nodes(alloc, &space.blocks, &space.nodes)?;
@@ -91,24 +74,7 @@ fn check_file<'a>(alloc: Global, image: Image<'a>, header: &Header) -> Result<Ch
 fn check_exactly<'a>(alloc: Global, image: Image<'a>) -> Result<Checked<'a>, Fault>
     ensures exact { IfErr result (IsFirst (ndb_fault (bytes_of image.entry))) }
     ensures none { OnOk result (ndb_fault (bytes_of image.entry) ≡ None) }
-    ensures image { IfOk result (λ c. image_of_ndb c.ndb ≡ image.entry) }
-    ensures header { IfOk result (λ c. header_of c.ndb ≡ fields (bytes_of image.entry)) }
-    ensures table { IfOk result (λ c.
-        table_of_ndb c.ndb ≡ block_table (bytes_of image.entry) (fields (bytes_of image.entry))) }
-    ensures nodes { IfOk result (λ c.
-        nodes_of c.ndb ≡ node_list (bytes_of image.entry) (fields (bytes_of image.entry))) }
-    ensures report { IfOk result (λ c.
-        IsReport (bytes_of image.entry) (fields (bytes_of image.entry))
-        (space_claimed (bytes_of image.entry) (fields (bytes_of image.entry))) c.map) }
-    ensures marks { IfOk result (λ c.
-        MapsMark (bytes_of image.entry) (fields (bytes_of image.entry)) c.map) }
-    ensures pages { IfOk result (λ c.
-        c.work.pages ≡ page_total (bytes_of image.entry) (fields (bytes_of image.entry))) }
-    ensures sums { IfOk result (λ c.
-        c.work.sums ≡ length (block_list (bytes_of image.entry) (fields (bytes_of image.entry)))) }
-    ensures expansions { IfOk result (λ c.
-        AreExpanded (table_of_ndb c.ndb) (nodes_of c.ndb) c.work.expansions) }
-    ensures contexts { IfOk result (λ c. c.work.contexts ≡ 0) }
+    ensures checked { IfOk result (IsCheckedOf image.entry (fields (bytes_of image.entry))) }
 {
     let header = read_header(image)?;
     check_file(alloc, image, &header)
@@ -137,31 +103,8 @@ pub fn check_ndb<'a>(alloc: Global, image: Image<'a>) -> Result<Checked<'a>, Fau
     ensures only { (h : Header) (blocks nodes : Tree) (order : BitOrder) →
         Database (bytes_of image.entry) h blocks nodes order → IfErr result (λ f. f ≡ no_memory) }
 
-    // Its file, header, blocks and nodes.
-    ensures image { IfOk result (λ c. image_of_ndb c.ndb ≡ image.entry) }
-    ensures header { IfOk result (λ c. header_of c.ndb ≡ fields (bytes_of image.entry)) }
-    ensures table { IfOk result (λ c.
-        table_of_ndb c.ndb ≡ block_table (bytes_of image.entry) (fields (bytes_of image.entry))) }
-    ensures nodes { IfOk result (λ c.
-        nodes_of c.ndb ≡ node_list (bytes_of image.entry) (fields (bytes_of image.entry))) }
-
-    // What is reported of the maps: the order of bits, the lost runs and the old map pages; the maps mark these and the
-    // space in use, and nothing else.
-    ensures report { IfOk result (λ c.
-        IsReport (bytes_of image.entry) (fields (bytes_of image.entry))
-        (space_claimed (bytes_of image.entry) (fields (bytes_of image.entry))) c.map) }
-    ensures marks { IfOk result (λ c.
-        MapsMark (bytes_of image.entry) (fields (bytes_of image.entry)) c.map) }
-
-    // The work: each page of the trees and each block once, and each internal block once to which chains of identifiers lead
-    // from the nodes.
-    ensures pages { IfOk result (λ c.
-        c.work.pages ≡ page_total (bytes_of image.entry) (fields (bytes_of image.entry))) }
-    ensures sums { IfOk result (λ c.
-        c.work.sums ≡ length (block_list (bytes_of image.entry) (fields (bytes_of image.entry)))) }
-    ensures expansions { IfOk result (λ c.
-        AreExpanded (table_of_ndb c.ndb) (nodes_of c.ndb) c.work.expansions) }
-    ensures contexts { IfOk result (λ c. c.work.contexts ≡ 0) }
+    // Its file, header, blocks and nodes; what is reported of its maps, and how much work it was.
+    ensures checked { IfOk result (IsCheckedOf image.entry (fields (bytes_of image.entry))) }
 {
     check_exactly(alloc, image)
 }

@@ -5,6 +5,7 @@ use Rattle.pst_btree.specs.Entries.{first_with}
 use Rattle.pst_datatree.specs.Shown.{ShowsSpans, bytes_in}
 use Rattle.pst_ndb.specs.declared.node.Node.{Node}
 use Rattle.pst_ndb.specs.Views.{image_of_node, table_of_node, roots_of}
+use Rattle.pst_heap.specs.View.{node_of}
 use Rattle.pst_bth.specs.Values.{record_key}
 use Rattle.pst_pc.specs.declared.pc.Pc.{Pc}
 use Rattle.pst_pc.specs.declared.prop.Prop.{Prop}
@@ -12,7 +13,7 @@ use Rattle.pst_pc.specs.Values.{Property, property_at, spans_in, pc_records}
 
 -- the node whose data it is
 abbrev pub node_of_pc : Pc → Node
-node_of_pc p = p.node
+node_of_pc p = node_of p.heap
 
 -- what is told of a property
 abbrev pub property_of : Prop → Property

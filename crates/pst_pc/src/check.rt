@@ -8,6 +8,7 @@ ghost use Rattle.pst_ndb.specs.Views.{table_of_node, roots_of, IsIndexedBy};
 ghost use Rattle.pst_heap.specs.Fault.{told_under};
 ghost use Rattle.pst_heap.specs.Maps.{AreMapsTrue};
 ghost use Rattle.pst_heap.specs.View.{node_of, data_of};
+ghost use Rattle.pst_heap.specs.Items.{heap_of_items, node_of_items, data_of_items};
 ghost use Rattle.pst_bth.specs.View.{heap_of, sizes_in, records_of};
 ghost use Rattle.pst_pc.specs.Fault.{property_fault, pc_fault};
 ghost use Rattle.pst_pc.specs.Grammar.{IsPc};
@@ -18,27 +19,28 @@ use crate::pc::Pc;
 use pst_bth::{Bth, check_bth_at};
 use pst_bytes::Span;
 use pst_fault::Fault;
-use pst_heap::{Heap, Maps, check_client, check_heap, check_heap_with};
+use pst_heap::{Heap, Items, Maps, check_client, check_heap, check_heap_with, known_heap};
 use pst_ndb::{Node, SubIndex};
 use pst_value::{PropType, check_value_by};
 
 // The value of a record.
 #[tactic(auto, unfolding(crate::specs::Fault::property_fault))]
-fn check_property(heap: &Heap, index: &SubIndex, id: u32, content: Span) -> Result<(), Fault>
-    requires index { IsIndexedBy (node_of heap.now) index.now }
-    requires inside { IsInside (data_of heap.now).image content }
+fn check_property(items: &mut Items, index: &SubIndex, id: u32, content: Span) -> Result<(), Fault>
+    requires index { IsIndexedBy (node_of_items items.old) index.now }
+    requires inside { IsInside (data_of_items items.old).image content }
     requires behind { 2 ≤ content.at }
     requires size { content.len ≡ 6 }
-    ensures exact { let node = node_of heap.now in let r = roots_of node in
+    ensures exact { let node = node_of_items items.old in let r = roots_of node in
         Checks result
         (option_map (told_under r) (property_fault (table_of_node node) r (id, content))) }
+    ensures heap { heap_of_items items.new ≡ heap_of_items items.old }
 {
-    let kind = PropType(heap.image().number16(content.at));
+    let kind = PropType(items.heap().image().number16(content.at));
     let raw = Span {
         at: content.at + 2,
         len: 4,
     };
-    check_value_by(heap, index, kind, content.at - 2, raw)
+    check_value_by(items, index, kind, content.at - 2, raw)
 }
 
 // The values of all records, in order.
@@ -51,9 +53,10 @@ fn check_properties(heap: &Heap, index: &SubIndex, bth: &Bth) -> Result<(), Faul
         let first = first_of (property_fault (table_of_node node) r) (records_of bth.now) in
         Checks result (option_map (told_under r) first) }
 {
+    let mut items = Items::of(*heap);
     let mut rest = bth.records();
     while let Some(taken) = rest.next() {
-        check_property(heap, index, taken.0, taken.1)?;
+        check_property(&mut items, index, taken.0, taken.1)?;
     }
     Ok(())
 }
@@ -73,20 +76,23 @@ fn check_content(heap: &Heap, index: &SubIndex) -> Result<(), Fault>
 
 // All of a property context.
 #[tactic(auto, using(crate::proofs::PcLemmas::heap_fails))]
-fn check_all(node: Node, index: &SubIndex) -> Result<(), Fault>
+fn check_all<'a>(node: Node<'a>, index: &SubIndex) -> Result<Heap<'a>, Fault>
     requires { IsIndexedBy node index.now }
     ensures exact { Checks result (pc_fault (table_of_node node.entry) (roots_of node.entry)) }
+    ensures node { IfOk result (λ h. node_of h ≡ node.entry) }
 {
     let heap = check_heap(node)?;
-    check_content(&heap, index)
+    check_content(&heap, index)?;
+    Ok(heap)
 }
 
-/// The property context of a node that has one.
+/// The property context of a node that has one. Its heap is looked up.
+#[tactic(auto, using(crate::proofs::PcLemmas::has_heap))]
 pub fn known_pc(node: Node<'_>) -> Pc<'_>
     requires { pc_fault (table_of_node node) (roots_of node) ≡ None }
     ensures { node_of_pc result ≡ node.entry }
 {
-    Pc::known(node)
+    Pc::of(known_heap(node))
 }
 
 /// Checks the property context of a node as `check_pc` does, values in subnodes found by an index of the node's subnodes, or of
@@ -104,8 +110,8 @@ pub fn check_pc_by<'a>(node: Node<'a>, index: &SubIndex) -> Result<Pc<'a>, Fault
     ensures found { OnOk result (IsPc (table_of_node node.entry) (roots_of node.entry)) }
     ensures only { IsPc (table_of_node node.entry) (roots_of node.entry) → IsOk result }
 {
-    check_all(node, index)?;
-    Ok(known_pc(node))
+    let heap = check_all(node, index)?;
+    Ok(Pc::of(heap))
 }
 
 /// Checks the property context of a node ([MS-PST] 2.3.3), in this order, with the node's bidData and the node of the tree from
@@ -145,7 +151,7 @@ pub fn check_pc_with<'a>(node: Node<'a>, index: &SubIndex, maps: &mut Maps) -> R
 {
     let heap = check_heap_with(node, maps)?;
     match check_content(&heap, index) {
-        Ok(()) => Ok(known_pc(node)),
+        Ok(()) => Ok(Pc::of(heap)),
         Err(fault) => Err(fault),
     }
 }

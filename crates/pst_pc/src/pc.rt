@@ -2,20 +2,21 @@
 
 ghost use Rattle.std.specs.Prelude.{◌≡◌, None};
 ghost use Rattle.pst_ndb.specs.Views.{table_of_node, roots_of};
+ghost use Rattle.pst_heap.specs.View.{node_of};
 ghost use Rattle.pst_pc.specs.Fault.{pc_fault};
 
 use crate::prop::Prop;
 use pst_bth::{Bth, known_bth};
 use pst_bytes::Span;
-use pst_heap::{Heap, known_heap};
+use pst_heap::Heap;
 use pst_ndb::Node;
 use pst_value::{PropType, known_value};
 
 /// A property context without fault ([MS-PST] 2.3.3): a finite map from identifiers to properties.
 #[derive(Clone, Copy)]
 pub struct Pc<'a> {
-    node: Node<'a>,
-    ghost sound: { pc_fault (table_of_node node) (roots_of node) ≡ None },
+    heap: Heap<'a>,
+    ghost sound: { pc_fault (table_of_node (node_of heap)) (roots_of (node_of heap)) ≡ None },
 }
 
 impl<'a> Pc<'a> {
@@ -29,12 +30,12 @@ impl<'a> Pc<'a> {
     ghost use Rattle.pst_pc.specs.Values.{pc_sizes, pc_records, props_of, id_of};
     ghost use Rattle.pst_pc.specs.View.{node_of_pc, property_of, IsPropAt, IsPropWith};
 
-    // That of a node which has one.
-    pub(crate) fn known(node: Node<'a>) -> Pc<'a>
-        requires { pc_fault (table_of_node node) (roots_of node) ≡ None }
-        ensures { node_of_pc result ≡ node.entry }
+    // That of a heap which is one.
+    pub(crate) fn of(heap: Heap<'a>) -> Pc<'a>
+        requires { pc_fault (table_of_node (node_of heap)) (roots_of (node_of heap)) ≡ None }
+        ensures { node_of_pc result ≡ node_of heap.entry }
     {
-        Pc { node }
+        Pc { heap }
     }
 
     /// What is known of every property context: it has no first fault.
@@ -47,15 +48,14 @@ impl<'a> Pc<'a> {
     pub fn node(&self) -> Node<'a>
         ensures { result ≡ node_of_pc self.now }
     {
-        self.node
+        self.heap.node()
     }
 
     // The heap in which it is.
-    #[tactic(auto, using(crate::proofs::PcLemmas::has_heap))]
     fn heap(&self) -> Heap<'a>
         ensures { node_of result ≡ node_of_pc self.now }
     {
-        known_heap(self.node)
+        self.heap
     }
 
     // Its records.

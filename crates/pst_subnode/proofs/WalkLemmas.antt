@@ -33,8 +33,7 @@ walked_none t AreLed s h trees lists = record {
   lists = lists;
   marks = λ q marked. marked;
   adds = adds_none t AreLed s h;
-  tree_count = omega arith;
-  list_count = omega arith;
+  grows = record { trees = omega arith; lists = omega arith };
 }
 
 pub walked_then : (t : Table) (AreLed : List ℕ → Type 0) (s : Seen) (h : Heights) (s' : Seen) (h' : Heights) (s'' : Seen) (h'' : Heights) → IsWalked t AreLed s h s' h' → IsWalked t AreLed s' h' s'' h'' → IsWalked t AreLed s h s'' h''
@@ -43,8 +42,7 @@ walked_then t AreLed s h s' h' s'' h'' first second = record {
   lists = second.lists;
   marks = λ q marked. first.marks q (second.marks q marked);
   adds = adds_then t AreLed s h s' h' s'' h'' first.adds second.adds;
-  tree_count = omega (arith, first.tree_count, second.tree_count);
-  list_count = omega (arith, first.list_count, second.list_count);
+  grows = record { trees = omega (arith, first.grows.trees, second.grows.trees); lists = omega (arith, first.grows.lists, second.grows.lists) };
 }
 
 pub walked_of : (t : Table) (AreLed AreAlso : List ℕ → Type 0) (s : Seen) (h : Heights) (s' : Seen) (h' : Heights) → ((from : List ℕ) → AreAlso from → AreLed from) → IsWalked t AreLed s h s' h' → IsWalked t AreAlso s h s' h'
@@ -53,8 +51,7 @@ walked_of t AreLed AreAlso s h s' h' of walked = record {
   lists = walked.lists;
   marks = walked.marks;
   adds = adds_of t AreLed AreAlso s h s' h' of walked.adds;
-  tree_count = walked.tree_count;
-  list_count = walked.list_count;
+  grows = walked.grows;
 }
 
 -- ---- an entry: its data, and then its own list
@@ -65,8 +62,7 @@ walked_data t sub s s' h lists trees adds grows = record {
   lists = lists;
   marks = λ q marked. marked;
   adds = adds_first t sub s s' h adds;
-  tree_count = grows;
-  list_count = omega arith;
+  grows = record { trees = grows; lists = omega arith };
 }
 
 pub walked_both : (t : Table) (sub : Sub) (s : Seen) (h : Heights) (s' s'' : Seen) (h'' : Heights) → IsWalked t (λ from. AreLedTo t from sub) s h s' h → IsWalked t (λ from. Leads t from sub.bid_sub) s' h s'' h'' → IsWalked t (λ from. AreLedTo t from sub) s h s'' h''
@@ -94,8 +90,7 @@ walked_same t AreLed s h h' trees lists same grows = record {
   lists = lists;
   marks = λ q marked. sym (same (bid_key q)) ∙ marked;
   adds = adds_alike t AreLed s h h' same;
-  tree_count = omega arith;
-  list_count = grows;
+  grows = record { trees = omega arith; lists = grows };
 }
 
 -- after the check of a list's own blocks, which changes no height and no mark
@@ -132,8 +127,7 @@ walked_forget t bid s s' h begun mid new is walked last ranges grows = record {
   lists = forget_true t mid new bid last ranges walked.lists;
   marks = forget_marks h begun mid new bid is.put walked.marks last;
   adds = forgets t bid s s' h begun mid new is.list is.fresh is.put walked.adds last;
-  tree_count = walked.tree_count;
-  list_count = omega (arith, is.grows, walked.list_count, grows);
+  grows = record { trees = walked.grows.trees; lists = omega (arith, is.grows, walked.grows.lists, grows) };
 }
 
 pub walked_settle : (t : Table) (bid limit height : ℕ) (s s' : Seen) (h begun mid new : Heights) → 0 < height → IsMarking t bid h begun → IsWalked t (λ from. Leads t from bid) s begun s' mid → (sub_fault t limit bid ≡ None) × (height ≡ sub_height t limit bid) → ((next : ℕ) (x : BlockEntry) → NamesNext t bid next → IsInternal t next x → IsKnownBlock s' mid next) → IsPut mid new bid (Some height) → new.ranges ≡ mid.ranges → list_expansions mid ≤ list_expansions new → IsWalked t (λ from. Leads t from bid) s h s' new
@@ -142,8 +136,7 @@ walked_settle t bid limit height s s' h begun mid new more is walked tells names
   lists = settle_true t mid new bid limit height is.list tells.0 (sym tells.1) last ranges walked.lists;
   marks = settle_marks h begun mid new bid height more is.put walked.marks last;
   adds = settles t bid height s s' h begun mid new more is.list is.fresh is.put walked.adds last names_known;
-  tree_count = walked.tree_count;
-  list_count = omega (arith, is.grows, walked.list_count, grows);
+  grows = record { trees = walked.grows.trees; lists = omega (arith, is.grows, walked.grows.lists, grows) };
 }
 
 -- ---- what is counted

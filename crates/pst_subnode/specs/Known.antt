@@ -9,8 +9,13 @@ use Rattle.pst_datatree.specs.Seen as trees
 use Rattle.pst_subnode.specs.declared.sub.Sub.{Sub}
 use Rattle.pst_subnode.specs.declared.heights.Heights.{Heights}
 use Rattle.pst_subnode.specs.Body.{leaf_bid_in}
-use Rattle.pst_subnode.specs.Heights.{state_at, state_of}
+use Rattle.pst_subnode.specs.Heights.{AreHeightsTrue, state_at, state_of}
 use Rattle.pst_subnode.specs.Reach.{NamesNext, Leads, IsReached}
+
+-- What is known of data trees and of lists is true, and no list is marked.
+pub record AreBothTrue (t : Table) (s : Seen) (h : Heights) : Type 0 where
+  pub trees : trees.IsSeenTrue t s
+  pub lists : AreHeightsTrue t h
 
 -- the height of the list of an identifier is known
 abbrev pub HasKnownHeight : Heights → ℕ → Type 0

@@ -16,6 +16,11 @@ pub record IsBegun (t : Table) (s : Seen) (h : Heights) (place : ℕ → Option 
   pub lists : AreTrue t h
   pub come : HaveCome t h place rank limit
 
+-- What is counted has not fallen.
+pub record CountsGrow (s : Seen) (h : Heights) (s' : Seen) (h' : Heights) : Type 0 where
+  pub trees : tree_expansions s ≤ tree_expansions s'
+  pub lists : list_expansions h ≤ list_expansions h'
+
 -- Whatever it answers: what is known is true, nothing more is marked, chains lead to what is new if they lead to where it began,
 -- and what is counted has not fallen.
 pub record IsWalked (t : Table) (AreLed : List ℕ → Type 0) (s : Seen) (h : Heights) (s' : Seen) (h' : Heights) : Type 0 where
@@ -23,8 +28,7 @@ pub record IsWalked (t : Table) (AreLed : List ℕ → Type 0) (s : Seen) (h : H
   pub lists : AreTrue t h'
   pub marks : NoNewMarks h h'
   pub adds : Adds t AreLed s h s' h'
-  pub tree_count : tree_expansions s ≤ tree_expansions s'
-  pub list_count : list_expansions h ≤ list_expansions h'
+  pub grows : CountsGrow s h s' h'
 
 -- Where it finds no fault: the blocks that were expanded are still those that are known.
 pub record KeepsCounts (s : Seen) (h : Heights) (s' : Seen) (h' : Heights) : Type 0 where

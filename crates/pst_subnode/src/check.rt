@@ -4,13 +4,12 @@ ghost use Rattle.std.specs.Prelude.{◌≡◌, ℕ, ◌≤◌, None, IfOk, IfErr
 ghost use Rattle.pst_fault.specs.Fault.{no_memory};
 ghost use Rattle.pst_fault.specs.First.{Tells};
 ghost use Rattle.pst_block.specs.Blocks.{table_of};
-ghost use Rattle.pst_datatree.specs.Seen.{tree_expansions, IsSeenTrue, KeepsCount};
 ghost use Rattle.pst_subnode.specs.declared.sub.Sub.{Sub};
 ghost use Rattle.pst_subnode.specs.List.{subs_of};
 ghost use Rattle.pst_subnode.specs.Tree.{sub_fault, sub_height, at_top};
 ghost use Rattle.pst_subnode.specs.Reach.{Leads};
-ghost use Rattle.pst_subnode.specs.Known.{Adds, IsKnownList};
-ghost use Rattle.pst_subnode.specs.Heights.{list_expansions, AreHeightsCounted, AreHeightsTrue};
+ghost use Rattle.pst_subnode.specs.Known.{Adds, AreBothTrue, IsKnownList};
+ghost use Rattle.pst_subnode.specs.Walk.{CountsGrow, KeepsCounts};
 ghost use Rattle.pst_subnode.specs.Relation.{HasSubs};
 
 use crate::heights::Heights;
@@ -64,16 +63,13 @@ pub fn check_sub(
     heights: &mut Heights,
 ) -> Result<u32, Fault>
     // What is known is true, and stays so; no list is left marked.
-    requires seen { IsSeenTrue (table_of blocks.now) seen.old }
-    requires known { AreHeightsTrue (table_of blocks.now) heights.old }
-    ensures seen { IsSeenTrue (table_of blocks.now) seen.new }
-    ensures known { AreHeightsTrue (table_of blocks.now) heights.new }
+    requires known { AreBothTrue (table_of blocks.now) seen.old heights.old }
+    ensures known { AreBothTrue (table_of blocks.now) seen.new heights.new }
 
     // The height, or the first fault; or that memory ran out.
     ensures exact { Tells result (option_map (at_top bid nid)
         (sub_fault (table_of blocks.now) LISTS bid)) (sub_height (table_of blocks.now) LISTS bid) }
     ensures small { IfOk result (λ h. h ≤ LISTS) }
-
     ensures none { OnOk result (sub_fault (table_of blocks.now) LISTS bid ≡ None) }
 
     // The identifier has the list of this height, as the format says.
@@ -89,11 +85,9 @@ pub fn check_sub(
         Adds t (λ from. Leads t from bid) seen.old heights.old seen.new heights.new }
     ensures there { OnOk result (IsKnownList (table_of blocks.now) heights.new bid) }
 
-    // What is counted never falls.
-    ensures seen_grows { tree_expansions seen.old ≤ tree_expansions seen.new }
-    ensures counts { OnOk result (KeepsCount seen.old seen.new) }
-    ensures keeps { OnOk result (AreHeightsCounted heights.old → AreHeightsCounted heights.new) }
-    ensures heights_grow { list_expansions heights.old ≤ list_expansions heights.new }
+    // What is counted never falls; where there is no fault, what was expanded is what is known.
+    ensures grows { CountsGrow seen.old heights.old seen.new heights.new }
+    ensures counts { OnOk result (KeepsCounts seen.old heights.old seen.new heights.new) }
 {
     match height_of(alloc, blocks, bid, LISTS, seen, heights) {
         Ok(height) => Ok(height),

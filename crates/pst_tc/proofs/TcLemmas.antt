@@ -117,6 +117,9 @@ facts t r none =
     let b = none_then _ _ a.1 in
     record { heap = a.0; table = b.1 }
 
+pub has_heap : (t : Table) (r : Roots) → tc_fault t r ≡ None → heap_fault (heap_at t r) ≡ None
+has_heap t r none = TcFacts.heap (facts t r none)
+
 pub table_sound : (t : Table) (r : Roots) (s : Span) → tc_fault t r ≡ None → Some s ≡ item_of (heap_at t r) (user_root_of (heap_at t r)) → tc_body_fault t r s ≡ None
 table_sound t r s none is =
     let e : item_or (user_root_place (heap_at t r)) (tc_body_fault t r) (item_of (heap_at t r) (user_root_of (heap_at t r))) ≡ None = TcFacts.table (facts t r none) in

@@ -7,6 +7,7 @@ ghost use Rattle.pst_fault.specs.Each.{first_of};
 ghost use Rattle.pst_ndb.specs.Views.{table_of_node, roots_of, IsIndexedBy};
 ghost use Rattle.pst_heap.specs.Fault.{told_under};
 ghost use Rattle.pst_heap.specs.View.{node_of, data_of};
+ghost use Rattle.pst_heap.specs.Items.{heap_of_items, node_of_items, data_of_items};
 ghost use Rattle.pst_bth.specs.View.{heap_of, sizes_in, records_of};
 ghost use Rattle.pst_tc.specs.Info.{row_size, is_column, matrix_hnid};
 ghost use Rattle.pst_tc.specs.Values.{tc_sizes, row_of_matrix};
@@ -22,30 +23,31 @@ use crate::tc::Tc;
 use pst_bth::{Bth, check_bth_at};
 use pst_bytes::Span;
 use pst_fault::{Fault, Kind};
-use pst_heap::{Heap, check_client, check_heap, told_of};
+use pst_heap::{Heap, Items, check_client, check_heap, known_heap, told_of};
 use pst_ndb::{Node, SubIndex};
 use pst_value::{PropType, check_value_by, missing_at};
 
 // The cell of a column in a row.
 #[tactic(auto, unfolding(crate::specs::Fault::cell_fault), using(crate::proofs::InfoLemmas::cell_inside, crate::proofs::TypedLemmas::typed_room, crate::proofs::TypedLemmas::typed_is))]
 fn check_cell(
-    heap: &Heap,
+    items: &mut Items,
     index: &SubIndex,
     info: Span,
     row: Span,
     column: u64,
 ) -> Result<(), Fault>
-    requires index { IsIndexedBy (node_of heap.now) index.now }
-    requires info { info.at + 22 ≤ length (data_of heap.now).image }
-    requires column { column + 8 ≤ length (data_of heap.now).image }
-    requires row { IsInside (data_of heap.now).image row }
-    requires size { row.len ≡ row_size (data_of heap.now).image info }
-    requires good { is_column (data_of heap.now).image info column ≡ true }
-    ensures exact { let node = node_of heap.now in let r = roots_of node in
+    requires index { IsIndexedBy (node_of_items items.old) index.now }
+    requires info { info.at + 22 ≤ length (data_of_items items.old).image }
+    requires column { column + 8 ≤ length (data_of_items items.old).image }
+    requires row { IsInside (data_of_items items.old).image row }
+    requires size { row.len ≡ row_size (data_of_items items.old).image info }
+    requires good { is_column (data_of_items items.old).image info column ≡ true }
+    ensures exact { let node = node_of_items items.old in let r = roots_of node in
         let first = cell_fault (table_of_node node) r info row.at column in
         Checks result (option_map (told_under r) first) }
+    ensures heap { heap_of_items items.new ≡ heap_of_items items.old }
 {
-    let image = heap.image();
+    let image = items.heap().image();
     if !is_present(image, info, row, column) {
         return Ok(());
     }
@@ -57,25 +59,26 @@ fn check_cell(
         at: row.at + u64::from(image.number16(column + 4)),
         len: u64::from(image.number8(column + 6)),
     };
-    check_value_by(heap, index, kind, raw.at, raw)
+    check_value_by(items, index, kind, raw.at, raw)
 }
 
 // The cells of a row, in the order of their columns.
 #[tactic(auto, unfolding(crate::specs::Fault::cells_fault), using(crate::proofs::InfoLemmas::sound_room, crate::proofs::InfoLemmas::sound_column, crate::proofs::TcLemmas::cells_more, crate::proofs::TcLemmas::cells_fail, crate::proofs::TcLemmas::cells_done))]
-fn check_cells(heap: &Heap, index: &SubIndex, info: Span, row: Span) -> Result<(), Fault>
-    requires index { IsIndexedBy (node_of heap.now) index.now }
-    requires info { IsInside (data_of heap.now).image info }
-    requires sound { info_fault (data_of heap.now).image info ≡ None }
-    requires row { IsInside (data_of heap.now).image row }
-    requires size { row.len ≡ row_size (data_of heap.now).image info }
-    ensures exact { let node = node_of heap.now in let r = roots_of node in
+fn check_cells(items: &mut Items, index: &SubIndex, info: Span, row: Span) -> Result<(), Fault>
+    requires index { IsIndexedBy (node_of_items items.old) index.now }
+    requires info { IsInside (data_of_items items.old).image info }
+    requires sound { info_fault (data_of_items items.old).image info ≡ None }
+    requires row { IsInside (data_of_items items.old).image row }
+    requires size { row.len ≡ row_size (data_of_items items.old).image info }
+    ensures exact { let node = node_of_items items.old in let r = roots_of node in
         Checks result (option_map (told_under r) (cells_fault (table_of_node node) r info row.at)) }
+    ensures heap { heap_of_items items.new ≡ heap_of_items items.old }
 {
-    let image = heap.image();
+    let image = items.heap().image();
     let count = column_count(image, info);
     for i in 0..count {
         let column = info.at + 22 + 8 * u64::from(i);
-        check_cell(heap, index, info, row, column)?;
+        check_cell(items, index, info, row, column)?;
     }
     Ok(())
 }
@@ -83,39 +86,40 @@ fn check_cells(heap: &Heap, index: &SubIndex, info: Span, row: Span) -> Result<(
 // The row of a record of the row index, and its cells.
 #[tactic(auto, unfolding(crate::specs::Fault::row_record_fault, crate::specs::Values::row_of_record))]
 fn check_row<'a>(
-    heap: &Heap<'a>,
+    items: &mut Items<'a>,
     index: &SubIndex,
     info: Span,
     matrix: &mut Matrix<'a>,
     id: u32,
     content: Span,
 ) -> Result<(), Fault>
-    requires index { IsIndexedBy (node_of heap.now) index.now }
-    requires info { IsInside (data_of heap.now).image info }
-    requires sound { info_fault (data_of heap.now).image info ≡ None }
-    requires matrix { LiesIn (data_of heap.now).image matrix.old }
-    requires rows { let node = node_of heap.now in let t = table_of_node node in
+    requires index { IsIndexedBy (node_of_items items.old) index.now }
+    requires info { IsInside (data_of_items items.old).image info }
+    requires sound { info_fault (data_of_items items.old).image info ≡ None }
+    requires matrix { LiesIn (data_of_items items.old).image matrix.old }
+    requires rows { let node = node_of_items items.old in let t = table_of_node node in
         let hnid = matrix_hnid t.image info in (size n : ℕ) →
         matrix_row matrix.old size n ≡ row_of_matrix t (roots_of node) hnid size n }
-    requires inside { IsInside (data_of heap.now).image content }
+    requires inside { IsInside (data_of_items items.old).image content }
     requires behind { 4 ≤ content.at }
     requires four { content.len ≡ 4 }
-    ensures exact { let node = node_of heap.now in let r = roots_of node in
+    ensures exact { let node = node_of_items items.old in let r = roots_of node in
         let first = row_record_fault (table_of_node node) r info (id, content) in
         Checks result (option_map (told_under r) first) }
-    ensures lies { LiesIn (data_of heap.now).image matrix.new }
+    ensures lies { LiesIn (data_of_items items.old).image matrix.new }
     ensures same { (size n : ℕ) → matrix_row matrix.new size n ≡ matrix_row matrix.old size n }
+    ensures heap { heap_of_items items.new ≡ heap_of_items items.old }
 {
-    let image = heap.image();
+    let image = items.heap().image();
     let size = size_of(image, info);
     let bad = Fault::at(Kind::Table, content.at - 4);
     let Some(row) = row_of(image, matrix, size, image.number32(content.at)) else {
-        return Err(told_of(&heap.node(), bad));
+        return Err(told_of(&items.heap().node(), bad));
     };
     if image.number32(row.at) != id {
-        return Err(told_of(&heap.node(), bad));
+        return Err(told_of(&items.heap().node(), bad));
     }
-    check_cells(heap, index, info, row)
+    check_cells(items, index, info, row)
 }
 
 // The rows of all records of the row index, in order.
@@ -140,10 +144,11 @@ fn check_rows<'a>(
         let first = first_of (row_record_fault (table_of_node node) r info) (records_of bth.now) in
         Checks result (option_map (told_under r) first) }
 {
+    let mut items = Items::of(*heap);
     let mut matrix = matrix;
     let mut rest = bth.records();
     while let Some(taken) = rest.next() {
-        check_row(heap, index, info, &mut matrix, taken.0, taken.1)?;
+        check_row(&mut items, index, info, &mut matrix, taken.0, taken.1)?;
     }
     Ok(())
 }
@@ -219,20 +224,23 @@ pub(crate) fn check_content(heap: &Heap, index: &SubIndex) -> Result<(), Fault>
 }
 
 // All of a table context.
-fn check_all(node: Node, index: &SubIndex) -> Result<(), Fault>
+fn check_all<'a>(node: Node<'a>, index: &SubIndex) -> Result<Heap<'a>, Fault>
     requires { IsIndexedBy node index.now }
     ensures exact { Checks result (tc_fault (table_of_node node.entry) (roots_of node.entry)) }
+    ensures node { IfOk result (λ h. node_of h ≡ node.entry) }
 {
     let heap = check_heap(node)?;
-    check_content(&heap, index)
+    check_content(&heap, index)?;
+    Ok(heap)
 }
 
-/// The table context of a node that has one.
+/// The table context of a node that has one. Its heap is looked up.
+#[tactic(auto, using(crate::proofs::TcLemmas::has_heap))]
 pub fn known_tc(node: Node<'_>) -> Tc<'_>
     requires { tc_fault (table_of_node node) (roots_of node) ≡ None }
     ensures { node_of_tc result ≡ node.entry }
 {
-    Tc::known(node)
+    Tc::of(known_heap(node))
 }
 
 /// Checks the table context of a node as `check_tc` does, the row matrix and values in subnodes found by an index of the node's
@@ -249,8 +257,8 @@ pub fn check_tc_by<'a>(node: Node<'a>, index: &SubIndex) -> Result<Tc<'a>, Fault
     ensures found { OnOk result (IsTc (table_of_node node.entry) (roots_of node.entry)) }
     ensures only { IsTc (table_of_node node.entry) (roots_of node.entry) → IsOk result }
 {
-    check_all(node, index)?;
-    Ok(known_tc(node))
+    let heap = check_all(node, index)?;
+    Ok(Tc::of(heap))
 }
 
 /// Checks the table context of a node ([MS-PST] 2.3.4), in this order, with the node's bidData and the node of the tree from

@@ -7,7 +7,7 @@ ghost use Rattle.pst_heap.specs.Maps.{AreMapsTrue};
 ghost use Rattle.pst_tc.specs.Fault.{tc_fault};
 ghost use Rattle.pst_tc.specs.Tc.{node_of_tc};
 
-use crate::check::{check_content, known_tc};
+use crate::check::check_content;
 use crate::tc::Tc;
 use pst_fault::Fault;
 use pst_heap::{Maps, check_heap_with};
@@ -28,7 +28,7 @@ pub fn check_tc_with<'a>(node: Node<'a>, index: &SubIndex, maps: &mut Maps) -> R
 {
     let heap = check_heap_with(node, maps)?;
     match check_content(&heap, index) {
-        Ok(()) => Ok(known_tc(node)),
+        Ok(()) => Ok(Tc::of(heap)),
         Err(fault) => Err(fault),
     }
 }

@@ -2,6 +2,7 @@
 
 ghost use Rattle.std.specs.Prelude.{◌≡◌, None};
 ghost use Rattle.pst_ndb.specs.Views.{table_of_node, roots_of};
+ghost use Rattle.pst_heap.specs.View.{node_of};
 ghost use Rattle.pst_tc.specs.Fault.{tc_fault};
 
 use crate::columns::Columns;
@@ -9,14 +10,14 @@ use crate::front::Front;
 use crate::row::Row;
 use crate::rows::Rows;
 use pst_bytes::Span;
-use pst_heap::{Heap, known_heap};
+use pst_heap::Heap;
 use pst_ndb::Node;
 
 /// A table context without fault ([MS-PST] 2.3.4): columns, and a finite map from identifiers to rows.
 #[derive(Clone, Copy)]
 pub struct Tc<'a> {
-    node: Node<'a>,
-    ghost sound: { tc_fault (table_of_node node) (roots_of node) ≡ None },
+    heap: Heap<'a>,
+    ghost sound: { tc_fault (table_of_node (node_of heap)) (roots_of (node_of heap)) ≡ None },
 }
 
 impl<'a> Tc<'a> {
@@ -31,12 +32,12 @@ impl<'a> Tc<'a> {
     ghost use Rattle.pst_tc.specs.View.{row_parts, tc_of_row};
     ghost use Rattle.pst_tc.specs.Left.{columns_left, tc_left, tc_rows_left};
 
-    // That of a node which has one.
-    pub(crate) fn known(node: Node<'a>) -> Tc<'a>
-        requires { tc_fault (table_of_node node) (roots_of node) ≡ None }
-        ensures { node_of_tc result ≡ node.entry }
+    // That of a heap which is one.
+    pub(crate) fn of(heap: Heap<'a>) -> Tc<'a>
+        requires { tc_fault (table_of_node (node_of heap)) (roots_of (node_of heap)) ≡ None }
+        ensures { node_of_tc result ≡ node_of heap.entry }
     {
-        Tc { node }
+        Tc { heap }
     }
 
     /// What is known of every table context: it has no first fault.
@@ -49,14 +50,14 @@ impl<'a> Tc<'a> {
     pub fn node(&self) -> Node<'a>
         ensures { result ≡ node_of_tc self.now }
     {
-        self.node
+        self.heap.node()
     }
 
     // The heap in which it is.
     pub(crate) fn heap(&self) -> Heap<'a>
         ensures { node_of result ≡ node_of_tc self.now }
     {
-        known_heap(self.node)
+        self.heap
     }
 
     // TCINFO.

@@ -6,17 +6,18 @@ ghost use Rattle.pst_fault.specs.First.{Checks};
 ghost use Rattle.pst_ndb.specs.Views.{table_of_node, roots_of, IsIndexedBy};
 ghost use Rattle.pst_heap.specs.Fault.{told_of as told};
 ghost use Rattle.pst_heap.specs.View.{node_of, data_of, file_of_heap};
+ghost use Rattle.pst_heap.specs.Items.{heap_of_items, node_of_items, data_of_items};
 ghost use Rattle.pst_value.specs.Fault.{is_length, hnid_fault, value_fault};
 ghost use Rattle.pst_value.specs.Values.{held_of, hnid_spans, value_spans};
 ghost use Rattle.pst_value.specs.View.{IsValue, IsValueOf};
 
 use crate::class::Class;
-use crate::named::{missing_at, named_value_by};
+use crate::named::{missing_at, value_named};
 use crate::prop_type::PropType;
 use pst_bytes::Span;
 use pst_datatree::{Value, value_at};
 use pst_fault::{Fault, Kind};
-use pst_heap::{Heap, told_of};
+use pst_heap::{Heap, Items, told_of};
 use pst_ndb::{Node, SubIndex};
 
 // How many bytes of a raw span with so many are the value; None where an HNID stands there.
@@ -57,22 +58,23 @@ fn has_length(kind: PropType, len: u64) -> bool
 // The value that the HNID at `named` names, told of no node.
 #[tactic(auto, unfolding(crate::specs::Fault::hnid_fault))]
 fn hnid_value<'a>(
-    heap: &Heap<'a>,
+    items: &mut Items<'a>,
     index: &SubIndex,
     kind: PropType,
     place: u64,
     named: u64,
 ) -> Result<Value<'a>, Fault>
-    requires index { IsIndexedBy (node_of heap.now) index.now }
-    requires inside { named + 4 ≤ length (data_of heap.now).image }
-    ensures exact { let node = node_of heap.now in
+    requires index { IsIndexedBy (node_of_items items.old) index.now }
+    requires inside { named + 4 ≤ length (data_of_items items.old).image }
+    ensures exact { let node = node_of_items items.old in
         Checks result (hnid_fault (table_of_node node) (roots_of node) kind.0 place named) }
-    ensures value { let node = node_of heap.now in let t = table_of_node node in
-        let spans = hnid_spans t (roots_of node) (num t.image named 4) in
-        IfOk result (λ v. IsValueOf (file_of_heap heap.now) spans (Some v)) }
+    ensures value { let heap = heap_of_items items.old in let t = table_of_node (node_of heap) in
+        let spans = hnid_spans t (roots_of (node_of heap)) (num t.image named 4) in
+        IfOk result (λ v. IsValueOf (file_of_heap heap) spans (Some v)) }
+    ensures heap { heap_of_items items.new ≡ heap_of_items items.old }
 {
-    let hnid = heap.image().number32(named);
-    let Some(value) = named_value_by(heap, index, hnid) else {
+    let hnid = items.heap().image().number32(named);
+    let Some(value) = value_named(items, index, hnid) else {
         return Err(missing_at(named, hnid));
     };
     if !has_length(kind, value.len()) {
@@ -107,7 +109,10 @@ fn raw_value<'a>(
             };
             Ok(value_at(heap.image(), front))
         }
-        None => hnid_value(heap, index, kind, place, raw.at),
+        None => {
+            let mut items = Items::of(*heap);
+            hnid_value(&mut items, index, kind, place, raw.at)
+        }
     }
 }
 
@@ -137,29 +142,30 @@ pub fn resolve_by<'a>(
     }
 }
 
-/// Checks the value of a type in a raw span as `resolve_by` does, and gives none: a value that stands in the raw span itself
-/// costs no look-up.
+/// Checks the value of a type in a raw span as `resolve_by` does, of items of a heap that are kept, and gives none: a value that
+/// stands in the raw span itself costs no look-up, nor does one in the span of the heap in which an item was found last.
 #[tactic(auto, unfolding(crate::specs::Fault::value_fault))]
 pub fn check_value_by(
-    heap: &Heap,
+    items: &mut Items,
     index: &SubIndex,
     kind: PropType,
     place: u64,
     raw: Span,
 ) -> Result<(), Fault>
-    requires index { IsIndexedBy (node_of heap.now) index.now }
-    requires inside { IsInside (data_of heap.now).image raw }
+    requires index { IsIndexedBy (node_of_items items.old) index.now }
+    requires inside { IsInside (data_of_items items.old).image raw }
     requires hnid { held_of kind.0 raw.len ≡ None → 4 ≤ raw.len }
-    ensures exact { let node = node_of heap.now in
+    ensures exact { let node = node_of_items items.old in
         let first = value_fault (table_of_node node) (roots_of node) kind.0 place raw in
         Checks result (option_map (told node) first) }
+    ensures heap { heap_of_items items.new ≡ heap_of_items items.old }
 {
     if held(kind, raw.len).is_some() {
         return Ok(());
     }
-    match hnid_value(heap, index, kind, place, raw.at) {
+    match hnid_value(items, index, kind, place, raw.at) {
         Ok(_) => Ok(()),
-        Err(fault) => Err(told_of(&heap.node(), fault)),
+        Err(fault) => Err(told_of(&items.heap().node(), fault)),
     }
 }
 

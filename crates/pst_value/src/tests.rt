@@ -6,7 +6,7 @@ use super::*;
 use pst_bytes::{Image, Span};
 use pst_datatree::Value;
 use pst_fault::Place;
-use pst_heap::{Heap, check_heap};
+use pst_heap::{Heap, Items, check_heap};
 use pst_make::{BlockPlan, NodePlan, Plan, build};
 use pst_ndb::{SubIndex, check_ndb};
 use std::alloc::Global;
@@ -155,7 +155,8 @@ fn told<R: Abort>(rt: &R, heap: &Heap, kind: u16, at: u64) -> Result<u8, Fail> {
         return Err(Fail::from("past the end"));
     }
     let raw = Span { at, len: 4 };
-    let checked = check_value_by(heap, &SubIndex::none(), PropType(kind), at, raw);
+    let mut items = Items::of(*heap);
+    let checked = check_value_by(&mut items, &SubIndex::none(), PropType(kind), at, raw);
     match resolve(heap.node(), heap, PropType(kind), raw) {
         Ok(value) => {
             assert!(rt; checked.is_ok());

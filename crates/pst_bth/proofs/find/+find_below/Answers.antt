@@ -10,11 +10,8 @@ use Rattle.pst_bth.proofs.TreeLemmas.{item_at_is}
 use Rattle.pst_bth.proofs.FindLemmas.{item_is_there, leaf_rises, rows_of_leaf, child_has, find_child, find_nowhere}
 use Rattle.pst_bth.proofs.find.+find_below.Goals as goal
 
-pub unreachable-requires : goal.unreachable-requires
-unreachable-requires t c =
-    let h = data_of c.args.heap.now in
-    let hid : c.number32-hid.result ≡ num h.image c.args.named 4 = cc (c.number32-hid.ensures, c.image.ensures.bytes) in
-    item_is_there h c.args.sizes c.args.level c.args.named c.requires.tree (item_at_is h c.args.named c.number32-hid.result _ hid c.item_span.ensures.value ∙ c.in_default.is)
+pub item_named-item-requires-clause-there : goal.item_named-item-requires-clause-there
+item_named-item-requires-clause-there t c = λ nothing. item_is_there (data_of c.args.heap.now) c.args.sizes c.args.level c.args.named c.requires.tree nothing
 
 -- ---- a leaf
 
@@ -22,20 +19,18 @@ pub find_in-requires : goal.find_in-requires
 find_in-requires t c =
     let h = data_of c.args.heap.now in
     let z = c.args.sizes in
-    let hid : c.number32-hid.result ≡ num h.image c.args.named 4 = cc (c.number32-hid.ensures, c.image.ensures.bytes) in
-    let is : item_at h c.args.named ≡ Some c.in-Some.item = item_at_is h c.args.named c.number32-hid.result _ hid c.in-Some.ensures.value in
-    let rise = leaf_rises h z c.args.level c.args.named c.in-Some.item c.requires.tree is c.if-level-eq0.true in
-    rw (c.leaf.ensures.image, c.leaf.ensures.item, c.leaf.ensures.key, c.leaf.ensures.size, c.image-then-level-eq0.ensures.bytes) (record { low = c.requires.tree.low; high = c.requires.tree.high; rise = rise })
+    let is = c.item_named-item.ensures.value in
+    let rise = leaf_rises h z c.args.level c.args.named c.item_named-item.result c.requires.tree is c.if-level-eq0.true in
+    rw (c.leaf.ensures.image, c.leaf.ensures.item, c.leaf.ensures.key, c.leaf.ensures.size, c.image.ensures.bytes) (record { low = c.requires.tree.low; high = c.requires.tree.high; rise = rise })
 
 pub returns-then-level-eq0-clause-value : goal.returns-then-level-eq0-clause-value
 returns-then-level-eq0-clause-value t c =
     let h = data_of c.args.heap.now in
     let z = c.args.sizes in
-    let hid : c.number32-hid.result ≡ num h.image c.args.named 4 = cc (c.number32-hid.ensures, c.image.ensures.bytes) in
-    let is : item_at h c.args.named ≡ Some c.in-Some.item = item_at_is h c.args.named c.number32-hid.result _ hid c.in-Some.ensures.value in
-    let found : c.find_in.result ≡ first_with (row_key h.image z.key) c.args.key (rows_at (leaf_size z) c.in-Some.item) =
-    rw (c.leaf.ensures.image, c.leaf.ensures.item, c.leaf.ensures.key, c.leaf.ensures.size, c.image-then-level-eq0.ensures.bytes) at c.find_in.ensures.value in
-    found ∙ ap (first_with (row_key h.image z.key) c.args.key) (sym (rows_of_leaf h z c.args.level c.args.named c.in-Some.item is c.if-level-eq0.true))
+    let is = c.item_named-item.ensures.value in
+    let found : c.find_in.result ≡ first_with (row_key h.image z.key) c.args.key (rows_at (leaf_size z) c.item_named-item.result) =
+    rw (c.leaf.ensures.image, c.leaf.ensures.item, c.leaf.ensures.key, c.leaf.ensures.size, c.image.ensures.bytes) at c.find_in.ensures.value in
+    found ∙ ap (first_with (row_key h.image z.key) c.args.key) (sym (rows_of_leaf h z c.args.level c.args.named c.item_named-item.result is c.if-level-eq0.true))
 
 -- ---- a branch
 
@@ -43,23 +38,21 @@ pub returns-then-count-eq0-clause-value : goal.returns-then-count-eq0-clause-val
 returns-then-count-eq0-clause-value t c =
     let h = data_of c.args.heap.now in
     let z = c.args.sizes in
-    let hid : c.number32-hid.result ≡ num h.image c.args.named 4 = cc (c.number32-hid.ensures, c.image.ensures.bytes) in
-    let is : item_at h c.args.named ≡ Some c.in-Some.item = item_at_is h c.args.named c.number32-hid.result _ hid c.in-Some.ensures.value in
-    let u : IsUpToKey h.image z.key (branch_size z) c.in-Some.item c.args.key c.up_to-count.result =
+    let is = c.item_named-item.ensures.value in
+    let u : IsUpToKey h.image z.key (branch_size z) c.item_named-item.result c.args.key c.up_to-count.result =
     rw (c.branch-rows.ensures.image, c.branch-rows.ensures.item, c.branch-rows.ensures.key, c.branch-rows.ensures.size, c.image-2.ensures.bytes) at c.up_to-count.ensures in
-    sym (find_nowhere h z c.args.level (c.args.level - 1) c.args.named c.in-Some.item c.args.key c.up_to-count.result c.requires.tree is (omega (arith, c.if-level-eq0.false)) u c.if-count-eq0.true)
+    sym (find_nowhere h z c.args.level (c.args.level - 1) c.args.named c.item_named-item.result c.args.key c.up_to-count.result c.requires.tree is (omega (arith, c.if-level-eq0.false)) u c.if-count-eq0.true)
 
 pub find_below-requires : goal.find_below-requires
 find_below-requires t c =
     let h = data_of c.args.heap.now in
     let z = c.args.sizes in
-    let hid : c.number32-hid.result ≡ num h.image c.args.named 4 = cc (c.number32-hid.ensures, c.image.ensures.bytes) in
-    let is : item_at h c.args.named ≡ Some c.in-Some.item = item_at_is h c.args.named c.number32-hid.result _ hid c.in-Some.ensures.value in
-    let u : IsUpToKey h.image z.key (branch_size z) c.in-Some.item c.args.key c.up_to-count.result =
+    let is = c.item_named-item.ensures.value in
+    let u : IsUpToKey h.image z.key (branch_size z) c.item_named-item.result c.args.key c.up_to-count.result =
     rw (c.branch-rows.ensures.image, c.branch-rows.ensures.item, c.branch-rows.ensures.key, c.branch-rows.ensures.size, c.image-2.ensures.bytes) at c.up_to-count.ensures in
-    let lt : c.up_to-count.result - 1 < row_count (branch_size z) c.in-Some.item = omega (arith, u.within, c.if-count-eq0.false) in
-    let place : c.child.result ≡ row_place (branch_size z) c.in-Some.item (c.up_to-count.result - 1) + z.key = cc (c.child.ensures.value, c.branch-rows.ensures.item, c.branch-rows.ensures.key, c.branch-rows.ensures.size) in
-    let child = child_has h z c.args.level (c.args.level - 1) c.args.named c.in-Some.item (c.up_to-count.result - 1) c.requires.tree is (omega (arith, c.if-level-eq0.false)) lt in (
+    let lt : c.up_to-count.result - 1 < row_count (branch_size z) c.item_named-item.result = omega (arith, u.within, c.if-count-eq0.false) in
+    let place : c.child.result ≡ row_place (branch_size z) c.item_named-item.result (c.up_to-count.result - 1) + z.key = cc (c.child.ensures.value, c.branch-rows.ensures.item, c.branch-rows.ensures.key, c.branch-rows.ensures.size) in
+    let child = child_has h z c.args.level (c.args.level - 1) c.args.named c.item_named-item.result (c.up_to-count.result - 1) c.requires.tree is (omega (arith, c.if-level-eq0.false)) lt in (
       omega (arith, c.if-level-eq0.false, c.decreases),
       (c.requires.key, ((rw (c.branch-rows.ensures.image, c.image-2.ensures.bytes) at c.child.ensures.inside), rw place child)),
     )
@@ -68,10 +61,9 @@ pub returns-clause-value : goal.returns-clause-value
 returns-clause-value t c =
     let h = data_of c.args.heap.now in
     let z = c.args.sizes in
-    let hid : c.number32-hid.result ≡ num h.image c.args.named 4 = cc (c.number32-hid.ensures, c.image.ensures.bytes) in
-    let is : item_at h c.args.named ≡ Some c.in-Some.item = item_at_is h c.args.named c.number32-hid.result _ hid c.in-Some.ensures.value in
-    let u : IsUpToKey h.image z.key (branch_size z) c.in-Some.item c.args.key c.up_to-count.result =
+    let is = c.item_named-item.ensures.value in
+    let u : IsUpToKey h.image z.key (branch_size z) c.item_named-item.result c.args.key c.up_to-count.result =
     rw (c.branch-rows.ensures.image, c.branch-rows.ensures.item, c.branch-rows.ensures.key, c.branch-rows.ensures.size, c.image-2.ensures.bytes) at c.up_to-count.ensures in
-    let place : c.child.result ≡ row_place (branch_size z) c.in-Some.item (c.up_to-count.result - 1) + z.key = cc (c.child.ensures.value, c.branch-rows.ensures.item, c.branch-rows.ensures.key, c.branch-rows.ensures.size) in
-    let found = find_child h z c.args.level (c.args.level - 1) c.args.named c.in-Some.item c.args.key c.up_to-count.result c.requires.tree is (omega (arith, c.if-level-eq0.false)) u (omega (arith, c.if-count-eq0.false)) in
+    let place : c.child.result ≡ row_place (branch_size z) c.item_named-item.result (c.up_to-count.result - 1) + z.key = cc (c.child.ensures.value, c.branch-rows.ensures.item, c.branch-rows.ensures.key, c.branch-rows.ensures.size) in
+    let found = find_child h z c.args.level (c.args.level - 1) c.args.named c.item_named-item.result c.args.key c.up_to-count.result c.requires.tree is (omega (arith, c.if-level-eq0.false)) u (omega (arith, c.if-count-eq0.false)) in
     c.find_below.ensures.value ∙ ap (λ n. first_with (row_key h.image z.key) c.args.key (tree_rows h z (c.args.level - 1) n)) place ∙ sym found

@@ -11,11 +11,8 @@ use Rattle.pst_bth.proofs.FindLemmas.{item_is_there, leaf_rises, rows_of_leaf, c
 use Rattle.pst_bth.proofs.LeafLemmas.{leaf_alone, skip_start, skip_next, skip_end, leaf_of_branch}
 use Rattle.pst_bth.proofs.leaf.+leaf_below.Goals as goal
 
-pub unreachable-requires : goal.unreachable-requires
-unreachable-requires t c =
-    let h = data_of c.args.heap.now in
-    let hid : c.number32-hid.result ≡ num h.image c.args.named 4 = cc (c.number32-hid.ensures, c.image.ensures.bytes) in
-    item_is_there h c.args.sizes c.args.level c.args.named c.requires.tree (item_at_is h c.args.named c.number32-hid.result _ hid c.item_span.ensures.value ∙ c.in_default.is)
+pub item_named-item-requires-clause-there : goal.item_named-item-requires-clause-there
+item_named-item-requires-clause-there t c = λ nothing. item_is_there (data_of c.args.heap.now) c.args.sizes c.args.level c.args.named c.requires.tree nothing
 
 -- ---- a leaf
 
@@ -23,30 +20,27 @@ pub first_in-requires : goal.first_in-requires
 first_in-requires t c =
     let h = data_of c.args.heap.now in
     let z = c.args.sizes in
-    let hid : c.number32-hid.result ≡ num h.image c.args.named 4 = cc (c.number32-hid.ensures, c.image.ensures.bytes) in
-    let is : item_at h c.args.named ≡ Some c.in-Some.item = item_at_is h c.args.named c.number32-hid.result _ hid c.in-Some.ensures.value in
-    let rise = leaf_rises h z c.args.level c.args.named c.in-Some.item c.requires.tree is c.if-level-eq0.true in
-    rw (c.leaf.ensures.image, c.leaf.ensures.item, c.leaf.ensures.key, c.leaf.ensures.size, c.image-then-level-eq0.ensures.bytes) (record { low = c.requires.tree.low; high = c.requires.tree.high; rise = rise })
+    let is = c.item_named-item.ensures.value in
+    let rise = leaf_rises h z c.args.level c.args.named c.item_named-item.result c.requires.tree is c.if-level-eq0.true in
+    rw (c.leaf.ensures.image, c.leaf.ensures.item, c.leaf.ensures.key, c.leaf.ensures.size, c.image.ensures.bytes) (record { low = c.requires.tree.low; high = c.requires.tree.high; rise = rise })
 
-pub returns-in_default-first_in-clause-found : goal.returns-in_default-first_in-clause-found
-returns-in_default-first_in-clause-found t c =
+pub returns-in_default-clause-found : goal.returns-in_default-clause-found
+returns-in_default-clause-found t c =
     let h = data_of c.args.heap.now in
     let z = c.args.sizes in
-    let hid : c.number32-hid.result ≡ num h.image c.args.named 4 = cc (c.number32-hid.ensures, c.image.ensures.bytes) in
-    let is : item_at h c.args.named ≡ Some c.in-Some.item = item_at_is h c.args.named c.number32-hid.result _ hid c.in-Some.ensures.value in
-    let nothing : rows_from_key h.image z.key c.args.low (rows_at (leaf_size z) c.in-Some.item) ≡ [] =
-    rw (c.leaf.ensures.image, c.leaf.ensures.item, c.leaf.ensures.key, c.leaf.ensures.size, c.image-then-level-eq0.ensures.bytes) at c.in_default-first_in.ensures in
-    ap (rows_from_key h.image z.key c.args.low) (rows_of_leaf h z c.args.level c.args.named c.in-Some.item is c.if-level-eq0.true) ∙ nothing
+    let is = c.item_named-item.ensures.value in
+    let nothing : rows_from_key h.image z.key c.args.low (rows_at (leaf_size z) c.item_named-item.result) ≡ [] =
+    rw (c.leaf.ensures.image, c.leaf.ensures.item, c.leaf.ensures.key, c.leaf.ensures.size, c.image.ensures.bytes) at c.in_default.ensures in
+    ap (rows_from_key h.image z.key c.args.low) (rows_of_leaf h z c.args.level c.args.named c.item_named-item.result is c.if-level-eq0.true) ∙ nothing
 
 pub returns-then-level-eq0-clause-found : goal.returns-then-level-eq0-clause-found
 returns-then-level-eq0-clause-found t c =
     let h = data_of c.args.heap.now in
     let z = c.args.sizes in
-    let hid : c.number32-hid.result ≡ num h.image c.args.named 4 = cc (c.number32-hid.ensures, c.image.ensures.bytes) in
-    let is : item_at h c.args.named ≡ Some c.in-Some.item = item_at_is h c.args.named c.number32-hid.result _ hid c.in-Some.ensures.value in
-    let begins : BeginsAt h.image z.key (leaf_size z) c.in-Some.item c.args.low c.in-Some-first_in.first =
-    rw (c.leaf.ensures.image, c.leaf.ensures.item, c.leaf.ensures.key, c.leaf.ensures.size, c.image-then-level-eq0.ensures.bytes) at c.in-Some-first_in.ensures in
-    leaf_alone h.image z.key (leaf_size z) c.args.low (record { item = c.in-Some.item; first = c.in-Some-first_in.first }) _ (rows_of_leaf h z c.args.level c.args.named c.in-Some.item is c.if-level-eq0.true) begins
+    let is = c.item_named-item.ensures.value in
+    let begins : BeginsAt h.image z.key (leaf_size z) c.item_named-item.result c.args.low c.in-Some.first =
+    rw (c.leaf.ensures.image, c.leaf.ensures.item, c.leaf.ensures.key, c.leaf.ensures.size, c.image.ensures.bytes) at c.in-Some.ensures in
+    leaf_alone h.image z.key (leaf_size z) c.args.low (record { item = c.item_named-item.result; first = c.in-Some.first }) _ (rows_of_leaf h z c.args.level c.args.named c.item_named-item.result is c.if-level-eq0.true) begins
 
 -- ---- a branch
 
@@ -54,24 +48,22 @@ pub loop-i-init : goal.loop-i-init
 loop-i-init t c =
     let h = data_of c.args.heap.now in
     let z = c.args.sizes in
-    let hid : c.number32-hid.result ≡ num h.image c.args.named 4 = cc (c.number32-hid.ensures, c.image.ensures.bytes) in
-    let is : item_at h c.args.named ≡ Some c.in-Some.item = item_at_is h c.args.named c.number32-hid.result _ hid c.in-Some.ensures.value in
-    let u : IsUpToKey h.image z.key (branch_size z) c.in-Some.item c.args.low c.up_to.result =
+    let is = c.item_named-item.ensures.value in
+    let u : IsUpToKey h.image z.key (branch_size z) c.item_named-item.result c.args.low c.up_to.result =
     rw (c.branch-rows.ensures.image, c.branch-rows.ensures.item, c.branch-rows.ensures.key, c.branch-rows.ensures.size, c.image-2.ensures.bytes) at c.up_to.ensures in
     rw (c.branch-rows.ensures.item, c.saturating_sub-i.ensures) (record {
       within = omega (arith, u.within);
-      skipped = skip_start h z c.args.level (c.args.level - 1) c.args.named c.in-Some.item c.args.low c.up_to.result c.requires.tree is (omega (arith, c.if-level-eq0.false)) u;
+      skipped = skip_start h z c.args.level (c.args.level - 1) c.args.named c.item_named-item.result c.args.low c.up_to.result c.requires.tree is (omega (arith, c.if-level-eq0.false)) u;
     })
 
 pub leaf_below-requires : goal.leaf_below-requires
 leaf_below-requires t c =
     let h = data_of c.args.heap.now in
     let z = c.args.sizes in
-    let hid : c.number32-hid.result ≡ num h.image c.args.named 4 = cc (c.number32-hid.ensures, c.image.ensures.bytes) in
-    let is : item_at h c.args.named ≡ Some c.in-Some.item = item_at_is h c.args.named c.number32-hid.result _ hid c.in-Some.ensures.value in
-    let count : c.count-i-end.result ≡ row_count (branch_size z) c.in-Some.item = cc (c.count-i-end.ensures, c.branch-rows.ensures.size, c.branch-rows.ensures.item) in
-    let place : c.child.result ≡ row_place (branch_size z) c.in-Some.item c.loop-i.i + z.key = cc (c.child.ensures.value, c.branch-rows.ensures.item, c.branch-rows.ensures.key, c.branch-rows.ensures.size) in
-    let child = child_has h z c.args.level (c.args.level - 1) c.args.named c.in-Some.item c.loop-i.i c.requires.tree is (omega (arith, c.if-level-eq0.false)) (omega (arith, count, c.loop-i-test.true)) in (
+    let is = c.item_named-item.ensures.value in
+    let count : c.count-i-end.result ≡ row_count (branch_size z) c.item_named-item.result = cc (c.count-i-end.ensures, c.branch-rows.ensures.size, c.branch-rows.ensures.item) in
+    let place : c.child.result ≡ row_place (branch_size z) c.item_named-item.result c.loop-i.i + z.key = cc (c.child.ensures.value, c.branch-rows.ensures.item, c.branch-rows.ensures.key, c.branch-rows.ensures.size) in
+    let child = child_has h z c.args.level (c.args.level - 1) c.args.named c.item_named-item.result c.loop-i.i c.requires.tree is (omega (arith, c.if-level-eq0.false)) (omega (arith, count, c.loop-i-test.true)) in (
       omega (arith, c.if-level-eq0.false, c.decreases),
       (c.requires.key, ((rw (c.branch-rows.ensures.image, c.image-2.ensures.bytes) at c.child.ensures.inside), rw place child)),
     )
@@ -80,33 +72,31 @@ pub returns-in-Some-leaf_below-clause-found : goal.returns-in-Some-leaf_below-cl
 returns-in-Some-leaf_below-clause-found t c =
     let h = data_of c.args.heap.now in
     let z = c.args.sizes in
-    let hid : c.number32-hid.result ≡ num h.image c.args.named 4 = cc (c.number32-hid.ensures, c.image.ensures.bytes) in
-    let is : item_at h c.args.named ≡ Some c.in-Some.item = item_at_is h c.args.named c.number32-hid.result _ hid c.in-Some.ensures.value in
-    let count : c.count-i-end.result ≡ row_count (branch_size z) c.in-Some.item = cc (c.count-i-end.ensures, c.branch-rows.ensures.size, c.branch-rows.ensures.item) in
-    let place : c.child.result ≡ row_place (branch_size z) c.in-Some.item c.loop-i.i + z.key = cc (c.child.ensures.value, c.branch-rows.ensures.item, c.branch-rows.ensures.key, c.branch-rows.ensures.size) in
-    let has : HasLeaf h.image z.key (leaf_size z) c.args.low c.in-Some-leaf_below.leaf (tree_rows h z (c.args.level - 1) (row_place (branch_size z) c.in-Some.item c.loop-i.i + z.key)) = rw place at c.in-Some-leaf_below.ensures.found in
-    leaf_of_branch h z c.args.level (c.args.level - 1) c.args.named c.in-Some.item c.args.low c.loop-i.i c.in-Some-leaf_below.leaf is (omega (arith, c.if-level-eq0.false)) (omega (arith, count, c.loop-i-test.true))
+    let is = c.item_named-item.ensures.value in
+    let count : c.count-i-end.result ≡ row_count (branch_size z) c.item_named-item.result = cc (c.count-i-end.ensures, c.branch-rows.ensures.size, c.branch-rows.ensures.item) in
+    let place : c.child.result ≡ row_place (branch_size z) c.item_named-item.result c.loop-i.i + z.key = cc (c.child.ensures.value, c.branch-rows.ensures.item, c.branch-rows.ensures.key, c.branch-rows.ensures.size) in
+    let has : HasLeaf h.image z.key (leaf_size z) c.args.low c.in-Some-leaf_below.leaf (tree_rows h z (c.args.level - 1) (row_place (branch_size z) c.item_named-item.result c.loop-i.i + z.key)) = rw place at c.in-Some-leaf_below.ensures.found in
+    leaf_of_branch h z c.args.level (c.args.level - 1) c.args.named c.item_named-item.result c.args.low c.loop-i.i c.in-Some-leaf_below.leaf is (omega (arith, c.if-level-eq0.false)) (omega (arith, count, c.loop-i-test.true))
     (rw c.branch-rows.ensures.item at c.loop-i.invariant.skipped) has
 
 pub loop-i-preserved : goal.loop-i-preserved
 loop-i-preserved t c =
     let h = data_of c.args.heap.now in
     let z = c.args.sizes in
-    let count : c.count-i-end.result ≡ row_count (branch_size z) c.in-Some.item = cc (c.count-i-end.ensures, c.branch-rows.ensures.size, c.branch-rows.ensures.item) in
-    let place : c.child.result ≡ row_place (branch_size z) c.in-Some.item c.loop-i.i + z.key = cc (c.child.ensures.value, c.branch-rows.ensures.item, c.branch-rows.ensures.key, c.branch-rows.ensures.size) in
-    let nothing : rows_from_key h.image z.key c.args.low (tree_rows h z (c.args.level - 1) (row_place (branch_size z) c.in-Some.item c.loop-i.i + z.key)) ≡ [] = rw place at c.in_default-leaf_below.ensures.found in
+    let count : c.count-i-end.result ≡ row_count (branch_size z) c.item_named-item.result = cc (c.count-i-end.ensures, c.branch-rows.ensures.size, c.branch-rows.ensures.item) in
+    let place : c.child.result ≡ row_place (branch_size z) c.item_named-item.result c.loop-i.i + z.key = cc (c.child.ensures.value, c.branch-rows.ensures.item, c.branch-rows.ensures.key, c.branch-rows.ensures.size) in
+    let nothing : rows_from_key h.image z.key c.args.low (tree_rows h z (c.args.level - 1) (row_place (branch_size z) c.item_named-item.result c.loop-i.i + z.key)) ≡ [] = rw place at c.in_default-leaf_below.ensures.found in
     rw c.branch-rows.ensures.item (record {
       within = omega (arith, count, c.loop-i-test.true);
-      skipped = skip_next h.image z.key (branch_size z) c.in-Some.item (tree_rows h z (c.args.level - 1)) c.args.low c.loop-i.i (rw c.branch-rows.ensures.item at c.loop-i.invariant.skipped) nothing;
+      skipped = skip_next h.image z.key (branch_size z) c.item_named-item.result (tree_rows h z (c.args.level - 1)) c.args.low c.loop-i.i (rw c.branch-rows.ensures.item at c.loop-i.invariant.skipped) nothing;
     })
 
 pub returns-clause-found : goal.returns-clause-found
 returns-clause-found t c =
     let h = data_of c.args.heap.now in
     let z = c.args.sizes in
-    let hid : c.number32-hid.result ≡ num h.image c.args.named 4 = cc (c.number32-hid.ensures, c.image.ensures.bytes) in
-    let is : item_at h c.args.named ≡ Some c.in-Some.item = item_at_is h c.args.named c.number32-hid.result _ hid c.in-Some.ensures.value in
-    let count : c.count-i-end.result ≡ row_count (branch_size z) c.in-Some.item = cc (c.count-i-end.ensures, c.branch-rows.ensures.size, c.branch-rows.ensures.item) in
-    let within : c.loop-i.i ≤ row_count (branch_size z) c.in-Some.item = rw c.branch-rows.ensures.item at c.loop-i.invariant.within in
-    skip_end h z c.args.level (c.args.level - 1) c.args.named c.in-Some.item c.args.low c.loop-i.i is (omega (arith, c.if-level-eq0.false)) (omega (arith, count, within, c.loop-i-test.false))
+    let is = c.item_named-item.ensures.value in
+    let count : c.count-i-end.result ≡ row_count (branch_size z) c.item_named-item.result = cc (c.count-i-end.ensures, c.branch-rows.ensures.size, c.branch-rows.ensures.item) in
+    let within : c.loop-i.i ≤ row_count (branch_size z) c.item_named-item.result = rw c.branch-rows.ensures.item at c.loop-i.invariant.within in
+    skip_end h z c.args.level (c.args.level - 1) c.args.named c.item_named-item.result c.args.low c.loop-i.i is (omega (arith, c.if-level-eq0.false)) (omega (arith, count, within, c.loop-i-test.false))
     (rw c.branch-rows.ensures.item at c.loop-i.invariant.skipped)

@@ -16,7 +16,6 @@ pub returns-clause-walked : goal.returns-clause-walked
 returns-clause-walked c =
     let g = rw c.new.ensures.items at c.in_ok-walk_page.ensures.gives in
     let w = walked c.args.kind (bytes_of c.args.image) _ _ _ _ _ _ c.args.root g in
-    let inside = entries_inside c.args.kind (bytes_of c.args.image) _ _ c.args.root 0 None w.0 (head_end _ _ c.requires.head) in
     record {
       image = refl;
       end = c.end-end.ensures;
@@ -24,7 +23,17 @@ returns-clause-walked c =
       root = refl;
       level = c.level_of-level.ensures;
       tree = tree_there c.args.kind (bytes_of c.args.image) _ _ c.args.root w.0;
-      entries = w.1;
-      inside = subst (λ (ps : List ℕ). All (λ at. at + entry_size c.args.kind 0 ≤ length (bytes_of c.args.image)) ps) (sym w.1) inside;
       claims = w.3;
     }
+
+pub returns-clause-places : goal.returns-clause-places
+returns-clause-places c =
+    let g = rw c.new.ensures.items at c.in_ok-walk_page.ensures.gives in
+    (walked c.args.kind (bytes_of c.args.image) _ _ _ _ _ _ c.args.root g).1
+
+pub returns-clause-inside : goal.returns-clause-inside
+returns-clause-inside c =
+    let g = rw c.new.ensures.items at c.in_ok-walk_page.ensures.gives in
+    let w = walked c.args.kind (bytes_of c.args.image) _ _ _ _ _ _ c.args.root g in
+    let inside = entries_inside c.args.kind (bytes_of c.args.image) _ _ c.args.root 0 None w.0 (head_end _ _ c.requires.head) in
+    subst (λ (ps : List ℕ). All (λ at. at + entry_size c.args.kind 0 ≤ length (bytes_of c.args.image)) ps) (sym w.1) inside

@@ -1,7 +1,12 @@
-use Rattle.pst_btree.specs.Trees.{block_view}
-use Rattle.pst_btree.specs.View.{found_in}
+use Rattle.std.proofs.Common.{Err}
+use Rattle.std.proofs.lemmas.Result.{err_from_is_err_and}
+use Rattle.pst_btree.specs.declared.tree.TreeView.{TreeView}
+use Rattle.pst_btree.specs.View.{entries}
+use Rattle.pst_btree.specs.Walk.{found_so_far}
 use Rattle.pst_btree.proofs.TreeLaws.{not_refused}
 use Rattle.pst_btree.proofs.walks.walk_blocks.Goals as goal
 
-pub returns-clause-only : goal.returns-clause-only
-returns-clause-only c = λ level tree new t k. not_refused (λ x. found_in c.blocks_exact.new.claims (block_view x.0)) c.blocks_exact.result _ _ _ level _ _ new tree _ t k c.blocks_exact.ensures.exact
+pub returns-in_err-view-clause-only : goal.returns-in_err-view-clause-only
+returns-in_err-view-clause-only c = λ level tree new t k.
+    let p = err_from_is_err_and c.from_residual.result c.from_residual.ensures.1 in
+    rw (p.1, p.2) (not_refused (λ (v : TreeView). found_so_far c.walk.new.claims (entries v) v.pages) (Err c.in_err-view.field-0.0) _ _ _ level _ _ new tree _ t k c.in_err-view.ensures.exact)

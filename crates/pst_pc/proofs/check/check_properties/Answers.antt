@@ -11,4 +11,5 @@ returns-in_err-check_property c =
     let p = err_from_is_err_and c.from_residual.result c.from_residual.ensures.1 in
     let t = table_of_node (node_of c.args.heap.now) in
     let r = roots_of (node_of c.args.heap.now) in
-    record { exact = rw (p.1, p.2) (record_fails (property_fault t r) (told_under r) _ _ c.in-Some.taken _ _ c.in-Some.ensures.steps.0 c.in_err-check_property.ensures.exact c.loop-taken.invariant.left) }
+    let failed = rw c.loop-taken.invariant.items at c.in_err-check_property.ensures.exact in
+    record { exact = rw (p.1, p.2) (record_fails (property_fault t r) (told_under r) _ _ c.in-Some.taken _ _ c.in-Some.ensures.steps.0 failed c.loop-taken.invariant.left) }

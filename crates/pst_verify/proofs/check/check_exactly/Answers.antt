@@ -13,4 +13,4 @@ pub returns-in_err-check_messaging-clause-exact : goal.returns-in_err-check_mess
 returns-in_err-check_messaging-clause-exact c =
     let p = err_from_is_err_and c.from_residual-in_err-check_messaging.result c.from_residual-in_err-check_messaging.ensures.1 in
     let d = c.in_ok-checked.ensures in
-    rw (p.1, p.2) (messaging_fails c.args.bytes.now (bytes_of c.new.result) (table_of_ndb c.in_ok-checked.checked.ndb) (nodes_of c.in_ok-checked.checked.ndb) _ c.new.ensures d.none d.table d.nodes c.in_err-check_messaging.ensures.exact)
+    rw (p.1, p.2) (messaging_fails c.args.bytes.now (bytes_of c.new.result) (table_of_ndb c.in_ok-checked.checked.ndb) (nodes_of c.in_ok-checked.checked.ndb) _ c.new.ensures d.none d.checked.table d.checked.nodes c.in_err-check_messaging.ensures.exact)

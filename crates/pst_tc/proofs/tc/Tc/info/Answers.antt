@@ -4,21 +4,22 @@ use Rattle.pst_ndb.specs.Views.{roots_of}
 use Rattle.pst_heap.specs.Values.{item_of}
 use Rattle.pst_heap.specs.Values.{user_root_of}
 use Rattle.pst_heap.specs.Values.{heap_at}
+use Rattle.pst_tc.specs.Tc.{node_of_tc}
 use Rattle.pst_tc.proofs.TcLemmas.{table_sound, info_there}
 use Rattle.pst_tc.proofs.tc.Tc.info.Goals as goal
 
 pub unreachable-requires : goal.unreachable-requires
 unreachable-requires c =
-    let t = table_of_node c.args.self.now.node in
-    let r = roots_of c.args.self.now.node in
+    let t = table_of_node (node_of_tc c.args.self.now) in
+    let r = roots_of (node_of_tc c.args.self.now) in
     let root : c.user_root.result ≡ user_root_of (heap_at t r) = rw c.heap-heap.ensures at c.user_root.ensures in
     let is : None ≡ item_of (heap_at t r) (user_root_of (heap_at t r)) = rw (c.heap-heap.ensures, root) at c.in-None.ensures.value in
     info_there t r c.args.self.now.sound is
 
 pub returns-clause-sound : goal.returns-clause-sound
 returns-clause-sound c =
-    let t = table_of_node c.args.self.now.node in
-    let r = roots_of c.args.self.now.node in
+    let t = table_of_node (node_of_tc c.args.self.now) in
+    let r = roots_of (node_of_tc c.args.self.now) in
     let root : c.user_root.result ≡ user_root_of (heap_at t r) = rw c.heap-heap.ensures at c.user_root.ensures in
     let is : Some c.in-Some.info ≡ item_of (heap_at t r) (user_root_of (heap_at t r)) = rw (c.heap-heap.ensures, root) at c.in-Some.ensures.value in
     table_sound t r c.in-Some.info c.args.self.now.sound is
