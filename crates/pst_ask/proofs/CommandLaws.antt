@@ -4,6 +4,7 @@ use Rattle.std.specs.Prelude.{nat_eq}
 use Rattle.std.proofs.lemmas.Bool.{ne_eqb, eqb-true}
 use Rattle.clap.specs.Words.{Text, fault_of}
 use Rattle.clap.proofs.OnLiterals.{clap_on_literals}
+use Rattle.pst_ask.specs.declared.ask.Ask.{Ask}
 use Rattle.pst_ask.specs.declared.ask.Ask.TheVariants as ask
 use Rattle.pst_ask.specs.Ask.{asked_of, of_file, of_node, node_in_word}
 use Rattle.pst_ask.specs.Nid.{nid_of_word}
@@ -14,6 +15,12 @@ use Rattle.pst_ask.specs.Words.{IsAsked, IsNoOption, WordsLaw, asked, show_app}
 by_hyphen : {P : Type 0} (b : ℕ) (t : Bool) → nat_eq b 45 ≡ t → (nat_eq b 45 ≡ false → P) → (b ≡ 45 → P) → P
 by_hyphen b false e other hyphen = other e
 by_hyphen b true e other hyphen = hyphen (eqb-true b 45 e)
+
+-- what holds for no word, for a hyphen alone and for all words that begin with none holds for all that name a file
+by_file : (P : Text → Type 0) → P [] → P (45 ∷ []) → ((b : ℕ) (rest : List ℕ) → nat_eq b 45 ≡ false → P (b ∷ rest)) → (file : Text) → IsNoOption file → P file
+by_file P empty hyphen other [] no_option = empty
+by_file P empty hyphen other (b ∷ []) no_option = by_hyphen b (nat_eq b 45) refl (λ none. other b [] none) (λ e. rw e hyphen)
+by_file P empty hyphen other (b ∷ c ∷ rest) no_option = other b (c ∷ rest) (ne_eqb b 45 no_option)
 
 -- ---- check
 
@@ -34,14 +41,9 @@ unfolding clap_on_literals asked
 check_hyphen = record { accepted = refl; is = refl }
 
 check_law : (file : Text) → IsNoOption file → IsAsked (codes "check" ∷ file ∷ []) (asked_of (ask.Check false) file)
-check_law [] no_option = check_empty
-check_law (b ∷ []) no_option =
-    by_hyphen b (nat_eq b 45) refl
-    (λ other. record { accepted = check_accepts b [] other; is = check_asks b [] other })
-    (λ e. rw e check_hyphen)
-check_law (b ∷ c ∷ rest) no_option =
-    let other = ne_eqb b 45 no_option in
-    record { accepted = check_accepts b (c ∷ rest) other; is = check_asks b (c ∷ rest) other }
+check_law =
+    by_file (λ file. IsAsked (codes "check" ∷ file ∷ []) (asked_of (ask.Check false) file)) check_empty check_hyphen
+    (λ b rest other. record { accepted = check_accepts b rest other; is = check_asks b rest other })
 
 -- ---- strict
 
@@ -62,14 +64,9 @@ unfolding clap_on_literals asked
 strict_hyphen = record { accepted = refl; is = refl }
 
 strict_law : (file : Text) → IsNoOption file → IsAsked (codes "check" ∷ codes "--strict" ∷ file ∷ []) (asked_of (ask.Check true) file)
-strict_law [] no_option = strict_empty
-strict_law (b ∷ []) no_option =
-    by_hyphen b (nat_eq b 45) refl
-    (λ other. record { accepted = strict_accepts b [] other; is = strict_asks b [] other })
-    (λ e. rw e strict_hyphen)
-strict_law (b ∷ c ∷ rest) no_option =
-    let other = ne_eqb b 45 no_option in
-    record { accepted = strict_accepts b (c ∷ rest) other; is = strict_asks b (c ∷ rest) other }
+strict_law =
+    by_file (λ file. IsAsked (codes "check" ∷ codes "--strict" ∷ file ∷ []) (asked_of (ask.Check true) file)) strict_empty strict_hyphen
+    (λ b rest other. record { accepted = strict_accepts b rest other; is = strict_asks b rest other })
 
 -- ---- head
 
@@ -90,14 +87,9 @@ unfolding clap_on_literals asked
 head_hyphen = record { accepted = refl; is = refl }
 
 head_law : (file : Text) → IsNoOption file → IsAsked (codes "head" ∷ file ∷ []) (asked_of ask.Head file)
-head_law [] no_option = head_empty
-head_law (b ∷ []) no_option =
-    by_hyphen b (nat_eq b 45) refl
-    (λ other. record { accepted = head_accepts b [] other; is = head_asks b [] other })
-    (λ e. rw e head_hyphen)
-head_law (b ∷ c ∷ rest) no_option =
-    let other = ne_eqb b 45 no_option in
-    record { accepted = head_accepts b (c ∷ rest) other; is = head_asks b (c ∷ rest) other }
+head_law =
+    by_file (λ file. IsAsked (codes "head" ∷ file ∷ []) (asked_of ask.Head file)) head_empty head_hyphen
+    (λ b rest other. record { accepted = head_accepts b rest other; is = head_asks b rest other })
 
 -- ---- nodes
 
@@ -118,14 +110,9 @@ unfolding clap_on_literals asked
 nodes_hyphen = record { accepted = refl; is = refl }
 
 nodes_law : (file : Text) → IsNoOption file → IsAsked (codes "nodes" ∷ file ∷ []) (asked_of ask.Nodes file)
-nodes_law [] no_option = nodes_empty
-nodes_law (b ∷ []) no_option =
-    by_hyphen b (nat_eq b 45) refl
-    (λ other. record { accepted = nodes_accepts b [] other; is = nodes_asks b [] other })
-    (λ e. rw e nodes_hyphen)
-nodes_law (b ∷ c ∷ rest) no_option =
-    let other = ne_eqb b 45 no_option in
-    record { accepted = nodes_accepts b (c ∷ rest) other; is = nodes_asks b (c ∷ rest) other }
+nodes_law =
+    by_file (λ file. IsAsked (codes "nodes" ∷ file ∷ []) (asked_of ask.Nodes file)) nodes_empty nodes_hyphen
+    (λ b rest other. record { accepted = nodes_accepts b rest other; is = nodes_asks b rest other })
 
 -- ---- folders
 
@@ -146,14 +133,9 @@ unfolding clap_on_literals asked
 folders_hyphen = record { accepted = refl; is = refl }
 
 folders_law : (file : Text) → IsNoOption file → IsAsked (codes "folders" ∷ file ∷ []) (asked_of ask.Folders file)
-folders_law [] no_option = folders_empty
-folders_law (b ∷ []) no_option =
-    by_hyphen b (nat_eq b 45) refl
-    (λ other. record { accepted = folders_accepts b [] other; is = folders_asks b [] other })
-    (λ e. rw e folders_hyphen)
-folders_law (b ∷ c ∷ rest) no_option =
-    let other = ne_eqb b 45 no_option in
-    record { accepted = folders_accepts b (c ∷ rest) other; is = folders_asks b (c ∷ rest) other }
+folders_law =
+    by_file (λ file. IsAsked (codes "folders" ∷ file ∷ []) (asked_of ask.Folders file)) folders_empty folders_hyphen
+    (λ b rest other. record { accepted = folders_accepts b rest other; is = folders_asks b rest other })
 
 -- ---- a node behind the file
 
@@ -170,6 +152,16 @@ unfolding nid_of_word
 no_empty nid is =
     let none : None ≡ Some nid = is in
     absurd cc
+
+-- behind a file that a word names
+behind : (name : Text) (order : ℕ → Ask) (file : Text) (d : ℕ) (more : List ℕ) (nid : ℕ) → nid_of_word (d ∷ more) ≡ Some nid
+    → fault_of show_app (name ∷ file ∷ (d ∷ more) ∷ []) ≡ []
+    → asked (name ∷ file ∷ (d ∷ more) ∷ []) ≡ of_file (of_node order (node_in_word (nid_of_word (d ∷ more)))) (Some file)
+    → IsAsked (name ∷ file ∷ (d ∷ more) ∷ []) (asked_of (order nid) file)
+behind name order file d more nid is accepts asks = record {
+  accepted = accepts;
+  is = asks ∙ ap (λ o. of_file (of_node order (node_in_word o)) (Some file)) is;
+}
 
 -- ---- contents
 
@@ -200,30 +192,15 @@ contents_asks_hyphen : (d : ℕ) (more : List ℕ) → nat_eq d 45 ≡ false
 unfolding clap_on_literals asked
 contents_asks_hyphen d more next = simp next
 
--- behind a file that a word names
-contents_behind : (file : Text) (d : ℕ) (more : List ℕ) (nid : ℕ) → nid_of_word (d ∷ more) ≡ Some nid
-    → fault_of show_app (codes "contents" ∷ file ∷ (d ∷ more) ∷ []) ≡ []
-    → asked (codes "contents" ∷ file ∷ (d ∷ more) ∷ []) ≡ of_file (of_node (λ nid. ask.Contents nid) (node_in_word (nid_of_word (d ∷ more)))) (Some file)
-    → IsAsked (codes "contents" ∷ file ∷ (d ∷ more) ∷ []) (asked_of (ask.Contents nid) file)
-contents_behind file d more nid is accepts asks = record {
-  accepted = accepts;
-  is = asks ∙ ap (λ o. of_file (of_node (λ n. ask.Contents n) (node_in_word o)) (Some file)) is;
-}
-
 contents_law : (file word : Text) (nid : ℕ) → IsNoOption file → nid_of_word word ≡ Some nid → IsAsked (codes "contents" ∷ file ∷ word ∷ []) (asked_of (ask.Contents nid) file)
 contents_law file [] nid no_option is = absurd (no_empty nid is)
-contents_law [] (d ∷ more) nid no_option is =
+contents_law file (d ∷ more) nid no_option is =
     let next = no_hyphen d more nid (nat_eq d 45) refl is in
-    contents_behind [] d more nid is (contents_accepts_empty d more next) (contents_asks_empty d more next)
-contents_law (b ∷ []) (d ∷ more) nid no_option is =
-    let next = no_hyphen d more nid (nat_eq d 45) refl is in
-    by_hyphen b (nat_eq b 45) refl
-    (λ other. contents_behind (b ∷ []) d more nid is (contents_accepts b d [] more other next) (contents_asks b d [] more other next))
-    (λ e. rw e (contents_behind (45 ∷ []) d more nid is (contents_accepts_hyphen d more next) (contents_asks_hyphen d more next)))
-contents_law (b ∷ c ∷ rest) (d ∷ more) nid no_option is =
-    let other = ne_eqb b 45 no_option in
-    let next = no_hyphen d more nid (nat_eq d 45) refl is in
-    contents_behind (b ∷ c ∷ rest) d more nid is (contents_accepts b d (c ∷ rest) more other next) (contents_asks b d (c ∷ rest) more other next)
+    let order : ℕ → Ask = λ n. ask.Contents n in
+    by_file (λ file. IsAsked (codes "contents" ∷ file ∷ (d ∷ more) ∷ []) (asked_of (ask.Contents nid) file))
+    (behind (codes "contents") order [] d more nid is (contents_accepts_empty d more next) (contents_asks_empty d more next))
+    (behind (codes "contents") order (45 ∷ []) d more nid is (contents_accepts_hyphen d more next) (contents_asks_hyphen d more next))
+    (λ b rest other. behind (codes "contents") order (b ∷ rest) d more nid is (contents_accepts b d rest more other next) (contents_asks b d rest more other next)) file no_option
 
 -- ---- props
 
@@ -254,30 +231,15 @@ props_asks_hyphen : (d : ℕ) (more : List ℕ) → nat_eq d 45 ≡ false
 unfolding clap_on_literals asked
 props_asks_hyphen d more next = simp next
 
--- behind a file that a word names
-props_behind : (file : Text) (d : ℕ) (more : List ℕ) (nid : ℕ) → nid_of_word (d ∷ more) ≡ Some nid
-    → fault_of show_app (codes "props" ∷ file ∷ (d ∷ more) ∷ []) ≡ []
-    → asked (codes "props" ∷ file ∷ (d ∷ more) ∷ []) ≡ of_file (of_node (λ nid. ask.Props nid) (node_in_word (nid_of_word (d ∷ more)))) (Some file)
-    → IsAsked (codes "props" ∷ file ∷ (d ∷ more) ∷ []) (asked_of (ask.Props nid) file)
-props_behind file d more nid is accepts asks = record {
-  accepted = accepts;
-  is = asks ∙ ap (λ o. of_file (of_node (λ n. ask.Props n) (node_in_word o)) (Some file)) is;
-}
-
 props_law : (file word : Text) (nid : ℕ) → IsNoOption file → nid_of_word word ≡ Some nid → IsAsked (codes "props" ∷ file ∷ word ∷ []) (asked_of (ask.Props nid) file)
 props_law file [] nid no_option is = absurd (no_empty nid is)
-props_law [] (d ∷ more) nid no_option is =
+props_law file (d ∷ more) nid no_option is =
     let next = no_hyphen d more nid (nat_eq d 45) refl is in
-    props_behind [] d more nid is (props_accepts_empty d more next) (props_asks_empty d more next)
-props_law (b ∷ []) (d ∷ more) nid no_option is =
-    let next = no_hyphen d more nid (nat_eq d 45) refl is in
-    by_hyphen b (nat_eq b 45) refl
-    (λ other. props_behind (b ∷ []) d more nid is (props_accepts b d [] more other next) (props_asks b d [] more other next))
-    (λ e. rw e (props_behind (45 ∷ []) d more nid is (props_accepts_hyphen d more next) (props_asks_hyphen d more next)))
-props_law (b ∷ c ∷ rest) (d ∷ more) nid no_option is =
-    let other = ne_eqb b 45 no_option in
-    let next = no_hyphen d more nid (nat_eq d 45) refl is in
-    props_behind (b ∷ c ∷ rest) d more nid is (props_accepts b d (c ∷ rest) more other next) (props_asks b d (c ∷ rest) more other next)
+    let order : ℕ → Ask = λ n. ask.Props n in
+    by_file (λ file. IsAsked (codes "props" ∷ file ∷ (d ∷ more) ∷ []) (asked_of (ask.Props nid) file))
+    (behind (codes "props") order [] d more nid is (props_accepts_empty d more next) (props_asks_empty d more next))
+    (behind (codes "props") order (45 ∷ []) d more nid is (props_accepts_hyphen d more next) (props_asks_hyphen d more next))
+    (λ b rest other. behind (codes "props") order (b ∷ rest) d more nid is (props_accepts b d rest more other next) (props_asks b d rest more other next)) file no_option
 
 pub words_law : WordsLaw
 words_law = record {

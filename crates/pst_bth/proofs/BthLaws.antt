@@ -4,6 +4,8 @@ use Rattle.std.proofs.lemmas.Bool.{eq-eqb, ne_eqb, cases_eq}
 use Rattle.pst_bytes.specs.declared.span.Span.{Span}
 use Rattle.pst_btree.specs.Order.{Rises}
 use Rattle.pst_fault.proofs.FirstLemmas.{none_then, both_none, holds_or_none, holds_or_true}
+use Rattle.pst_fault.proofs.EachLemmas.{there_is}
+use Rattle.pst_heap.specs.Fault.{no_item}
 use Rattle.pst_heap.specs.Values.{HeapData, item_of}
 use Rattle.pst_bth.specs.declared.sizes.Sizes.{Sizes}
 use Rattle.pst_bth.specs.Rows.{row_key}
@@ -12,7 +14,7 @@ use Rattle.pst_bth.specs.Fault.{bth_root_fault, bth_header_fault, bth_fault}
 use Rattle.pst_bth.specs.Grammar.{IsBthRoot}
 use Rattle.pst_bth.specs.Laws.{BthLaw, BthNameLaw, BthRiseLaw}
 use Rattle.pst_bth.proofs.BthLemmas.{header_root}
-use Rattle.pst_bth.proofs.TreeLaws.{item_there, bth_tree_law, tree_rises}
+use Rattle.pst_bth.proofs.TreeLaws.{bth_tree_law, tree_rises}
 
 bth_root_law : (h : HeapData) (z : Sizes) (s : Span) (rows : List ℕ) → IsBthRoot h z s rows ↔ ((bth_root_fault h z s ≡ None) × (rows ≡ header_rows h z s))
 unfolding bth_root_fault header_rows
@@ -36,7 +38,7 @@ bth_law h z named hid records = (
       let root = (bth_root_law h z w.0 w.3.0).0 w.3.1 in
       (rw w.1 (both_none _ _ (holds_or_true _ _ w.2) root.0), rw w.1 (w.3.2 ∙ ap (map (record_at h.image z)) root.1))),
   (λ w.
-      let t = item_there named (bth_header_fault h z) (item_of h hid) w.0 in
+      let t = there_is (no_item named) (bth_header_fault h z) (item_of h hid) w.0 in
       let b = none_then _ _ t.2 in
       let is : records ≡ map (record_at h.image z) (header_rows h z t.0) = (rw t.1 at w.1) in
       (t.0, t.1, holds_or_none _ _ b.0, (header_rows h z t.0, (bth_root_law h z t.0 (header_rows h z t.0)).1 (b.1, refl), is))),
@@ -45,7 +47,7 @@ bth_law h z named hid records = (
 pub name_law : BthNameLaw
 unfolding bth_fault
 name_law h z named other hid e =
-    let t = item_there named (bth_header_fault h z) (item_of h hid) e in
+    let t = there_is (no_item named) (bth_header_fault h z) (item_of h hid) e in
     rw t.1 t.2
 
 -- ---- keys
@@ -66,5 +68,5 @@ header_rises h z s e =
 pub rise_law : BthRiseLaw
 unfolding bth_fault bth_records
 rise_law h z named hid e =
-    let t = item_there named (bth_header_fault h z) (item_of h hid) e in
+    let t = there_is (no_item named) (bth_header_fault h z) (item_of h hid) e in
     rw (t.1, keys_are h.image z (header_rows h z t.0)) (header_rises h z t.0 t.2)

@@ -3,6 +3,7 @@ use Rattle.std.proofs.Common.{◌≡◌, ℕ, zero, suc, ◌+◌, ◌-◌, ◌*�
 use Rattle.std.proofs.lemmas.List.{length-map, length-append}
 use Rattle.pst_bytes.specs.declared.span.Span.{Span}
 use Rattle.pst_page.specs.Page.{places}
+use Rattle.pst_page.proofs.EntryLemmas.{places_count}
 use Rattle.pst_btree.specs.Order.{Rises}
 use Rattle.pst_btree.proofs.RiseLemmas.{lower}
 use Rattle.pst_bth.specs.declared.sizes.Sizes.{Sizes}
@@ -28,10 +29,6 @@ places_last f width at n (suc m) ys r =
     let least = r.0 in
     let behind = places_last f width (at + width) (f at + 1) m ys r.2 in
     rw same (omega (arith, least, behind))
-
-length_places : (at width m : ℕ) → length (places at width m) ≡ m
-length_places at width zero = refl
-length_places at width (suc m) = ap suc (length_places (at + width) width m)
 
 -- ---- what is left of a leaf is passed over
 
@@ -69,7 +66,7 @@ module _ (I : List ℕ) (z : Sizes) (s : Span) (i : ℕ) (rest : List ℕ) where
       let gone : rows_from size s count ≡ [] = rows_end size s count (omega arith) in
       let behind : length (map (record_at I z) (rows_from size s count ++ rest)) ≡ length rest = rw gone (length-map rest (record_at I z)) in
       let all : length (map (record_at I z) (rows_from size s i ++ rest)) ≡ (count - i) + length rest =
-      length-map (rows_from size s i ++ rest) (record_at I z) ∙ length-append (rows_from size s i) rest ∙ ap (λ k. k + length rest) (length_places (row_place size s i) size (count - i)) in
+      length-map (rows_from size s i ++ rest) (record_at I z) ∙ length-append (rows_from size s i) rest ∙ ap (λ k. k + length rest) (places_count (row_place size s i) size (count - i)) in
       omega (arith, behind, all)
 
 -- ---- all of them

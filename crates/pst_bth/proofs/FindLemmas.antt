@@ -5,6 +5,8 @@ use Rattle.pst_bytes.specs.declared.span.Span.{Span}
 use Rattle.pst_btree.specs.Entries.{first_with}
 use Rattle.pst_btree.specs.Order.{Rises}
 use Rattle.pst_fault.proofs.FirstLemmas.{none_then, both_none}
+use Rattle.pst_fault.proofs.EachLemmas.{there_is}
+use Rattle.pst_heap.specs.Fault.{no_item}
 use Rattle.pst_heap.specs.Values.{HeapData}
 use Rattle.pst_bth.specs.declared.sizes.Sizes.{Sizes}
 use Rattle.pst_bth.specs.Rows.{row_key, row_count, row_place, rows_at, rows_from}
@@ -16,7 +18,7 @@ use Rattle.pst_bth.specs.Find.{IsUpToKey, HasBthTree}
 use Rattle.pst_bth.proofs.RowLemmas.{rows_start, rows_next, rows_end, rows_before, rows_at_split}
 use Rattle.pst_bth.proofs.KeyLemmas.{IsAbove, first_skip, first_front, first_here, first_later, first_nil, first_lower, first_higher, first_above, rises_front, rises_back, from_first, find_at}
 use Rattle.pst_bth.proofs.RiseLemmas.{rows_rise}
-use Rattle.pst_bth.proofs.TreeLaws.{item_there, branch_law, tree_rises}
+use Rattle.pst_bth.proofs.TreeLaws.{branch_law, tree_rises}
 
 -- ---- the records behind those whose keys are at most a key
 
@@ -131,8 +133,8 @@ rows_of_branch h z (suc level) below named s is e =
 -- the item is there
 pub item_is_there : (h : HeapData) (z : Sizes) (level named : ℕ) → HasBthTree h z level named → item_at h named ≡ None → ⊥
 unfolding bth_tree_fault
-item_is_there h z zero named t e = let w = item_there named (bth_leaf_fault h z t.low t.high) (item_at h named) t.none in let impossible : None ≡ Some w.0 = sym e ∙ w.1 in cc
-item_is_there h z (suc level) named t e = let w = item_there named (bth_below_fault h z (bth_tree_fault h z level) t.low t.high) (item_at h named) t.none in let impossible : None ≡ Some w.0 = sym e ∙ w.1 in cc
+item_is_there h z zero named t e = let w = there_is (no_item named) (bth_leaf_fault h z t.low t.high) (item_at h named) t.none in let impossible : None ≡ Some w.0 = sym e ∙ w.1 in cc
+item_is_there h z (suc level) named t e = let w = there_is (no_item named) (bth_below_fault h z (bth_tree_fault h z level) t.low t.high) (item_at h named) t.none in let impossible : None ≡ Some w.0 = sym e ∙ w.1 in cc
 
 -- the keys of a leaf rise
 pub leaf_rises : (h : HeapData) (z : Sizes) (level named : ℕ) (s : Span) → (t : HasBthTree h z level named) → item_at h named ≡ Some s → level ≡ 0 → Rises t.low t.high (map (row_key h.image z.key) (rows_at (leaf_size z) s))

@@ -6,7 +6,8 @@ use Rattle.pst_btree.specs.Order.{Rises}
 use Rattle.pst_fault.specs.declared.fault.Fault.{Fault}
 use Rattle.pst_fault.proofs.FirstLemmas.{none_then, both_none, holds_or_none, holds_or_true}
 use Rattle.pst_heap.specs.Values.{HeapData}
-use Rattle.pst_heap.specs.Fault.{item_or}
+use Rattle.pst_fault.proofs.EachLemmas.{there_is}
+use Rattle.pst_heap.specs.Fault.{no_item}
 use Rattle.pst_bth.specs.declared.sizes.Sizes.{Sizes}
 use Rattle.pst_bth.specs.Rows.{row_key, row_count, rows_at}
 use Rattle.pst_bth.specs.Rows.{leaf_size, branch_size}
@@ -15,11 +16,6 @@ use Rattle.pst_bth.specs.Fault.{BthVisit, bth_children_fault, bth_leaf_fault, bt
 use Rattle.pst_bth.specs.Grammar.{BthItem, AreBelow, IsBthLeaf, IsBthBranch, IsBthTree}
 use Rattle.pst_bth.proofs.OrderLemmas.{order_law}
 use Rattle.pst_bth.proofs.RiseLemmas.{rows_rise}
-
--- an item that is there, with nothing at fault in it
-pub item_there : (named : ℕ) (part : Span → Option Fault) (o : Option Span) → item_or named part o ≡ None → (s : Span) × (o ≡ Some s) × (part s ≡ None)
-item_there named part None e = cc
-item_there named part (Some s) e = (s, refl, e)
 
 -- items that are as told, each by its function, are as told together
 module _ (I : List ℕ) (cb : ℕ) (Is : BthItem) (visit : BthVisit) (below : ℕ → List ℕ)
@@ -42,7 +38,7 @@ unfolding bth_tree_fault tree_rows bth_leaf_fault
 bth_leaf_law h z named low high rows = (
   (λ w. (rw w.1 ((order_law h.image z.key low high _).0 (rw w.2 at w.3)), rw w.1 w.2)),
   (λ w.
-      let t = item_there named (bth_leaf_fault h z low high) (item_at h named) w.0 in
+      let t = there_is (no_item named) (bth_leaf_fault h z low high) (item_at h named) w.0 in
       let is : rows ≡ rows_at (leaf_size z) t.0 = (rw t.1 at w.1) in
       (t.0, t.1, is, rw is ((order_law h.image z.key low high _).1 t.2))),
 )
@@ -65,7 +61,7 @@ tree_step h z level named low high rows more = (
       let m = (more high (rows_at (branch_size z) w.0) rows).0 w.4 in
       (rw w.1 (both_none _ _ ((branch_law h z low high w.0).0 (w.2, w.3)) m.0), rw w.1 m.1)),
   (λ w.
-      let t = item_there named (bth_below_fault h z (bth_tree_fault h z level) low high) (item_at h named) w.0 in
+      let t = there_is (no_item named) (bth_below_fault h z (bth_tree_fault h z level) low high) (item_at h named) w.0 in
       let b = none_then (bth_branch_fault h z low high t.0) _ t.2 in
       let a = (branch_law h z low high t.0).1 b.0 in
       let is : rows ≡ rows_below (tree_rows h z level) z.key (rows_at (branch_size z) t.0) = (rw t.1 at w.1) in
@@ -81,10 +77,10 @@ bth_tree_law h z (suc level) named low high rows =
 pub tree_rises : (h : HeapData) (z : Sizes) (level named low : ℕ) (high : Option ℕ) → bth_tree_fault h z level named low high ≡ None → Rises low high (map (row_key h.image z.key) (tree_rows h z level named))
 unfolding bth_tree_fault tree_rows bth_leaf_fault bth_below_fault
 tree_rises h z zero named low high e =
-    let t = item_there named (bth_leaf_fault h z low high) (item_at h named) e in
+    let t = there_is (no_item named) (bth_leaf_fault h z low high) (item_at h named) e in
     rw t.1 ((order_law h.image z.key low high _).1 t.2)
 tree_rises h z (suc level) named low high e =
-    let t = item_there named (bth_below_fault h z (bth_tree_fault h z level) low high) (item_at h named) e in
+    let t = there_is (no_item named) (bth_below_fault h z (bth_tree_fault h z level) low high) (item_at h named) e in
     let b = none_then (bth_branch_fault h z low high t.0) _ t.2 in
     let a = (branch_law h z low high t.0).1 b.0 in
     rw t.1 (rows_rise h.image z.key (bth_tree_fault h z level) (tree_rows h z level) (tree_rises h z level) low high (rows_at (branch_size z) t.0) a.1 b.1)

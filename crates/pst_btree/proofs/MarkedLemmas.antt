@@ -1,6 +1,7 @@
 -- How many units are claimed: 8 for each page, so that pages can be counted.
-use Rattle.std.proofs.Common.{◌≡◌, ℕ, suc, zero, ◌+◌, ◌<◌, ◌≤◌, Bool, true, false, not, ◌&&◌, [], ◌∷◌, length, get_or, set, Some, refl, sym, ap, ◌∙◌, arith, inl, length-set}
+use Rattle.std.proofs.Common.{◌≡◌, ℕ, suc, zero, ◌+◌, ◌<◌, ◌≤◌, true, false, [], ◌∷◌, length, get_or, set, Some, refl, sym, ap, ◌∙◌, arith, inl, length-set}
 use Rattle.std.proofs.lemmas.Option.{cond_some}
+use Rattle.pst_fault.proofs.GeneralLemmas.{clear_and}
 use Rattle.pst_header.specs.declared.header.Bref.{Bref}
 use Rattle.pst_space.specs.Claimed.{Claimed, IsUnits, is_clear, filled, first_unit, with_span, claim_of}
 use Rattle.pst_space.proofs.MarkLemmas.{clear_filled}
@@ -21,14 +22,10 @@ marked_set (false ∷ m) zero lt e = refl
 marked_set (true ∷ m) (suc u) lt e = ap suc (marked_set m u (omega arith) e)
 marked_set (false ∷ m) (suc u) lt e = marked_set m u (omega arith) e
 
-clear_both : (x y : Bool) → (not x && y) ≡ true → (x ≡ false) × (y ≡ true)
-clear_both true y e = absurd cc
-clear_both false y e = (refl, e)
-
 marked_filled : (m : Claimed) (u n : ℕ) → u + n ≤ length m → is_clear m u n ≡ true → marked (filled m u n) ≡ marked m + n
 marked_filled m u zero le e = omega arith
 marked_filled m u (suc n) le e =
-    let c = clear_both (get_or m u false) _ e in
+    let c = clear_and (get_or m u false) _ e in
     let rest : is_clear (set m u true) (u + 1) n ≡ true = clear_filled m u 1 (u + 1) n (inl (omega arith)) ∙ c.1 in
     let long : (u + 1) + n ≤ length (set m u true) = omega (arith, length-set m u true) in
     let one = marked_set m u (omega arith) c.0 in

@@ -52,9 +52,6 @@ pub from_none : (kind : PageKind) (I : List ℕ) (low : ℕ) → first_from kind
 unfolding first_from
 from_none kind I low = refl
 
-some_none : (at : ℕ) → (let a : Option ℕ = Some at in a ≡ None) → ⊥
-some_none at e = cc
-
 -- what is found is at least low
 pub from_at : (kind : PageKind) (I : List ℕ) (low : ℕ) (entries : List ℕ) (at : ℕ) → first_from kind I low entries ≡ Some at → low ≤ key_at kind I at
 unfolding first_from
@@ -78,7 +75,7 @@ rest_none kind I low [] e = refl
 rest_none kind I low (at ∷ rest) e =
     elim (cases_lt (key_at kind I at) low) [
       | inl lt ↦ rw (lt-leb low (key_at kind I at) lt) (rest_none kind I low rest (rw (lt-leb low (key_at kind I at) lt) at e))
-      | inr le ↦ absurd (some_none at (rw (le-leb low (key_at kind I at) le) at e))
+      | inr le ↦ let bad : Some at ≡ None = rw (le-leb low (key_at kind I at) le) at e in cc
     ]
 
 pub rest_some : (kind : PageKind) (I : List ℕ) (least low : ℕ) (high : Option ℕ) (entries : List ℕ) (at : ℕ) → Rises least high (map (key_at kind I) entries) → first_from kind I low entries ≡ Some at

@@ -6,6 +6,7 @@ use Rattle.std.proofs.lemmas.Bool.Decides.{nat_tests}
 use Rattle.pst_fault.specs.declared.fault.Fault.{Fault}
 use Rattle.pst_fault.specs.First.{holds_or}
 use Rattle.pst_fault.proofs.FirstLemmas.{none_then, none_below, holds_or_none}
+use Rattle.pst_fault.proofs.EachLemmas.{there_is}
 use Rattle.pst_page.specs.Entry.{key_of}
 use Rattle.pst_page.specs.declared.entry.BlockEntry.{BlockEntry}
 use Rattle.pst_btree.specs.Entries.{block_key, block_with, first_with}
@@ -17,7 +18,6 @@ use Rattle.pst_datatree.specs.List.{btype_in, count_in, bid_in, is_block_list}
 use Rattle.pst_datatree.specs.Names.{IsInternal, IsKeyOf, IsOfFirst, IsChildKey, IsUnder, IsInTree}
 use Rattle.pst_datatree.specs.Data.{bad_tree, block_missing, data_leaf_fault, xblock_fault, xxblock_fault}
 use Rattle.pst_datatree.specs.Seen.{has_tree, holds_tree, NamesKnown, IsSoundTree, IsKnownTree, AddsTrees}
-use Rattle.pst_datatree.proofs.DataLemmas.{fault_or_none}
 use Rattle.pst_datatree.proofs.KeyLemmas.{entry_same}
 
 -- ---- bit 0 of an identifier says nothing
@@ -93,11 +93,11 @@ adds_put t IsNew old new e listed stays only names is_new = record {
 
 -- ---- an XBLOCK names no internal block
 
-leaf_external : (t : Table) (e : BlockEntry) (i : ℕ) → data_leaf_fault t e i ≡ None → is_internal (bid_in (body_of t e) i) ≡ false
+pub leaf_external : (t : Table) (e : BlockEntry) (i : ℕ) → data_leaf_fault t e i ≡ None → is_internal (bid_in (body_of t e) i) ≡ false
 unfolding data_leaf_fault
 leaf_external t e i none =
     let bid = bid_in (body_of t e) i in
-    let w = fault_or_none (block_missing bid) (λ x. if is_internal bid then Some (bad_tree e) else None) (entry_of t bid) none in
+    let w = there_is (block_missing bid) (λ x. if is_internal bid then Some (bad_tree e) else None) (entry_of t bid) none in
     from_test (is_internal bid) (bad_tree e) w.2
   where
     from_test : (b : Bool) (f : Fault) → cond b (Some f) None ≡ None → b ≡ false

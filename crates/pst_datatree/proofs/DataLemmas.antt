@@ -4,7 +4,7 @@ use Rattle.std.specs.Prelude.{slice_get, if◌then◌else◌, cond}
 use Rattle.std.proofs.lemmas.Bool.Decides.{nat_tests}
 use Rattle.pst_fault.specs.declared.fault.Fault.{Fault}
 use Rattle.pst_fault.specs.First.{◌then◌, holds_or, first_below, join_below}
-use Rattle.pst_fault.proofs.FirstLemmas.{none_then, none_below, first_below_front, slice_get-join, holds_or_none}
+use Rattle.pst_fault.proofs.FirstLemmas.{none_then, none_below, first_below_front, slice_get-join, holds_or_none, guard_then}
 use Rattle.pst_fault.proofs.GeneralLemmas.{number_of_test}
 use Rattle.pst_page.specs.declared.entry.BlockEntry.{BlockEntry}
 use Rattle.pst_block.specs.Table.{Table, entry_of, body_of}
@@ -14,7 +14,7 @@ use Rattle.pst_datatree.specs.Bid.{is_internal}
 use Rattle.pst_datatree.specs.List.{count_in, total_in, bid_in, is_block_list}
 use Rattle.pst_datatree.specs.Named.{named_by}
 use Rattle.pst_datatree.specs.Data.{size_of, block_missing, bad_tree, leaf_spans, data_leaf_fault, xblock_spans, xblock_fault, child_fault, xxblock_spans, xxblock_fault, named_fault, tree_fault, data_fault}
-use Rattle.pst_fault.specs.Each.{there_or}
+use Rattle.pst_fault.proofs.EachLemmas.{there_is}
 
 pub list_fits : (level : ℕ) (body : List ℕ) → is_block_list level body ≡ true → 8 + 8 * count_in body ≤ length body
 unfolding is_block_list
@@ -42,17 +42,12 @@ sound_xxblock t e h =
     let q = none_then (first_below (child_fault t e) (count_in body)) _ p.1 in
     record { fits = list_fits 2 body (holds_or_none _ _ p.0); parts = q.0 }
 
--- a block without fault is there
-pub fault_or_none : (f : Fault) (part : BlockEntry → Option Fault) (o : Option BlockEntry) → there_or f part o ≡ None → (x : BlockEntry) × (o ≡ Some x) × (part x ≡ None)
-fault_or_none f part None h = cc
-fault_or_none f part (Some x) h = (x, refl, h)
-
 -- a data block that an XBLOCK names
 pub one_leaf : (t : Table) (e : BlockEntry) (i : ℕ) → data_leaf_fault t e i ≡ None → length (leaf_spans t (body_of t e) i) ≡ 1
 unfolding data_leaf_fault leaf_spans
 one_leaf t e i h =
     let bid = bid_in (body_of t e) i in
-    let w = fault_or_none (block_missing bid) (λ _. if is_internal bid then Some (bad_tree e) else None) (entry_of t bid) h in
+    let w = there_is (block_missing bid) (λ _. if is_internal bid then Some (bad_tree e) else None) (entry_of t bid) h in
     rw w.1 refl
 
 -- the XBLOCK that an XXBLOCK names
@@ -60,12 +55,8 @@ pub one_child : (t : Table) (e : BlockEntry) (i : ℕ) → child_fault t e i ≡
 unfolding child_fault
 one_child t e i h =
     let bid = bid_in (body_of t e) i in
-    let w = fault_or_none (block_missing bid) (λ e'. if is_internal bid then xblock_fault t e' else Some (bad_tree e)) (entry_of t bid) h in
-    (w.0, w.1, from_test (is_internal bid) (xblock_fault t w.0) (bad_tree e) w.2)
-  where
-    from_test : (b : Bool) (o : Option Fault) (f : Fault) → cond b o (Some f) ≡ None → o ≡ None
-    from_test true o f h = h
-    from_test false o f h = cc
+    let w = there_is (block_missing bid) (λ e'. if is_internal bid then xblock_fault t e' else Some (bad_tree e)) (entry_of t bid) h in
+    (w.0, w.1, (guard_then (is_internal bid) (xblock_fault t w.0) (bad_tree e) w.2).1)
 
 pub length_leaves : (t : Table) (e : BlockEntry) (n : ℕ) → first_below (data_leaf_fault t e) n ≡ None → length (join_below (leaf_spans t (body_of t e)) n) ≡ n
 length_leaves t e zero h = refl

@@ -4,6 +4,7 @@ use Rattle.std.specs.Prelude.{if◌then◌else◌}
 use Rattle.std.proofs.lemmas.Bool.Decides.{nat_tests}
 use Rattle.pst_fault.specs.First.{join_below}
 use Rattle.pst_fault.proofs.FirstLemmas.{guard_then}
+use Rattle.pst_fault.proofs.EachLemmas.{there_is}
 use Rattle.pst_page.specs.declared.entry.BlockEntry.{BlockEntry}
 use Rattle.pst_block.specs.Table.{Table, entry_of, body_of}
 use Rattle.pst_datatree.specs.declared.named.Named.{Named}
@@ -13,13 +14,13 @@ use Rattle.pst_datatree.specs.List.{count_in, bid_in, has_level_two}
 use Rattle.pst_datatree.specs.Named.{named_by}
 use Rattle.pst_datatree.specs.Data.{block_missing, bad_tree, xblock_fault, child_spans, child_fault, xxblock_spans, xxblock_fault, named_spans, data_spans, data_fault}
 use Rattle.pst_datatree.specs.Parts.{named_count, named_part, part_count, part_in, HasParts}
-use Rattle.pst_datatree.proofs.DataLemmas.{fault_or_none, child_of_xxblock, tree_none}
+use Rattle.pst_datatree.proofs.DataLemmas.{child_of_xxblock, tree_none}
 use Rattle.pst_datatree.proofs.SeenLemmas.{xblock_of_two}
 use Rattle.pst_datatree.proofs.AddLemmas.{internal_same, entry_key}
 
 -- ---- an XBLOCK by its identifier
 
-internal_is_block : (bid : ℕ) → is_internal bid ≡ true → is_no_block bid ≡ false
+pub internal_is_block : (bid : ℕ) → is_internal bid ≡ true → is_no_block bid ≡ false
 unfolding is_internal is_no_block
 internal_is_block bid h = grind (arith, nat_tests)
 
@@ -46,7 +47,7 @@ child_is : (t : Table) (e : BlockEntry) (i : ℕ) → child_fault t e i ≡ None
 unfolding child_fault
 child_is t e i h =
     let bid = bid_in (body_of t e) i in
-    let w = fault_or_none (block_missing bid) (λ e'. if is_internal bid then xblock_fault t e' else Some (bad_tree e)) (entry_of t bid) h in
+    let w = there_is (block_missing bid) (λ e'. if is_internal bid then xblock_fault t e' else Some (bad_tree e)) (entry_of t bid) h in
     let g = guard_then (is_internal bid) (xblock_fault t w.0) (bad_tree e) w.2 in
     (w.0, record { there = w.1; kind = g.0; sound = g.1 })
 

@@ -31,7 +31,7 @@ get_left [] ys i x h = cc
 get_left (y ∷ xs) ys zero x h = h
 get_left (y ∷ xs) ys (suc i) x h = get_left xs ys i x h
 
-drop_past : {X : Type 0} (xs ys : List X) (n : ℕ) → length xs ≤ n → drop n (xs ++ ys) ≡ drop (n - length xs) ys
+pub drop_past : {X : Type 0} (xs ys : List X) (n : ℕ) → length xs ≤ n → drop n (xs ++ ys) ≡ drop (n - length xs) ys
 drop_past [] ys n h = ap (λ m. drop m ys) (omega arith)
 drop_past (x ∷ xs) ys zero h = absurd (omega arith)
 drop_past (x ∷ xs) ys (suc n) h = let same : n - length xs ≡ suc n - length (x ∷ xs) = omega arith in rw (← same) (drop_past xs ys n (omega arith))

@@ -5,7 +5,9 @@ use Rattle.std.proofs.lemmas.Bool.Decides.{nat_tests}
 use Rattle.pst_bytes.specs.declared.span.Span.{Span}
 use Rattle.pst_fault.specs.declared.fault.Fault.{Fault}
 use Rattle.pst_fault.specs.First.{◌then◌, holds_or, first_below, join_below, AreJoined}
-use Rattle.pst_fault.proofs.FirstLemmas.{none_then, then_none, none_below, holds_or_none, holds_or_true}
+use Rattle.pst_fault.proofs.FirstLemmas.{none_then, then_none, holds_or_none, holds_or_true, guard_then}
+use Rattle.pst_fault.proofs.EachLemmas.{there_is}
+use Rattle.pst_fault.proofs.JoinLemmas.{joined_law}
 use Rattle.pst_fault.proofs.GeneralLemmas.{number_of_test, test_of_number}
 use Rattle.pst_page.specs.declared.entry.BlockEntry.{BlockEntry}
 use Rattle.pst_block.specs.Table.{Table, entry_of, body_of}
@@ -16,26 +18,8 @@ use Rattle.pst_datatree.specs.Named.{named_by}
 use Rattle.pst_datatree.specs.List.{count_in, total_in, bid_in, is_block_list, has_level_two}
 use Rattle.pst_datatree.specs.Data.{size_of, spans_at, data_block_spans, block_missing, bad_tree, leaf_spans, data_leaf_fault, xblock_spans, xblock_fault, child_spans, child_fault, xxblock_spans, xxblock_fault, named_spans, data_spans, named_fault, data_fault}
 use Rattle.pst_datatree.specs.Relation.{IsDataLeaf, IsXblock, IsChild, IsXxblock, IsDataBlock, IsDataTree, HasData, DataLaw}
-use Rattle.pst_datatree.proofs.DataLemmas.{fault_or_none}
+use Rattle.pst_datatree.proofs.AddLemmas.{leaf_external}
 use Rattle.pst_datatree.proofs.NamedLemmas.{IsThere, IsNamed, named_is}
-
--- parts that are as told, each by its function, are as told together
-module _ (IsPart : ℕ → List Span → Type 0) (fault : ℕ → Option Fault) (spans : ℕ → List Span) (law : (i : ℕ) (xs : List Span) → IsPart i xs ↔ ((fault i ≡ None) × (xs ≡ spans i))) where
-  none_of_parts : (parts : ℕ → List Span) (n : ℕ) → ((i : ℕ) → i < n → IsPart i (parts i)) → first_below fault n ≡ None
-  none_of_parts parts zero h = refl
-  none_of_parts parts (suc n) h =
-      then_none (first_below fault n) (fault n) (none_of_parts parts n (λ i lt. h i (omega arith))) ∙ ((law n (parts n)).0 (h n (omega arith))).0
-
-  join_of_parts : (parts : ℕ → List Span) (n : ℕ) → ((i : ℕ) → i < n → IsPart i (parts i)) → join_below parts n ≡ join_below spans n
-  join_of_parts parts zero h = refl
-  join_of_parts parts (suc n) h =
-      ap (λ xs. xs ++ parts n) (join_of_parts parts n (λ i lt. h i (omega arith))) ∙ ap (λ xs. join_below spans n ++ xs) ((law n (parts n)).0 (h n (omega arith))).1
-
-  pub joined_law : (n : ℕ) (xs : List Span) → AreJoined IsPart n xs ↔ ((first_below fault n ≡ None) × (xs ≡ join_below spans n))
-  joined_law n xs = (
-    (λ w. (none_of_parts w.0 n w.1, w.2 ∙ join_of_parts w.0 n w.1)),
-    (λ w. (spans, (λ i lt. (law i (spans i)).1 (none_below fault n i w.0 lt, refl)), w.1)),
-  )
 
 leaf_law : (t : Table) (e : BlockEntry) (i : ℕ) (xs : List Span) → IsDataLeaf t e i xs ↔ ((data_leaf_fault t e i ≡ None) × (xs ≡ leaf_spans t (body_of t e) i))
 unfolding data_leaf_fault leaf_spans
@@ -43,13 +27,9 @@ leaf_law t e i xs =
     let bid = bid_in (body_of t e) i in (
       (λ w. (rw (w.1, w.2) refl, w.3 ∙ sym (rw w.1 refl))),
       (λ w.
-          let x = fault_or_none (block_missing bid) (λ _. if is_internal bid then Some (bad_tree e) else None) (entry_of t bid) w.0 in
-          (x.0, x.1, external (is_internal bid) (bad_tree e) x.2, w.1 ∙ ap (spans_at data_block_spans) x.1)),
+          let x = there_is (block_missing bid) (λ _. if is_internal bid then Some (bad_tree e) else None) (entry_of t bid) w.0 in
+          (x.0, x.1, leaf_external t e i w.0, w.1 ∙ ap (spans_at data_block_spans) x.1)),
     )
-  where
-    external : (b : Bool) (f : Fault) → cond b (Some f) None ≡ None → b ≡ false
-    external true f h = cc
-    external false f h = refl
 
 xblock_law : (t : Table) (e : BlockEntry) (xs : List Span) → IsXblock t e xs ↔ ((xblock_fault t e ≡ None) × (xs ≡ xblock_spans t e))
 unfolding xblock_fault xblock_spans
@@ -75,14 +55,10 @@ child_law t e i xs =
           let b = (xblock_law t w.0 xs).0 w.3 in
           (rw (w.1, w.2) b.0, b.1 ∙ sym (ap (spans_at (xblock_spans t)) w.1))),
       (λ w.
-          let x = fault_or_none (block_missing bid) (λ e'. if is_internal bid then xblock_fault t e' else Some (bad_tree e)) (entry_of t bid) w.0 in
-          let s = internal (is_internal bid) (xblock_fault t x.0) (bad_tree e) x.2 in
+          let x = there_is (block_missing bid) (λ e'. if is_internal bid then xblock_fault t e' else Some (bad_tree e)) (entry_of t bid) w.0 in
+          let s = guard_then (is_internal bid) (xblock_fault t x.0) (bad_tree e) x.2 in
           (x.0, x.1, s.0, (xblock_law t x.0 xs).1 (s.1, w.1 ∙ ap (spans_at (xblock_spans t)) x.1))),
     )
-  where
-    internal : (b : Bool) (o : Option Fault) (f : Fault) → cond b o (Some f) ≡ None → (b ≡ true) × (o ≡ None)
-    internal true o f h = (refl, h)
-    internal false o f h = cc
 
 xxblock_law : (t : Table) (e : BlockEntry) (xs : List Span) → IsXxblock t e xs ↔ ((xxblock_fault t e ≡ None) × (xs ≡ xxblock_spans t e))
 unfolding xxblock_fault xxblock_spans

@@ -4,7 +4,7 @@ use Rattle.std.specs.Prelude.{slice_index_or}
 use Rattle.std.specs.List.{Contains}
 use Rattle.pst_fault.specs.declared.fault.Fault.{Fault}
 use Rattle.pst_fault.specs.First.{◌then◌, first_below, join_below, IsFirst}
-use Rattle.pst_fault.specs.Each.{first_of}
+use Rattle.pst_fault.specs.Each.{first_of, there_or}
 use Rattle.pst_fault.proofs.FirstLemmas.{then_none, then_some, then_assoc, none_then, is_first_then}
 
 -- one more part without a fault
@@ -77,3 +77,8 @@ pub first_join : {X : Type 0} (part : X → Option Fault) (list : ℕ → List X
 unfolding first_of
 first_join part list zero = refl
 first_join part list (suc n) = first_append part (join_below list n) (list n) ∙ ap (λ o. o then first_of part (list n)) (first_join part list n)
+
+-- a part that has to be there is, with nothing at fault in it
+pub there_is : {X : Type 0} (missing : Fault) (part : X → Option Fault) (o : Option X) → there_or missing part o ≡ None → (x : X) × (o ≡ Some x) × (part x ≡ None)
+there_is missing part None e = cc
+there_is missing part (Some x) e = (x, refl, e)

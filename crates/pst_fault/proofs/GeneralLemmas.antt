@@ -1,5 +1,5 @@
 -- What every layer needs of options, flags, numbers and lists.
-use Rattle.std.proofs.Common.{◌≡◌, ℕ, Bool, true, false, List, [], ◌∷◌, map, Option, Some, None, refl, sym, arith}
+use Rattle.std.proofs.Common.{◌≡◌, ℕ, Bool, true, false, not, ◌&&◌, ◌||◌, List, [], ◌∷◌, map, Option, Some, None, refl, sym, arith}
 use Rattle.std.specs.Prelude.{nat_eq}
 use Rattle.std.proofs.lemmas.Bool.Decides.{nat_tests}
 
@@ -17,6 +17,19 @@ pub same_test : (a b : Bool) → (a ≡ true → b ≡ true) → (b ≡ true →
 same_test true b f g = sym (f refl)
 same_test false true f g = g refl
 same_test false false f g = refl
+
+pub or_true : (b : Bool) → (b || true) ≡ true
+or_true true = refl
+or_true false = refl
+
+pub or_grouped : (a b c : Bool) → (a || (b || c)) ≡ ((a || b) || c)
+or_grouped true b c = refl
+or_grouped false b c = refl
+
+-- a flag that is clear, and a test behind it
+pub clear_and : (a b : Bool) → (not a && b) ≡ true → (a ≡ false) × (b ≡ true)
+clear_and true b e = cc
+clear_and false b e = (refl, e)
 
 pub number_of_test : (a b : ℕ) → nat_eq a b ≡ true → a ≡ b
 number_of_test a b h = grind (arith, nat_tests)

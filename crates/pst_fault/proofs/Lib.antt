@@ -1,4 +1,5 @@
 pub mod EachLemmas
 pub mod FirstLemmas
 pub mod GeneralLemmas
+pub mod JoinLemmas
 pub mod ToldLemmas

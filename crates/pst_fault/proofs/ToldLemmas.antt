@@ -8,6 +8,9 @@ pub told_none : (g : Fault → Fault) (o : Option Fault) → option_map g o ≡ 
 told_none g None e = refl
 told_none g (Some f) e = absurd cc
 
+pub none_told : (g : Fault → Fault) (o : Option Fault) → o ≡ None → option_map g o ≡ None
+none_told g o e = rw e refl
+
 pub told_some : (g : Fault → Fault) (o : Option Fault) (f : Fault) → option_map g o ≡ Some f → (x : Fault) × (o ≡ Some x) × (g x ≡ f)
 told_some g None f e = absurd cc
 told_some g (Some x) f e = (x, refl, cc)

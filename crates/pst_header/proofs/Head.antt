@@ -114,9 +114,3 @@ head_only I h g =
 
 pub head_end : (I : List ℕ) (h : Header) → Head I h → end_of h ≤ length I
 head_end I h g = omega (arith, g.eof_inside)
-
-pub head_first_map : (I : List ℕ) (h : Header) → Head I h → 17920 ≤ end_of h
-head_first_map I h g =
-    let m = g.last_map in
-    let is : h.last_amap ≡ 17408 + 253952 * m.0 = m.1 in
-    omega (arith, m.2)

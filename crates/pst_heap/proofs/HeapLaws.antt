@@ -103,12 +103,8 @@ item_law h hid s is e =
     let map = span_has_map h (block_of hid) t.0 (heap_none h is) t.1 in
     (t.0, t.1, item_lies h.image hid t.0 s map (rw t.1 at e))
 
--- ---- the client signature, and faults that are told under a node
+-- ---- the client signature
 
 pub client_law : (h : HeapData) (client : ℕ) → (client_of h ≡ client) ↔ (client_fault client h ≡ None)
 unfolding client_fault
 client_law h client = ((λ e. holds_or_true _ _ (eq-eqb _ _ e)), (λ e. eqb-true _ _ (holds_or_none _ _ e)))
-
--- where there is no fault, none is told
-pub none_told : (r : Roots) (o : Option Fault) → o ≡ None → option_map (told_under r) o ≡ None
-none_told r o e = rw e refl

@@ -7,7 +7,7 @@ use Rattle.pst_fault.specs.declared.fault.Fault.{Fault}
 use Rattle.pst_fault.specs.declared.kind.Kind.TheVariants.{Heap, HeapId}
 use Rattle.pst_fault.specs.Fault.{fault_at}
 use Rattle.pst_fault.specs.First.{◌then◌, holds_or}
-use Rattle.pst_fault.specs.Each.{first_of}
+use Rattle.pst_fault.specs.Each.{first_of, there_or}
 use Rattle.pst_datatree.specs.Spans.{first_span}
 use Rattle.pst_ndb.specs.declared.node.Node.{Node}
 use Rattle.pst_ndb.specs.Roots.{Roots}
@@ -50,8 +50,7 @@ no_item named = fault_at HeapId named
 
 -- of an item, named at a place: that there is none, or what is at fault in it
 abbrev pub item_or : ℕ → (Span → Option Fault) → Option Span → Option Fault
-item_or named part None = Some (no_item named)
-item_or named part (Some s) = part s
+item_or named part o = there_or (no_item named) part o
 
 -- of an identifier that is named at no place in the file
 abbrev pub item_fault : HeapData → ℕ → Option Fault

@@ -36,10 +36,10 @@ abbrev pub IsGrowth : Change → Type 0
 IsGrowth (Grow more) = ⊤
 IsGrowth other = ⊥
 
--- why a change can't be done
-abbrev pub IsRefused : Change → List ℕ → ChangeFault → Type 0
-IsRefused change old PastEnd = length old < reach_of change
-IsRefused change old Memory = IsGrowth change
+-- with which fault a change can't be done
+abbrev pub FailsWith : Change → List ℕ → ChangeFault → Type 0
+FailsWith change old PastEnd = length old < reach_of change
+FailsWith change old Memory = IsGrowth change
 
 -- one after another
 unfoldable pub AreChanged : List Change → List ℕ → List ℕ → Type 0
@@ -50,4 +50,4 @@ AreChanged (first ∷ rest) old new = (between : List ℕ) × IsChanged first ol
 unfoldable pub StopsAt : List Change → List ℕ → List ℕ → ChangeFault → Type 0
 StopsAt [] old new fault = ⊥
 StopsAt (first ∷ rest) old new fault =
-    ((new ≡ old) × IsRefused first old fault) ⊎ ((between : List ℕ) × IsChanged first old between × StopsAt rest between new fault)
+    ((new ≡ old) × FailsWith first old fault) ⊎ ((between : List ℕ) × IsChanged first old between × StopsAt rest between new fault)

@@ -78,15 +78,15 @@ pub fn flip(image: &mut [u8], at: usize) -> Result<(), ChangeFault>
 
 impl Change<'_> {
     ghost use Rattle.std.specs.Prelude.{◌≡◌, ◌≤◌, length, OnOk, OnErr, IfErr};
-    ghost use Rattle.pst_make.specs.Change.{IsChanged, IsRefused, reach_of};
+    ghost use Rattle.pst_make.specs.Change.{FailsWith, IsChanged, reach_of};
 
     /// Changes an image. PastEnd where the image has not all bytes that are to be changed, or whose check values are to be made
     /// right; Memory where it can't grow. Nothing is changed then.
-    #[tactic(auto, unfolding(crate::specs::Change::IsChanged, crate::specs::Change::IsRefused))]
+    #[tactic(auto, unfolding(crate::specs::Change::IsChanged, crate::specs::Change::FailsWith))]
     pub fn apply(self, image: &mut Vec<u8>) -> Result<(), ChangeFault>
         ensures done { OnOk result (IsChanged self.entry image.old.items image.new.items) }
         ensures fits { OnOk result (reach_of self.entry ≤ length image.old.items) }
-        ensures refused { IfErr result (IsRefused self.entry image.old.items) }
+        ensures refused { IfErr result (FailsWith self.entry image.old.items) }
         ensures same { OnErr result (image.new.items ≡ image.old.items) }
     {
         match self {

@@ -9,13 +9,10 @@ use Rattle.std.specs.declared.cmp.Ordering.TheVariants.{Less, Equal, Greater}
 use Rattle.std.specs.BTreeMap.{is_at}
 use Rattle.std.specs.BTreeSet.{insert_key}
 use Rattle.std.proofs.lemmas.Map.Lookups.{exact_unsigned, btree_set_from_contains}
+use Rattle.pst_fault.proofs.GeneralLemmas.{or_grouped}
 use Rattle.pst_msg.specs.Keys.{Key, pair_cmp, key_cmp, alone_key, with_alone}
 use Rattle.pst_msg.proofs.InsertLemmas.{or_turned, inserted_any, inserted_sorted}
 use Rattle.pst_msg.proofs.KeyOrderLemmas.{pairs_exact, keys_exact, keys_total}
-
-or_grouped : (a b c : Bool) → (a || (b || c)) ≡ ((a || b) || c)
-or_grouped true b c = refl
-or_grouped false b c = refl
 
 -- a test passes at one of them, where it does at one of either kind
 pub any_with : (test : Key → Bool) (xs : List (ℕ × ℕ)) (ks : List Key) → list_any test (with_alone xs ks) ≡ (list_any (λ x. test (alone_key x)) xs || list_any test ks)

@@ -7,6 +7,7 @@ use Rattle.std.proofs.lemmas.Map.Views.{tells_apart, Contains-from_any}
 use Rattle.std.proofs.lemmas.Cmp.{tied_itself, nat_cmp_total}
 use Rattle.pst_block.specs.Block.{bid_key}
 use Rattle.pst_fault.specs.declared.fault.Fault.{Fault}
+use Rattle.pst_fault.proofs.GeneralLemmas.{or_true}
 use Rattle.pst_ndb.specs.Roots.{Roots}
 use Rattle.pst_ndb.specs.Alike.{Alike}
 use Rattle.pst_msg.specs.declared.keys.Keys.{Keys}
@@ -30,10 +31,6 @@ has_same keys n r s e is = rw (← e.0, ← e.1) is
 
 itself : (q : Key) → is_at (key_cmp q) q ≡ true
 itself q = rw (tied_itself nat_cmp_total q.0.0, tied_itself nat_cmp_total q.0.1, tied_itself nat_cmp_total q.1) refl
-
-or_true : (b : Bool) → b || true ≡ true
-or_true true = refl
-or_true false = refl
 
 any_of : (q : Key) (ks : List Key) → Contains ks q → list_any (is_at (key_cmp q)) ks ≡ true
 any_of q [] w = absurd (omega (arith, w.1))

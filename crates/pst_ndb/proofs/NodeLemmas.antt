@@ -16,6 +16,7 @@ use Rattle.pst_ndb.specs.Entries.{block_table, node_list}
 use Rattle.pst_fault.specs.declared.fault.Fault.{Fault}
 use Rattle.pst_fault.specs.Each.{first_of}
 use Rattle.pst_fault.proofs.FirstLemmas.{none_then, both_none}
+use Rattle.pst_fault.proofs.ToldLemmas.{none_told, told_none}
 use Rattle.pst_page.specs.declared.entry.NodeEntry.{NodeEntry}
 use Rattle.pst_block.specs.Table.{Table}
 use Rattle.pst_ndb.specs.Fault.{node_fault, nodes_fault, file_fault, ndb_fault}
@@ -23,27 +24,20 @@ use Rattle.pst_ndb.specs.Space.{space_fault}
 
 -- ---- nodes without fault
 
-mapped_none : {A B : Type 0} (f : A → B) (o : Option A) → o ≡ None → option_map f o ≡ None
-mapped_none f o e = rw e refl
-
-none_mapped : {A B : Type 0} (f : A → B) (o : Option A) → option_map f o ≡ None → o ≡ None
-none_mapped f None e = refl
-none_mapped f (Some a) e = absurd cc
-
 -- a node has no fault exactly where its data has none and its subnodes have none
 pub node_none : (t : Table) (e : NodeEntry) → data_fault t e.bid_data ≡ None → sub_fault t LISTS e.bid_sub ≡ None → node_fault t e ≡ None
 unfolding node_fault
-node_none t e content subs = both_none _ _ (mapped_none (at_node e.nid) (data_fault t e.bid_data) content) (mapped_none (at_top e.bid_sub e.nid) (sub_fault t LISTS e.bid_sub) subs)
+node_none t e content subs = both_none _ _ (none_told (at_node e.nid) (data_fault t e.bid_data) content) (none_told (at_top e.bid_sub e.nid) (sub_fault t LISTS e.bid_sub) subs)
 
 none_both : (t : Table) (e : NodeEntry) → node_fault t e ≡ None → (option_map (at_node e.nid) (data_fault t e.bid_data) ≡ None) × (option_map (at_top e.bid_sub e.nid) (sub_fault t LISTS e.bid_sub) ≡ None)
 unfolding node_fault
 none_both t e none = none_then _ _ none
 
 pub none_data : (t : Table) (e : NodeEntry) → node_fault t e ≡ None → data_fault t e.bid_data ≡ None
-none_data t e none = none_mapped (at_node e.nid) (data_fault t e.bid_data) (none_both t e none).0
+none_data t e none = told_none (at_node e.nid) (data_fault t e.bid_data) (none_both t e none).0
 
 pub none_subs : (t : Table) (e : NodeEntry) → node_fault t e ≡ None → sub_fault t LISTS e.bid_sub ≡ None
-none_subs t e none = none_mapped (at_top e.bid_sub e.nid) (sub_fault t LISTS e.bid_sub) (none_both t e none).1
+none_subs t e none = told_none (at_top e.bid_sub e.nid) (sub_fault t LISTS e.bid_sub) (none_both t e none).1
 
 -- a node that is found has none
 pub found_sound : (t : Table) (entries : List NodeEntry) (nid : ℕ) (e : NodeEntry) → nodes_fault t entries ≡ None → node_with nid entries ≡ Some e → node_fault t e ≡ None

@@ -28,7 +28,7 @@ entries_from_end I ib i le =
 
 -- ---- how many
 
-places_count : (at width count : ℕ) → length (places at width count) ≡ count
+pub places_count : (at width count : ℕ) → length (places at width count) ≡ count
 places_count at width zero = refl
 places_count at width (suc count) = let e : length (places (at + width) width count) ≡ count = places_count (at + width) width count in rw e refl
 

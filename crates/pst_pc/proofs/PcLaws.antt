@@ -6,8 +6,10 @@ use Rattle.pst_block.specs.Table.{Table}
 use Rattle.pst_ndb.specs.Roots.{Roots}
 use Rattle.pst_fault.specs.Each.{first_of}
 use Rattle.pst_fault.proofs.EachLemmas.{of_none, none_of}
+use Rattle.pst_fault.proofs.ToldLemmas.{none_told}
+use Rattle.pst_heap.specs.Fault.{told_under}
 use Rattle.pst_heap.specs.Values.{user_root_of, user_root_place, heap_at}
-use Rattle.pst_heap.proofs.HeapLaws.{none_heap, heap_none, client_law, none_told}
+use Rattle.pst_heap.proofs.HeapLaws.{none_heap, heap_none, client_law}
 use Rattle.pst_bth.specs.Values.{bth_records, record_key}
 use Rattle.pst_bth.specs.Fault.{bth_fault}
 use Rattle.pst_bth.specs.Grammar.{IsBth}
@@ -45,7 +47,7 @@ pc_law t r = (
       let h = heap_at t r in
       let is = records_law t r w.0 pc in
       let values : first_of (property_fault t r) (pc_records t r) ≡ None = rw (← is) (of_none (property_fault t r) w.0 (λ x c. (property_law t r x).0 (pc.values x c))) in
-      none_told r _ (both_none _ _ (heap_none h pc.heap) (both_none _ _ ((client_law h pc_client).0 pc.client) (both_none _ _ ((bth_law h pc_sizes (user_root_place h) (user_root_of h) w.0).0 pc.bth).0 values)))),
+      none_told (told_under r) _ (both_none _ _ (heap_none h pc.heap) (both_none _ _ ((client_law h pc_client).0 pc.client) (both_none _ _ ((bth_law h pc_sizes (user_root_place h) (user_root_of h) w.0).0 pc.bth).0 values)))),
   (λ none.
       let f = facts t r none in (
         pc_records t r,

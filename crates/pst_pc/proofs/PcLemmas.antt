@@ -17,7 +17,7 @@ use Rattle.pst_heap.specs.Fault.{heap_fault, client_fault, told_under}
 use Rattle.pst_bth.specs.Values.{bth_records, record_key, record_span}
 use Rattle.pst_bth.specs.Fault.{bth_fault}
 use Rattle.pst_bth.proofs.BthLaws.{name_law}
-use Rattle.pst_bth.proofs.RecordLemmas.{found_span}
+use Rattle.pst_bth.proofs.RecordLemmas.{found_span, found_part, found_made, nothing_made}
 use Rattle.pst_value.specs.Fault.{value_fault}
 use Rattle.pst_value.proofs.ValueLaws.{place_law}
 use Rattle.pst_pc.specs.Fault.{property_fault, untold_pc_fault, pc_fault}
@@ -90,42 +90,17 @@ first_sound t r xs rest x id none is = same_place t r id x.0 x.1 ∙ each_first 
 pub rest_sound : (t : Table) (r : Roots) (xs rest : List (ℕ × Span)) (x : ℕ × Span) → first_of (property_fault t r) xs ≡ None → xs ≡ x ∷ rest → first_of (property_fault t r) rest ≡ None
 rest_sound t r xs rest x none is = each_rest (property_fault t r) xs rest x none is
 
-found_part : (t : Table) (r : Roots) (xs : List (ℕ × Span)) (key : ℕ) (x : ℕ × Span) → first_of (property_fault t r) xs ≡ None → first_with record_key key xs ≡ Some x → property_fault t r x ≡ None
-unfolding first_with first_of
-found_part t r [] key x none is = absurd cc
-found_part t r (y ∷ rest) key x none is =
-    let both = none_then (property_fault t r y) (first_of (property_fault t r) rest) none in
-    by_test (eqb (record_key y) key) both.0 (λ e. found_part t r rest key x both.1 e) is
-  where
-    by_test : (b : Bool) → property_fault t r y ≡ None → (first_with record_key key rest ≡ Some x → property_fault t r x ≡ None) → cond b (Some y) (first_with record_key key rest) ≡ Some x → property_fault t r x ≡ None
-    by_test true first later e = let same : y ≡ x = cc in rw (← same) first
-    by_test false first later e = later e
-
-first_mapped : (t : Table) (r : Roots) (key : ℕ) (xs : List (ℕ × Span)) → first_with id_of key (map (property_at t r) xs) ≡ option_map (property_at t r) (first_with record_key key xs)
-unfolding first_with
-first_mapped t r key [] = refl
-first_mapped t r key (x ∷ rest) = by_test (eqb (record_key x) key) (first_mapped t r key rest)
-  where
-    by_test : (b : Bool) → first_with id_of key (map (property_at t r) rest) ≡ option_map (property_at t r) (first_with record_key key rest)
-        → cond b (Some (property_at t r x)) (first_with id_of key (map (property_at t r) rest)) ≡ option_map (property_at t r) (cond b (Some x) (first_with record_key key rest))
-    by_test true ih = refl
-    by_test false ih = ih
-
 pub found_sound : (t : Table) (r : Roots) (key : ℕ) (s : Span) → pc_fault t r ≡ None → Some s ≡ option_map record_span (first_with record_key key (pc_records t r)) → property_fault t r (key, s) ≡ None
 found_sound t r key s none is =
     let xs = pc_records t r in
-    found_part t r xs key (key, s) (has_records t r none) (found_span key s xs is)
+    found_part (property_fault t r) xs key (key, s) (has_records t r none) (found_span key s xs is)
 
 pub found_property : (t : Table) (r : Roots) (key : ℕ) (s : Span) → Some s ≡ option_map record_span (first_with record_key key (pc_records t r)) → first_with id_of key (props_of t r) ≡ Some (property_at t r (key, s))
 unfolding props_of
 found_property t r key s is =
     let xs = pc_records t r in
-    first_mapped t r key xs ∙ ap (option_map (property_at t r)) (found_span key s xs is)
-
-nothing_mapped : (found : Option (ℕ × Span)) (t : Table) (r : Roots) → None ≡ option_map record_span found → option_map (property_at t r) found ≡ None
-nothing_mapped None t r e = refl
-nothing_mapped (Some x) t r e = absurd cc
+    found_made id_of (property_at t r) key xs (λ x. refl) ∙ ap (option_map (property_at t r)) (found_span key s xs is)
 
 pub found_nothing : (t : Table) (r : Roots) (key : ℕ) → None ≡ option_map record_span (first_with record_key key (pc_records t r)) → first_with id_of key (props_of t r) ≡ None
 unfolding props_of
-found_nothing t r key is = first_mapped t r key (pc_records t r) ∙ nothing_mapped (first_with record_key key (pc_records t r)) t r is
+found_nothing t r key is = found_made id_of (property_at t r) key (pc_records t r) (λ x. refl) ∙ nothing_made (property_at t r) (first_with record_key key (pc_records t r)) is

@@ -4,25 +4,13 @@ use super::*;
 use pst_bytes::Image;
 use pst_datatree::Value;
 use pst_fault::Fault;
-use pst_make::{BlockPlan, NodePlan, Plan, build, m0_plan};
+use pst_make::Change::Set;
+use pst_make::{BlockPlan, Change, NodePlan, Plan, build, change_all, m0_plan};
 use pst_ndb::check_ndb;
 use pst_value::{PropType, as_guid, as_i32, bytes_from, units16};
 use std::alloc::Global;
 use std::process::Abort;
 use std::test::Fail;
-
-// Bytes set from an offset of a block on.
-type Change<'a> = (usize, &'a [u8]);
-
-fn change_all(body: &mut [u8], changes: &[Change]) -> Result<(), Fail> {
-    for (at, bytes) in changes {
-        for (i, byte) in bytes.iter().enumerate() {
-            let there = body.get_mut(at.saturating_add(i)).ok_or("past the end")?;
-            *there = *byte;
-        }
-    }
-    Ok(())
-}
 
 // The small store with bytes of one of its blocks changed.
 fn m0_with(alloc: Global, block: usize, changes: &[Change]) -> Result<Vec<u8>, Fail> {
@@ -105,31 +93,40 @@ fn is_answered<R: Abort>(
 
 // Changes to the block of the message store, 0x21, and what is answered of it.
 const STORE_ROWS: [(Change<'static>, &str); 13] = [
-    ((0, &[]), "yes, 3001 1f 4c1c:4d003000"),
+    (Set(0, &[]), "yes, 3001 1f 4c1c:4d003000"),
     (
-        (0, &[0x20, 0, 0xec, 0xbb]),
+        Set(0, &[0x20, 0, 0xec, 0xbb]),
         "no: 21 Heap at 0x4c00 bid 0x4 nid 0x21",
     ),
-    ((3, &[0x7c]), "no: 21 Heap at 0x4c00 bid 0x4 nid 0x21"),
-    ((4, &[0]), "no: 22 HeapId at 0x4c04 bid 0x4 nid 0x21"),
-    ((12, &[0xb4]), "no: 23 Bth at 0x4c0c bid 0x4 nid 0x21"),
-    ((24, &[0x80]), "no: 22 HeapId at 0x4c18 bid 0x4 nid 0x21"),
-    ((24, &[7]), "no: 17 Subnode at 0x4c18 bid 0x4 nid 0x21"),
-    ((24, &[0]), "yes, 3001 1f 0:"),
-    ((22, &[0x40]), "no: 24 Property at 0x4c14 bid 0x4 nid 0x21"),
-    ((22, &[0x40, 0, 0]), "yes, 3001 40 0:"),
-    ((22, &[0x48]), "no: 24 Property at 0x4c14 bid 0x4 nid 0x21"),
-    ((22, &[0x1e]), "yes, 3001 1e 4c1c:4d003000"),
-    ((22, &[0x34, 0x12]), "yes, 3001 1234 4c18:60000000"),
+    (Set(3, &[0x7c]), "no: 21 Heap at 0x4c00 bid 0x4 nid 0x21"),
+    (Set(4, &[0]), "no: 22 HeapId at 0x4c04 bid 0x4 nid 0x21"),
+    (Set(12, &[0xb4]), "no: 23 Bth at 0x4c0c bid 0x4 nid 0x21"),
+    (Set(24, &[0x80]), "no: 22 HeapId at 0x4c18 bid 0x4 nid 0x21"),
+    (Set(24, &[7]), "no: 17 Subnode at 0x4c18 bid 0x4 nid 0x21"),
+    (Set(24, &[0]), "yes, 3001 1f 0:"),
+    (
+        Set(22, &[0x40]),
+        "no: 24 Property at 0x4c14 bid 0x4 nid 0x21",
+    ),
+    (Set(22, &[0x40, 0, 0]), "yes, 3001 40 0:"),
+    (
+        Set(22, &[0x48]),
+        "no: 24 Property at 0x4c14 bid 0x4 nid 0x21",
+    ),
+    (Set(22, &[0x1e]), "yes, 3001 1e 4c1c:4d003000"),
+    (Set(22, &[0x34, 0x12]), "yes, 3001 1234 4c18:60000000"),
 ];
 
 // Changes to the block of the root folder, 0x122.
 const FOLDER_ROWS: [(Change<'static>, &str); 5] = [
-    ((0, &[]), "yes, 3602 3 4c58:05000000"),
-    ((16, &[0x60]), "no: 22 HeapId at 0x4c50 bid 0x8 nid 0x122"),
-    ((16, &[0]), "yes"),
-    ((22, &[0x0b]), "yes, 3602 b 4c58:05"),
-    ((22, &[2]), "yes, 3602 2 4c58:0500"),
+    (Set(0, &[]), "yes, 3602 3 4c58:05000000"),
+    (
+        Set(16, &[0x60]),
+        "no: 22 HeapId at 0x4c50 bid 0x8 nid 0x122",
+    ),
+    (Set(16, &[0]), "yes"),
+    (Set(22, &[0x0b]), "yes, 3602 b 4c58:05"),
+    (Set(22, &[2]), "yes, 3602 2 4c58:0500"),
 ];
 
 #[test]
@@ -172,7 +169,7 @@ const SUBNODES: [u8; 32] = [
 
 // A store of one node, 0x21, with this property context, whose bytes are changed; bit 0 of its block identifiers is set.
 fn store(alloc: Global, changes: &[Change]) -> Result<Vec<u8>, Fail> {
-    let mut properties = PROPERTIES;
+    let mut properties = Vec::from_slice(alloc, &PROPERTIES)?;
     change_all(&mut properties, changes)?;
     let bodies: [(u64, &[u8]); 5] = [
         (4, &properties),
@@ -193,15 +190,15 @@ fn first_faults(rt: HostRuntime) -> Result<(), Fail> {
             "yes, 37 1f 4c4b:410000d8, 1000 1f 4c80:5000530054, 3007 40 0:, 3701 48 4c3b:2803020000000000c000000000000046",
         ),
         (
-            &[(40, &[0x60])],
+            &[Set(40, &[0x60])],
             "no: 24 Property at 0x4c24 bid 0x5 nid 0x21",
         ),
         (
-            &[(40, &[0x60]), (32, &[0x61])],
+            &[Set(40, &[0x60]), Set(32, &[0x61])],
             "no: 17 Subnode at 0x4c20 bid 0x5 nid 0x21",
         ),
         (
-            &[(40, &[0x60]), (32, &[0x61]), (36, &[0, 0])],
+            &[Set(40, &[0x60]), Set(32, &[0x61]), Set(36, &[0, 0])],
             "no: 23 Bth at 0x4c24 bid 0x5 nid 0x21",
         ),
     ];

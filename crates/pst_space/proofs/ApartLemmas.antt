@@ -6,7 +6,7 @@ use Rattle.std.proofs.lemmas.Bool.{cases_lt, le-leb, lt-leb, lt-ltb, le-ltb, cas
 use Rattle.pst_bytes.specs.declared.span.Span.{Span}
 use Rattle.pst_space.specs.Claimed.{Claimed, first_unit, unit_count, flag_of, IsUnits, is_clear, with_span, with_spans, claim_of, claim_all}
 use Rattle.pst_bytes.specs.Span.{IsApartFrom, IsApartFromAll, end_of_span}
-use Rattle.pst_fault.proofs.GeneralLemmas.{true_false, some_is, none_is}
+use Rattle.pst_fault.proofs.GeneralLemmas.{true_false, some_is, none_is, clear_and}
 use Rattle.pst_space.specs.Apart.{AreApart, AreUnits, AreFree, covers, is_covered, ClaimsLaw, ApartLaw, FlagsLaw}
 use Rattle.pst_space.proofs.MapLemmas.{length_with_span}
 use Rattle.pst_space.proofs.MarkLemmas.{filled_in, filled_out, clear_filled, overlap, unset, clear_beyond}
@@ -119,14 +119,10 @@ apart_law units spans us = (
 
 -- ---- free of what is claimed
 
-not_true : (b c : Bool) → (not b && c) ≡ true → (b ≡ false) × (c ≡ true)
-not_true true c e = absurd cc
-not_true false c e = (refl, e)
-
 clear_free : (m : Claimed) (a n unit : ℕ) → is_clear m a n ≡ true → a ≤ unit → unit < a + n → flag_of m unit ≡ false
 clear_free m a zero unit e le lt = absurd (omega arith)
 clear_free m a (suc n) unit e le lt =
-    let both = not_true (flag_of m a) (is_clear m (a + 1) n) e in
+    let both = clear_and (flag_of m a) (is_clear m (a + 1) n) e in
     elim (cases_lt a unit) [
       | inl more ↦ clear_free m (a + 1) n unit both.1 (omega arith) (omega arith)
       | inr same ↦ let here : unit ≡ a = omega arith in ap (flag_of m) here ∙ both.0

@@ -112,16 +112,16 @@ none_same_by t limit a b e h = by_test (is_no_block b) refl limit h
         let p = none_then (list_fault t a) (first_of (entry_fault t (sub_fault t n)) (subs_of t a)) (sym (sub_fault_list t (suc n) n a (omega arith) (none_same a b e ∙ f)) ∙ k) in
         sub_fault_list t (suc n) n b (omega arith) f ∙ (then_none _ _ (list_none_same t a b e p.0) ∙ rw (← subs_same t a b e) p.1)
 
-height_same : (t : Table) (limit a b : ℕ) → bid_key a ≡ bid_key b → sub_height t limit a ≡ sub_height t limit b
+pub height_of_same : (t : Table) (limit a b : ℕ) → bid_key a ≡ bid_key b → sub_height t limit a ≡ sub_height t limit b
 unfolding sub_height
-height_same t zero a b e = refl
-height_same t (suc n) a b e = rw (none_same a b e, subs_same t a b e) refl
+height_of_same t zero a b e = refl
+height_of_same t (suc n) a b e = rw (none_same a b e, subs_same t a b e) refl
 
 pub same_sub_law : SameSubLaw
 same_sub_law t a b e = (
   subs_same t a b e,
   (λ n. (none_same_by t n a b e, none_same_by t n b a (sym e))),
-  (λ n. height_same t n a b e),
+  (λ n. height_of_same t n a b e),
 )
 
 -- ---- one by one, for what stands above

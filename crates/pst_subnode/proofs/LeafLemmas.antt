@@ -5,12 +5,13 @@ use Rattle.std.specs.List.{list_any}
 use Rattle.std.proofs.lemmas.Bool.Decides.{nat_tests}
 use Rattle.pst_fault.specs.First.{◌then◌, holds_or, first_below, join_below}
 use Rattle.pst_fault.proofs.FirstLemmas.{then_none, none_then, none_below, holds_or_none, holds_or_true, guard_then}
-use Rattle.pst_fault.proofs.EachLemmas.{first_append}
+use Rattle.pst_fault.proofs.EachLemmas.{first_append, there_is}
+use Rattle.pst_fault.proofs.GeneralLemmas.{or_grouped}
 use Rattle.pst_page.specs.declared.entry.BlockEntry.{BlockEntry}
 use Rattle.pst_block.specs.Table.{Table, entry_of, body_of}
 use Rattle.pst_datatree.specs.Bid.{is_internal, is_no_block}
 use Rattle.pst_datatree.specs.Data.{block_missing}
-use Rattle.pst_datatree.proofs.DataLemmas.{fault_or_none}
+use Rattle.pst_datatree.proofs.PartsLemmas.{internal_is_block}
 use Rattle.pst_subnode.specs.declared.sub.Sub.{Sub}
 use Rattle.pst_datatree.specs.List.{count_in}
 use Rattle.pst_subnode.specs.Body.{leaf_bid_in, is_siblock, has_level_one}
@@ -57,11 +58,7 @@ si_head t bid e is = omega (arith, si_fits t bid e is)
 
 any_append : (n : ℕ → Bool) (xs ys : List ℕ) → list_any n (xs ++ ys) ≡ (list_any n xs || list_any n ys)
 any_append n [] ys = refl
-any_append n (x ∷ rest) ys = rw (any_append n rest ys) (or_assoc (n x) (list_any n rest) (list_any n ys))
-  where
-    or_assoc : (a b c : Bool) → (a || (b || c)) ≡ ((a || b) || c)
-    or_assoc true b c = refl
-    or_assoc false b c = refl
+any_append n (x ∷ rest) ys = rw (any_append n rest ys) (or_grouped (n x) (list_any n rest) (list_any n ys))
 
 parts_distinct : (xs ys : List ℕ) → are_distinct (xs ++ ys) ≡ true → (are_distinct xs ≡ true) × (are_distinct ys ≡ true)
 unfolding are_distinct
@@ -92,10 +89,6 @@ leaf_distinct part (suc n) i h lt =
 
 -- ---- an SLBLOCK of an SIBLOCK
 
-internal_named : (b : ℕ) → is_internal b ≡ true → is_no_block b ≡ false
-unfolding is_internal is_no_block
-internal_named b h = grind (arith, nat_tests)
-
 -- it is a list of its own, with the same entries
 pub record IsLeafList (t : Table) (body : List ℕ) (i : ℕ) : Type 0 where
   pub is_list : IsList t (leaf_bid_in body i)
@@ -105,7 +98,7 @@ pub record IsLeafList (t : Table) (body : List ℕ) (i : ℕ) : Type 0 where
 leaf_with : (t : Table) (body : List ℕ) (i : ℕ) (x : BlockEntry) → entry_of t (leaf_bid_in body i) ≡ Some x → is_internal (leaf_bid_in body i) ≡ true → slblock_fault t x ≡ None → are_distinct (map sub_nid (leaf_subs t body i)) ≡ true → IsLeafList t body i
 unfolding leaf_subs slblock_fault list_fault list_block_fault shape_fault block_subs subs_of rank_of
 leaf_with t body i x there internal none distinct =
-    let named = internal_named (leaf_bid_in body i) internal in
+    let named = internal_is_block (leaf_bid_in body i) internal in
     let level : has_level_one (body_of t x) ≡ false = level_zero (body_of t x) (holds_or_none _ _ none) in
     let apart : are_distinct (map sub_nid (slblock_subs t x)) ≡ true = (rw there at distinct) in
     record {
@@ -118,7 +111,7 @@ leaf_is : (t : Table) (e : BlockEntry) (i : ℕ) → list_leaf_fault t e i ≡ N
 unfolding list_leaf_fault
 leaf_is t e i none distinct =
     let bid = leaf_bid_in (body_of t e) i in
-    let w = fault_or_none (block_missing bid) (λ x. if is_internal bid then slblock_fault t x else Some (bad_list e)) (entry_of t bid) none in
+    let w = there_is (block_missing bid) (λ x. if is_internal bid then slblock_fault t x else Some (bad_list e)) (entry_of t bid) none in
     let p = guard_then (is_internal bid) (slblock_fault t w.0) (bad_list e) w.2 in
     leaf_with t (body_of t e) i w.0 w.1 p.0 p.1 distinct
 

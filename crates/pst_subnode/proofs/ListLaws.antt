@@ -6,7 +6,10 @@ use Rattle.std.proofs.lemmas.Bool.Decides.{nat_tests}
 use Rattle.std.proofs.lemmas.Bool.{or_parts}
 use Rattle.pst_fault.specs.declared.fault.Fault.{Fault}
 use Rattle.pst_fault.specs.First.{◌then◌, holds_or, first_below, join_below, AreJoined}
-use Rattle.pst_fault.proofs.FirstLemmas.{none_then, then_none, none_below, holds_or_none, holds_or_true, guard_then}
+use Rattle.pst_fault.proofs.FirstLemmas.{none_then, then_none, holds_or_none, holds_or_true, guard_then}
+use Rattle.pst_fault.proofs.EachLemmas.{there_is}
+use Rattle.pst_fault.proofs.GeneralLemmas.{clear_and}
+use Rattle.pst_fault.proofs.JoinLemmas.{joined_law}
 use Rattle.pst_page.specs.declared.entry.BlockEntry.{BlockEntry}
 use Rattle.pst_block.specs.Table.{Table, entry_of, body_of}
 use Rattle.pst_datatree.specs.Bid.{is_internal}
@@ -17,29 +20,6 @@ use Rattle.pst_datatree.specs.List.{count_in}
 use Rattle.pst_subnode.specs.Body.{leaf_bid_in, is_slblock, is_siblock, has_level_one}
 use Rattle.pst_subnode.specs.List.{subs_at, slblock_subs, leaf_subs, siblock_subs, block_subs, sub_nid, are_distinct, bad_list, slblock_fault, list_leaf_fault, siblock_fault, shape_fault, list_block_fault, list_fault}
 use Rattle.pst_subnode.specs.Relation.{IsSlblock, IsListLeaf, IsSiblock, NamesList}
-
--- parts that are as told, each by its function, are as told together
-module _ (IsPart : ℕ → List Sub → Type 0) (fault : ℕ → Option Fault) (subs : ℕ → List Sub) (law : (i : ℕ) (xs : List Sub) → IsPart i xs ↔ ((fault i ≡ None) × (xs ≡ subs i))) where
-  none_of_parts : (parts : ℕ → List Sub) (n : ℕ) → ((i : ℕ) → i < n → IsPart i (parts i)) → first_below fault n ≡ None
-  none_of_parts parts zero h = refl
-  none_of_parts parts (suc n) h =
-      then_none (first_below fault n) (fault n) (none_of_parts parts n (λ i lt. h i (omega arith))) ∙ ((law n (parts n)).0 (h n (omega arith))).0
-
-  join_of_parts : (parts : ℕ → List Sub) (n : ℕ) → ((i : ℕ) → i < n → IsPart i (parts i)) → join_below parts n ≡ join_below subs n
-  join_of_parts parts zero h = refl
-  join_of_parts parts (suc n) h =
-      ap (λ xs. xs ++ parts n) (join_of_parts parts n (λ i lt. h i (omega arith))) ∙ ap (λ xs. join_below subs n ++ xs) ((law n (parts n)).0 (h n (omega arith))).1
-
-  joined_law : (n : ℕ) (xs : List Sub) → AreJoined IsPart n xs ↔ ((first_below fault n ≡ None) × (xs ≡ join_below subs n))
-  joined_law n xs = (
-    (λ w. (none_of_parts w.0 n w.1, w.2 ∙ join_of_parts w.0 n w.1)),
-    (λ w. (subs, (λ i lt. (law i (subs i)).1 (none_below fault n i w.0 lt, refl)), w.1)),
-  )
-
--- a block that is there, of two that are told apart by a test
-there : (missing : Fault) (part : BlockEntry → Option Fault) (o : Option BlockEntry) → there_or missing part o ≡ None → (e : BlockEntry) × (o ≡ Some e) × (part e ≡ None)
-there missing part None h = cc
-there missing part (Some e) h = (e, refl, h)
 
 -- ---- the blocks
 
@@ -58,7 +38,7 @@ leaf_law t e i xs =
           let b = (slblock_law t w.0 xs).0 w.3 in
           (rw (w.1, w.2) b.0, b.1 ∙ sym (ap (subs_at (slblock_subs t)) w.1))),
       (λ w.
-          let x = there (block_missing bid) (λ e'. if is_internal bid then slblock_fault t e' else Some (bad_list e)) (entry_of t bid) w.0 in
+          let x = there_is (block_missing bid) (λ e'. if is_internal bid then slblock_fault t e' else Some (bad_list e)) (entry_of t bid) w.0 in
           let s = guard_then (is_internal bid) (slblock_fault t x.0) (bad_list e) x.2 in
           (x.0, x.1, s.0, (slblock_law t x.0 xs).1 (s.1, w.1 ∙ ap (subs_at (slblock_subs t)) x.1))),
     )
@@ -99,10 +79,6 @@ shape_law t e xs = (to, from (has_level_one (body_of t e)) refl)
 
 -- ---- no number twice
 
-pub both_true : (a b : Bool) → (not a && b) ≡ true → (a ≡ false) × (b ≡ true)
-both_true true b h = cc
-both_true false b h = (refl, h)
-
 others_law : (n : ℕ) (xs : List ℕ) → AllByRecursion (λ m. nat_eq n m ≡ false) xs ↔ (list_any (nat_eq n) xs ≡ false)
 others_law n [] = ((λ w. refl), (λ w. tt))
 others_law n (x ∷ rest) = (
@@ -115,7 +91,7 @@ unfolding are_distinct IsDistinct
 distinct_law [] = ((λ w. refl), (λ w. tt))
 distinct_law (x ∷ rest) = (
   (λ w. rw ((others_law x rest).0 w.0, (distinct_law rest).0 w.1) refl),
-  (λ w. let p = both_true (list_any (nat_eq x) rest) (are_distinct rest) w in ((others_law x rest).1 p.0, (distinct_law rest).1 p.1)),
+  (λ w. let p = clear_and (list_any (nat_eq x) rest) (are_distinct rest) w in ((others_law x rest).1 p.0, (distinct_law rest).1 p.1)),
 )
 
 -- ---- a block identifier
@@ -128,7 +104,7 @@ names_law t bid xs = (
       let apart : are_distinct (map sub_nid (block_subs t w.0)) ≡ true = rw (← p.1) ((distinct_law (map sub_nid xs)).0 w.4) in
       (rw (w.1, w.2) (then_none _ _ p.0 ∙ holds_or_true _ _ apart), p.1 ∙ sym (ap (subs_at (block_subs t)) w.1))),
   (λ w.
-      let x = there (block_missing bid) (λ e. if is_internal bid then (shape_fault t e then holds_or (are_distinct (map sub_nid (block_subs t e))) (bad_list e)) else Some (bad_list e)) (entry_of t bid) w.0 in
+      let x = there_is (block_missing bid) (λ e. if is_internal bid then (shape_fault t e then holds_or (are_distinct (map sub_nid (block_subs t e))) (bad_list e)) else Some (bad_list e)) (entry_of t bid) w.0 in
       let s = guard_then (is_internal bid) _ (bad_list x.0) x.2 in
       let p = none_then (shape_fault t x.0) _ s.1 in
       let is : xs ≡ block_subs t x.0 = w.1 ∙ ap (subs_at (block_subs t)) x.1 in

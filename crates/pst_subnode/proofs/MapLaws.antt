@@ -3,7 +3,7 @@ use Rattle.std.proofs.Common.{◌≡◌, ℕ, zero, suc, ◌<◌, Bool, true, fa
 use Rattle.std.specs.Prelude.{cond, nat_eq, ◌||◌, slice_index_or}
 use Rattle.std.specs.List.{list_any, Contains}
 use Rattle.pst_fault.proofs.FirstLemmas.{none_then}
-use Rattle.pst_fault.proofs.GeneralLemmas.{number_of_test, test_of_number}
+use Rattle.pst_fault.proofs.GeneralLemmas.{number_of_test, test_of_number, clear_and, or_true}
 use Rattle.pst_block.specs.Table.{Table}
 use Rattle.pst_btree.specs.Entries.{first_with}
 use Rattle.pst_datatree.specs.Bid.{is_no_block}
@@ -13,7 +13,7 @@ use Rattle.pst_subnode.specs.Tree.{entry_fault, nesting, sub_fault}
 use Rattle.pst_fault.specs.Each.{first_of}
 use Rattle.pst_datatree.specs.Data.{data_fault}
 use Rattle.pst_subnode.specs.Laws.{MapLaw, FoundLaw}
-use Rattle.pst_subnode.proofs.ListLaws.{names_law, distinct_law, both_true}
+use Rattle.pst_subnode.proofs.ListLaws.{names_law, distinct_law}
 use Rattle.pst_subnode.proofs.SubLemmas.{sub_fault_below, sub_fault_list, sub_fault_more}
 use Rattle.pst_subnode.proofs.TreeLaws.{no_subs, named_subs, entry_law}
 
@@ -37,10 +37,6 @@ nid_there : (xs : List Sub) (s : Sub) → Contains xs s → list_any (nat_eq s.n
 nid_there [] s w = absurd (omega (arith, w.1))
 nid_there (x ∷ rest) s w = by_place w.0 w.1 w.2 (λ v. nid_there rest s v)
   where
-    or_true : (b : Bool) → (b || true) ≡ true
-    or_true true = refl
-    or_true false = refl
-
     by_place : (k : ℕ) → k < length (x ∷ rest) → slice_index_or (x ∷ rest) k s ≡ s → (Contains rest s → list_any (nat_eq s.nid) (map sub_nid rest) ≡ true) → (nat_eq s.nid x.nid || list_any (nat_eq s.nid) (map sub_nid rest)) ≡ true
     by_place zero lt is later = rw (test_of_number s.nid x.nid (sym (ap sub_nid is))) refl
     by_place (suc k) lt is later = rw (later (k, omega arith, is)) (or_true (nat_eq s.nid x.nid))
@@ -49,7 +45,7 @@ nid_there (x ∷ rest) s w = by_place w.0 w.1 w.2 (λ v. nid_there rest s v)
 there_found : (nid : ℕ) (xs : List Sub) (s : Sub) → are_distinct (map sub_nid xs) ≡ true → Contains xs s → s.nid ≡ nid → first_with sub_nid nid xs ≡ Some s
 unfolding first_with are_distinct
 there_found nid [] s distinct w is = absurd (omega (arith, w.1))
-there_found nid (x ∷ rest) s distinct w is = by_test (nat_eq x.nid nid) refl w.0 w.1 w.2 (both_true (list_any (nat_eq x.nid) (map sub_nid rest)) (are_distinct (map sub_nid rest)) distinct) (λ d v. there_found nid rest s d v is)
+there_found nid (x ∷ rest) s distinct w is = by_test (nat_eq x.nid nid) refl w.0 w.1 w.2 (clear_and (list_any (nat_eq x.nid) (map sub_nid rest)) (are_distinct (map sub_nid rest)) distinct) (λ d v. there_found nid rest s d v is)
   where
     by_test : (v : Bool) → nat_eq x.nid nid ≡ v → (k : ℕ) → k < length (x ∷ rest) → slice_index_or (x ∷ rest) k s ≡ s → (list_any (nat_eq x.nid) (map sub_nid rest) ≡ false) × (are_distinct (map sub_nid rest) ≡ true) → (are_distinct (map sub_nid rest) ≡ true → Contains rest s → first_with sub_nid nid rest ≡ Some s) → cond v (Some x) (first_with sub_nid nid rest) ≡ Some s
     by_test true e zero lt same d later = ap Some same

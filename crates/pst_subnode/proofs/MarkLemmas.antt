@@ -52,11 +52,6 @@ unfolding sub_fault
 fault_same t zero a b e none = rw (none_same a b e) refl
 fault_same t (suc k) a b e none = rw (none_same a b e, none, list_none_same t a b e none, subs_same t a b e) refl
 
-pub height_of_same : (t : Table) (k a b : ℕ) → bid_key a ≡ bid_key b → sub_height t k a ≡ sub_height t k b
-unfolding sub_height
-height_of_same t zero a b e = refl
-height_of_same t (suc k) a b e = rw (none_same a b e, subs_same t a b e) refl
-
 -- ---- ranks
 
 pub rank_small : (t : Table) (bid : ℕ) → rank_of t bid ≤ 1

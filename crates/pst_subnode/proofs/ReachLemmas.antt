@@ -6,13 +6,13 @@ use Rattle.std.proofs.lemmas.Bool.Decides.{nat_tests}
 use Rattle.std.proofs.lemmas.List.Elements.{Contains-append_cases}
 use Rattle.pst_fault.specs.First.{◌then◌, holds_or, join_below}
 use Rattle.pst_fault.proofs.FirstLemmas.{none_then, holds_or_none, guard_then}
+use Rattle.pst_fault.proofs.EachLemmas.{there_is}
 use Rattle.pst_page.specs.declared.entry.BlockEntry.{BlockEntry}
 use Rattle.pst_block.specs.Block.{bid_key}
 use Rattle.pst_block.specs.Table.{Table, entry_of, body_of}
 use Rattle.pst_datatree.specs.Bid.{is_internal, is_no_block}
 use Rattle.pst_datatree.specs.Data.{block_missing}
 use Rattle.pst_datatree.specs.Names.{IsInternal, IsInTree}
-use Rattle.pst_datatree.proofs.DataLemmas.{fault_or_none}
 use Rattle.pst_datatree.proofs.AddLemmas.{is_internal_same, entry_key}
 use Rattle.pst_subnode.specs.declared.sub.Sub.{Sub}
 use Rattle.pst_datatree.specs.List.{btype_in, count_in}
@@ -52,7 +52,7 @@ pub record IsListBlock (t : Table) (bid : ℕ) (e : BlockEntry) : Type 0 where
 pub list_block : (t : Table) (bid : ℕ) → list_fault t bid ≡ None → (e : BlockEntry) × IsListBlock t bid e
 unfolding list_fault list_block_fault
 list_block t bid none =
-    let w = fault_or_none (block_missing bid) (λ e. if is_internal bid then list_block_fault t e else Some (bad_list e)) (entry_of t bid) none in
+    let w = there_is (block_missing bid) (λ e. if is_internal bid then list_block_fault t e else Some (bad_list e)) (entry_of t bid) none in
     let p = guard_then (is_internal bid) (list_block_fault t w.0) (bad_list w.0) w.2 in
     (w.0, record { internal = (w.1, p.0); shape = (none_then (shape_fault t w.0) _ p.1).0 })
 

@@ -28,7 +28,8 @@ use Rattle.pst_subnode.specs.Body.{leaf_bid_in}
 use Rattle.pst_subnode.proofs.LeafLemmas.{si_fault}
 use Rattle.pst_subnode.proofs.SubLemmas.{sub_fault_below}
 use Rattle.pst_subnode.proofs.HeightLemmas.{list_or_deep, depth_law, height_same, fits_yes, fits_no}
-use Rattle.pst_subnode.proofs.MarkLemmas.{IsPut, IsSame, put_cases, fault_same, height_of_same, rank_same, rank_one, come_on, mark_come, marked_nests}
+use Rattle.pst_subnode.proofs.HeightLaws.{height_of_same}
+use Rattle.pst_subnode.proofs.MarkLemmas.{IsPut, IsSame, put_cases, fault_same, rank_same, rank_one, come_on, mark_come, marked_nests}
 
 -- ---- what is known stays true
 

@@ -18,7 +18,7 @@ use Rattle.pst_ndb.specs.pst_subnode.List.{sub_nid, subs_of}
 use Rattle.pst_ndb.proofs.pst_subnode.HeightLaws.{subs_same}
 use Rattle.pst_ndb.specs.Roots.{Roots, sub_roots, subnode_of}
 use Rattle.pst_heap.specs.Values.{HeapData, heap_at, user_root_of, user_root_place, item_of}
-use Rattle.pst_heap.specs.Fault.{heap_fault, client_fault, item_or, told_under}
+use Rattle.pst_heap.specs.Fault.{heap_fault, client_fault, item_or, no_item, told_under}
 use Rattle.pst_bth.specs.Fault.{bth_fault}
 use Rattle.pst_bth.specs.Values.{bth_records}
 use Rattle.pst_ndb.specs.Alike.{Alike}
@@ -135,10 +135,6 @@ body_alike t r s e i =
     ∙ ap (λ (m : Option Fault). body_with t.image i (heap_at t s) m (first_of (row_record_fault t r i) (tc_records t r i))) (named_alike t r s i e)
     ∙ ap (body_with t.image i (heap_at t s) (matrix_fault t s i)) (records_fault_alike t r s i e)
 
-item_same : (named : ℕ) (part other : Span → Option Fault) (o : Option Span) → ((x : Span) → part x ≡ other x) → item_or named part o ≡ item_or named other o
-item_same named part other None same = refl
-item_same named part other (Some x) same = same x
-
 abbrev fault_with : HeapData → (Span → Option Fault) → Option Fault
 fault_with h body = heap_fault h then client_fault tc_client h then item_or (user_root_place h) body (item_of h (user_root_of h))
 
@@ -148,7 +144,7 @@ untold_alike t r s e =
     let h = heap_at t s in
     ap (λ (h : HeapData). fault_with h (tc_body_fault t r)) (heap_alike t r s e)
     ∙ ap (λ (o : Option Fault). heap_fault h then client_fault tc_client h then o)
-    (item_same (user_root_place h) (tc_body_fault t r) (tc_body_fault t s) (item_of h (user_root_of h)) (body_alike t r s e))
+    (there_same (no_item (user_root_place h)) (tc_body_fault t r) (tc_body_fault t s) (item_of h (user_root_of h)) (body_alike t r s e))
 
 none_alike : (t : Table) (r s : Roots) → untold_tc_fault t r ≡ untold_tc_fault t s → tc_fault t r ≡ None → tc_fault t s ≡ None
 unfolding tc_fault

@@ -12,7 +12,7 @@ use Rattle.pst_heap.specs.Values.{heap_at}
 use Rattle.pst_bth.specs.Values.{record_key, record_span}
 use Rattle.pst_bth.specs.Fault.{bth_fault}
 use Rattle.pst_bth.proofs.BthLaws.{name_law}
-use Rattle.pst_bth.proofs.RecordLemmas.{found_span}
+use Rattle.pst_bth.proofs.RecordLemmas.{found_span, found_part, found_made, nothing_made}
 use Rattle.pst_value.specs.Values.{hnid_spans}
 use Rattle.pst_value.specs.Fault.{value_fault}
 use Rattle.pst_value.proofs.ValueLaws.{place_law}
@@ -81,27 +81,6 @@ cell_sound t r s row c none p y =
 
 -- ---- a row that is found
 
-found_part : (part : ℕ × Span → Option Fault) (xs : List (ℕ × Span)) (key : ℕ) (x : ℕ × Span) → first_of part xs ≡ None → first_with record_key key xs ≡ Some x → part x ≡ None
-unfolding first_with first_of
-found_part part [] key x none is = absurd cc
-found_part part (y ∷ rest) key x none is =
-    let both = none_then (part y) (first_of part rest) none in
-    by_test (eqb (record_key y) key) both.0 (λ e. found_part part rest key x both.1 e) is
-  where
-    by_test : (b : Bool) → part y ≡ None → (first_with record_key key rest ≡ Some x → part x ≡ None) → cond b (Some y) (first_with record_key key rest) ≡ Some x → part x ≡ None
-    by_test true first later e = let same : y ≡ x = cc in rw (← same) first
-    by_test false first later e = later e
-
-first_mapped : (t : Table) (r : Roots) (key : ℕ) (xs : List (ℕ × Span)) → first_with row_id_of key (map (row_parts_at t r) xs) ≡ option_map (row_parts_at t r) (first_with record_key key xs)
-unfolding first_with
-first_mapped t r key [] = refl
-first_mapped t r key (x ∷ rest) = by_test (eqb (record_key x) key) (first_mapped t r key rest)
-  where
-    by_test : (b : Bool) → first_with row_id_of key (map (row_parts_at t r) rest) ≡ option_map (row_parts_at t r) (first_with record_key key rest)
-        → cond b (Some (row_parts_at t r x)) (first_with row_id_of key (map (row_parts_at t r) rest)) ≡ option_map (row_parts_at t r) (cond b (Some x) (first_with record_key key rest))
-    by_test true ih = refl
-    by_test false ih = ih
-
 pub found_sound : (t : Table) (r : Roots) (s : Span) (key : ℕ) (number : Span) → tc_body_fault t r s ≡ None → Some number ≡ option_map record_span (first_with record_key key (tc_records t r s)) → row_record_fault t r s (key, number) ≡ None
 found_sound t r s key number none is =
     let xs = tc_records t r s in
@@ -111,14 +90,10 @@ pub found_row : (t : Table) (r : Roots) (key : ℕ) (number : Span) → Some num
 unfolding tc_rows
 found_row t r key number is =
     let xs = tc_records t r (info_of t r) in
-    first_mapped t r key xs ∙ ap (option_map (row_parts_at t r)) (found_span key number xs is)
-
-nothing_mapped : (found : Option (ℕ × Span)) (t : Table) (r : Roots) → None ≡ option_map record_span found → option_map (row_parts_at t r) found ≡ None
-nothing_mapped None t r e = refl
-nothing_mapped (Some x) t r e = absurd cc
+    found_made row_id_of (row_parts_at t r) key xs (λ x. refl) ∙ ap (option_map (row_parts_at t r)) (found_span key number xs is)
 
 pub found_nothing : (t : Table) (r : Roots) (key : ℕ) → None ≡ option_map record_span (first_with record_key key (tc_records t r (info_of t r))) → first_with row_id_of key (tc_rows t r) ≡ None
 unfolding tc_rows
 found_nothing t r key is =
     let xs = tc_records t r (info_of t r) in
-    first_mapped t r key xs ∙ nothing_mapped (first_with record_key key xs) t r is
+    found_made row_id_of (row_parts_at t r) key xs (λ x. refl) ∙ nothing_made (row_parts_at t r) (first_with record_key key xs) is

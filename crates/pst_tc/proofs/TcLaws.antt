@@ -6,13 +6,13 @@ use Rattle.pst_fault.specs.declared.fault.Fault.{Fault}
 use Rattle.pst_fault.proofs.FirstLemmas.{none_then, both_none, holds_or_none, holds_or_true, all_none, none_below}
 use Rattle.pst_block.specs.Table.{Table}
 use Rattle.pst_ndb.specs.Roots.{Roots}
-use Rattle.pst_fault.specs.Each.{first_of, there_or}
+use Rattle.pst_fault.specs.Each.{first_of}
 use Rattle.pst_heap.specs.Values.{item_of}
-use Rattle.pst_heap.specs.Fault.{item_or}
+use Rattle.pst_heap.specs.Fault.{item_or, no_item}
 use Rattle.pst_heap.specs.Values.{user_root_of, user_root_place}
 use Rattle.pst_heap.specs.Values.{heap_at}
 use Rattle.pst_heap.specs.Fault.{told_under}
-use Rattle.pst_heap.proofs.HeapLaws.{none_heap, heap_none, client_law, none_told}
+use Rattle.pst_heap.proofs.HeapLaws.{none_heap, heap_none, client_law}
 use Rattle.pst_bth.specs.Values.{bth_records, record_key}
 use Rattle.pst_bth.specs.Fault.{bth_fault}
 use Rattle.pst_bth.specs.Grammar.{IsBth}
@@ -28,8 +28,8 @@ use Rattle.pst_tc.specs.Fault.{cell_fault, cells_fault, bad_row, row_fault, row_
 use Rattle.pst_tc.specs.Grammar.{HasCell, HasRow, IsTc}
 use Rattle.pst_tc.specs.Grammar.{HasRows}
 use Rattle.pst_tc.specs.Laws.{TcLaw, TcRecordsLaw, TcRiseLaw}
-use Rattle.pst_fault.proofs.EachLemmas.{of_none, none_of}
-use Rattle.pst_fault.proofs.ToldLemmas.{told_none}
+use Rattle.pst_fault.proofs.EachLemmas.{of_none, none_of, there_is}
+use Rattle.pst_fault.proofs.ToldLemmas.{none_told, told_none}
 
 cell_law : (t : Table) (r : Roots) (s : Span) (row c : ℕ) → HasCell t r s row c ↔ (cell_fault t r s row c ≡ None)
 unfolding cell_fault
@@ -53,10 +53,6 @@ cells_law t r s row = (
   (λ e i lt. (cell_law t r s row (column_place s i)).1 (none_below (λ k. cell_fault t r s row (column_place s k)) (column_count t.image s) i e lt)),
 )
 
-there_is : (f : Fault) (part : Span → Option Fault) (o : Option Span) → there_or f part o ≡ None → (x : Span) × (o ≡ Some x) × (part x ≡ None)
-there_is f part None e = absurd cc
-there_is f part (Some x) e = (x, refl, e)
-
 row_law : (t : Table) (r : Roots) (s : Span) (x : ℕ × Span) → HasRow t r s x ↔ (row_record_fault t r s x ≡ None)
 unfolding row_record_fault
 row_law t r s x = (
@@ -74,15 +70,11 @@ info_law I s = (
   (λ e. let b = none_then _ _ e in (holds_or_none _ _ b.0, λ i lt. holds_or_none _ _ (none_below (column_fault I s) (column_count I s) i b.1 lt))),
 )
 
-there_some : (f : Fault) (o : Option (List Span)) → there_or f no_fault o ≡ None → (x : List Span) × (o ≡ Some x)
-there_some f None e = absurd cc
-there_some f (Some x) e = (x, refl)
-
 matrix_law : (t : Table) (r : Roots) (s : Span) → ((spans : List Span) × HasHnid t r (matrix_hnid t.image s) spans) ↔ (matrix_fault t r s ≡ None)
 unfolding matrix_fault
 matrix_law t r s = (
   (λ w. rw ((hnid_law t r (matrix_hnid t.image s) w.0).0 w.1) refl),
-  (λ e. let f = there_some _ (hnid_spans t r (matrix_hnid t.image s)) e in (f.0, (hnid_law t r (matrix_hnid t.image s) f.0).1 f.1)),
+  (λ e. let f = there_is _ no_fault (hnid_spans t r (matrix_hnid t.image s)) e in (f.0, (hnid_law t r (matrix_hnid t.image s) f.0).1 f.1)),
 )
 
 index_none : (t : Table) (r : Roots) (s : Span) → bth_fault (heap_at t r) tc_sizes (index_place s) (index_hid t.image s) ≡ None → IsBth (heap_at t r) tc_sizes (index_hid t.image s) (tc_records t r s)
@@ -116,10 +108,6 @@ none_table t r s e =
       rows = λ x w. (row_law t r s x).1 (none_of (row_record_fault t r s) (tc_records t r s) x c.1 w);
     }
 
-item_there : (named : ℕ) (part : Span → Option Fault) (o : Option Span) → item_or named part o ≡ None → (x : Span) × (o ≡ Some x) × (part x ≡ None)
-item_there named part None e = absurd cc
-item_there named part (Some x) e = (x, refl, e)
-
 pub tc_law : TcLaw
 unfolding tc_fault untold_tc_fault
 tc_law t r = (
@@ -127,12 +115,12 @@ tc_law t r = (
       let h = heap_at t r in
       let tc = w.2 in
       let item : item_or (user_root_place h) (tc_body_fault t r) (item_of h (user_root_of h)) ≡ None = rw tc.item (table_none t r w.0 w.1 tc.body) in
-      none_told r _ (both_none _ _ (heap_none h tc.heap) (both_none _ _ ((client_law h 0x7C).0 tc.client) item))),
+      none_told (told_under r) _ (both_none _ _ (heap_none h tc.heap) (both_none _ _ ((client_law h 0x7C).0 tc.client) item))),
   (λ none.
       let h = heap_at t r in
       let a = none_then _ _ (told_none (told_under r) _ none) in
       let b = none_then _ _ a.1 in
-      let f = item_there (user_root_place h) (tc_body_fault t r) (item_of h (user_root_of h)) b.1 in
+      let f = there_is (no_item (user_root_place h)) (tc_body_fault t r) (item_of h (user_root_of h)) b.1 in
       (f.0, tc_records t r f.0, record { heap = none_heap h a.0; client = (client_law h 0x7C).1 b.0; item = f.1; body = none_table t r f.0 f.2 })),
 )
 

@@ -2,14 +2,12 @@
 use Rattle.std.proofs.Common.{◌≡◌, ℕ, ◌≤◌, Bool, true, false, Option, Some, None, ap, arith, List, [], ◌∷◌, cond, inl, inr}
 use Rattle.std.specs.Prelude.{nat_eq}
 use Rattle.std.proofs.lemmas.Bool.{eqb-true, ne_eqb, cases_eq}
+use Rattle.pst_fault.proofs.GeneralLemmas.{some_is}
 use Rattle.pst_value.specs.declared.class.Class.{Class}
 use Rattle.pst_value.specs.declared.class.Class.TheVariants.{Inline, Eight, Guid, Object, Open, Multi, Opaque}
 use Rattle.pst_value.specs.Class.{is_one_of, class_of, cell_width_of_class, cell_width_of}
 use Rattle.pst_value.specs.Values.{held_of}
 use Rattle.pst_tc.specs.Info.{column_kind, column_width, has_width, is_typed}
-
-some_is : (a b : ℕ) → Some a ≡ Some b → a ≡ b
-some_is a b e = cc
 
 by_class : (c : Class) (len : ℕ) → cell_width_of_class c ≡ Some len → 4 ≤ len
 by_class Inline len e = omega (arith, some_is 4 len e)

@@ -14,19 +14,6 @@ use std::alloc::Global;
 use std::process::Abort;
 use std::test::Fail;
 
-// Bytes set from an offset of a block on.
-type Change<'a> = (usize, &'a [u8]);
-
-fn change_all(body: &mut [u8], changes: &[Change]) -> Result<(), Fail> {
-    for (at, bytes) in changes {
-        for (i, byte) in bytes.iter().enumerate() {
-            let there = body.get_mut(at.saturating_add(i)).ok_or("past the end")?;
-            *there = *byte;
-        }
-    }
-    Ok(())
-}
-
 // The cells of a row that are there, each its tag, its length, where it lies, and its first byte.
 fn cells_of(alloc: Global, tc: Tc, row: Row, line: &mut String) -> Result<(), Fail> {
     for column in tc.columns() {

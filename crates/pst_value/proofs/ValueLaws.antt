@@ -7,6 +7,7 @@ use Rattle.pst_bytes.specs.Image.{num}
 use Rattle.pst_fault.specs.declared.fault.Fault.{Fault}
 use Rattle.pst_fault.specs.Each.{there_or}
 use Rattle.pst_fault.proofs.FirstLemmas.{holds_or_none, holds_or_true}
+use Rattle.pst_fault.proofs.GeneralLemmas.{some_is, or_true}
 use Rattle.pst_block.specs.Table.{Table}
 use Rattle.pst_datatree.specs.Data.{size_of}
 use Rattle.pst_ndb.specs.Roots.{Roots}
@@ -17,9 +18,6 @@ use Rattle.pst_value.specs.Values.{held_of, one_span, data_under, hnid_spans, so
 use Rattle.pst_value.specs.Fault.{missing_at, is_length_of, is_length, length_fault, hnid_fault, value_held_fault, value_fault}
 use Rattle.pst_value.specs.Grammar.{HasHnid, HasLength, HasValueAs, HasValue}
 use Rattle.pst_value.specs.Laws.{ValueLaw, PlaceLaw}
-
-some_is : {X : Type 0} (x y : X) → Some x ≡ Some y → x ≡ y
-some_is x y e = cc
 
 mapped_law : {X : Type 0} (f : X → List Span) (o : Option X) (spans : List Span) → ((s : X) × (o ≡ Some s) × (spans ≡ f s)) ↔ (option_map f o ≡ Some spans)
 mapped_law f None spans = ((λ w. let bad = w.1 in cc), (λ e. absurd cc))
@@ -56,17 +54,14 @@ or_law n b B law = elim (cases_eq n 0) [
   )
 ]
 
-or_true : (n : ℕ) → (nat_eq n 0 || true) ≡ true
-or_true n = elim (cases_eq n 0) [ inl e ↦ rw (eq-eqb _ _ e) refl | inr m ↦ rw (ne_eqb _ _ m) refl ]
-
 class_law : (c : Class) (n : ℕ) → HasLength c n ↔ ((nat_eq n 0 || is_length_of c n) ≡ true)
-class_law Inline n = ((λ w. or_true n), (λ h. tt))
+class_law Inline n = ((λ w. or_true (nat_eq n 0)), (λ h. tt))
 class_law Eight n = or_law n (nat_eq n 8) (n ≡ 8) ((λ e. eq-eqb _ _ e), (λ h. eqb-true _ _ h))
 class_law Guid n = or_law n (nat_eq n 16) (n ≡ 16) ((λ e. eq-eqb _ _ e), (λ h. eqb-true _ _ h))
 class_law Object n = or_law n _ (8 ≤ n) ((λ e. le-leb _ _ e), (λ h. leb-true _ _ h))
-class_law Open n = ((λ w. or_true n), (λ h. tt))
-class_law Multi n = ((λ w. or_true n), (λ h. tt))
-class_law Opaque n = ((λ w. or_true n), (λ h. tt))
+class_law Open n = ((λ w. or_true (nat_eq n 0)), (λ h. tt))
+class_law Multi n = ((λ w. or_true (nat_eq n 0)), (λ h. tt))
+class_law Opaque n = ((λ w. or_true (nat_eq n 0)), (λ h. tt))
 
 length_law : (kind n : ℕ) → HasLength (class_of kind) n ↔ (is_length kind n ≡ true)
 unfolding is_length

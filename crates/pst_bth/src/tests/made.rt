@@ -1,6 +1,6 @@
 //! Stores that the tests are run on.
 
-use pst_make::{BlockPlan, NodePlan, Plan, build, m0_plan};
+use pst_make::{BlockPlan, NodePlan, Plan, build, m0_plan, set};
 use std::alloc::Global;
 use std::test::Fail;
 
@@ -15,13 +15,7 @@ pub(super) fn m0_with(
     let Some(found) = plan.blocks.get_mut(block) else {
         return Err(Fail::from("no block"));
     };
-    for (i, byte) in bytes.iter().enumerate() {
-        let there = found
-            .body
-            .get_mut(at.saturating_add(i))
-            .ok_or("past the end")?;
-        *there = *byte;
-    }
+    set(&mut found.body, at, bytes)?;
     build(alloc, &plan).map_err(|_| Fail::from("not made"))
 }
 
