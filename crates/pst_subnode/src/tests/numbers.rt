@@ -22,7 +22,7 @@ fn plan_of(alloc: Global, case: &Case) -> Result<Vec<BlockPlan>, Fail> {
         for nid in *nids {
             entries.extend_from_slice(&[*nid, 0, 0])?;
         }
-        let body = list(alloc, 0, nids.len() as u8, &entries)?;
+        let body = list(alloc, 0, u8::try_from(nids.len())?, &entries)?;
         add(&mut plan, *bid, body)?;
     }
     Ok(plan)
