@@ -14,6 +14,7 @@ mod contents;
 mod fault;
 mod folders;
 mod head;
+mod index;
 mod node;
 mod node_line;
 mod nodes;

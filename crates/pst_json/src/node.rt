@@ -1,21 +1,22 @@
 //! The properties of a node as a document, and of a message also its attachments and recipients.
 
-ghost use Rattle.std.specs.Prelude.{◌≡◌, Some, IfOk, IfSome, option_map};
+ghost use Rattle.std.specs.Prelude.{◌≡◌, ℕ, Some, IfOk, IfSome, option_map};
 ghost use Rattle.serde_json.specs.View.{view};
 ghost use Rattle.pst_block.specs.Table.{Table};
-ghost use Rattle.pst_ndb.specs.Views.{table_of_ndb, nodes_of, table_of_node, roots_of};
+ghost use Rattle.pst_ndb.specs.Views.{table_of_ndb, nodes_of, table_of_node, roots_of, IsIndexedBy};
 ghost use Rattle.pst_value_json.specs.pst_pc.View.{node_of_pc};
 ghost use Rattle.pst_value_json.specs.pst_tc.Tc.{node_of_tc};
 ghost use Rattle.pst_verify.specs.pst_msg.Shown.{row_shown, attachment_rows};
 ghost use Rattle.pst_verify.specs.pst_msg.View.{tc_roots, node_of_message, message_roots, node_of_attachment, attachment_shown, attachments_left, holder_left};
 ghost use Rattle.pst_verify.specs.pst_store.View.{ndb_of_store};
-ghost use Rattle.pst_json.specs.Found.{found_data};
+ghost use Rattle.pst_json.specs.Found.{node_of_found, found_data};
 ghost use Rattle.pst_json.specs.Node.{embedded_there, attachment_data, attachments_data, recipients_there, message_data, node_props_data, props_told};
 ghost use Rattle.pst_value_json.specs.Parts.{list_data};
 ghost use Rattle.pst_json.specs.Told.{TellsDoc};
 
 use crate::fault::DocFault;
-use pst_ndb::Node;
+use crate::index::index_of;
+use pst_ndb::{Node, SubIndex};
 use pst_value_json::{Pc, Tc, check_pc, nid_or_null_doc, nid_text, pc_doc, table_doc};
 use pst_verify::{Attachment, Attachments, Message, Store, is_message};
 use serde_json::{Value as Doc, json};
@@ -64,7 +65,10 @@ fn recipients_doc(alloc: Global, table: Option<Tc>) -> Result<Doc, AllocError>
         → IfOk result (λ d. view d ≡ recipients_there t (option_map tc_roots table.entry)) }
 {
     match table {
-        Some(tc) => table_doc(alloc, &tc),
+        Some(tc) => {
+            let index = index_of(alloc, tc.node())?;
+            table_doc(alloc, &tc.indexed(&index))
+        }
         None => Ok(Doc::from(Vec::<Doc>::new(alloc))),
     }
 }
@@ -123,11 +127,35 @@ pub(crate) fn found_in<'a>(store: &Store<'a>, nid: u32) -> Result<Found<'a>, Doc
     }
 }
 
+impl<'a> Found<'a> {
+    // The node whose properties they are.
+    pub(crate) fn node(&self) -> Node<'a>
+        ensures { result ≡ node_of_found self.now }
+    {
+        match self {
+            Found::Message(message) => message.node(),
+            Found::Pc(pc) => pc.node(),
+        }
+    }
+
+    // The same, whose node is lent an index of its subnodes.
+    pub(crate) fn indexed(self, index: &'a SubIndex) -> Found<'a>
+        requires { IsIndexedBy (node_of_found self) index.now }
+        ensures { (nid : ℕ) → found_data nid result ≡ found_data nid self.entry }
+    {
+        match self {
+            Found::Message(message) => Found::Message(message.indexed(index)),
+            Found::Pc(pc) => Found::Pc(pc.indexed(index)),
+        }
+    }
+}
+
 // It as an object.
 fn found_doc(alloc: Global, nid: u32, found: Found) -> Result<Doc, AllocError>
     ensures { IfOk result (λ d. view d ≡ found_data nid found.entry) }
 {
-    match found {
+    let index = index_of(alloc, found.node())?;
+    match found.indexed(&index) {
         Found::Message(message) => message_doc(alloc, nid, message),
         Found::Pc(pc) => node_props_doc(alloc, nid, &pc),
     }

@@ -17,6 +17,7 @@ ghost use Rattle.pst_value_json.specs.Props.{prop_data};
 ghost use Rattle.pst_json.specs.Told.{TellsDoc};
 
 use crate::fault::DocFault;
+use crate::index::index_of;
 use crate::node::{Found, embedded_nid, found_in};
 use pst_value_json::{Pc, Tc, nid_or_null_doc, put_comma, put_doc, put_nid, put_props, put_table};
 use pst_verify::{Attachment, Attachments, Message, Store};
@@ -86,7 +87,10 @@ fn put_recipients(alloc: Global, table: Option<Tc>, text: &mut Vec<u8>) -> Resul
 {
     text.push(b'[')?;
     match table {
-        Some(tc) => put_table(alloc, &tc, text),
+        Some(tc) => {
+            let index = index_of(alloc, tc.node())?;
+            put_table(alloc, &tc.indexed(&index), text)
+        }
         None => {
             text.push(b']')?;
             Ok(())
@@ -153,7 +157,8 @@ fn node_props_line(alloc: Global, nid: u32, pc: &Pc) -> Result<Vec<u8>, AllocErr
 fn found_line(alloc: Global, nid: u32, found: Found) -> Result<Vec<u8>, AllocError>
     ensures { IfOk result (λ t. t.items ≡ line_of (found_data nid found.entry)) }
 {
-    match found {
+    let index = index_of(alloc, found.node())?;
+    match found.indexed(&index) {
         Found::Message(message) => message_line(alloc, nid, message),
         Found::Pc(pc) => node_props_line(alloc, nid, &pc),
     }

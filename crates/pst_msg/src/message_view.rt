@@ -7,7 +7,7 @@ ghost use Rattle.pst_msg.specs.Fault.{message_fault};
 use crate::attachment_view::Attachment;
 use crate::attachments::Attachments;
 use crate::nid::{ATTACHMENTS, RECIPIENTS};
-use pst_ndb::Node;
+use pst_ndb::{Node, SubIndex};
 use pst_pc::{Pc, known_pc};
 use pst_tc::{Row, Rows, Tc, known_tc};
 
@@ -22,7 +22,7 @@ impl<'a> Message<'a> {
     ghost use Rattle.std.specs.Prelude.{◌≡◌, None, IfSome, option_map, map};
     ghost use Rattle.pst_btree.specs.Entries.{first_with};
     ghost use Rattle.pst_ndb.specs.Roots.{subnode_of};
-    ghost use Rattle.pst_ndb.specs.Views.{image_of_node, table_of_node, nid_of, roots_of};
+    ghost use Rattle.pst_ndb.specs.Views.{image_of_node, table_of_node, nid_of, roots_of, IsIndexedBy};
     ghost use Rattle.pst_pc.specs.View.{node_of_pc};
     ghost use Rattle.pst_tc.specs.Tc.{node_of_tc};
     ghost use Rattle.pst_tc.specs.Values.{row_id_of};
@@ -58,6 +58,19 @@ impl<'a> Message<'a> {
         ensures { result ≡ nid_of (node_of_message self.now) }
     {
         self.node.nid()
+    }
+
+    /// The same, whose node is lent an index of its subnodes: its tables, its attachments, and values in subnodes are found by it
+    /// from then on, each of n in about log n steps, in whatever order their list has them.
+    pub fn indexed(self, index: &'a SubIndex) -> Message<'a>
+        requires { IsIndexedBy (node_of_message self) index.now }
+        ensures nid { nid_of (node_of_message result) ≡ nid_of (node_of_message self.entry) }
+        ensures roots { roots_of (node_of_message result)
+            ≡ roots_of (node_of_message self.entry) }
+        ensures table { table_of_node (node_of_message result)
+            ≡ table_of_node (node_of_message self.entry) }
+    {
+        Message::of(self.node.indexed(index))
     }
 
     /// Its properties.

@@ -1,10 +1,13 @@
 //! A node, and what it has.
 
-ghost use Rattle.std.specs.Prelude.{◌≡◌, None};
+ghost use Rattle.std.specs.Prelude.{◌≡◌, None, IfSome};
 ghost use Rattle.pst_block.specs.Blocks.{table_of};
 ghost use Rattle.pst_datatree.specs.Data.{data_fault};
 ghost use Rattle.pst_subnode.specs.declared.check.TheConstants.{LISTS};
+ghost use Rattle.pst_subnode.specs.Index.{IsIndexOf};
+ghost use Rattle.pst_subnode.specs.List.{subs_of};
 ghost use Rattle.pst_subnode.specs.Tree.{sub_fault};
+ghost use Rattle.pst_subnode.proofs.IndexLemmas.{index_facts};
 
 use pst_block::Blocks;
 use pst_btree::NodeEntry;
@@ -24,8 +27,11 @@ pub struct Node<'a> {
     nid: u32,
     bid_data: u64,
     bid_sub: u64,
+    // An index of its subnodes, where it was lent one.
+    index: Option<&'a SubIndex>,
     ghost content: { data_fault (table_of blocks) bid_data ≡ None },
     ghost subs: { sub_fault (table_of blocks) LISTS bid_sub ≡ None },
+    ghost indexed: { IfSome index (λ i. IsIndexOf i.now (subs_of (table_of blocks) bid_sub)) } by { Prim.hlevel index_facts },
 }
 
 impl<'a> Node<'a> {
@@ -65,6 +71,7 @@ impl<'a> Node<'a> {
             nid: entry.nid,
             bid_data: entry.bid_data,
             bid_sub: entry.bid_sub,
+            index: None,
         }
     }
 
@@ -195,8 +202,23 @@ impl<'a> Node<'a> {
         SubIndex::of(alloc, &self.blocks, self.bid_sub)
     }
 
-    /// The subnode with an identifier, as `sub` gives it, found by an index of the subnodes of this node, or of one whose list is
-    /// the same.
+    /// The same node, which is lent an index of its subnodes: `sub`, and whatever stands on it, finds them by this index from
+    /// then on.
+    pub fn indexed(self, index: &'a SubIndex) -> Node<'a>
+        requires { IsIndexedBy self index.now }
+        ensures parts { parts_of result ≡ parts_of self.entry }
+        ensures roots { roots_of result ≡ roots_of self.entry }
+        ensures image { image_of_node result ≡ image_of_node self.entry }
+        ensures table { table_of_node result ≡ table_of_node self.entry }
+        ensures nid { nid_of result ≡ nid_of self.entry }
+    {
+        let mut node = self;
+        node.index = Some(index);
+        node
+    }
+
+    /// The subnode with an identifier, as `sub` gives it, found by the index that this node was lent; where it was lent none, by
+    /// another index of its subnodes, or of those of a node whose list is the same.
     #[tactic(auto, using(pst_subnode::proofs::HeightLaws::found_entry, crate::proofs::NodeLemmas::first_keyed), unfolding(crate::specs::Roots::subnode_of))]
     pub fn sub_by(&self, index: &SubIndex, nid: u32) -> Option<Node<'a>>
         requires { IsIndexedBy self.now index.now }
@@ -213,7 +235,10 @@ impl<'a> Node<'a> {
         ensures below { IfSome result (λ n.
             sub_fault (table_of_node n) (LISTS - 1) (sub_bid_of n) ≡ None) }
     {
-        let found = find_sub_by(&self.blocks, self.bid_sub, index, nid)?;
+        let found = match self.index {
+            Some(own) => find_sub_by(&self.blocks, self.bid_sub, own, nid)?,
+            None => find_sub_by(&self.blocks, self.bid_sub, index, nid)?,
+        };
         Some(self.child(found))
     }
 
@@ -250,6 +275,7 @@ impl<'a> Node<'a> {
             nid: entry.nid,
             bid_data: entry.bid_data,
             bid_sub: entry.bid_sub,
+            index: None,
         }
     }
 }

@@ -8,8 +8,8 @@ ghost use Rattle.pst_pc.specs.Fault.{pc_fault};
 use crate::prop::Prop;
 use pst_bth::{Bth, known_bth};
 use pst_bytes::Span;
-use pst_heap::Heap;
-use pst_ndb::Node;
+use pst_heap::{Heap, known_heap};
+use pst_ndb::{Node, SubIndex};
 use pst_value::{PropType, known_value};
 
 /// A property context without fault ([MS-PST] 2.3.3): a finite map from identifiers to properties.
@@ -23,7 +23,7 @@ impl<'a> Pc<'a> {
     ghost use Rattle.std.specs.Prelude.{◌≡◌, IfSome, None, option_map};
     ghost use Rattle.pst_bytes.specs.Image.{IsInside};
     ghost use Rattle.pst_btree.specs.Entries.{first_with};
-    ghost use Rattle.pst_ndb.specs.Views.{table_of_node, roots_of};
+    ghost use Rattle.pst_ndb.specs.Views.{table_of_node, roots_of, IsIndexedBy};
     ghost use Rattle.pst_heap.specs.View.{node_of};
     ghost use Rattle.pst_bth.specs.View.{heap_of, sizes_in, records_of};
     ghost use Rattle.pst_pc.specs.Fault.{property_fault, pc_fault};
@@ -49,6 +49,17 @@ impl<'a> Pc<'a> {
         ensures { result ≡ node_of_pc self.now }
     {
         self.heap.node()
+    }
+
+    /// The same, whose node is lent an index of its subnodes: values in subnodes are found by it from then on, each of n in about
+    /// log n steps, in whatever order their list has them.
+    #[tactic(auto, using(crate::proofs::PcLemmas::has_heap))]
+    pub fn indexed(self, index: &'a SubIndex) -> Pc<'a>
+        requires { IsIndexedBy (node_of_pc self) index.now }
+        ensures roots { roots_of (node_of_pc result) ≡ roots_of (node_of_pc self.entry) }
+        ensures table { table_of_node (node_of_pc result) ≡ table_of_node (node_of_pc self.entry) }
+    {
+        Pc::of(known_heap(self.node().indexed(index)))
     }
 
     // The heap in which it is.

@@ -67,7 +67,7 @@ fn line_of(alloc: Global, answer: Result<Pc, Fault>) -> Result<String, Fail> {
     Ok(line)
 }
 
-// Whether the property context of a node is answered with a line, with an index of its subnodes and with none.
+// Whether the property context of a node is answered with a line, with no index of its subnodes, with one, and with one lent.
 fn is_answered<R: Abort>(
     rt: &R,
     alloc: Global,
@@ -79,12 +79,15 @@ fn is_answered<R: Abort>(
         return Err(Fail::from("refused"));
     };
     let node = checked.ndb.node(nid).ok_or("no node")?;
-    let Ok(index) = node.index(alloc) else {
-        return Err(Fail::from("no memory"));
-    };
+    let index = node.index(alloc).map_err(|_| Fail::from("no memory"))?;
     let told = line_of(alloc, check_pc(node))?;
     assert_eq!(rt; told.as_str(), line);
     let told = line_of(alloc, check_pc_by(node, &index))?;
+    assert_eq!(rt; told.as_str(), line);
+    let told = match check_pc(node) {
+        Ok(pc) => line_of(alloc, Ok(pc.indexed(&index)))?,
+        Err(fault) => line_of(alloc, Err(fault))?,
+    };
     assert_eq!(rt; told.as_str(), line);
     let told = line_of(alloc, check_pc_with(node, &index, &mut Maps::new(alloc)))?;
     assert_eq!(rt; told.as_str(), line);

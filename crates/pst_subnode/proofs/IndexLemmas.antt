@@ -1,4 +1,6 @@
 -- Entries in a map by their nids.
+use mathlib.Core.HLevel.{Unit-prop}
+use Rattle.std.proofs.Props.{props}
 use Rattle.std.proofs.Common.{◌≡◌, ℕ, Bool, true, false, cond, List, [], ◌∷◌, Option, Some, None, refl, ap, ◌∙◌, BTreeMap}
 use Rattle.std.specs.Prelude.{nat_eq, is_some}
 use Rattle.std.specs.Option.{option_or}
@@ -12,7 +14,7 @@ use Rattle.pst_btree.specs.Entries.{first_with}
 use Rattle.pst_subnode.specs.declared.sub.Sub.{Sub}
 use Rattle.pst_subnode.specs.declared.index.SubIndex.{SubIndex}
 use Rattle.pst_subnode.specs.List.{sub_nid, subs_of}
-use Rattle.pst_subnode.specs.Index.{IsIndexOf, HasFirst}
+use Rattle.pst_subnode.specs.Index.{IsIndexOf, HasFirst, HoldsFirst}
 use Rattle.pst_subnode.proofs.HeightLaws.{same_sub_law}
 
 abbrev first : ℕ → List Sub → Option Sub
@@ -61,3 +63,16 @@ so_far_more m new left rest all s is unmet puts so_far nid =
 -- An index of a list is one of every list whose identifier differs in bit 0 alone.
 pub index_of_key : (t : Table) (a b : ℕ) (i : SubIndex) → bid_key a ≡ bid_key b → IsIndexOf i (subs_of t a) → IsIndexOf i (subs_of t b)
 index_of_key t a b i same is = rw (← (same_sub_law t a b same).0) is
+
+-- ---- that an index is of a list is a fact
+
+holds_fact : (entries : Option (BTreeMap ℕ Sub)) (subs : List Sub) → IsProp (HoldsFirst entries subs)
+holds_fact None subs = Unit-prop
+holds_fact (Some m) subs = Prim.hlevel props
+
+pub index_fact : (index : SubIndex) (subs : List Sub) → IsProp (IsIndexOf index subs)
+unfolding IsIndexOf
+index_fact index subs = holds_fact index.entries subs
+
+-- for a field of a struct that says it
+pub ruleset index_facts = (props, index_fact)

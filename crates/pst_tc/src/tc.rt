@@ -10,8 +10,8 @@ use crate::front::Front;
 use crate::row::Row;
 use crate::rows::Rows;
 use pst_bytes::Span;
-use pst_heap::Heap;
-use pst_ndb::Node;
+use pst_heap::{Heap, known_heap};
+use pst_ndb::{Node, SubIndex};
 
 /// A table context without fault ([MS-PST] 2.3.4): columns, and a finite map from identifiers to rows.
 #[derive(Clone, Copy)]
@@ -24,7 +24,7 @@ impl<'a> Tc<'a> {
     ghost use Rattle.std.specs.Prelude.{◌≡◌, IfSome, None, length, option_map};
     ghost use Rattle.pst_bytes.specs.Image.{IsInside};
     ghost use Rattle.pst_btree.specs.Entries.{first_with};
-    ghost use Rattle.pst_ndb.specs.Views.{table_of_node, roots_of};
+    ghost use Rattle.pst_ndb.specs.Views.{table_of_node, roots_of, IsIndexedBy};
     ghost use Rattle.pst_heap.specs.View.{node_of};
     ghost use Rattle.pst_tc.specs.Fault.{tc_fault, tc_body_fault};
     ghost use Rattle.pst_tc.specs.Values.{info_of, tc_columns, row_id_of, tc_rows};
@@ -51,6 +51,17 @@ impl<'a> Tc<'a> {
         ensures { result ≡ node_of_tc self.now }
     {
         self.heap.node()
+    }
+
+    /// The same, whose node is lent an index of its subnodes: cells in subnodes are found by it from then on, each of n in about
+    /// log n steps, in whatever order their list has them.
+    #[tactic(auto, using(crate::proofs::TcLemmas::has_heap))]
+    pub fn indexed(self, index: &'a SubIndex) -> Tc<'a>
+        requires { IsIndexedBy (node_of_tc self) index.now }
+        ensures roots { roots_of (node_of_tc result) ≡ roots_of (node_of_tc self.entry) }
+        ensures table { table_of_node (node_of_tc result) ≡ table_of_node (node_of_tc self.entry) }
+    {
+        Tc::of(known_heap(self.node().indexed(index)))
     }
 
     // The heap in which it is.

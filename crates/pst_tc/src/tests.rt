@@ -67,6 +67,11 @@ fn is_answered<R: Abort>(
     };
     let told = line_of(alloc, check_tc_by(node, &index))?;
     assert_eq!(rt; told.as_str(), line);
+    let told = match check_tc(node) {
+        Ok(tc) => line_of(alloc, Ok(tc.indexed(&index)))?,
+        Err(fault) => line_of(alloc, Err(fault))?,
+    };
+    assert_eq!(rt; told.as_str(), line);
     let told = line_of(alloc, check_tc_with(node, &index, &mut Maps::new(alloc)))?;
     assert_eq!(rt; told.as_str(), line);
     Ok(())

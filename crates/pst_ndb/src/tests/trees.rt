@@ -274,9 +274,12 @@ fn subnodes_by_an_index(rt: HostRuntime) -> Result<(), Fail> {
             let found = node.sub_by(&index, nid).ok_or("not found")?;
             assert_eq!(rt; (found.nid(), found.top()), (nid, top));
             assert_eq!(rt; (found.bid_data(), found.bid_sub()), (bid_data, bid_sub));
+            let lent = node.indexed(&index).sub(nid).ok_or("not found")?;
+            assert_eq!(rt; (lent.nid(), lent.bid_data()), (nid, bid_data));
         }
         for nid in [0, 0x62, 0xa1] {
             assert!(rt; node.sub_by(&index, nid).is_none());
+            assert!(rt; node.indexed(&index).sub(nid).is_none());
         }
     }
     Ok(())

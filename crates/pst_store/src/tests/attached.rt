@@ -47,6 +47,11 @@ fn attachments_are_found(rt: HostRuntime) -> Result<(), Fail> {
         let message = store.message(0x20_0024).ok_or("no message")?;
         let told = message_line(alloc, message)?;
         assert_eq!(rt; told.as_str(), line);
+        let Ok(index) = message.node().index(alloc) else {
+            return Err(Fail::from("no memory"));
+        };
+        let told = message_line(alloc, message.indexed(&index))?;
+        assert_eq!(rt; told.as_str(), line);
         assert!(rt; message.attachment(0x8065).is_none());
         let other = store.message(0x20_0044).ok_or("no message")?;
         let told = message_line(alloc, other)?;

@@ -1,0 +1,5 @@
+use Rattle.pst_ndb.proofs.node.Node.of_entry.Goals as goal
+
+-- no index was lent
+pub invariant_of-result-clause-indexed : goal.invariant_of-result-clause-indexed
+invariant_of-result-clause-indexed c = tt
