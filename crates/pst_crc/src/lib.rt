@@ -13,10 +13,12 @@ ghost use Rattle.std.specs.Prelude.{◌≡◌, ◌+◌, ◌*◌, ◌%◌, ◌<�
 ghost use Rattle.pst_crc.specs.Crc.{after_byte, crc, shifted_by, signature_of};
 
 mod far_table;
+mod left_out;
 mod streams;
 mod table;
 
 use byteorder::{ByteOrder, LittleEndian};
+use left_out::{LONG, MOST, after_long};
 use streams::after_streams;
 use table::leaving;
 
@@ -100,20 +102,26 @@ fn after_sixteen(register: u32, bytes: &[u8]) -> u32
 }
 
 /// The check value of bytes ([MS-PST] 5.3): the reflected CRC with the polynomial 0xEDB88320, a register that starts at 0,
-/// and no final inversion. Sixteen bytes are taken at a time, by sixteen tables of 256 words, and of each 384 bytes
-/// the three thirds side by side.
+/// and no final inversion. Of long pieces most words are left out, since four words behind each make up for it. Else sixteen
+/// bytes are taken at a time, by sixteen tables of 256 words, and of each 384 bytes the three thirds side by side.
 #[tactic(auto, unfolding(crate::specs::Crc::crc))]
 pub fn check(bytes: &[u8]) -> u32
     ensures { result ≡ crc bytes.now }
 {
     let mut register = 0;
     let mut long = bytes;
-    while long.len() >= 384 {
-        let (streams, others) = long.split_at(384);
-        register = after_streams(register, streams);
+    while long.len() >= LONG {
+        let (piece, others) = long.split_at(long.len().min(MOST) / 4 * 4);
+        register = after_long(register, piece);
         long = others;
     }
-    let mut rest = long;
+    let mut middle = long;
+    while middle.len() >= 384 {
+        let (streams, others) = middle.split_at(384);
+        register = after_streams(register, streams);
+        middle = others;
+    }
+    let mut rest = middle;
     while rest.len() >= 16 {
         let (sixteen, others) = rest.split_at(16);
         register = after_sixteen(register, sixteen);
