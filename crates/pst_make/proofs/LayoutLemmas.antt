@@ -12,6 +12,7 @@ use Rattle.pst_make.specs.declared.plan.BlockPlan.{BlockPlan}
 use Rattle.pst_make.specs.Plan.{body_length, body_lengths}
 use Rattle.pst_make.specs.declared.plan.MakeFault.{MakeFault}
 use Rattle.pst_make.specs.declared.plan.MakeFault.TheVariants.{TooLarge, Body, Memory}
+use Rattle.pst_make.specs.declared.layout.TheConstants.{FIRST_MAP}
 use Rattle.pst_make.specs.Layout.{map_place, region_of, free_from, place_of, after, after_pages, after_blocks, pages_for, pages_above, branch_pages, tree_pages, layout_end, IsPlaceFault, IsPageBelow, IsBlockBelow}
 use Rattle.pst_make.specs.Sealed.{sealed_size}
 
@@ -112,7 +113,7 @@ pages_reach count i next total lt so_far =
     let step = pages_forward (after next 512) (count - (i + 1)) in
     omega (arith, e, step)
 
-pub pages_below : (pages : List Bref) (page : Bref) (next behind : ℕ) → All (IsPageBelow next) pages → next ≤ behind → 17408 ≤ page.ib → page.ib + 512 ≤ behind → All (IsPageBelow behind) (pages ++ page ∷ [])
+pub pages_below : (pages : List Bref) (page : Bref) (next behind : ℕ) → All (IsPageBelow next) pages → next ≤ behind → FIRST_MAP ≤ page.ib → page.ib + 512 ≤ behind → All (IsPageBelow behind) (pages ++ page ∷ [])
 pages_below pages page next behind all le above below =
     All-push (IsPageBelow behind) pages page (All-weaker (IsPageBelow next) (IsPageBelow behind) (λ p h. (h.0, omega arith)) pages all) (above, below)
 

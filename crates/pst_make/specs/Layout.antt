@@ -3,6 +3,7 @@ use Rattle.std.specs.Prelude.{ℕ, zero, suc, ◌+◌, ◌-◌, ◌*◌, ◌/◌
 use Rattle.std.specs.Int.{div_ceil}
 use Rattle.pst_make.specs.declared.layout.Bref.{Bref}
 use Rattle.pst_make.specs.declared.layout.PlacedBlock.{PlacedBlock}
+use Rattle.pst_make.specs.declared.layout.TheConstants.{FIRST_MAP, REGION}
 use Rattle.pst_make.specs.declared.plan.MakeFault.{MakeFault}
 use Rattle.pst_make.specs.declared.plan.MakeFault.TheVariants.{TooLarge, Body, Memory}
 use Rattle.pst_make.specs.declared.plan.Plan.{Plan}
@@ -11,13 +12,13 @@ use Rattle.pst_make.specs.Sealed.{sealed_size}
 
 -- ---- regions ([MS-PST] 2.2.2.7.2)
 
--- Allocation map j stands at the start of region j. A region has 253,952 bytes.
+-- Allocation map j stands at the start of region j. A region has REGION bytes.
 abbrev pub map_place : ℕ → ℕ
-map_place j = 17408 + 253952 * j
+map_place j = FIRST_MAP + REGION * j
 
 -- the region of a place
 abbrev pub region_of : ℕ → ℕ
-region_of at = (at - 17408) / 253952
+region_of at = (at - FIRST_MAP) / REGION
 
 -- Behind the allocation map, and the page map that follows each eighth one from the first on, a region is free.
 abbrev pub free_from : ℕ → ℕ
@@ -83,16 +84,16 @@ plan_end plan = layout_end (length plan.nodes.items) (body_lengths plan.blocks.i
 
 -- a store is whole regions, up to the one where the last structure ends
 abbrev pub store_length : ℕ → ℕ
-store_length end = 17408 + 253952 * div_ceil (end - 17408) 253952
+store_length end = FIRST_MAP + REGION * div_ceil (end - FIRST_MAP) REGION
 
 -- ---- what was placed
 
 -- a page, or a block, ends at or before this place
 abbrev pub IsPageBelow : ℕ → Bref → Type 0
-IsPageBelow end page = (17408 ≤ page.ib) × (page.ib + 512 ≤ end)
+IsPageBelow end page = (FIRST_MAP ≤ page.ib) × (page.ib + 512 ≤ end)
 
 abbrev pub IsBlockBelow : ℕ → PlacedBlock → Type 0
-IsBlockBelow end block = (17408 ≤ block.ib) × (length block.body.now ≤ 8176) × (block.ib + sealed_size (length block.body.now) ≤ end)
+IsBlockBelow end block = (FIRST_MAP ≤ block.ib) × (length block.body.now ≤ 8176) × (block.ib + sealed_size (length block.body.now) ≤ end)
 
 -- Placing fails only where what is placed ends behind the limit, or where memory was refused.
 abbrev pub IsPlaceFault : ℕ → MakeFault → Type 0

@@ -2,6 +2,7 @@
 
 ghost use Rattle.std.specs.Prelude.{◌≡◌, ◌+◌, ◌%◌, ◌≤◌, ◌<◌, length, nat_eq, IfOk, IfErr};
 ghost use Rattle.std.specs.List.{All};
+ghost use Rattle.pst_make.specs.declared.layout.TheConstants.{FIRST_MAP};
 ghost use Rattle.pst_make.specs.Layout.{IsBlockBelow, IsPageBelow, IsPlaceFault, after, after_blocks, after_pages, map_place, plan_end, free_from, pages_above, pages_for, place_of, store_limit, tree_pages};
 ghost use Rattle.pst_make.specs.Plan.{HasShortBody, body_lengths};
 
@@ -66,7 +67,7 @@ fn free_from(region: u64) -> u64
 // Where the next structure lies.
 #[tactic(auto, unfolding(crate::specs::Layout::place_of))]
 fn place_of(next: u64, size: u64) -> u64
-    requires from { 17408 ≤ next }
+    requires from { FIRST_MAP ≤ next }
     requires limited { next ≤ store_limit }
     requires size { size ≤ 8192 }
     ensures place { result ≡ place_of next size }
@@ -87,7 +88,7 @@ fn place_of(next: u64, size: u64) -> u64
 struct Cursor {
     next: u64,
     next_page: u64,
-    ghost from: { 17408 ≤ next },
+    ghost from: { FIRST_MAP ≤ next },
     ghost limited: { next ≤ store_limit },
     ghost counted: { next_page ≤ next },
 }
@@ -208,7 +209,7 @@ pub(crate) struct Layout<'a> {
     pub end: u64,
     /// The identifier of the next page.
     pub next_page: u64,
-    ghost from: { 17408 < end },
+    ghost from: { FIRST_MAP < end },
     ghost limited: { end ≤ store_limit },
     ghost node_root: { 0 < length node_pages.items },
     ghost block_root: { 0 < length block_pages.items },

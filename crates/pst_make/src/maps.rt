@@ -11,7 +11,7 @@ use crate::seal::{block_size, seal_page};
 
 // Marks the 64 bytes at a place as in use.
 fn mark_unit(image: &mut [u8], at: u64)
-    requires from { 17408 ≤ at }
+    requires from { FIRST_MAP ≤ at }
     requires inside { at < length image.old }
 {
     let inside = (at - FIRST_MAP) % REGION;
@@ -22,7 +22,7 @@ fn mark_unit(image: &mut [u8], at: u64)
 
 // Marks a structure of so many bytes as in use.
 fn mark(image: &mut [u8], at: u64, size: u64)
-    requires from { 17408 ≤ at }
+    requires from { FIRST_MAP ≤ at }
     requires inside { at + size ≤ length image.old }
 {
     for unit in 0..size / 64 {
@@ -63,7 +63,7 @@ fn end_page(image: &mut [u8], at: u64, page_type: u8)
 /// where there is one, of FF bytes.
 pub(crate) fn write_maps(image: &mut [u8], region: u64)
     requires small { region < 16 }
-    requires inside { 17408 + 253952 * (region + 1) ≤ length image.old }
+    requires inside { FIRST_MAP + REGION * (region + 1) ≤ length image.old }
 {
     let at = amap_place(region);
     mark(image, at, 512);
@@ -80,8 +80,8 @@ pub(crate) fn write_maps(image: &mut [u8], region: u64)
 /// How many bytes of a region its allocation map says are free.
 pub(crate) fn free_bytes(image: &[u8], region: u64) -> u64
     requires small { region < 16 }
-    requires inside { 17408 + 253952 * (region + 1) ≤ length image.now }
-    ensures { result ≤ 253952 }
+    requires inside { FIRST_MAP + REGION * (region + 1) ≤ length image.now }
+    ensures { result ≤ REGION }
 {
     let at = amap_place(region) as usize;
     let mut units = 0;

@@ -40,7 +40,7 @@ fn write_parts(
     regions: u64,
 ) -> Result<(), AllocError>
     requires few { regions ≤ 16 }
-    requires whole { length image.old ≡ 17408 + 253952 * regions }
+    requires whole { length image.old ≡ FIRST_MAP + REGION * regions }
     requires inside { layout.now.end ≤ length image.old }
 {
     for block in &layout.blocks {
