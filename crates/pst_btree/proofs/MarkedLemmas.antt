@@ -1,40 +1,28 @@
--- How many units are claimed: 8 for each page, so that pages can be counted.
-use Rattle.std.proofs.Common.{◌≡◌, ℕ, suc, zero, ◌+◌, ◌<◌, ◌≤◌, true, false, [], ◌∷◌, length, get_or, set, Some, refl, sym, ap, ◌∙◌, arith, inl, length-set}
+-- A page takes 8 units, so that the pages that are claimed can be counted.
+use Rattle.std.proofs.Common.{◌≡◌, ℕ, ◌+◌, ◌*◌, true, List, [], ◌∷◌, length, map, Option, Some, None, refl, sym, ap, ◌∙◌, arith}
+use Rattle.std.specs.Prelude.{option_and_then}
 use Rattle.std.proofs.lemmas.Option.{cond_some}
-use Rattle.pst_fault.proofs.GeneralLemmas.{clear_and}
 use Rattle.pst_header.specs.declared.header.Bref.{Bref}
-use Rattle.pst_space.specs.Claimed.{Claimed, IsUnits, is_clear, filled, first_unit, with_span, claim_of}
-use Rattle.pst_space.proofs.MarkLemmas.{clear_filled}
-use Rattle.pst_btree.specs.Marked.{marked}
+use Rattle.pst_space.specs.Apart.{AreUnits}
+use Rattle.pst_space.specs.Claimed.{Claimed, IsUnits, claim_of, claim_all}
+use Rattle.pst_space.specs.Marked.{marked}
+use Rattle.pst_space.proofs.MarkedLemmas.{marked_claimed}
+use Rattle.pst_space.proofs.UnitLemmas.{units_same, length_claimed}
 use Rattle.pst_btree.specs.Tree.{span_of}
 
-pub marked_most : (m : Claimed) → marked m ≤ length m
-unfolding marked
-marked_most [] = omega arith
-marked_most (true ∷ m) = let h = marked_most m in omega (arith, h)
-marked_most (false ∷ m) = let h = marked_most m in omega (arith, h)
-
-marked_set : (m : Claimed) (u : ℕ) → u < length m → get_or m u false ≡ false → marked (set m u true) ≡ suc (marked m)
-unfolding marked
-marked_set [] u lt e = absurd (omega arith)
-marked_set (true ∷ m) zero lt e = absurd cc
-marked_set (false ∷ m) zero lt e = refl
-marked_set (true ∷ m) (suc u) lt e = ap suc (marked_set m u (omega arith) e)
-marked_set (false ∷ m) (suc u) lt e = marked_set m u (omega arith) e
-
-marked_filled : (m : Claimed) (u n : ℕ) → u + n ≤ length m → is_clear m u n ≡ true → marked (filled m u n) ≡ marked m + n
-marked_filled m u zero le e = omega arith
-marked_filled m u (suc n) le e =
-    let c = clear_and (get_or m u false) _ e in
-    let rest : is_clear (set m u true) (u + 1) n ≡ true = clear_filled m u 1 (u + 1) n (inl (omega arith)) ∙ c.1 in
-    let long : (u + 1) + n ≤ length (set m u true) = omega (arith, length-set m u true) in
-    let one = marked_set m u (omega arith) c.0 in
-    let more = marked_filled (set m u true) (u + 1) n long rest in
-    omega (arith, one, more)
-
 pub marked_page : (old new : Claimed) (page : Bref) → IsUnits old (span_of page) → claim_of old (span_of page) ≡ Some new → marked new ≡ marked old + 8
-unfolding claim_of with_span
-marked_page old new page u e =
-    let c = cond_some _ _ _ e in
-    let more = marked_filled old (first_unit (span_of page)) 8 u.inside c.0 in
-    ap marked (sym c.1) ∙ more
+marked_page old new page u e = marked_claimed old new (span_of page) u e
+
+-- each page that is claimed claims 8 units
+pub pages_marked : (old new : Claimed) (pages : List Bref) → AreUnits old (map span_of pages) → claim_all old (map span_of pages) ≡ Some new → (marked new ≡ marked old + 8 * length pages) × (length new ≡ length old)
+pages_marked old new [] u e = let same = (cond_some true old new e).1 in (omega (arith, ap marked same), ap length (sym same))
+pages_marked old new (p ∷ pages) u e = by_claim (claim_of old (span_of p)) refl (λ c v h. pages_marked c new pages v h) e
+  where
+    by_claim : (o : Option Claimed) → claim_of old (span_of p) ≡ o → ((c : Claimed) → AreUnits c (map span_of pages) → claim_all c (map span_of pages) ≡ Some new → (marked new ≡ marked c + 8 * length pages) × (length new ≡ length c))
+        → option_and_then (λ (c : Claimed). claim_all c (map span_of pages)) o ≡ Some new → (marked new ≡ marked old + 8 * length (p ∷ pages)) × (length new ≡ length old)
+    by_claim None is ih h = absurd cc
+    by_claim (Some c) is ih h =
+        let same : length c ≡ length old = length_claimed old c (span_of p) is in
+        let rest = ih c (units_same old c (map span_of pages) (sym same) u.1) h in
+        let one = marked_page old c p u.0 is in
+        (omega (arith, one, rest.0), rest.1 ∙ same)

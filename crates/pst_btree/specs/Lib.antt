@@ -1,7 +1,6 @@
 pub mod Entries
 pub mod Find
 pub mod Laws
-pub mod Marked
 pub mod Nodes
 pub mod Order
 pub mod Tree

@@ -9,7 +9,7 @@ ghost use Rattle.pst_header.specs.Header.{end_of};
 ghost use Rattle.pst_page.specs.Page.{entries_at};
 ghost use Rattle.pst_space.specs.Claimed.{claim_of, IsUnits, unit_total};
 ghost use Rattle.pst_space.specs.Step.{GivesStep, ClaimsSome, claim_step};
-ghost use Rattle.pst_btree.specs.Marked.{marked};
+ghost use Rattle.pst_space.specs.Marked.{marked};
 ghost use Rattle.pst_btree.specs.Tree.{span_of, page_spans_at};
 ghost use Rattle.pst_btree.specs.Walk.{body_fault, opened, walk_of, found_so_far};
 
@@ -117,7 +117,7 @@ fn push_entries(page: &Page, places: &mut Vec<u64>) -> Result<(), Fault>
 
 /// A page and all below it, claimed and noted; or the first fault there. Keys are at least `low` and, where there is a
 /// `high`, below it.
-#[tactic(auto, using(pst_page::proofs::EntryLemmas::entries_from_start, pst_page::proofs::EntryLemmas::entries_from_next, pst_page::proofs::EntryLemmas::entries_from_end, crate::proofs::WalkLemmas::children_go_on, crate::proofs::WalkLemmas::children_fail, crate::proofs::WalkLemmas::children_done, crate::proofs::WalkLemmas::walk_fail, crate::proofs::WalkLemmas::walk_leaf, crate::proofs::WalkLemmas::walk_branch, crate::proofs::SomeLemmas::left_page, crate::proofs::MarkedLemmas::marked_most))]
+#[tactic(auto, using(pst_page::proofs::EntryLemmas::entries_from_start, pst_page::proofs::EntryLemmas::entries_from_next, pst_page::proofs::EntryLemmas::entries_from_end, crate::proofs::WalkLemmas::children_go_on, crate::proofs::WalkLemmas::children_fail, crate::proofs::WalkLemmas::children_done, crate::proofs::WalkLemmas::walk_fail, crate::proofs::WalkLemmas::walk_leaf, crate::proofs::WalkLemmas::walk_branch, crate::proofs::SomeLemmas::left_page, pst_space::proofs::MarkedLemmas::marked_most))]
 pub fn walk_page(
     image: Image<'_>,
     header: &Header,

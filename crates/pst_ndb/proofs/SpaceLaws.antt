@@ -16,6 +16,7 @@ use Rattle.pst_space.specs.Apart.{AreApart, AreUnits}
 use Rattle.pst_space.proofs.ApartLemmas.{apart_law, units_append}
 use Rattle.pst_space.proofs.MapLemmas.{maps_law}
 use Rattle.pst_space.proofs.StepLemmas.{bind_ok}
+use Rattle.pst_space.proofs.UnitLemmas.{maps_units}
 use Rattle.pst_btree.specs.Tree.{Tree, root_of, entries_of, pages_of, tree_at, page_spans}
 use Rattle.pst_btree.specs.Walk.{found_so_far, tree_walk}
 use Rattle.pst_btree.proofs.TreeLaws.{walk_claims, tree_is, spelt_level}
@@ -27,7 +28,6 @@ use Rattle.pst_ndb.specs.Entries.{tree_under, block_list}
 use Rattle.pst_ndb.specs.Space.{space_walk, space_claimed}
 use Rattle.pst_ndb.specs.Trees.{trees_walk}
 use Rattle.pst_ndb.specs.Database.{IsSpelt, blocks_in, used_spans}
-use Rattle.pst_ndb.proofs.UnitLemmas.{maps_units}
 use Rattle.pst_ndb.proofs.SpaceLemmas.{trees_end, trees_claim, space_ends, space_is}
 
 -- ---- a tree that is spelt is the one that lies there

@@ -3,5 +3,7 @@ pub mod ClaimLemmas
 pub mod FlagLemmas
 pub mod MapLemmas
 pub mod MarkLemmas
+pub mod MarkedLemmas
 pub mod StepLemmas
+pub mod UnitLemmas
 pub mod WordLemmas

@@ -2,7 +2,7 @@ use Rattle.std.proofs.Common.{◌≡◌, ◌≤◌, ◌*◌, ◌-◌, length}
 use Rattle.pst_bytes.specs.Image.{bytes_of}
 use Rattle.pst_header.specs.Header.{end_of}
 use Rattle.pst_page.specs.Page.{entries_from}
-use Rattle.pst_btree.specs.Marked.{marked}
+use Rattle.pst_space.specs.Marked.{marked}
 use Rattle.pst_btree.specs.Tree.{page_spans_at}
 use Rattle.pst_btree.specs.Walk.{walk_of, children, found_so_far}
 use Rattle.pst_btree.proofs.SomeLemmas.{IsSomeLeft}
