@@ -8,22 +8,21 @@ use Rattle.std.proofs.lemmas.Nat.{xor_comm}
 use Rattle.byteorder.specs.Endian.{little_number}
 use Rattle.byteorder.specs.Numbers.{little_from-take}
 use Rattle.pst_crc.specs.Crc.{shifted_by, after_byte}
-use Rattle.pst_crc.specs.LeftOut.{word_in, added_in, whole_in}
-use Rattle.pst_crc.proofs.Linear.{shifted_by-xor, shifted_by-block}
+use Rattle.pst_crc.specs.LeftOut.{word_in, added_in, whole_in, fed_words}
+use Rattle.pst_crc.proofs.Linear.{shifted_by-xor}
 use Rattle.pst_crc.proofs.Words.{shifted_by-add, none_left, none_left_of, turn, fits-drop}
 use Rattle.pst_crc.proofs.Multiple.{regroup, regroup_four, of_nothing, taken_up}
 
--- the register after so many words, from the one with a number on
-unfoldable pub fed_words : ℕ → (ℕ → ℕ) → ℕ → ℕ → ℕ
-fed_words r f i zero = r
-fed_words r f i (suc k) = fed_words (shifted_by 32 (bit_xor r (f i))) f (suc i) k
-
-pub fed_same : (k r i : ℕ) (f g : ℕ → ℕ) → ((j : ℕ) → i ≤ j → f j ≡ g j) → fed_words r f i k ≡ fed_words r g i k
+-- the words that are taken decide
+pub fed_within : (k r i : ℕ) (f g : ℕ → ℕ) → ((j : ℕ) → i ≤ j → j < i + k → f j ≡ g j) → fed_words r f i k ≡ fed_words r g i k
 unfolding fed_words
-fed_same zero r i f g h = refl
-fed_same (suc k) r i f g h =
-    ap (λ x. fed_words (shifted_by 32 (bit_xor r x)) f (suc i) k) (h i (omega arith))
-    ∙ fed_same k (shifted_by 32 (bit_xor r (g i))) (suc i) f g (λ j le. h j (omega (arith, le)))
+fed_within zero r i f g h = refl
+fed_within (suc k) r i f g h =
+    ap (λ x. fed_words (shifted_by 32 (bit_xor r x)) f (suc i) k) (h i (omega arith) (omega arith))
+    ∙ fed_within k (shifted_by 32 (bit_xor r (g i))) (suc i) f g (λ j le lt. h j (omega (arith, le)) (omega (arith, lt)))
+
+fed_same : (k r i : ℕ) (f g : ℕ → ℕ) → ((j : ℕ) → i ≤ j → f j ≡ g j) → fed_words r f i k ≡ fed_words r g i k
+fed_same k r i f g h = fed_within k r i f g (λ j le _. h j le)
 
 fed_xor : (k r s i : ℕ) (f g : ℕ → ℕ) → fed_words (bit_xor r s) (λ j. bit_xor (f j) (g j)) i k ≡ bit_xor (fed_words r f i k) (fed_words s g i k)
 unfolding fed_words
@@ -41,6 +40,12 @@ fed_none (suc k) r i =
     let e : 32 * suc k ≡ 32 + 32 * k = omega arith in
     ap (λ x. fed_words (shifted_by 32 x) (λ j. 0) (suc i) k) (xor_zero_r r)
     ∙ fed_none k (shifted_by 32 r) (suc i) ∙ sym (ap (λ n. shifted_by n r) e ∙ shifted_by-add 32 (32 * k) r)
+
+-- what the register makes of words: it goes past them, and what they make of 0 is added
+pub past_words : (k r i : ℕ) (f : ℕ → ℕ) → bit_xor (shifted_by (32 * k) r) (fed_words 0 f i k) ≡ fed_words r f i k
+past_words k r i f =
+    ap (λ x. bit_xor x (fed_words 0 f i k)) (sym (fed_none k r i))
+    ∙ sym (ap (λ x. fed_words x f i k) (sym (xor_zero_r r)) ∙ fed_same k (bit_xor r 0) i f (λ j. bit_xor 0 (f j)) (λ j le. sym (xor_zero_l (f j))) ∙ fed_xor k r 0 i (λ j. 0) f)
 
 -- one word, and all others 0
 abbrev pub only : ℕ → ℕ → ℕ → ℕ
@@ -83,14 +88,11 @@ fed_behind d c k i p v at_p long some =
 fed_first : (k i v : ℕ) (f : ℕ → ℕ) → f i ≡ v → fed_words 0 f i (suc k) ≡ bit_xor (shifted_by (32 * suc k) v) (fed_words 0 f (suc i) k)
 unfolding fed_words
 fed_first k i v f is =
-    let w = shifted_by 32 v in
+    let rest = fed_words 0 f (suc i) k in
     let e : 32 + 32 * k ≡ 32 * suc k = omega arith in
-    ap (λ x. fed_words (shifted_by 32 (bit_xor 0 x)) f (suc i) k) is
-    ∙ ap (λ x. fed_words (shifted_by 32 x) f (suc i) k) (xor_zero_l v)
-    ∙ ap (λ x. fed_words x f (suc i) k) (sym (xor_zero_r w))
-    ∙ fed_same k (bit_xor w 0) (suc i) f (λ j. bit_xor 0 (f j)) (λ j le. sym (xor_zero_l (f j)))
-    ∙ fed_xor k w 0 (suc i) (λ j. 0) f
-    ∙ ap (λ x. bit_xor x (fed_words 0 f (suc i) k)) (fed_none k w (suc i) ∙ sym (shifted_by-add 32 (32 * k) v) ∙ ap (λ n. shifted_by n v) e)
+    ap (λ x. fed_words (shifted_by 32 x) f (suc i) k) (ap (bit_xor 0) is ∙ xor_zero_l v)
+    ∙ sym (past_words k (shifted_by 32 v) (suc i) f)
+    ∙ ap (λ x. bit_xor x rest) (sym (shifted_by-add 32 (32 * k) v) ∙ ap (λ n. shifted_by n v) e)
 
 -- what the four words take up
 abbrev pub taken_from : ℕ → ℕ → ℕ → ℕ
@@ -174,31 +176,6 @@ fed_bytes (suc k) i r bytes len fits =
     ∙ ap (fold after_byte (shifted_by 32 (bit_xor r (word_in bytes i)))) behind
     ∙ fed_bytes k (suc i) (shifted_by 32 (bit_xor r (word_in bytes i))) bytes (omega (arith, len)) fits
 
--- ---- words two by two
-
--- two words as one number
-two_words : (r a b : ℕ) → shifted_by 64 (bit_xor r (bit_xor a (b * 2 ^ 32))) ≡ shifted_by 32 (bit_xor (shifted_by 32 (bit_xor r a)) b)
-two_words r a b =
-    ap (shifted_by 64) (sym (xor_assoc r a (b * 2 ^ 32)))
-    ∙ shifted_by-add 32 32 (bit_xor (bit_xor r a) (b * 2 ^ 32))
-    ∙ ap (shifted_by 32) (shifted_by-xor 32 (bit_xor r a) (b * 2 ^ 32) ∙ ap (bit_xor (shifted_by 32 (bit_xor r a))) (shifted_by-block 32 b))
-
--- four words as two numbers
-pub four_words : (k r i low high : ℕ) (f : ℕ → ℕ) → low ≡ bit_xor (f i) (f (i + 1) * 2 ^ 32) → high ≡ bit_xor (f (i + 2)) (f (i + 3) * 2 ^ 32)
-    → fed_words (shifted_by 64 (bit_xor (shifted_by 64 (bit_xor r low)) high)) f (i + 4) k ≡ fed_words r f i (k + 4)
-unfolding fed_words
-four_words k r i low high f is_low is_high =
-    let one : suc i ≡ i + 1 = omega arith in
-    let two : suc (suc i) ≡ i + 2 = omega arith in
-    let three : suc (suc (suc i)) ≡ i + 3 = omega arith in
-    let four : suc (suc (suc (suc i))) ≡ i + 4 = omega arith in
-    let count : suc (suc (suc (suc k))) ≡ k + 4 = omega arith in
-    let whole : fed_words r f i (suc (suc (suc (suc k)))) ≡ fed_words (shifted_by 32 (bit_xor (shifted_by 32 (bit_xor (shifted_by 32 (bit_xor (shifted_by 32 (bit_xor r (f i))) (f (i + 1)))) (f (i + 2)))) (f (i + 3)))) f (i + 4) k =
-    rw (sym one, sym two, sym three, sym four) refl in
-    rw (is_low, is_high, two_words r (f i) (f (i + 1)))
-    (ap (λ x. fed_words x f (i + 4) k) (two_words (shifted_by 32 (bit_xor (shifted_by 32 (bit_xor r (f i))) (f (i + 1)))) (f (i + 2)) (f (i + 3)))
-    ∙ sym whole ∙ ap (fed_words r f i) count)
-
 -- ---- the list of those that are left out, before any is: the register, and 0
 
 -- the register is added to the first word
@@ -254,27 +231,3 @@ pub turn_none : (i v : ℕ) (words : List ℕ) → ((j : ℕ) → i ≤ j → ge
 turn_none i v words none j le =
     let ne : 300 + j ≢ 300 + i = omega (arith, le) in
     get_or-set_other words (300 + i) (300 + j) v 0 ne ∙ none j (omega (arith, le))
-
--- ---- the words that are kept, four at a time
-
-pub turn_four : (k n r kept next low high : ℕ) (f : ℕ → ℕ) → k < 75
-    → low ≡ bit_xor (f (n + 4 * k)) (f (n + 4 * k + 1) * 2 ^ 32) → high ≡ bit_xor (f (n + 4 * k + 2)) (f (n + 4 * k + 2 + 1) * 2 ^ 32)
-    → next ≡ shifted_by 64 (bit_xor (shifted_by 64 (bit_xor kept low)) high)
-    → fed_words kept f (n + 4 * k) (300 - 4 * k) ≡ r → fed_words next f (n + 4 * (k + 1)) (300 - 4 * (k + 1)) ≡ r
-turn_four k n r kept next low high f lt is_low is_high is_next same =
-    let left = 300 - 4 * (k + 1) in
-    let count : left + 4 ≡ 300 - 4 * k = omega (arith, lt) in
-    let at_next : n + 4 * (k + 1) ≡ n + 4 * k + 4 = omega arith in
-    let third : n + 4 * k + 2 + 1 ≡ n + 4 * k + 3 = omega arith in
-    ap (λ x. fed_words x f (n + 4 * (k + 1)) left) is_next
-    ∙ ap (λ i. fed_words (shifted_by 64 (bit_xor (shifted_by 64 (bit_xor kept low)) high)) f i left) at_next
-    ∙ four_words left kept (n + 4 * k) low high f is_low (is_high ∙ ap (λ i. bit_xor (f (n + 4 * k + 2)) (f i * 2 ^ 32)) third)
-    ∙ ap (fed_words kept f (n + 4 * k)) count ∙ same
-
-pub all_fed : (k n r kept : ℕ) (bytes : List ℕ) (f : ℕ → ℕ) → 75 ≤ k → length bytes ≡ 4 * (n + 300) → ((j : ℕ) → get_or bytes j 0 < 256)
-    → fed_words kept f (n + 4 * k) (300 - 4 * k) ≡ fed_words r (word_in bytes) 0 (n + 300) → kept ≡ fold after_byte r bytes
-unfolding fed_words
-all_fed k n r kept bytes f all len fits same =
-    let none : 300 - 4 * k ≡ 0 = omega (arith, all) in
-    let done : fed_words kept f (n + 4 * k) 0 ≡ fed_words r (word_in bytes) 0 (n + 300) = ap (fed_words kept f (n + 4 * k)) (sym none) ∙ same in
-    done ∙ sym (fed_bytes (n + 300) 0 r bytes (omega (arith, len)) fits)

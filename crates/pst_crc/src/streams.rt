@@ -15,8 +15,8 @@ fn lowest_far(k: usize, register: u32) -> u32
     leaving_far(k, (register & 0xff) as u8)
 }
 
-// The register after 128 bytes of 0.
-fn past_stream(register: u32) -> u32
+/// The register after 128 bytes of 0.
+pub(crate) fn past_stream(register: u32) -> u32
     ensures { result ≡ shifted_by 1024 register }
 {
     let register1 = register >> 8;

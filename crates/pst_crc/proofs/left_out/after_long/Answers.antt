@@ -1,6 +1,7 @@
-use Rattle.std.proofs.Common.{◌≡◌, ◌+◌, ◌*◌, ◌-◌, ◌/◌, ◌<◌, length, ◌∙◌, arith, length-set}
-use Rattle.pst_crc.specs.LeftOut.{word_in, whole_in}
-use Rattle.pst_crc.proofs.LeftOutLemmas.{fed_words, begun_fed, turn_fed, turn_none, turn_four, all_fed}
+use Rattle.std.proofs.Common.{◌≡◌, ◌+◌, ◌-◌, ◌/◌, ◌<◌, length, ◌∙◌, arith, length-set}
+use Rattle.pst_crc.specs.LeftOut.{word_in, whole_in, fed_words}
+use Rattle.pst_crc.proofs.LeftOutLemmas.{begun_fed, turn_fed, turn_none}
+use Rattle.pst_crc.proofs.Kept.{all_fed}
 use Rattle.pst_crc.proofs.left_out.after_long.Goals as goal
 
 pub loop-i-init : goal.loop-i-init
@@ -25,16 +26,10 @@ loop-i-preserved c =
       room = length-set c.loop-i.words (300 + i) c.whole.result ∙ kept.room;
     }
 
-pub loop-k-preserved : goal.loop-k-preserved
-loop-k-preserved c =
-    let n = (length c.args.bytes.now - 1200) / 4 in
-    let all = fed_words c.args.register (word_in c.args.bytes.now) 0 (n + 300) in
-    let same : fed_words c.loop-k.kept (whole_in c.args.bytes.now c.loop-i.words) (n + 4 * c.loop-k.k) (300 - 4 * c.loop-k.k) ≡ all = c.loop-k.invariant in
-    turn_four c.loop-k.k n all c.loop-k.kept c.after_words-kept.result c.pair.result c.pair-in-loop-k.result (whole_in c.args.bytes.now c.loop-i.words)
-    c.loop-k-test.true c.pair.ensures c.pair-in-loop-k.ensures c.after_words-kept.ensures same
-
 pub returns : goal.returns
 returns c =
     let n = (length c.args.bytes.now - 1200) / 4 in
-    all_fed c.loop-k.k n c.args.register c.loop-k.kept c.args.bytes.now (whole_in c.args.bytes.now c.loop-i.words)
-    (omega (arith, c.loop-k-test.false)) (omega (arith, c.requires.words, c.requires.long)) (λ j. omega (arith, c.type_inv.bytes j)) c.loop-k.invariant
+    let all : fed_words 0 (whole_in c.args.bytes.now c.loop-i.words) c.loop-i.i (n - c.loop-i.i + 300) ≡ fed_words c.args.register (word_in c.args.bytes.now) 0 (n + 300) = c.loop-i.invariant.same in
+    all_fed c.loop-i.i n c.args.register c.after_kept.result c.args.bytes.now c.loop-i.words c.make_whole.new.words
+    c.loop-i-test.false c.loop-i.auto.i-end (omega (arith, c.requires.words, c.requires.long)) (λ j. omega (arith, c.type_inv.bytes j))
+    all c.make_whole.ensures.made c.after_kept.ensures

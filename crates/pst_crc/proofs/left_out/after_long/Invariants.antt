@@ -1,6 +1,5 @@
-use Rattle.std.proofs.Common.{◌≡◌, ◌+◌, ◌*◌, ◌-◌, ◌≤◌, ℕ, length, get_or}
-use Rattle.pst_crc.specs.LeftOut.{word_in, whole_in}
-use Rattle.pst_crc.proofs.LeftOutLemmas.{fed_words}
+use Rattle.std.proofs.Common.{◌≡◌, ◌+◌, ◌-◌, ◌≤◌, ℕ, length, get_or}
+use Rattle.pst_crc.specs.LeftOut.{word_in, whole_in, fed_words}
 use Rattle.pst_crc.proofs.left_out.after_long.Given as goal
 
 -- what the words from number i on make, with what is added to them, is what all words make
@@ -10,6 +9,3 @@ invariant-loop-i l = record {
   none : (j : ℕ) → l.i ≤ j → get_or l.words (300 + j) 0 ≡ 0;
   room : length l.words ≡ 2348;
 }
-
-abbrev pub invariant-loop-k : goal.invariant-loop-k
-invariant-loop-k l = fed_words l.kept (whole_in l.bytes l.words) (l.count + 4 * l.k) (300 - 4 * l.k) ≡ fed_words l.register (word_in l.bytes) 0 (l.count + 300)
