@@ -60,19 +60,21 @@ fn sum_body(image: Image, entry: BlockEntry, sums: &mut u64) -> u32
     pst_crc::check(image.slice(body_span(entry)))
 }
 
-// Whether the trailer at an offset is the block's ([MS-PST] 2.2.2.8.1).
+// Whether the trailer at an offset is the block's ([MS-PST] 2.2.2.8.1). The body is read first: a
+// processor that reads it in order has the trailer behind it at hand by then.
 fn is_trailer(image: Image, entry: BlockEntry, at: u64, sums: &mut u64) -> bool
     requires body { entry.ib + entry.cb ≤ length (bytes_of image) }
     requires inside { at + 16 ≤ length (bytes_of image) }
     requires room { sums.old + 1 < 2 ^ 64 }
     ensures value { result ≡ is_trailer (bytes_of image.entry) entry at }
-    ensures counted { IsTrue result → sums.new ≡ sums.old + 1 }
+    ensures counted { sums.new ≡ sums.old + 1 }
 {
+    let sum = sum_body(image, entry, sums);
     let bid = image.number64(at + 8);
     image.number16(at) == entry.cb
         && PageKind::Bbt.key_of(bid) == PageKind::Bbt.key_of(entry.bid)
         && image.number16(at + 2) == pst_crc::signature(entry.ib, bid)
-        && image.number32(at + 4) == sum_body(image, entry, sums)
+        && image.number32(at + 4) == sum
 }
 
 /// The trailer of a block in its place, or BlockTrailer; and the count of sums with the block's.
