@@ -24,6 +24,3 @@ mod report;
 pub use comparison::compare;
 pub use laws::{maps_decide, marks_are_exact, runs_are_whole};
 pub use report::{BitOrder, MapReport};
-
-#[cfg(test)]
-mod tests;

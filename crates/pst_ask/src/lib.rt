@@ -27,6 +27,3 @@ pub use clap::error::ErrorKind;
 pub use laws::commands_are_asked;
 pub use nid::read_nid;
 pub use words::{NoOrder, parse};
-
-#[cfg(test)]
-mod tests;

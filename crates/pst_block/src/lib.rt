@@ -26,6 +26,3 @@ pub use laws::{block_decides, blocks_decide};
 pub use pst_page::BlockEntry;
 pub use read::{Block, read_block};
 pub use size::block_size;
-
-#[cfg(test)]
-mod tests;

@@ -26,6 +26,3 @@ pub use check::{LEVELS, check_bth, check_bth_at, known_bth};
 pub use laws::{bth_at_any_name, bth_decides, bth_is_a_map, bth_keys_rise};
 pub use records::Records;
 pub use sizes::Sizes;
-
-#[cfg(test)]
-mod tests;

@@ -34,6 +34,3 @@ pub use node_tree::NodeTree;
 pub use nodes::Nodes;
 pub use pst_page::{BlockEntry, NodeEntry};
 pub use walks::{walk_blocks, walk_node_tree, walk_nodes};
-
-#[cfg(test)]
-mod tests;

@@ -147,6 +147,3 @@ impl<'a> Image<'a> {
         &self.bytes[at..end]
     }
 }
-
-#[cfg(test)]
-mod tests;

@@ -141,6 +141,3 @@ pub fn signature(ib: u64, bid: u64) -> u16
     let low = x & 0xffff;
     (high ^ low) as u16
 }
-
-#[cfg(test)]
-mod tests;

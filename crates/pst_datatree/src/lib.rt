@@ -49,6 +49,3 @@ pub use slices::Slices;
 pub use step::leaf;
 pub use value_view::Value;
 pub use values::{empty_value, spans, value, value_at};
-
-#[cfg(test)]
-mod tests;

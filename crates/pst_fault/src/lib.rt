@@ -16,6 +16,3 @@ mod kind;
 
 pub use fault::{Fault, Place};
 pub use kind::Kind;
-
-#[cfg(test)]
-mod tests;

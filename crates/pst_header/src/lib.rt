@@ -17,6 +17,3 @@ mod read;
 pub use header::{Bref, FIRST_AMAP, Header, REGION, UNIT};
 pub use laws::{header_decides, header_ends_inside};
 pub use read::read_header;
-
-#[cfg(test)]
-mod tests;

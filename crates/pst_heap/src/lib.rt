@@ -27,6 +27,3 @@ pub use laws::{heap_decides, items_lie_in_spans};
 pub use maps::Maps;
 pub use pst_ndb::check_ndb;
 pub use told::told_of;
-
-#[cfg(test)]
-mod tests;

@@ -33,6 +33,3 @@ pub use output::{EmitFault, emit};
 pub use pst_ndb::read_nodes;
 pub use pst_value_json::{hex_doc, pc_doc, table_doc, text, value_doc};
 pub use pst_verify::verify;
-
-#[cfg(test)]
-mod tests;

@@ -34,6 +34,3 @@ pub use images::{m0, m0_plan, m1, m1_plan, m2, m2_plan};
 pub use plan::{BlockPlan, MakeFault, NodePlan, Plan};
 pub use seal::{seal_block, seal_header, seal_page};
 pub use store::build;
-
-#[cfg(test)]
-mod tests;

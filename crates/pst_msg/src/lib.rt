@@ -53,6 +53,3 @@ pub use pst_pc::{Pc, known_pc};
 pub use pst_tc::Tc;
 pub use role::Role;
 pub use views::{known_folder, known_message, nodes_decide};
-
-#[cfg(test)]
-mod tests;

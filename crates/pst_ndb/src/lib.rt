@@ -31,6 +31,3 @@ pub use node::Node;
 pub use nodes::Nodes;
 pub use pst_subnode::SubIndex;
 pub use trees::read_nodes;
-
-#[cfg(test)]
-mod tests;

@@ -30,6 +30,3 @@ pub use laws::page_decides;
 pub use page::Page;
 pub use read::{known_page, open_page, page_place, read_page};
 pub use trailer::has_trailer;
-
-#[cfg(test)]
-mod tests;

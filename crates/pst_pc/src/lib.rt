@@ -22,6 +22,3 @@ pub use pc::Pc;
 pub use prop::Prop;
 pub use props::Props;
 pub use pst_heap::Maps;
-
-#[cfg(test)]
-mod tests;

@@ -19,6 +19,3 @@ mod laws;
 
 pub use claims::Claims;
 pub use laws::{claims_are_apart, claims_decide, map_pages_are_apart};
-
-#[cfg(test)]
-mod tests;

@@ -24,6 +24,3 @@ pub use pst_msg::{
     is_type,
 };
 pub use store::Store;
-
-#[cfg(test)]
-mod tests;

@@ -45,6 +45,3 @@ pub use laws::{
     sub_is_one, subs_are_a_map, subs_are_of_key,
 };
 pub use sub::Sub;
-
-#[cfg(test)]
-mod tests;

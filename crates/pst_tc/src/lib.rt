@@ -34,6 +34,3 @@ pub use laws::{tc_decides, tc_has_records, tc_ids_rise, tc_is_of_keys};
 pub use row::Row;
 pub use rows::Rows;
 pub use tc::Tc;
-
-#[cfg(test)]
-mod tests;

@@ -31,6 +31,3 @@ pub use prop_type::PropType;
 pub use read::{as_bool, as_guid, as_i16, as_i32, as_i64, as_object, as_u32, as_u64};
 pub use several::multi_count;
 pub use units::{Bytes, Units, bytes_from, units16};
-
-#[cfg(test)]
-mod tests;

@@ -29,6 +29,3 @@ pub use pst_tc::{Row, Rows, Tc, check_tc, tc_ids_rise};
 pub use pst_value::PropType;
 pub use scalar::text_doc;
 pub use value::{hex_doc, value_doc};
-
-#[cfg(test)]
-mod tests;

@@ -19,6 +19,3 @@ pub use pst_store::{
     Attachment, Attachments, FOLDER, Folder, Folders, Message, Store, is_message, is_type,
 };
 pub use report::Report;
-
-#[cfg(test)]
-mod tests;

@@ -1,6 +1,7 @@
 //! Reads and writes that fail, are interrupted or give little, and what is said of them.
 
 use super::loading::Failing;
+use super::told::{holds, is, is_at};
 use super::writing::{Fault, Slow};
 use super::{run_of, words_of};
 use crate::input::{LoadFault, load};
@@ -63,12 +64,12 @@ impl Write for Interrupting {
 #[test]
 fn interruptions_are_counted_over_the_whole_call(rt: HostRuntime) {
     let mut out = Interrupting::new(rt.alloc(), 11, 1_024);
-    assert_eq!(rt; emit(CHECK_LINE, &mut out), Ok(()));
-    assert_eq!(rt; out.taken.as_slice(), CHECK_LINE);
-    assert_eq!(rt; out.left, 0);
+    is(&rt, emit(CHECK_LINE, &mut out), Ok(()));
+    is(&rt, out.taken.as_slice(), CHECK_LINE);
+    is(&rt, out.left, 0);
     let mut out = Interrupting::new(rt.alloc(), 11, 1_025);
-    assert_eq!(rt; emit(CHECK_LINE, &mut out), Err(EmitFault::Failed));
-    assert_eq!(rt; Some(out.taken.as_slice()), CHECK_LINE.get(..93));
+    is(&rt, emit(CHECK_LINE, &mut out), Err(EmitFault::Failed));
+    is(&rt, Some(out.taken.as_slice()), CHECK_LINE.get(..93));
 }
 
 // Of a pipe that is closed nothing is said, whatever was to be written.
@@ -81,9 +82,9 @@ fn a_run_whose_output_is_closed(rt: HostRuntime) -> Result<(), Fail> {
         let mut out = Slow::new(alloc, 3, u32::MAX, Fault::Fails(ErrorKind::BrokenPipe));
         let mut said = Vec::new(alloc);
         let mut input = image.as_slice();
-        assert_eq!(rt; run(alloc, &words, &mut input, &mut out, &mut said), 3);
-        assert_eq!(rt; out.taken.len(), 3);
-        assert!(rt; said.is_empty());
+        is(&rt, run(alloc, &words, &mut input, &mut out, &mut said), 3);
+        is(&rt, out.taken.len(), 3);
+        holds(&rt, said.is_empty());
     }
     Ok(())
 }
@@ -96,8 +97,8 @@ fn a_front_of_the_report_is_left(rt: HostRuntime) -> Result<(), Fail> {
             let count = u32::try_from(good).map_err(|_| "too many")?;
             let mut out = Slow::new(rt.alloc(), count, 1, Fault::Fails(kind));
             let error = io::Error::from(kind);
-            assert_eq!(rt; emit(CHECK_LINE, &mut out), Err(EmitFault::of(error)));
-            assert_eq!(rt; Some(out.taken.as_slice()), CHECK_LINE.get(..good));
+            is(&rt, emit(CHECK_LINE, &mut out), Err(EmitFault::of(error)));
+            is(&rt, Some(out.taken.as_slice()), CHECK_LINE.get(..good));
         }
     }
     Ok(())
@@ -113,9 +114,9 @@ fn a_run_whose_output_fails(rt: HostRuntime) -> Result<(), Fail> {
         let mut said = Vec::new(alloc);
         let mut input = image.as_slice();
         let got = run(alloc, &words, &mut input, &mut out, &mut said);
-        assert_eq!(rt; got, 3);
-        assert_eq!(rt; Some(out.taken.as_slice()), CHECK_LINE.get(..good));
-        assert_eq!(rt; said.as_slice(), b"cannot write\n".as_slice());
+        is(&rt, got, 3);
+        is(&rt, Some(out.taken.as_slice()), CHECK_LINE.get(..good));
+        is(&rt, said.as_slice(), b"cannot write\n".as_slice());
     }
     Ok(())
 }
@@ -127,9 +128,9 @@ fn a_run_whose_input_never_ends(rt: HostRuntime) -> Result<(), Fail> {
     let mut input = Watched::new(Failing::new(1, ErrorKind::Interrupted));
     let (mut out, mut said) = (Vec::new(alloc), Vec::new(alloc));
     let got = run(alloc, &words, &mut input, &mut out, &mut said);
-    assert_eq!(rt; got, 3);
-    assert!(rt; out.is_empty());
-    assert_eq!(rt; said.as_slice(), b"cannot read the file\n".as_slice());
+    is(&rt, got, 3);
+    holds(&rt, out.is_empty());
+    is(&rt, said.as_slice(), b"cannot read the file\n".as_slice());
     is_explained(&rt, &input, "16777216 reads did not show its end")
 }
 
@@ -139,11 +140,11 @@ fn is_explained<R: std::process::Abort + AllocGlobal, I>(
     input: &Watched<I>,
     reason: &str,
 ) -> Result<(), Fail> {
-    let error = input.fault().ok_or("no fault")?;
+    let error = input.fault().expect(rt, "no fault");
     let mut said = Vec::new(rt.alloc());
     explain(rt.alloc(), "a.pst", error, &mut said);
     let line = format!(in rt.alloc(); "  a.pst: {reason}\n")?;
-    assert_eq!(rt; said.as_slice(), line.as_bytes());
+    is(rt, said.as_slice(), line.as_bytes());
     Ok(())
 }
 
@@ -170,12 +171,12 @@ fn the_end_of_a_reader_is_remembered(rt: HostRuntime) -> Result<(), Fail> {
     let mut piece = vec![in rt.alloc(); 0u8; 65_536]?;
     let mut input = Watched::new(Long { left: 262_145 });
     for count in 1u32..=262_145 {
-        assert_eq!(rt; input.fault().is_some(), false, "before {count}");
-        assert!(rt; input.read(&mut piece).is_ok());
+        is_at(&rt, count, input.fault().is_some(), false);
+        holds(&rt, input.read(&mut piece).is_ok());
     }
     is_explained(&rt, &input, "larger than 17179869184 bytes")?;
-    assert!(rt; input.read(&mut piece).is_ok());
-    assert!(rt; input.fault().is_none());
+    holds(&rt, input.read(&mut piece).is_ok());
+    holds(&rt, input.fault().is_none());
     Ok(())
 }
 
@@ -192,7 +193,7 @@ fn the_error_of_a_read_is_remembered(rt: HostRuntime) -> Result<(), Fail> {
         let error = io::Error::from_raw_os_error(code);
         let mut input = Watched::new(Source::Missing(error));
         let got = load(rt.alloc(), &mut input, 0).map(|bytes| bytes.len());
-        assert_eq!(rt; got, Err(LoadFault::Read));
+        is(&rt, got, Err(LoadFault::Read));
         is_explained(&rt, &input, reason)?;
     }
     Ok(())
@@ -200,12 +201,12 @@ fn the_error_of_a_read_is_remembered(rt: HostRuntime) -> Result<(), Fail> {
 
 #[test]
 fn a_word_names_what_is_read(rt: HostRuntime) -> Result<(), Fail> {
-    assert!(rt; matches!(Source::named(&rt, "-"), Source::Input(_)));
+    holds(&rt, matches!(Source::named(&rt, "-"), Source::Input(_)));
     let mut input = Watched::new(Source::named(&rt, "no such folder/a.pst"));
-    assert!(rt; load(rt.alloc(), &mut input, 0).is_err());
+    holds(&rt, load(rt.alloc(), &mut input, 0).is_err());
     is_explained(&rt, &input, "No such file or directory")?;
     let mut input = Watched::new(Source::named(&rt, "."));
-    assert!(rt; load(rt.alloc(), &mut input, 0).is_err());
+    holds(&rt, load(rt.alloc(), &mut input, 0).is_err());
     is_explained(&rt, &input, "Is a directory")?;
     let image = m0(rt.alloc())?;
     let line = std::str::from_utf8(CHECK_LINE).map_err(|_| "no text")?;

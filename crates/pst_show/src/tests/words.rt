@@ -3,6 +3,7 @@
 
 use super::loading::Failing;
 use super::run_of;
+use super::told::is;
 use std::io::ErrorKind;
 use std::process::Abort;
 use std::test::Fail;
@@ -17,7 +18,7 @@ fn are_answered<R: Abort + AllocGlobal>(
 ) -> Result<(), Fail> {
     let mut input = Failing::new(0, ErrorKind::PermissionDenied);
     run_of(rt, words, &mut input, status, out, err)?;
-    assert_eq!(rt; input.reads, 0);
+    is(rt, input.reads, 0);
     Ok(())
 }
 

@@ -1,5 +1,6 @@
 //! Writers that fail or take little: what is left of a line, and the status.
 
+use super::told::{holds, is};
 use super::{SMALL_LINE, words_of};
 use crate::run::run;
 use pst_json::{EmitFault, emit};
@@ -68,8 +69,8 @@ fn a_front_is_left_where_a_write_fails(rt: HostRuntime) -> Result<(), Fail> {
         for fault in [Fault::Fails(ErrorKind::StorageFull), Fault::TakesNothing] {
             let count = u32::try_from(good).map_err(|_| "too many")?;
             let mut out = Slow::new(rt.alloc(), count, 1, fault);
-            assert_eq!(rt; emit(line, &mut out), Err(EmitFault::Failed));
-            assert_eq!(rt; Some(out.taken.as_slice()), line.get(..good));
+            is(&rt, emit(line, &mut out), Err(EmitFault::Failed));
+            is(&rt, Some(out.taken.as_slice()), line.get(..good));
         }
     }
     Ok(())
@@ -80,11 +81,11 @@ fn interrupted_writes_are_made_again(rt: HostRuntime) {
     let line = SMALL_LINE.as_bytes();
     let interrupted = Fault::Fails(ErrorKind::Interrupted);
     let mut out = Slow::new(rt.alloc(), 5, 1_024, interrupted);
-    assert_eq!(rt; emit(line, &mut out), Ok(()));
-    assert_eq!(rt; out.taken.as_slice(), line);
+    is(&rt, emit(line, &mut out), Ok(()));
+    is(&rt, out.taken.as_slice(), line);
     let mut out = Slow::new(rt.alloc(), 5, 1_025, interrupted);
-    assert_eq!(rt; emit(line, &mut out), Err(EmitFault::Failed));
-    assert_eq!(rt; Some(out.taken.as_slice()), line.get(..5));
+    is(&rt, emit(line, &mut out), Err(EmitFault::Failed));
+    is(&rt, Some(out.taken.as_slice()), line.get(..5));
 }
 
 #[test]
@@ -97,9 +98,9 @@ fn an_output_that_cannot_be_written(rt: HostRuntime) -> Result<(), Fail> {
         let mut out = Slow::new(alloc, 3, u32::MAX, Fault::Fails(ErrorKind::StorageFull));
         let mut said = Vec::new(alloc);
         let got = run(alloc, &words, &mut input, &mut out, &mut said);
-        assert_eq!(rt; said.as_slice(), b"cannot write\n".as_slice());
-        assert_eq!(rt; out.taken.len(), 3);
-        assert_eq!(rt; got, 3);
+        is(&rt, said.as_slice(), b"cannot write\n".as_slice());
+        is(&rt, out.taken.len(), 3);
+        is(&rt, got, 3);
     }
     Ok(())
 }
@@ -113,8 +114,12 @@ fn an_error_output_that_fails(rt: HostRuntime) -> Result<(), Fail> {
         let mut out = Vec::new(alloc);
         let mut err = Slow::new(alloc, 0, u32::MAX, Fault::TakesNothing);
         let mut input: &[u8] = &[];
-        assert_eq!(rt; run(alloc, &words, &mut input, &mut out, &mut err), status);
-        assert!(rt; out.is_empty());
+        is(
+            &rt,
+            run(alloc, &words, &mut input, &mut out, &mut err),
+            status,
+        );
+        holds(&rt, out.is_empty());
     }
     Ok(())
 }

@@ -1,0 +1,38 @@
+//! What words ask for, and the texts of help and of refusals.
+
+mod asked;
+mod help;
+mod refused;
+
+use crate::told::is;
+use pst_ask::{NoOrder, parse};
+use std::alloc::Global;
+use std::process::Abort;
+use std::test::Fail;
+
+fn words_of(alloc: Global, words: &[&str]) -> Result<Vec<String>, Fail> {
+    let mut all = Vec::new(alloc);
+    for word in words {
+        all.push(String::from_str(alloc, word)?)?;
+    }
+    Ok(all)
+}
+
+// Compares the text that comes of words which ask for nothing to be shown, and whether it is told as an error.
+fn is_answered<R: Abort + AllocGlobal>(
+    rt: &R,
+    words: &[&str],
+    is_error: bool,
+    text: &str,
+) -> Result<(), Fail> {
+    let words = words_of(rt.alloc(), words)?;
+    match parse(rt.alloc(), &words) {
+        Err(NoOrder::Words(error)) => {
+            let said = format!(in rt.alloc(); "{error}")?;
+            is(rt, said.as_str(), text);
+            is(rt, error.use_stderr(), is_error);
+            Ok(())
+        }
+        _ => Err(Fail::from("the words are accepted")),
+    }
+}

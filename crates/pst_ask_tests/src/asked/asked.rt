@@ -1,0 +1,76 @@
+//! What accepted words ask for, and the words that name a node.
+
+use super::words_of;
+use crate::told::{holds_at, is, is_at};
+use pst_ask::{Ask, Lack, NoOrder, Order, parse, read_nid};
+use std::process::Abort;
+use std::test::Fail;
+
+// Compares what words ask for.
+fn is_asked<R: Abort + AllocGlobal>(
+    rt: &R,
+    words: &[&str],
+    ask: Ask,
+    file: &str,
+) -> Result<(), Fail> {
+    let words = words_of(rt.alloc(), words)?;
+    let order = parse(rt.alloc(), &words).map_err(|_| "refused")?;
+    is(rt, order, Order { ask, file });
+    Ok(())
+}
+
+#[test]
+fn each_command_is_asked_for(rt: HostRuntime) -> Result<(), Fail> {
+    is_asked(&rt, &["check", "a.pst"], Ask::Check(false), "a.pst")?;
+    for words in [
+        &["check", "--strict", "a.pst"][..],
+        &["check", "a.pst", "--strict"],
+        &["check", "--strict", "--", "a.pst"],
+    ] {
+        is_asked(&rt, words, Ask::Check(true), "a.pst")?;
+    }
+    is_asked(&rt, &["head", "-"], Ask::Head, "-")?;
+    is_asked(&rt, &["nodes", ""], Ask::Nodes, "")?;
+    is_asked(&rt, &["folders", "--", "-h"], Ask::Folders, "-h")?;
+    let (contents, props) = (Ask::Contents(0x8082), Ask::Props(0x12d));
+    is_asked(&rt, &["contents", "a b", "0x8082"], contents, "a b")?;
+    is_asked(&rt, &["props", "a.pst", "0x12D"], props, "a.pst")
+}
+
+#[test]
+fn hexadecimal_digits_name_a_node(rt: HostRuntime) {
+    for (word, nid) in [
+        ("0x0", 0),
+        ("0x21", 0x21),
+        ("0x00000122", 0x122),
+        ("0xabcdef", 0x00ab_cdef),
+        ("0xABCDEF", 0x00ab_cdef),
+        ("0xffffffff", u32::MAX),
+    ] {
+        is_at(&rt, word, read_nid(word), Some(nid));
+    }
+}
+
+#[test]
+fn other_words_name_no_node(rt: HostRuntime) -> Result<(), Fail> {
+    for word in [
+        "",
+        "21",
+        "0x",
+        "0x123456789",
+        "0xg",
+        "0X21",
+        "x21",
+        "0x+1",
+        "0x 1",
+        "١",
+    ] {
+        is_at(&rt, word, read_nid(word), None);
+        for command in ["contents", "props"] {
+            let words = words_of(rt.alloc(), &[command, "a.pst", word])?;
+            let asked = parse(rt.alloc(), &words);
+            holds_at(&rt, word, matches!(asked, Err(NoOrder::Lacks(Lack::Nid))));
+        }
+    }
+    Ok(())
+}

@@ -1,0 +1,16 @@
+//! Tests of heaps, BTHs, values, and the contexts in them (pst_heap, pst_bth, pst_value, pst_pc, pst_tc), by their public calls. They stand apart, so that
+//! the crates that they are about are proved once, and without them.
+#![tactic(auto)]
+
+#[cfg(test)]
+mod bths;
+#[cfg(test)]
+mod heaps;
+#[cfg(test)]
+mod properties;
+#[cfg(test)]
+mod tables;
+#[cfg(test)]
+mod told;
+#[cfg(test)]
+mod values;

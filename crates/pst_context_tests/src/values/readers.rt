@@ -1,0 +1,104 @@
+//! What the readers say of bytes, in one piece and in several.
+
+use super::*;
+use crate::told::{holds, is, is_at};
+
+// How many values there are, of a type, in so many bytes.
+const COUNTS: [(u16, &[u8], Option<u32>); 20] = [
+    (0x1002, &[], Some(0)),
+    (0x1002, &[1, 2, 3], None),
+    (0x1002, &[1, 2, 3, 4], Some(2)),
+    (0x1003, &[1, 2, 3, 4], Some(1)),
+    (0x1004, &[1, 2, 3, 4, 5, 6, 7, 8], Some(2)),
+    (0x1005, &[1, 2, 3, 4, 5, 6, 7, 8], Some(1)),
+    (0x1006, &[1, 2, 3, 4], None),
+    (0x1007, &[1, 2, 3, 4, 5, 6, 7, 8], Some(1)),
+    (0x1014, &[1, 2, 3, 4, 5, 6, 7, 8], Some(1)),
+    (0x1040, &[1, 2, 3, 4, 5, 6, 7, 8], Some(1)),
+    (0x1048, &[1, 2, 3, 4, 5, 6, 7, 8], None),
+    (0x0003, &[1, 2, 3, 4], None),
+    (0x101E, &[], Some(0)),
+    (0x101F, &[0, 0, 0], None),
+    (0x1102, &[0, 0, 0, 0], Some(0)),
+    (0x1102, &[1, 0, 0, 0, 8, 0, 0, 0], Some(1)),
+    (0x1102, &[1, 0, 0, 0, 7, 0, 0, 0], None),
+    (0x1102, &[1, 0, 0, 0, 9, 0, 0, 0], None),
+    (0x101E, &[2, 0, 0, 0, 13, 0, 0, 0, 12, 0, 0, 0, 65], None),
+    (0x101F, &[255, 255, 255, 255], None),
+];
+
+// The bytes of each value of a value of several, one after another, each behind its length.
+fn listed(alloc: Global, value: Value, kind: u16) -> Result<Vec<u8>, Fail> {
+    let mut all = Vec::new(alloc);
+    for one in elements_from(value, PropType(kind)).ok_or("no list")? {
+        all.push((one.len() % 256) as u8)?;
+        for byte in bytes_from(one) {
+            all.push(byte)?;
+        }
+    }
+    Ok(all)
+}
+
+#[test]
+fn bytes_are_read(rt: HostRuntime) -> Result<(), Fail> {
+    let alloc = rt.alloc();
+    let high = [0xfe, 0xff, 0xff, 0xff, 0xff, 0xff, 0xff, 0xff];
+    let of = |len: usize| Value::Whole(0, &high[..len.min(8)]);
+    is(&rt, as_i16(of(2)), Some(-2));
+    is(&rt, as_i32(of(4)), Some(-2));
+    is(&rt, as_i64(of(8)), Some(-2));
+    is(&rt, as_u32(of(4)), Some(0xffff_fffe));
+    is(&rt, as_u64(of(8)), Some(0xffff_ffff_ffff_fffe));
+    is(&rt, as_bool(of(1)), Some(true));
+    is(&rt, as_bool(Value::Whole(0, &[0])), Some(false));
+    let text = Value::Whole(0, &[0x41, 0, 0, 0xd8, 0x42]);
+    is(&rt, units16(text).next(), Some(0x41));
+    is(&rt, units16(text).count(), 2);
+    for (kind, bytes, count) in COUNTS {
+        let value = Value::Whole(0, bytes);
+        is_at(&rt, kind, multi_count(value, PropType(kind)), count);
+    }
+    Ok(())
+}
+
+#[test]
+fn pieces_are_read(rt: HostRuntime) -> Result<(), Fail> {
+    let alloc = rt.alloc();
+    let image = store(alloc)?;
+    let heap = heap_in(alloc, &image)?;
+    let whole = named_value(&heap, 0x41).expect(&rt, "no subnode");
+    holds(&rt, matches!(whole, Value::Pieces(_)));
+    let part = |from: u64, to: u64| whole.part(from, to).ok_or("no part");
+    is(&rt, as_i16(part(2, 4)?), Some(2));
+    is(&rt, as_i32(part(1, 5)?), Some(0x203));
+    is(&rt, as_u32(part(1, 5)?), Some(0x203));
+    is(&rt, as_i64(part(0, 8)?), Some(0x20328));
+    is(&rt, as_u64(part(1, 9)?), Some(0xc000_0000_0000_0203));
+    is(&rt, as_object(whole), Some((0x20328, 0)));
+    is(&rt, as_bool(whole), None);
+    let guid = as_guid(whole).expect(&rt, "no GUID");
+    let text = format!(in alloc; "{guid}")?;
+    is(&rt, text.as_str(), "00020328-0000-0000-c000-000000000046");
+    is(&rt, units16(part(1, 4)?).next(), Some(0x203));
+    let numbers = listed(alloc, whole, 0x1014)?;
+    is(
+        &rt,
+        numbers.as_slice(),
+        [
+            8, 0x28, 3, 2, 0, 0, 0, 0, 0, 8, 0xc0, 0, 0, 0, 0, 0, 0, 0x46,
+        ]
+        .as_slice(),
+    );
+    let texts = named_value(&heap, 0xa1).expect(&rt, "no subnode");
+    is(&rt, multi_count(texts, PropType(0x101F)), Some(2));
+    let both = listed(alloc, texts, 0x101F)?;
+    is(
+        &rt,
+        both.as_slice(),
+        [2, b'A', 0, 4, b'B', 0, b'C', 0].as_slice(),
+    );
+    let last = multi(texts, PropType(0x101F), 1).expect(&rt, "no text");
+    is(&rt, units16(last).next(), Some(u16::from(b'B')));
+    holds(&rt, multi(texts, PropType(0x101F), 2).is_none());
+    Ok(())
+}

@@ -1,0 +1,93 @@
+//! Keys and their bounds, and the first page that is wrong.
+
+use super::*;
+use crate::told::is;
+
+// Without bit 0, the keys 4 and 5 are the same.
+#[test]
+fn keys_of_blocks_rise_without_bit_zero(rt: HostRuntime) -> Result<(), Fail> {
+    let mut image = m0(rt.alloc())?;
+    set(&mut image, 0x4a18, &[5])?;
+    Change::Page(0x4a00).apply(&mut image)?;
+    let fault = Fault::within(Kind::KeyOrder, 0x4a18, 8);
+    is(&rt, blocks_fault(rt.alloc(), &image), Some(fault));
+    set(&mut image, 0x4a18, &[6])?;
+    Change::Page(0x4a00).apply(&mut image)?;
+    is(&rt, blocks_fault(rt.alloc(), &image), None);
+    Ok(())
+}
+
+// The fault of three leaves, of which the second ends with this key.
+fn last_key(alloc: Global, last: u64) -> Result<Option<Fault>, Fail> {
+    let image = three_leaves(alloc, last)?;
+    Ok(blocks_fault(alloc, &image))
+}
+
+// The fault of three leaves, of which the second begins with this key.
+fn first_key(alloc: Global, first: u64) -> Result<Option<Fault>, Fail> {
+    let mut image = three_leaves(alloc, 36)?;
+    let leaf = [empty_block(first), empty_block(36)];
+    put_page(&mut image, PageKind::Bbt, page_at(2), 0, &leaf)?;
+    Ok(blocks_fault(alloc, &image))
+}
+
+#[test]
+fn keys_keep_the_bounds_of_the_pages_above(rt: HostRuntime) -> Result<(), Fail> {
+    let leaf = page_at(2);
+    let first = Fault::within(Kind::KeyOrder, leaf.ib, leaf.bid);
+    let second = Fault::within(Kind::KeyOrder, leaf.ib.saturating_add(24), leaf.bid);
+    is(&rt, last_key(rt.alloc(), 40)?, Some(second));
+    is(&rt, last_key(rt.alloc(), 36)?, None);
+    is(&rt, first_key(rt.alloc(), 16)?, Some(first));
+    is(&rt, first_key(rt.alloc(), 24)?, None);
+    Ok(())
+}
+
+#[test]
+fn a_page_has_one_place_in_its_tree(rt: HostRuntime) -> Result<(), Fail> {
+    let mut image = three_leaves(rt.alloc(), 36)?;
+    let root = [branch(4, 1), branch(20, 2), branch(40, 2)];
+    put_page(&mut image, PageKind::Bbt, page_at(0), 1, &root)?;
+    let leaf = page_at(2);
+    let fault = Fault::within(Kind::Overlap, leaf.ib, leaf.bid);
+    is(&rt, blocks_fault(rt.alloc(), &image), Some(fault));
+    // A page on an allocation map, whose own bytes are never looked at.
+    set_root(
+        &mut image,
+        PageKind::Bbt,
+        Bref {
+            bid: 12,
+            ib: 0x4440,
+        },
+    )?;
+    let fault = Fault::within(Kind::Overlap, 0x4440, 12);
+    is(&rt, blocks_fault(rt.alloc(), &image), Some(fault));
+    Ok(())
+}
+
+// The fault where the second of three leaves has other bytes at an offset. The third is wrong, too, but comes later.
+fn leaf_with(alloc: Global, offset: u64, bytes: &[u8]) -> Result<Option<Fault>, Fail> {
+    let mut image = three_leaves(alloc, 36)?;
+    let leaf = usize::try_from(page_at(2).ib)?;
+    let offset = usize::try_from(offset)?;
+    set(&mut image, leaf.saturating_add(offset), bytes)?;
+    Change::Page(leaf as u64).apply(&mut image)?;
+    set(&mut image, usize::try_from(page_at(3).ib)?, &[1])?;
+    Ok(blocks_fault(alloc, &image))
+}
+
+#[test]
+fn the_first_wrong_page_is_named(rt: HostRuntime) -> Result<(), Fail> {
+    let leaf = page_at(2);
+    let rows: [(u64, &[u8], Kind); 4] = [
+        (488, &[2, 15, 23], Kind::PageShape),
+        (488, &[0, 15, 24, 1], Kind::PageShape),
+        (488, &[2, 15, 24, 1], Kind::PageShape),
+        (496, &[0x81], Kind::PageTrailer),
+    ];
+    for (offset, bytes, kind) in rows {
+        let fault = leaf_with(rt.alloc(), offset, bytes)?;
+        is(&rt, fault, Some(Fault::within(kind, leaf.ib, leaf.bid)));
+    }
+    Ok(())
+}
