@@ -17,7 +17,6 @@ mod loading;
 mod messages;
 mod nodes;
 mod reading;
-mod told;
 mod values;
 mod words;
 mod writing;
@@ -27,7 +26,6 @@ use std::alloc::Global;
 use std::io::Read;
 use std::process::Abort;
 use std::test::Fail;
-use told::is;
 
 // What `head` prints of the small store.
 const SMALL_LINE: &str =
@@ -67,9 +65,9 @@ fn run_of<R: Abort + AllocGlobal, I: Read>(
     let mut written = Vec::new(alloc);
     let mut said = Vec::new(alloc);
     let got = run(alloc, &words, input, &mut written, &mut said);
-    is(rt, said.as_slice(), err.as_bytes());
-    is(rt, written.as_slice(), out.as_bytes());
-    is(rt, got, status);
+    assert_eq!(rt; said.as_slice(), err.as_bytes());
+    assert_eq!(rt; written.as_slice(), out.as_bytes());
+    assert_eq!(rt; got, status);
     Ok(())
 }
 

@@ -3,6 +3,7 @@
 ghost use Rattle.std.specs.Prelude.{◌≡◌, ◌+◌, ◌≤◌, length, IfOk, IfSome, Some, None, option_map};
 ghost use Rattle.pst_bytes.specs.Image.{num, IsInside};
 ghost use Rattle.pst_fault.specs.First.{Checks};
+ghost use Rattle.pst_datatree.specs.Data.{size_of};
 ghost use Rattle.pst_ndb.specs.Views.{table_of_node, roots_of, IsIndexedBy};
 ghost use Rattle.pst_heap.specs.Fault.{told_of as told};
 ghost use Rattle.pst_heap.specs.View.{node_of, data_of, file_of_heap};
@@ -81,6 +82,48 @@ fn hnid_value<'a>(
         return Err(Fault::at(Kind::Property, place));
     }
     Ok(value)
+}
+
+// How many bytes what an HNID names has; None exactly where it names nothing. No value is made of an item of the heap.
+#[tactic(auto, unfolding(crate::specs::Values::hnid_spans))]
+fn named_len(items: &mut Items, index: &SubIndex, hnid: u32) -> Option<u64>
+    requires { IsIndexedBy (node_of_items items.old) index.now }
+    ensures value { let node = node_of_items items.old in
+        result ≡ option_map size_of (hnid_spans (table_of_node node) (roots_of node) hnid) }
+    ensures heap { heap_of_items items.new ≡ heap_of_items items.old }
+{
+    if hnid == 0 {
+        return Some(0);
+    }
+    if hnid % 32 == 0 {
+        let span = items.item_span(hnid)?;
+        return Some(span.len);
+    }
+    let sub = items.heap().node().sub_by(index, hnid)?;
+    Some(sub.bytes().len())
+}
+
+// Checks the value that the HNID at `named` names, told of no node.
+#[tactic(auto, unfolding(crate::specs::Fault::hnid_fault))]
+fn check_hnid(
+    items: &mut Items,
+    index: &SubIndex,
+    kind: PropType,
+    place: u64,
+    named: u64,
+) -> Result<(), Fault>
+    requires index { IsIndexedBy (node_of_items items.old) index.now }
+    requires inside { named + 4 ≤ length (data_of_items items.old).image }
+    ensures exact { let node = node_of_items items.old in
+        Checks result (hnid_fault (table_of_node node) (roots_of node) kind.0 place named) }
+    ensures heap { heap_of_items items.new ≡ heap_of_items items.old }
+{
+    let hnid = items.heap().image().number32(named);
+    match named_len(items, index, hnid) {
+        None => Err(missing_at(named, hnid)),
+        Some(len) if has_length(kind, len) => Ok(()),
+        Some(_) => Err(Fault::at(Kind::Property, place)),
+    }
 }
 
 // The value of a type in a raw span, told of no node.
@@ -163,8 +206,8 @@ pub fn check_value_by(
     if held(kind, raw.len).is_some() {
         return Ok(());
     }
-    match hnid_value(items, index, kind, place, raw.at) {
-        Ok(_) => Ok(()),
+    match check_hnid(items, index, kind, place, raw.at) {
+        Ok(()) => Ok(()),
         Err(fault) => Err(told_of(&items.heap().node(), fault)),
     }
 }

@@ -1,7 +1,6 @@
 //! Runs over stores with bytes changed: what a case is, and how it is run.
 
 use super::heaps::{Numbered, Property, context_of, heap_of, numbered_of, table_of};
-use super::told::is_at;
 use super::words_of;
 use crate::run::run;
 use pst_make::{BlockPlan, Change, NodePlan, Plan, build, change_all, m0, m0_plan, m1, m2};
@@ -191,7 +190,7 @@ pub(super) fn ends_with<R: Abort + AllocGlobal>(
     let mut input = image;
     let status = run(alloc, &words, &mut input, &mut out, &mut err);
     let got = (status, str::from_utf8(&out)?, str::from_utf8(&err)?);
-    is_at(rt, what, got, wanted);
+    assert_eq!(rt; got, wanted, "{what}");
     Ok(())
 }
 

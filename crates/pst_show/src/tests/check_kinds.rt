@@ -6,7 +6,6 @@ use super::check_files::{BLOCK_TREES, BLOCKS, HEADERS, MAPS, NODE_TREES};
 use super::check_folders::FOLDERS;
 use super::check_messages::MESSAGES;
 use super::check_nodes::NODES;
-use super::told::holds_at;
 use std::test::Fail;
 
 const ALL: [&[Case<'static>]; 10] = [
@@ -41,7 +40,7 @@ fn is_provoked(front: &str) -> bool {
 fn every_kind_is_provoked(rt: HostRuntime) -> Result<(), Fail> {
     for number in 1..28 {
         let front = format!(in rt.alloc(); "no: {number} ")?;
-        holds_at(&rt, number, is_provoked(&front));
+        assert!(rt; is_provoked(&front), "{front}");
     }
     Ok(())
 }

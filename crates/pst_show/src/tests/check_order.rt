@@ -17,7 +17,7 @@ const SHORT: Answer<'static> = No("no: 1 Short at 0x0 bid 0x0 nid 0x0\n");
 fn fronts_are_refused(rt: HostRuntime) -> Result<(), Fail> {
     let image = store_of(rt.alloc(), Store::M0)?;
     for n in 0..4240_usize {
-        let front = image.get(..64 * n).expect(&rt, "too short");
+        let front = image.get(..64 * n).ok_or("too short")?;
         let answer = if n <= 8 {
             SHORT
         } else {
@@ -50,7 +50,7 @@ fn fronts_that_say_so_are_good_behind_the_last_block(rt: HostRuntime) -> Result<
             set(&mut image, 184, &(len as u64).to_le_bytes())?;
             Change::Header.apply(&mut image)?;
         }
-        let front = image.get(..len).expect(&rt, "too short");
+        let front = image.get(..len).ok_or("too short")?;
         is_answered(&rt, front, answer_at(len), "a front that says so")?;
     }
     Ok(())

@@ -51,7 +51,7 @@ fn a_file_without_a_whole_header_is_short(rt: HostRuntime) -> Result<(), Fail> {
     let line = "no: 1 Short at 0x0 bid 0x0 nid 0x0\n";
     let image = m0(rt.alloc())?;
     refused(&rt, &[], line)?;
-    refused(&rt, image.get(..563).expect(&rt, "too short"), line)
+    refused(&rt, image.get(..563).ok_or("too short")?, line)
 }
 
 // One byte is changed, and the check values are made right again.

@@ -1,6 +1,5 @@
 //! Readers that fail, are interrupted or never end, and how many reads and bytes `load` takes of good ones.
 
-use super::told::{is, is_at};
 use super::{SMALL_LINE, head_of};
 use crate::input::{LoadFault, Reads, load, load_counted};
 use crate::source::Source;
@@ -68,7 +67,7 @@ fn a_file_that_cannot_be_read(rt: HostRuntime) -> Result<(), Fail> {
     for good in [0, 1, 563, 564, 100_000] {
         let mut input = Failing::new(good, ErrorKind::PermissionDenied);
         head_of(&rt, &mut input, 3, "", line)?;
-        is(&rt, input.reads, good.saturating_add(1));
+        assert_eq!(rt; input.reads, good.saturating_add(1));
     }
     Ok(())
 }
@@ -78,7 +77,7 @@ fn a_reader_that_fails_gives_nothing(rt: HostRuntime) {
     for good in [0, 1, 70_000] {
         let mut input = Failing::new(good, ErrorKind::PermissionDenied);
         let got = load(rt.alloc(), &mut input, 0).map(|bytes| bytes.len());
-        is(&rt, got, Err(LoadFault::Read));
+        assert_eq!(rt; got, Err(LoadFault::Read));
     }
 }
 
@@ -86,8 +85,8 @@ fn a_reader_that_fails_gives_nothing(rt: HostRuntime) {
 fn a_reader_that_never_ends_is_too_long(rt: HostRuntime) {
     let mut input = Failing::new(0, ErrorKind::Interrupted);
     let got = load(rt.alloc(), &mut input, 0).map(|bytes| bytes.len());
-    is(&rt, got, Err(LoadFault::TooLong));
-    is(&rt, input.reads, 16_777_216);
+    assert_eq!(rt; got, Err(LoadFault::TooLong));
+    assert_eq!(rt; input.reads, 16_777_216);
 }
 
 #[test]
@@ -118,13 +117,13 @@ fn all_bytes_are_loaded(rt: HostRuntime) -> Result<(), Fail> {
         for expected in [len + 1, len, len / 2, usize::MAX] {
             let mut input = image.as_slice();
             let got = load(rt.alloc(), &mut input, expected).map_err(|_| "refused")?;
-            is_at(&rt, expected, got.as_slice(), image.as_slice());
+            assert_eq!(rt; got.as_slice(), image.as_slice(), "expected {expected}");
         }
         let mut input = image.as_slice();
         let (got, reads) = load_counted(rt.alloc(), &mut input, len);
-        is(&rt, got.map(|bytes| bytes.len()), Ok(len));
+        assert_eq!(rt; got.map(|bytes| bytes.len()), Ok(len));
         let bytes = len as u64;
-        is(&rt, reads, Reads { count, bytes });
+        assert_eq!(rt; reads, Reads { count, bytes });
     }
     Ok(())
 }

@@ -222,7 +222,7 @@ fn fronts_of_a_store(rt: HostRuntime) -> Result<(), Fail> {
         let mut image = m0(rt.alloc())?;
         set(&mut image, 184, &len.to_le_bytes())?;
         Change::Header.apply(&mut image)?;
-        let front = image.get(..len as usize).expect(&rt, "too short");
+        let front = image.get(..len as usize).ok_or("too short")?;
         nodes_of(&rt, front, status, out, err)?;
     }
     Ok(())

@@ -1,7 +1,6 @@
 //! Reads and writes that fail, are interrupted or give little, and what is said of them.
 
 use super::loading::Failing;
-use super::told::{holds, is, is_at};
 use super::writing::{Fault, Slow};
 use super::{run_of, words_of};
 use crate::input::{LoadFault, load};
@@ -64,12 +63,12 @@ impl Write for Interrupting {
 #[test]
 fn interruptions_are_counted_over_the_whole_call(rt: HostRuntime) {
     let mut out = Interrupting::new(rt.alloc(), 11, 1_024);
-    is(&rt, emit(CHECK_LINE, &mut out), Ok(()));
-    is(&rt, out.taken.as_slice(), CHECK_LINE);
-    is(&rt, out.left, 0);
+    assert_eq!(rt; emit(CHECK_LINE, &mut out), Ok(()));
+    assert_eq!(rt; out.taken.as_slice(), CHECK_LINE);
+    assert_eq!(rt; out.left, 0);
     let mut out = Interrupting::new(rt.alloc(), 11, 1_025);
-    is(&rt, emit(CHECK_LINE, &mut out), Err(EmitFault::Failed));
-    is(&rt, Some(out.taken.as_slice()), CHECK_LINE.get(..93));
+    assert_eq!(rt; emit(CHECK_LINE, &mut out), Err(EmitFault::Failed));
+    assert_eq!(rt; Some(out.taken.as_slice()), CHECK_LINE.get(..93));
 }
 
 // Of a pipe that is closed nothing is said, whatever was to be written.
@@ -82,9 +81,9 @@ fn a_run_whose_output_is_closed(rt: HostRuntime) -> Result<(), Fail> {
         let mut out = Slow::new(alloc, 3, u32::MAX, Fault::Fails(ErrorKind::BrokenPipe));
         let mut said = Vec::new(alloc);
         let mut input = image.as_slice();
-        is(&rt, run(alloc, &words, &mut input, &mut out, &mut said), 3);
-        is(&rt, out.taken.len(), 3);
-        holds(&rt, said.is_empty());
+        assert_eq!(rt; run(alloc, &words, &mut input, &mut out, &mut said), 3);
+        assert_eq!(rt; out.taken.len(), 3);
+        assert!(rt; said.is_empty());
     }
     Ok(())
 }
@@ -97,8 +96,8 @@ fn a_front_of_the_report_is_left(rt: HostRuntime) -> Result<(), Fail> {
             let count = u32::try_from(good).map_err(|_| "too many")?;
             let mut out = Slow::new(rt.alloc(), count, 1, Fault::Fails(kind));
             let error = io::Error::from(kind);
-            is(&rt, emit(CHECK_LINE, &mut out), Err(EmitFault::of(error)));
-            is(&rt, Some(out.taken.as_slice()), CHECK_LINE.get(..good));
+            assert_eq!(rt; emit(CHECK_LINE, &mut out), Err(EmitFault::of(error)));
+            assert_eq!(rt; Some(out.taken.as_slice()), CHECK_LINE.get(..good));
         }
     }
     Ok(())
@@ -114,9 +113,9 @@ fn a_run_whose_output_fails(rt: HostRuntime) -> Result<(), Fail> {
         let mut said = Vec::new(alloc);
         let mut input = image.as_slice();
         let got = run(alloc, &words, &mut input, &mut out, &mut said);
-        is(&rt, got, 3);
-        is(&rt, Some(out.taken.as_slice()), CHECK_LINE.get(..good));
-        is(&rt, said.as_slice(), b"cannot write\n".as_slice());
+        assert_eq!(rt; got, 3);
+        assert_eq!(rt; Some(out.taken.as_slice()), CHECK_LINE.get(..good));
+        assert_eq!(rt; said.as_slice(), b"cannot write\n".as_slice());
     }
     Ok(())
 }
@@ -128,9 +127,9 @@ fn a_run_whose_input_never_ends(rt: HostRuntime) -> Result<(), Fail> {
     let mut input = Watched::new(Failing::new(1, ErrorKind::Interrupted));
     let (mut out, mut said) = (Vec::new(alloc), Vec::new(alloc));
     let got = run(alloc, &words, &mut input, &mut out, &mut said);
-    is(&rt, got, 3);
-    holds(&rt, out.is_empty());
-    is(&rt, said.as_slice(), b"cannot read the file\n".as_slice());
+    assert_eq!(rt; got, 3);
+    assert!(rt; out.is_empty());
+    assert_eq!(rt; said.as_slice(), b"cannot read the file\n".as_slice());
     is_explained(&rt, &input, "16777216 reads did not show its end")
 }
 
@@ -140,11 +139,11 @@ fn is_explained<R: std::process::Abort + AllocGlobal, I>(
     input: &Watched<I>,
     reason: &str,
 ) -> Result<(), Fail> {
-    let error = input.fault().expect(rt, "no fault");
+    let error = input.fault().ok_or("no fault")?;
     let mut said = Vec::new(rt.alloc());
     explain(rt.alloc(), "a.pst", error, &mut said);
     let line = format!(in rt.alloc(); "  a.pst: {reason}\n")?;
-    is(rt, said.as_slice(), line.as_bytes());
+    assert_eq!(rt; said.as_slice(), line.as_bytes());
     Ok(())
 }
 
@@ -171,12 +170,12 @@ fn the_end_of_a_reader_is_remembered(rt: HostRuntime) -> Result<(), Fail> {
     let mut piece = vec![in rt.alloc(); 0u8; 65_536]?;
     let mut input = Watched::new(Long { left: 262_145 });
     for count in 1u32..=262_145 {
-        is_at(&rt, count, input.fault().is_some(), false);
-        holds(&rt, input.read(&mut piece).is_ok());
+        assert_eq!(rt; input.fault().is_some(), false, "before {count}");
+        assert!(rt; input.read(&mut piece).is_ok());
     }
     is_explained(&rt, &input, "larger than 17179869184 bytes")?;
-    holds(&rt, input.read(&mut piece).is_ok());
-    holds(&rt, input.fault().is_none());
+    assert!(rt; input.read(&mut piece).is_ok());
+    assert!(rt; input.fault().is_none());
     Ok(())
 }
 
@@ -193,7 +192,7 @@ fn the_error_of_a_read_is_remembered(rt: HostRuntime) -> Result<(), Fail> {
         let error = io::Error::from_raw_os_error(code);
         let mut input = Watched::new(Source::Missing(error));
         let got = load(rt.alloc(), &mut input, 0).map(|bytes| bytes.len());
-        is(&rt, got, Err(LoadFault::Read));
+        assert_eq!(rt; got, Err(LoadFault::Read));
         is_explained(&rt, &input, reason)?;
     }
     Ok(())
@@ -201,12 +200,12 @@ fn the_error_of_a_read_is_remembered(rt: HostRuntime) -> Result<(), Fail> {
 
 #[test]
 fn a_word_names_what_is_read(rt: HostRuntime) -> Result<(), Fail> {
-    holds(&rt, matches!(Source::named(&rt, "-"), Source::Input(_)));
+    assert!(rt; matches!(Source::named(&rt, "-"), Source::Input(_)));
     let mut input = Watched::new(Source::named(&rt, "no such folder/a.pst"));
-    holds(&rt, load(rt.alloc(), &mut input, 0).is_err());
+    assert!(rt; load(rt.alloc(), &mut input, 0).is_err());
     is_explained(&rt, &input, "No such file or directory")?;
     let mut input = Watched::new(Source::named(&rt, "."));
-    holds(&rt, load(rt.alloc(), &mut input, 0).is_err());
+    assert!(rt; load(rt.alloc(), &mut input, 0).is_err());
     is_explained(&rt, &input, "Is a directory")?;
     let image = m0(rt.alloc())?;
     let line = std::str::from_utf8(CHECK_LINE).map_err(|_| "no text")?;

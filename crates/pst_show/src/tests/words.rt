@@ -3,7 +3,6 @@
 
 use super::loading::Failing;
 use super::run_of;
-use super::told::is;
 use std::io::ErrorKind;
 use std::process::Abort;
 use std::test::Fail;
@@ -18,7 +17,7 @@ fn are_answered<R: Abort + AllocGlobal>(
 ) -> Result<(), Fail> {
     let mut input = Failing::new(0, ErrorKind::PermissionDenied);
     run_of(rt, words, &mut input, status, out, err)?;
-    is(rt, input.reads, 0);
+    assert_eq!(rt; input.reads, 0);
     Ok(())
 }
 

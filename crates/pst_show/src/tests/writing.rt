@@ -1,6 +1,5 @@
 //! Writers that fail or take little: what is left of a line, and the status.
 
-use super::told::{holds, is};
 use super::{SMALL_LINE, words_of};
 use crate::run::run;
 use pst_json::{EmitFault, emit};
@@ -69,8 +68,8 @@ fn a_front_is_left_where_a_write_fails(rt: HostRuntime) -> Result<(), Fail> {
         for fault in [Fault::Fails(ErrorKind::StorageFull), Fault::TakesNothing] {
             let count = u32::try_from(good).map_err(|_| "too many")?;
             let mut out = Slow::new(rt.alloc(), count, 1, fault);
-            is(&rt, emit(line, &mut out), Err(EmitFault::Failed));
-            is(&rt, Some(out.taken.as_slice()), line.get(..good));
+            assert_eq!(rt; emit(line, &mut out), Err(EmitFault::Failed));
+            assert_eq!(rt; Some(out.taken.as_slice()), line.get(..good));
         }
     }
     Ok(())
@@ -81,11 +80,11 @@ fn interrupted_writes_are_made_again(rt: HostRuntime) {
     let line = SMALL_LINE.as_bytes();
     let interrupted = Fault::Fails(ErrorKind::Interrupted);
     let mut out = Slow::new(rt.alloc(), 5, 1_024, interrupted);
-    is(&rt, emit(line, &mut out), Ok(()));
-    is(&rt, out.taken.as_slice(), line);
+    assert_eq!(rt; emit(line, &mut out), Ok(()));
+    assert_eq!(rt; out.taken.as_slice(), line);
     let mut out = Slow::new(rt.alloc(), 5, 1_025, interrupted);
-    is(&rt, emit(line, &mut out), Err(EmitFault::Failed));
-    is(&rt, Some(out.taken.as_slice()), line.get(..5));
+    assert_eq!(rt; emit(line, &mut out), Err(EmitFault::Failed));
+    assert_eq!(rt; Some(out.taken.as_slice()), line.get(..5));
 }
 
 #[test]
@@ -98,9 +97,9 @@ fn an_output_that_cannot_be_written(rt: HostRuntime) -> Result<(), Fail> {
         let mut out = Slow::new(alloc, 3, u32::MAX, Fault::Fails(ErrorKind::StorageFull));
         let mut said = Vec::new(alloc);
         let got = run(alloc, &words, &mut input, &mut out, &mut said);
-        is(&rt, said.as_slice(), b"cannot write\n".as_slice());
-        is(&rt, out.taken.len(), 3);
-        is(&rt, got, 3);
+        assert_eq!(rt; said.as_slice(), b"cannot write\n".as_slice());
+        assert_eq!(rt; out.taken.len(), 3);
+        assert_eq!(rt; got, 3);
     }
     Ok(())
 }
@@ -114,12 +113,8 @@ fn an_error_output_that_fails(rt: HostRuntime) -> Result<(), Fail> {
         let mut out = Vec::new(alloc);
         let mut err = Slow::new(alloc, 0, u32::MAX, Fault::TakesNothing);
         let mut input: &[u8] = &[];
-        is(
-            &rt,
-            run(alloc, &words, &mut input, &mut out, &mut err),
-            status,
-        );
-        holds(&rt, out.is_empty());
+        assert_eq!(rt; run(alloc, &words, &mut input, &mut out, &mut err), status);
+        assert!(rt; out.is_empty());
     }
     Ok(())
 }
