@@ -1,18 +1,8 @@
 //! Checks and shows a Personal Folders File ([MS-PST]).
 #![tactic(auto)]
 
-mod answer;
-mod input;
-mod refusal;
-mod run;
-mod source;
-#[cfg(test)]
-mod tests;
-
 use pst_ask::{Order, parse};
-use refusal::Refusal;
-use run::{carry_out, decline, refuse};
-use source::{Source, Watched, explain};
+use pst_run::{Refusal, Source, Watched, carry_out, decline, explain, refuse};
 use std::io::Write;
 use std::process::ExitCode;
 use std::{env, io};

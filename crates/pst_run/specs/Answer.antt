@@ -1,0 +1,108 @@
+-- What each command answers to the bytes of a file.
+use Rattle.std.specs.Prelude.{◌≡◌, ℕ, ◌+◌, Bool, false, ◌&&◌, ◌==◌, not, List, length, Option, Some, None, Result, Ok, Err}
+use Rattle.pst_fault.specs.declared.fault.Fault.{Fault}
+use Rattle.pst_fault.specs.First.{answer}
+use Rattle.pst_header.specs.Header.{header_fault, fields}
+use Rattle.pst_amap.specs.Lost.{lost_runs}
+use Rattle.pst_btree.specs.Tree.{pages_of}
+use Rattle.pst_page.specs.declared.entry.NodeEntry.{NodeEntry}
+use Rattle.pst_block.specs.Table.{Table}
+use Rattle.pst_json.specs.pst_ndb.Database.{blocks_in}
+use Rattle.pst_json.specs.pst_ndb.Roots.{all_roots}
+use Rattle.pst_json.specs.pst_ndb.Trees.{listed_nodes}
+use Rattle.pst_json.specs.pst_msg.Values.{is_folder, is_message}
+use Rattle.pst_json.specs.pst_store.Fault.{store_fault}
+use Rattle.pst_json.specs.pst_store.Parts.{table_in, entries_in}
+use Rattle.pst_json.specs.pst_store.Values.{store_in}
+use Rattle.pst_json.specs.pst_verify.Counts.{count_of}
+use Rattle.pst_json.specs.pst_verify.Report.{claimed_in}
+use Rattle.pst_json.specs.declared.fault.DocFault.{DocFault}
+use Rattle.pst_json.specs.Check.{ReportParts, check_line}
+use Rattle.pst_json.specs.Contents.{contents_line}
+use Rattle.pst_json.specs.Folders.{folders_line}
+use Rattle.pst_json.specs.Head.{head_line}
+use Rattle.pst_json.specs.Node.{props_line}
+use Rattle.pst_json.specs.Nodes.{nodes_line}
+use Rattle.pst_run.specs.declared.answers.Shown.{Shown}
+use Rattle.pst_ask.specs.declared.ask.Ask.{Ask}
+use Rattle.pst_ask.specs.declared.ask.Ask.TheVariants.{Check, Head, Nodes, Folders, Contents, Props}
+use Rattle.pst_run.specs.declared.refusal.Refusal.{Refusal}
+use Rattle.pst_run.specs.declared.refusal.Refusal.TheVariants as refusal
+use Rattle.pst_run.specs.Refusal.{refusal_of, refusal_for}
+
+-- ---- what is shown: a text, and whether the run ends with status 1 all the same
+
+pub record Told : Type 0 where
+  pub text : List ℕ
+  pub fails : Bool
+
+abbrev pub told_in : Shown → Told
+told_in s = record { text = s.text.items; fails = s.fails }
+
+abbrev pub plain : List ℕ → Told
+plain text = record { text = text; fails = false }
+
+-- ---- of the header, and of both trees
+
+-- the line of what a check found, or the fault for which the file is refused
+abbrev pub line_or_fault : {X : Type 0} → (X → List ℕ) → Result X Fault → Result Told Refusal
+line_or_fault line (Ok x) = Ok (plain (line x))
+line_or_fault line (Err f) = Err (refusal_of f)
+
+-- ---- of a store
+
+-- what is told of bytes that are a store; else their first fault
+abbrev pub of_store : Option Fault → Result Told Refusal → Result Told Refusal
+of_store None told = told
+of_store (Some f) told = Err (refusal_of f)
+
+-- its report
+abbrev pub report_in : List ℕ → ReportParts
+report_in I = let s = store_in I in record {
+  pages = length (pages_of s.blocks) + length (pages_of s.nodes);
+  blocks = length (blocks_in I s.blocks);
+  nodes = length (entries_in I s);
+  folders = count_of is_folder (all_roots (entries_in I s));
+  messages = count_of is_message (all_roots (entries_in I s));
+  order = s.order;
+  lost = lost_runs s.order I (claimed_in I s);
+}
+
+-- a strict check fails where there are lost runs
+abbrev pub report_told : Bool → ReportParts → Told
+report_told strict r = record { text = check_line r; fails = strict && not (length r.lost == 0) }
+
+-- its blocks, and the entries of its node B-tree
+abbrev pub table_of_file : List ℕ → Table
+table_of_file I = table_in I (store_in I)
+
+abbrev pub entries_of_file : List ℕ → List NodeEntry
+entries_of_file I = entries_in I (store_in I)
+
+-- a line, or that there is none of the node with an identifier
+abbrev pub line_of_node : ℕ → Result (List ℕ) DocFault → Result Told Refusal
+line_of_node nid (Ok line) = Ok (plain line)
+line_of_node nid (Err f) = Err (refusal_for nid f)
+
+-- ---- all of them
+
+-- The text that a command shows of these bytes, and whether it fails; or why it refuses them. `head` shows the fields of a good
+-- header, and else answers its first fault. `nodes` shows the nodes of two trees without fault, and else answers the first fault
+-- of the header and of both walks. The others show a store, and else answer the first fault of the bytes as one.
+unfoldable pub answer_to : Ask → List ℕ → Result Told Refusal
+answer_to (Check strict) I = of_store (store_fault I) (Ok (report_told strict (report_in I)))
+answer_to Head I = line_or_fault head_line (answer (header_fault I) (fields I))
+answer_to Nodes I = line_or_fault nodes_line (listed_nodes I)
+answer_to Folders I = of_store (store_fault I) (Ok (plain (folders_line (table_of_file I) (entries_of_file I))))
+answer_to (Contents nid) I = of_store (store_fault I) (line_of_node nid (contents_line (table_of_file I) (entries_of_file I) nid))
+answer_to (Props nid) I = of_store (store_fault I) (line_of_node nid (props_line (table_of_file I) (entries_of_file I) nid))
+
+-- what is returned is the answer, unless memory ran out
+abbrev pub Gives : Result Shown Refusal → Result Told Refusal → Type 0
+Gives (Ok shown) answer = answer ≡ Ok (told_in shown)
+Gives (Err (refusal.Fault f)) answer = answer ≡ Err (refusal.Fault f)
+Gives (Err (refusal.NoFolder nid)) answer = answer ≡ Err (refusal.NoFolder nid)
+Gives (Err (refusal.NoNode nid)) answer = answer ≡ Err (refusal.NoNode nid)
+Gives (Err refusal.Input) answer = ⊥
+Gives (Err (refusal.Output f)) answer = ⊥
+Gives (Err refusal.Memory) answer = Unit {0}

@@ -1,0 +1,43 @@
+-- Refusals: what they come from, and the status that each ends with.
+use Rattle.std.specs.Prelude.{ℕ, Bool, true, false, if◌then◌else◌}
+use Rattle.pst_fault.specs.declared.fault.Fault.{Fault}
+use Rattle.pst_fault.specs.declared.kind.Kind.{Kind}
+use Rattle.pst_fault.specs.declared.kind.Kind.TheVariants.{NoMemory}
+use Rattle.pst_json.specs.declared.fault.DocFault.{DocFault}
+use Rattle.pst_json.specs.declared.fault.DocFault.TheVariants as doc
+use Rattle.pst_run.specs.declared.refusal.Refusal.{Refusal}
+use Rattle.pst_run.specs.declared.refusal.Refusal.TheVariants as refusal
+
+-- the kind says that memory was refused, and nothing of the file
+abbrev pub is_memory : Kind → Bool
+is_memory NoMemory = true
+is_memory kind = false
+
+-- what comes of a fault: want of memory is no fault of the file
+abbrev pub refusal_of : Fault → Refusal
+refusal_of f = if is_memory f.kind then refusal.Memory else refusal.Fault f
+
+-- what comes of a document that there is not, of the node with an identifier
+abbrev pub refusal_for : ℕ → DocFault → Refusal
+refusal_for nid doc.NoFolder = refusal.NoFolder nid
+refusal_for nid doc.NoNode = refusal.NoNode nid
+refusal_for nid (doc.Bad f) = refusal_of f
+refusal_for nid doc.Memory = refusal.Memory
+
+-- what may come from reading
+abbrev pub IsOfInput : Refusal → Type 0
+IsOfInput (refusal.Fault f) = ⊥
+IsOfInput (refusal.NoFolder nid) = ⊥
+IsOfInput (refusal.NoNode nid) = ⊥
+IsOfInput refusal.Input = Unit {0}
+IsOfInput (refusal.Output f) = ⊥
+IsOfInput refusal.Memory = Unit {0}
+
+-- the status with which a run ends that is refused
+abbrev pub status_of : Refusal → ℕ
+status_of (refusal.Fault f) = 1
+status_of (refusal.NoFolder nid) = 1
+status_of (refusal.NoNode nid) = 1
+status_of refusal.Input = 3
+status_of (refusal.Output f) = 3
+status_of refusal.Memory = 4

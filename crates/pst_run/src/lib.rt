@@ -1,0 +1,23 @@
+//! One run of the program, over a reader and two writers: the answer to what is asked, and the status that it ends with.
+//!
+//! Begin with `run`: it reads what the words after the program's name ask for, and does it. `carry_out` does what was read
+//! already, `load` takes the bytes of a reader, within limits, and `answer` makes the text of a command's answer:
+//!
+//! ```text
+//! let status = run(alloc, &words, &mut input, &mut out, &mut err);
+//! ```
+//!
+//! `Source` is what a word of the command line names: a file, or standard input.
+#![tactic(auto)]
+
+mod answers;
+mod input;
+mod refusal;
+mod running;
+mod source;
+
+pub use answers::{Shown, answer};
+pub use input::{LoadFault, MOST_BYTES, MOST_READS, Reads, load, load_counted};
+pub use refusal::Refusal;
+pub use running::{carry_out, decline, refuse, run};
+pub use source::{Source, Watched, explain};

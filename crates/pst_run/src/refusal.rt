@@ -1,0 +1,98 @@
+//! Why a run shows nothing.
+
+ghost use Rattle.std.specs.Prelude.{◌≡◌};
+ghost use Rattle.pst_run.specs.declared.refusal.Refusal.TheVariants as refusal;
+ghost use Rattle.pst_run.specs.Refusal.{IsOfInput, refusal_of, refusal_for, status_of};
+
+use crate::input::LoadFault;
+use pst_fault::{Fault, Kind};
+use pst_json::{DocFault, EmitFault};
+use std::alloc::AllocError;
+use thiserror::Error;
+
+/// Why a run shows nothing. Its text is the line on the standard error, without a line feed.
+#[derive(Clone, Copy, Debug, PartialEq, Eq, Error)]
+pub enum Refusal {
+    /// The file is not what it has to be. The kind is not NoMemory.
+    #[error("{0}")]
+    Fault(Fault),
+    /// The store has no folder with this identifier.
+    #[error("no folder 0x{0:x}")]
+    NoFolder(u32),
+    /// The store has no node with this identifier.
+    #[error("no node 0x{0:x}")]
+    NoNode(u32),
+    /// The file cannot be read, or is too long.
+    #[error("cannot read the file")]
+    Input,
+    /// The output cannot be written. Where it is closed no line is written.
+    #[error("{0}")]
+    Output(EmitFault),
+    /// Memory was refused.
+    #[error("out of memory")]
+    Memory,
+}
+
+impl Refusal {
+    /// The status with which the run ends.
+    pub fn status(self) -> u8
+        ensures { result ≡ status_of self }
+    {
+        match self {
+            Refusal::Fault(_) | Refusal::NoFolder(_) | Refusal::NoNode(_) => 1,
+            Refusal::Input | Refusal::Output(_) => 3,
+            Refusal::Memory => 4,
+        }
+    }
+
+    /// What comes of a document that there is not, of the node with an identifier.
+    pub fn of_document(nid: u32, fault: DocFault) -> Refusal
+        ensures { result ≡ refusal_for nid fault }
+    {
+        match fault {
+            DocFault::NoFolder => Refusal::NoFolder(nid),
+            DocFault::NoNode => Refusal::NoNode(nid),
+            DocFault::Bad(fault) => Refusal::from(fault),
+            DocFault::Memory => Refusal::Memory,
+        }
+    }
+}
+
+/// The fault NoMemory says nothing of the file.
+impl From<Fault> for Refusal {
+    ghost from_gives = { λ f r. r ≡ refusal_of f };
+
+    fn from(fault: Fault) -> Refusal {
+        match fault.kind {
+            Kind::NoMemory => Refusal::Memory,
+            _ => Refusal::Fault(fault),
+        }
+    }
+}
+
+impl From<AllocError> for Refusal {
+    ghost from_gives = { λ _ r. r ≡ refusal.Memory };
+
+    fn from(_error: AllocError) -> Refusal {
+        Refusal::Memory
+    }
+}
+
+impl From<LoadFault> for Refusal {
+    ghost from_gives = { λ _ r. IsOfInput r };
+
+    fn from(fault: LoadFault) -> Refusal {
+        match fault {
+            LoadFault::Read | LoadFault::TooLong => Refusal::Input,
+            LoadFault::Memory => Refusal::Memory,
+        }
+    }
+}
+
+impl From<EmitFault> for Refusal {
+    ghost from_gives = { λ f r. r ≡ refusal.Output f };
+
+    fn from(fault: EmitFault) -> Refusal {
+        Refusal::Output(fault)
+    }
+}
