@@ -24,7 +24,7 @@ mod writing;
 use crate::told::is;
 use pst_run::run;
 use std::alloc::Global;
-use std::io::Read;
+use std::io::{Read, Write};
 use std::process::Abort;
 use std::test::Fail;
 
@@ -38,6 +38,18 @@ fn words_of(alloc: Global, words: &[&str]) -> Result<Vec<String>, Fail> {
         all.push(String::from_str(alloc, word)?)?;
     }
     Ok(all)
+}
+
+// Runs words over a reader and two writers, and gives the status.
+fn ran<I: Read, W: Write, E: Write>(
+    alloc: Global,
+    words: &[&str],
+    input: &mut I,
+    out: &mut W,
+    err: &mut E,
+) -> Result<u8, Fail> {
+    let words = words_of(alloc, words)?;
+    Ok(run(alloc, &words, input, out, err))
 }
 
 // Runs a command over a reader, and compares the status and both outputs.
@@ -62,10 +74,8 @@ fn run_of<R: Abort + AllocGlobal, I: Read>(
     err: &str,
 ) -> Result<(), Fail> {
     let alloc = rt.alloc();
-    let words = words_of(alloc, words)?;
-    let mut written = Vec::new(alloc);
-    let mut said = Vec::new(alloc);
-    let got = run(alloc, &words, input, &mut written, &mut said);
+    let (mut written, mut said) = (Vec::new(alloc), Vec::new(alloc));
+    let got = ran(alloc, words, input, &mut written, &mut said)?;
     is(rt, said.as_slice(), err.as_bytes());
     is(rt, written.as_slice(), out.as_bytes());
     is(rt, got, status);

@@ -1,10 +1,9 @@
 //! Runs over stores with bytes changed: what a case is, and how it is run.
 
 use super::heaps::{Numbered, Property, context_of, heap_of, numbered_of, table_of};
-use super::words_of;
+use super::ran;
 use crate::told::is_at;
 use pst_make::{BlockPlan, Change, NodePlan, Plan, build, change_all, m0, m0_plan, m1, m2};
-use pst_run::run;
 use std::alloc::Global;
 use std::process::Abort;
 use std::str;
@@ -185,11 +184,9 @@ pub(super) fn ends_with<R: Abort + AllocGlobal>(
     what: &str,
 ) -> Result<(), Fail> {
     let alloc = rt.alloc();
-    let words = words_of(alloc, words)?;
-    let mut out = Vec::new(alloc);
-    let mut err = Vec::new(alloc);
+    let (mut out, mut err) = (Vec::new(alloc), Vec::new(alloc));
     let mut input = image;
-    let status = run(alloc, &words, &mut input, &mut out, &mut err);
+    let status = ran(alloc, words, &mut input, &mut out, &mut err)?;
     let got = (status, str::from_utf8(&out)?, str::from_utf8(&err)?);
     is_at(rt, what, got, wanted);
     Ok(())

@@ -22,14 +22,20 @@ const ALL: [&[Case<'static>]; 10] = [
     &MESSAGES,
 ];
 
-// Whether the line of one of the cases begins with this.
+// Whether the line of a case begins with this.
+fn provokes(case: &Case, front: &str) -> bool {
+    match case.answer {
+        Answer::No(line) => line.starts_with(front),
+        Answer::Yes(_) => false,
+    }
+}
+
+// Whether the line of one of the cases does.
 fn is_provoked(front: &str) -> bool {
-    for cases in ALL {
-        for case in cases {
-            if let Answer::No(line) = case.answer {
-                if line.starts_with(front) {
-                    return true;
-                }
+    for cases in &ALL {
+        for case in *cases {
+            if provokes(case, front) {
+                return true;
             }
         }
     }

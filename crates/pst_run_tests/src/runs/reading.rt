@@ -2,14 +2,15 @@
 
 use super::loading::Failing;
 use super::writing::{Fault, Slow};
-use super::{run_of, words_of};
+use super::{ran, run_of};
 use crate::told::{holds, is, is_at};
 use pst_json::{EmitFault, emit};
 use pst_make::m0;
-use pst_run::{LoadFault, Source, Watched, explain, load, run};
+use pst_run::{LoadFault, Source, Watched, explain, load};
 use std::alloc::Global;
 use std::io;
 use std::io::{ErrorKind, Read, Write};
+use std::process::Abort;
 use std::test::Fail;
 
 // The line of `check` for the store that `m0` makes.
@@ -70,19 +71,24 @@ fn interruptions_are_counted_over_the_whole_call(rt: HostRuntime) {
     is(&rt, Some(out.taken.as_slice()), CHECK_LINE.get(..93));
 }
 
+// Runs words over an image, with a pipe that is closed after three bytes.
+fn ends_quietly<R: Abort + AllocGlobal>(rt: &R, image: &[u8], words: &[&str]) -> Result<(), Fail> {
+    let alloc = rt.alloc();
+    let mut out = Slow::new(alloc, 3, u32::MAX, Fault::Fails(ErrorKind::BrokenPipe));
+    let mut said = Vec::new(alloc);
+    let mut input = image;
+    is(rt, ran(alloc, words, &mut input, &mut out, &mut said)?, 3);
+    is(rt, out.taken.len(), 3);
+    holds(rt, said.is_empty());
+    Ok(())
+}
+
 // Of a pipe that is closed nothing is said, whatever was to be written.
 #[test]
 fn a_run_whose_output_is_closed(rt: HostRuntime) -> Result<(), Fail> {
-    let alloc = rt.alloc();
-    let image = m0(alloc)?;
+    let image = m0(rt.alloc())?;
     for words in [&["check", "a.pst"][..], &["--help"], &["--version"]] {
-        let words = words_of(alloc, words)?;
-        let mut out = Slow::new(alloc, 3, u32::MAX, Fault::Fails(ErrorKind::BrokenPipe));
-        let mut said = Vec::new(alloc);
-        let mut input = image.as_slice();
-        is(&rt, run(alloc, &words, &mut input, &mut out, &mut said), 3);
-        is(&rt, out.taken.len(), 3);
-        holds(&rt, said.is_empty());
+        ends_quietly(&rt, &image, words)?;
     }
     Ok(())
 }
@@ -102,38 +108,43 @@ fn a_front_of_the_report_is_left(rt: HostRuntime) -> Result<(), Fail> {
     Ok(())
 }
 
+// Checks an image, with an output that takes so many bytes.
+fn ends_after<R: Abort + AllocGlobal>(
+    rt: &R,
+    image: &[u8],
+    count: u32,
+    front: Option<&[u8]>,
+) -> Result<(), Fail> {
+    let alloc = rt.alloc();
+    let mut out = Slow::new(alloc, count, 1, Fault::TakesNothing);
+    let mut said = Vec::new(alloc);
+    let mut input = image;
+    let words = ["check", "a.pst"];
+    is(rt, ran(alloc, &words, &mut input, &mut out, &mut said)?, 3);
+    is(rt, Some(out.taken.as_slice()), front);
+    is(rt, said.as_slice(), b"cannot write\n".as_slice());
+    Ok(())
+}
+
 #[test]
 fn a_run_whose_output_fails(rt: HostRuntime) -> Result<(), Fail> {
-    let alloc = rt.alloc();
-    let image = m0(alloc)?;
-    let words = words_of(alloc, &["check", "a.pst"])?;
+    let image = m0(rt.alloc())?;
     for (count, good) in [(0, 0), (1, 1), (98, 98)] {
-        let mut out = Slow::new(alloc, count, 1, Fault::TakesNothing);
-        let mut said = Vec::new(alloc);
-        let mut input = image.as_slice();
-        let got = run(alloc, &words, &mut input, &mut out, &mut said);
-        is(&rt, got, 3);
-        is(&rt, Some(out.taken.as_slice()), CHECK_LINE.get(..good));
-        is(&rt, said.as_slice(), b"cannot write\n".as_slice());
+        ends_after(&rt, &image, count, CHECK_LINE.get(..good))?;
     }
     Ok(())
 }
 
 #[test]
 fn a_run_whose_input_never_ends(rt: HostRuntime) -> Result<(), Fail> {
-    let alloc = rt.alloc();
-    let words = words_of(alloc, &["check", "a.pst"])?;
     let mut input = Watched::new(Failing::new(1, ErrorKind::Interrupted));
-    let (mut out, mut said) = (Vec::new(alloc), Vec::new(alloc));
-    let got = run(alloc, &words, &mut input, &mut out, &mut said);
-    is(&rt, got, 3);
-    holds(&rt, out.is_empty());
-    is(&rt, said.as_slice(), b"cannot read the file\n".as_slice());
+    let words = ["check", "a.pst"];
+    run_of(&rt, &words, &mut input, 3, "", "cannot read the file\n")?;
     is_explained(&rt, &input, "16777216 reads did not show its end")
 }
 
 // Compares what is said of a reader that was read.
-fn is_explained<R: std::process::Abort + AllocGlobal, I>(
+fn is_explained<R: Abort + AllocGlobal, I>(
     rt: &R,
     input: &Watched<I>,
     reason: &str,

@@ -1,13 +1,13 @@
 //! Writers that fail or take little: what is left of a line, and the status.
 
-use super::{SMALL_LINE, words_of};
+use super::{SMALL_LINE, ran};
 use crate::told::{holds, is};
 use pst_json::{EmitFault, emit};
 use pst_make::m0;
-use pst_run::run;
 use std::alloc::Global;
 use std::io;
 use std::io::{ErrorKind, Write};
+use std::process::Abort;
 use std::test::Fail;
 
 // How a writer fails.
@@ -88,38 +88,51 @@ fn interrupted_writes_are_made_again(rt: HostRuntime) {
     is(&rt, Some(out.taken.as_slice()), line.get(..5));
 }
 
+// Runs words over an image, with a device that is full after three bytes.
+fn ends_with_a_line<R: Abort + AllocGlobal>(
+    rt: &R,
+    image: &[u8],
+    words: &[&str],
+) -> Result<(), Fail> {
+    let alloc = rt.alloc();
+    let mut out = Slow::new(alloc, 3, u32::MAX, Fault::Fails(ErrorKind::StorageFull));
+    let mut said = Vec::new(alloc);
+    let mut input = image;
+    is(rt, ran(alloc, words, &mut input, &mut out, &mut said)?, 3);
+    is(rt, out.taken.len(), 3);
+    is(rt, said.as_slice(), b"cannot write\n".as_slice());
+    Ok(())
+}
+
 #[test]
 fn an_output_that_cannot_be_written(rt: HostRuntime) -> Result<(), Fail> {
-    let alloc = rt.alloc();
-    let image = m0(alloc)?;
+    let image = m0(rt.alloc())?;
     for words in [&["head", "store.pst"][..], &["--help"], &["--version"]] {
-        let words = words_of(alloc, words)?;
-        let mut input = image.as_slice();
-        let mut out = Slow::new(alloc, 3, u32::MAX, Fault::Fails(ErrorKind::StorageFull));
-        let mut said = Vec::new(alloc);
-        let got = run(alloc, &words, &mut input, &mut out, &mut said);
-        is(&rt, said.as_slice(), b"cannot write\n".as_slice());
-        is(&rt, out.taken.len(), 3);
-        is(&rt, got, 3);
+        ends_with_a_line(&rt, &image, words)?;
     }
+    Ok(())
+}
+
+// Runs words over a file of no bytes, with an error output that takes nothing.
+fn ends_unheard<R: Abort + AllocGlobal>(rt: &R, words: &[&str], status: u8) -> Result<(), Fail> {
+    let alloc = rt.alloc();
+    let mut out = Vec::new(alloc);
+    let mut err = Slow::new(alloc, 0, u32::MAX, Fault::TakesNothing);
+    let mut input: &[u8] = &[];
+    is(
+        rt,
+        ran(alloc, words, &mut input, &mut out, &mut err)?,
+        status,
+    );
+    holds(rt, out.is_empty());
     Ok(())
 }
 
 // A line that cannot be written changes no status.
 #[test]
 fn an_error_output_that_fails(rt: HostRuntime) -> Result<(), Fail> {
-    let alloc = rt.alloc();
     for (words, status) in [(&["head", "store.pst"][..], 1), (&["nothing"], 2)] {
-        let words = words_of(alloc, words)?;
-        let mut out = Vec::new(alloc);
-        let mut err = Slow::new(alloc, 0, u32::MAX, Fault::TakesNothing);
-        let mut input: &[u8] = &[];
-        is(
-            &rt,
-            run(alloc, &words, &mut input, &mut out, &mut err),
-            status,
-        );
-        holds(&rt, out.is_empty());
+        ends_unheard(&rt, words, status)?;
     }
     Ok(())
 }
