@@ -7,6 +7,10 @@ mod bths;
 #[cfg(test)]
 mod heaps;
 #[cfg(test)]
+mod made;
+#[cfg(test)]
+mod opened;
+#[cfg(test)]
 mod properties;
 #[cfg(test)]
 mod tables;

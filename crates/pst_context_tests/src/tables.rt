@@ -1,51 +1,102 @@
 //! Table contexts of small stores, with bytes changed, and what their check and their look-ups answer.
 
+ghost use Rattle.pst_ndb.specs.Views.{IsIndexedBy};
+
 mod in_heap;
 mod in_subnode;
 
+use crate::made::m1_with;
+use crate::opened::{line_of_fault, node_in};
 use crate::told::{holds_at, is};
-use pst_bytes::Image;
 use pst_datatree::Value;
 use pst_fault::Fault;
 use pst_heap::Maps;
-use pst_make::{build, m1_plan};
-use pst_ndb::check_ndb;
+use pst_ndb::{Node, SubIndex};
 use pst_tc::*;
 use std::alloc::Global;
 use std::process::Abort;
 use std::test::Fail;
 
-// The cells of a row that are there, each its tag, its length, where it lies, and its first byte.
-fn cells_of(alloc: Global, tc: Tc, row: Row, line: &mut String) -> Result<(), Fail> {
+// A cell that is there: its tag, its length, where it lies, and its first byte.
+fn line_of_cell(alloc: Global, tag: u32, value: Value) -> Result<String, Fail> {
+    let (len, at, byte) = (value.len(), value.at(), value.byte(0).unwrap_or(0));
+    let line = format!(in alloc; " {tag:x} {len} {at:x} {byte:x}")?;
+    Ok(line)
+}
+
+// The cells of a row that are there.
+fn cells_of(alloc: Global, tc: Tc, row: Row) -> Result<String, Fail> {
+    let mut line = String::new(alloc);
     for column in tc.columns() {
         let tag = column.tag;
         if let Some(value) = row.cell(tag) {
-            let (len, at, byte) = (value.len(), value.at(), value.byte(0).unwrap_or(0));
-            let text = format!(in alloc; " {tag:x} {len} {at:x} {byte:x}")?;
+            let text = line_of_cell(alloc, tag, value)?;
             line.push_str(&text)?;
         }
     }
-    Ok(())
+    Ok(line)
 }
 
-// The rows that a check answers, each its identifier, the place of its record and its cells; or the line of the first fault.
-fn line_of(alloc: Global, answer: Result<Tc, Fault>) -> Result<String, Fail> {
-    let tc = match answer {
-        Ok(tc) => tc,
-        Err(fault) => return Ok(format!(in alloc; "{fault}")?),
+// A row, found by its identifier: that, the place of its record, and its cells.
+fn line_of_row(alloc: Global, tc: Tc, id: u32, at: u64) -> Result<String, Fail> {
+    let Some(row) = tc.row(id) else {
+        return Err(Fail::from("not found"));
     };
+    if row.at() != at {
+        return Err(Fail::from("another one"));
+    }
+    let mut line = format!(in alloc; ", {id:x} {at:x}")?;
+    let cells = cells_of(alloc, tc, row)?;
+    line.push_str(&cells)?;
+    Ok(line)
+}
+
+// The rows of a table context.
+fn line_of_tc(alloc: Global, tc: Tc) -> Result<String, Fail> {
     let mut line = format!(in alloc; "yes")?;
     for row in tc.rows() {
-        let again = tc.row(row.id()).ok_or("not found")?;
-        if again.at() != row.at() {
-            return Err(Fail::from("another one"));
-        }
-        let (id, at) = (row.id(), row.at());
-        let text = format!(in alloc; ", {id:x} {at:x}")?;
+        let text = line_of_row(alloc, tc, row.id(), row.at())?;
         line.push_str(&text)?;
-        cells_of(alloc, tc, again, &mut line)?;
     }
     Ok(line)
+}
+
+// The rows that a check answers, or the line of the first fault.
+fn line_of(alloc: Global, answer: Result<Tc, Fault>) -> Result<String, Fail> {
+    match answer {
+        Ok(tc) => line_of_tc(alloc, tc),
+        Err(fault) => line_of_fault(alloc, fault),
+    }
+}
+
+// What is answered of the table of a node, with no index of its subnodes.
+fn line_alone(alloc: Global, node: Node) -> Result<String, Fail> {
+    line_of(alloc, check_tc(node))
+}
+
+// With one.
+fn line_by(alloc: Global, node: Node, index: &SubIndex) -> Result<String, Fail>
+    requires { IsIndexedBy node index.now }
+{
+    line_of(alloc, check_tc_by(node, index))
+}
+
+// With one that is lent to what was found.
+fn line_indexed(alloc: Global, node: Node, index: &SubIndex) -> Result<String, Fail>
+    requires { IsIndexedBy node index.now }
+{
+    match check_tc(node) {
+        Ok(tc) => line_of_tc(alloc, tc.indexed(index)),
+        Err(fault) => line_of_fault(alloc, fault),
+    }
+}
+
+// With one, by who remembers page maps.
+fn line_with(alloc: Global, node: Node, index: &SubIndex) -> Result<String, Fail>
+    requires { IsIndexedBy node index.now }
+{
+    let mut maps = Maps::new(alloc);
+    line_of(alloc, check_tc_with(node, index, &mut maps))
 }
 
 // Whether the table context of a node is answered with a line, with an index of its subnodes and with none, and by one
@@ -57,65 +108,65 @@ fn is_answered<R: Abort>(
     nid: u32,
     line: &str,
 ) -> Result<(), Fail> {
-    let Ok(checked) = check_ndb(alloc, Image::new(image)) else {
-        return Err(Fail::from("refused"));
-    };
-    let node = checked.ndb.node(nid).expect(rt, "no node");
-    let told = line_of(alloc, check_tc(node))?;
+    let node = node_in(alloc, image, nid)?;
+    let told = line_alone(alloc, node)?;
     is(rt, told.as_str(), line);
     let Ok(index) = node.index(alloc) else {
         return Err(Fail::from("no memory"));
     };
-    let told = line_of(alloc, check_tc_by(node, &index))?;
+    let told = line_by(alloc, node, &index)?;
     is(rt, told.as_str(), line);
-    let told = match check_tc(node) {
-        Ok(tc) => line_of(alloc, Ok(tc.indexed(&index)))?,
-        Err(fault) => line_of(alloc, Err(fault))?,
+    let told = line_indexed(alloc, node, &index)?;
+    is(rt, told.as_str(), line);
+    let told = line_with(alloc, node, &index)?;
+    is(rt, told.as_str(), line);
+    Ok(())
+}
+
+// The columns of a table: two, each with its tag, and where its cells and their bits lie.
+fn columns_are_lent<R: Abort>(rt: &R, tc: Tc) {
+    tc.is_sound();
+    let mut columns = known_tc(tc.node()).columns();
+    let first = columns.next().expect(rt, "no column");
+    is(
+        rt,
+        (first.tag, first.at, first.width, first.bit),
+        (0x67f2_0003, 0, 4, 0),
+    );
+    let next = columns.next().expect(rt, "no column");
+    is(
+        rt,
+        (next.tag, next.at, next.width, next.bit),
+        (0x3602_0003, 4, 4, 1),
+    );
+    is(rt, columns.next(), None);
+}
+
+// The cells of a row: there are none with other tags, and one has four bytes.
+fn row_is_lent<R: Abort>(rt: &R, row: Row) -> Result<(), Fail> {
+    for tag in [0, 0x3602_0002, 0x3602_001f, 0x3601_0003] {
+        holds_at(rt, tag, row.cell(tag).is_none());
+    }
+    let Some(Value::Whole(at, bytes)) = row.cell(0x3602_0003) else {
+        return Err(Fail::from("in pieces"));
     };
-    is(rt, told.as_str(), line);
-    let told = line_of(alloc, check_tc_with(node, &index, &mut Maps::new(alloc)))?;
-    is(rt, told.as_str(), line);
+    is(rt, at, 0x4c80 + 70);
+    is(rt, bytes, [7, 0, 0, 0].as_slice());
     Ok(())
 }
 
 #[test]
 fn cells_are_lent(rt: HostRuntime) -> Result<(), Fail> {
     let alloc = rt.alloc();
-    let plan = m1_plan(alloc)?;
-    let image = build(alloc, &plan).expect(&rt, "not made");
-    let Ok(checked) = check_ndb(alloc, Image::new(&image)) else {
-        return Err(Fail::from("refused"));
-    };
-    let node = checked.ndb.node(0x12d).expect(&rt, "no node");
-    let Ok(tc) = check_tc(node) else {
+    let image = m1_with(alloc, 2, &[])?;
+    let Ok(tc) = check_tc(node_in(alloc, &image, 0x12d)?) else {
         return Err(Fail::from("no table"));
     };
-    let mut columns = known_tc(tc.node()).columns();
-    let first = columns.next().expect(&rt, "no column");
-    is(
-        &rt,
-        (first.tag, first.at, first.width, first.bit),
-        (0x67f2_0003, 0, 4, 0),
-    );
-    let next = columns.next().expect(&rt, "no column");
-    is(
-        &rt,
-        (next.tag, next.at, next.width, next.bit),
-        (0x3602_0003, 4, 4, 1),
-    );
-    is(&rt, columns.next(), None);
+    columns_are_lent(&rt, tc);
     for id in [0, 0x141, 0x143, 0xffff_ffff] {
         holds_at(&rt, id, tc.row(id).is_none());
     }
     is(&rt, tc.row_count(), 1);
     let row = tc.row(0x142).expect(&rt, "no row");
-    for tag in [0, 0x3602_0002, 0x3602_001f, 0x3601_0003] {
-        holds_at(&rt, tag, row.cell(tag).is_none());
-    }
-    let Some(Value::Whole(at, bytes)) = row.cell(0x3602_0003) else {
-        return Err(Fail::from("in pieces"));
-    };
-    is(&rt, at, 0x4c80 + 70);
-    is(&rt, bytes, [7, 0, 0, 0].as_slice());
-    Ok(())
+    row_is_lent(&rt, row)
 }

@@ -1,14 +1,18 @@
 //! Values of a small store: what `resolve` answers for types and raw spans.
 
+ghost use Rattle.std.specs.Prelude.{◌+◌, ◌≤◌, length};
+ghost use Rattle.pst_heap.specs.View.{data_of};
+
 mod readers;
 
+use crate::made::{put, store_of};
+use crate::opened::heap_in;
 use crate::told::{holds, is, is_at};
-use pst_bytes::{Image, Span};
+use pst_bytes::Span;
 use pst_datatree::Value;
-use pst_fault::Place;
-use pst_heap::{Heap, Items, check_heap};
-use pst_make::{BlockPlan, NodePlan, Plan, build};
-use pst_ndb::{SubIndex, check_ndb};
+use pst_fault::{Fault, Place};
+use pst_heap::{Heap, Items};
+use pst_ndb::SubIndex;
 use pst_value::*;
 use std::alloc::Global;
 use std::process::Abort;
@@ -82,38 +86,37 @@ const SUBNODES: [u8; 80] = [
     0, 0, 0, 0, 34, 0, 0, 0, 0, 0, 0, 0, 0, 0, 0, 0, 0, 0, 0, 0,
 ];
 
-fn push16(bytes: &mut Vec<u8>, number: usize) -> Result<(), Fail> {
-    bytes.push((number % 256) as u8)?;
-    bytes.push((number / 256 % 256) as u8)?;
+// Items of all lengths behind RAW.
+const LENGTHS: [u8; 8] = [0, 1, 7, 8, 9, 15, 16, 17];
+
+// Adds an item, its bytes counted from 0 on.
+fn add_item(items: &mut Vec<u8>, len: u8) -> Result<(), Fail> {
+    for byte in 0..len {
+        items.push(byte)?;
+    }
     Ok(())
 }
 
-// The body of a heap: its header, RAW as its first item, items of all lengths, and the page map.
+// The body of a heap: its header, RAW as its first item, the other items, and the page map.
 fn heap_body(alloc: Global) -> Result<Vec<u8>, Fail> {
-    let mut offsets = Vec::new(alloc);
-    let mut items = Vec::new(alloc);
-    items.extend_from_slice(&RAW)?;
-    push16(&mut offsets, 12)?;
-    push16(&mut offsets, 64)?;
-    for len in [0u8, 1, 7, 8, 9, 15, 16, 17] {
-        for byte in 0..len {
-            items.push(byte)?;
-        }
-        push16(&mut offsets, items.len().saturating_add(12))?;
+    let mut items = Vec::from_slice(alloc, &RAW)?;
+    let mut map = Vec::from_slice(alloc, &[9, 0, 0, 0, 12, 0, 64, 0])?;
+    for len in LENGTHS {
+        add_item(&mut items, len)?;
+        put(&mut map, items.len().saturating_add(12) as u64, 2)?;
     }
     let mut body = Vec::new(alloc);
-    push16(&mut body, items.len().saturating_add(12))?;
+    put(&mut body, items.len().saturating_add(12) as u64, 2)?;
     body.extend_from_slice(&[0xec, 0xbc, 0x20, 0, 0, 0, 0, 0, 0, 0])?;
     body.extend_from_slice(&items)?;
-    body.extend_from_slice(&[9, 0, 0, 0])?;
-    body.extend_from_slice(&offsets)?;
+    body.extend_from_slice(&map)?;
     Ok(body)
 }
 
 // A store of one node, 0x21, with that heap and these subnodes.
 fn store(alloc: Global) -> Result<Vec<u8>, Fail> {
     let heap = heap_body(alloc)?;
-    let bodies: [(u64, &[u8]); 9] = [
+    let blocks: [(u64, &[u8]); 9] = [
         (4, &heap),
         (8, &FRONT),
         (12, &[]),
@@ -124,88 +127,94 @@ fn store(alloc: Global) -> Result<Vec<u8>, Fail> {
         (34, &TEXTS),
         (38, &SUBNODES),
     ];
-    let mut plan = Plan {
-        blocks: Vec::new(alloc),
-        nodes: Vec::new(alloc),
-    };
-    for (bid, bytes) in bodies {
-        let body = Vec::from_slice(alloc, bytes)?;
-        plan.blocks.push(BlockPlan { bid, body })?;
-    }
-    plan.nodes.push(NodePlan {
-        nid: 0x21,
-        bid_data: 4,
-        bid_sub: 38,
-        parent: 0,
-    })?;
-    build(alloc, &plan).map_err(|_| Fail::from("not made"))
+    store_of(alloc, &blocks, 4, 38)
 }
 
-// The heap of the node of a store of at least so many bytes.
-fn heap_in(alloc: Global, image: &[u8]) -> Result<Heap<'_>, Fail> {
-    let Ok(checked) = check_ndb(alloc, Image::new(image)) else {
-        return Err(Fail::from("refused"));
-    };
-    let node = checked.ndb.node(0x21).ok_or("no node")?;
-    check_heap(node).map_err(|_| Fail::from("no heap"))
+// What the four bytes at an offset have under a type.
+fn resolved<'a>(heap: &Heap<'a>, kind: u16, at: u64) -> Result<Value<'a>, Fault>
+    requires { at + 4 ≤ length (data_of heap.now).image }
+{
+    resolve(heap.node(), heap, PropType(kind), Span { at, len: 4 })
+}
+
+// What a check says of the same.
+fn checked(heap: &Heap, kind: u16, at: u64) -> Result<(), Fault>
+    requires { at + 4 ≤ length (data_of heap.now).image }
+{
+    let raw = Span { at, len: 4 };
+    let mut items = Items::of(*heap);
+    check_value_by(&mut items, &SubIndex::none(), PropType(kind), at, raw)
+}
+
+// A length as a byte of ROWS.
+fn digit(len: u64) -> Option<u8> {
+    b"0123456789abcdefgh".get(len as usize).copied()
+}
+
+// A fault as a byte of ROWS.
+fn letter(fault: Fault) -> Option<u8> {
+    match fault.kind.number() {
+        17 => Some(b'S'),
+        22 => Some(b'H'),
+        24 => Some(b'P'),
+        _ => None,
+    }
 }
 
 // What a type has in the four bytes at an offset, as a byte of ROWS. A check says the same.
-fn told<R: Abort>(rt: &R, heap: &Heap, kind: u16, at: u64) -> Result<u8, Fail> {
+fn told<R: Abort>(rt: &R, heap: &Heap, kind: u16, at: u64) -> Option<u8> {
     if heap.image().len() < 100_000 || at > 50_000 {
-        return Err(Fail::from("past the end"));
+        return None;
     }
-    let raw = Span { at, len: 4 };
-    let mut items = Items::of(*heap);
-    let checked = check_value_by(&mut items, &SubIndex::none(), PropType(kind), at, raw);
-    match resolve(heap.node(), heap, PropType(kind), raw) {
+    let checked = checked(heap, kind, at);
+    match resolved(heap, kind, at) {
         Ok(value) => {
             holds(rt, checked.is_ok());
-            let digits = b"0123456789abcdefgh";
-            Ok(*digits.get(value.len() as usize).expect(rt, "too long"))
+            digit(value.len())
         }
         Err(fault) => {
+            let (bid, nid) = (4, 0x21);
             is(rt, checked, Err(fault));
-            is(
-                rt,
-                fault.place,
-                Place {
-                    at,
-                    bid: 4,
-                    nid: 0x21,
-                },
-            );
-            match fault.kind.number() {
-                17 => Ok(b'S'),
-                22 => Ok(b'H'),
-                24 => Ok(b'P'),
-                _ => Err(Fail::from("another fault")),
-            }
+            is(rt, fault.place, Place { at, bid, nid });
+            letter(fault)
         }
     }
+}
+
+// What a type has in each of the HNIDs of RAW, as a row of ROWS.
+fn row_of<R: Abort>(rt: &R, alloc: Global, heap: &Heap, kind: u16) -> Result<Vec<u8>, Fail> {
+    let mut row = Vec::new(alloc);
+    for i in 0..13u64 {
+        let Some(byte) = told(rt, heap, kind, 0x4c0c + 4 * i) else {
+            return Err(Fail::from("no byte of a row"));
+        };
+        row.push(byte)?;
+    }
+    Ok(row)
+}
+
+// The item of 8 bytes is the file's own memory, behind those of 0, 1 and 7.
+fn item_is_lent<R: Abort>(rt: &R, heap: &Heap) -> Result<(), Fail> {
+    let value = named_value(heap, 0xa0).expect(rt, "no item");
+    is(rt, value.at(), 0x4c48);
+    let Value::Whole(_, bytes) = value else {
+        return Err(Fail::from("in pieces"));
+    };
+    is(rt, bytes, [0u8, 1, 2, 3, 4, 5, 6, 7].as_slice());
+    Ok(())
 }
 
 #[test]
 fn types_have_lengths(rt: HostRuntime) -> Result<(), Fail> {
     let alloc = rt.alloc();
     let image = store(alloc)?;
-    let heap = heap_in(alloc, &image)?;
+    let heap = heap_in(alloc, &image, 0x21)?;
     for (kinds, class, row) in ROWS {
         for kind in kinds {
             is_at(&rt, kind, PropType(*kind).class(), class);
-            let mut line = Vec::new(alloc);
-            for i in 0..13u64 {
-                line.push(told(&rt, &heap, *kind, 0x4c0c + 4 * i)?)?;
-            }
-            is_at(&rt, kind, line.as_slice(), row);
+            let told = row_of(&rt, alloc, &heap, *kind)?;
+            is_at(&rt, kind, told.as_slice(), row);
         }
     }
-    // The item of 8 bytes is the file's own memory, behind those of 0, 1 and 7.
-    let value = named_value(&heap, 0xa0).expect(&rt, "no item");
-    is(&rt, value.at(), 0x4c48);
-    let Value::Whole(_, bytes) = value else {
-        return Err(Fail::from("in pieces"));
-    };
-    is(&rt, bytes, [0u8, 1, 2, 3, 4, 5, 6, 7].as_slice());
-    Ok(())
+    item_is_lent(&rt, &heap)
 }

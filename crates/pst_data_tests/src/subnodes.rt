@@ -4,7 +4,10 @@ mod breaches;
 mod index;
 mod numbers;
 mod sharing;
+mod tree;
 
+use self::Body::{Bytes, List};
+use self::tree::{Indexed, Known, Tree};
 use crate::told::is;
 use pst_block::{Blocks, check_blocks};
 use pst_btree::walk_blocks;
@@ -41,7 +44,36 @@ fn add(blocks: &mut Vec<BlockPlan>, bid: u64, body: Vec<u8>) -> Result<(), Fail>
     Ok(())
 }
 
+// The body of a block: a list of a level, with so many entries, and the numbers that they are; or any bytes.
+#[derive(Clone, Copy)]
+enum Body<'a> {
+    List(u8, u8, &'a [u64]),
+    Bytes(&'a [u8]),
+}
+
+// Blocks by their identifiers.
+type Bodies<'a> = &'a [(u64, Body<'a>)];
+
+fn body_of(alloc: Global, body: Body) -> Result<Vec<u8>, Fail> {
+    match body {
+        List(level, count, numbers) => list(alloc, level, count, numbers),
+        Bytes(bytes) => Ok(Vec::from_slice(alloc, bytes)?),
+    }
+}
+
+fn plan_of(alloc: Global, bodies: Bodies) -> Result<Vec<BlockPlan>, Fail> {
+    let mut plan = Vec::new(alloc);
+    for (bid, body) in bodies {
+        add(&mut plan, *bid, body_of(alloc, *body)?)?;
+    }
+    Ok(plan)
+}
+
 // A store of these blocks.
+fn store(alloc: Global, bodies: Bodies) -> Result<Vec<u8>, Fail> {
+    image_of(alloc, plan_of(alloc, bodies)?)
+}
+
 fn image_of(alloc: Global, blocks: Vec<BlockPlan>) -> Result<Vec<u8>, Fail> {
     let nodes = Vec::new(alloc);
     let Ok(bytes) = build(alloc, &Plan { blocks, nodes }) else {
@@ -65,13 +97,9 @@ fn answer_of(
     bid: u64,
 ) -> Result<(Result<u32, Fault>, u64), Fail> {
     let bytes = image_of(alloc, plan)?;
-    let Ok(blocks) = blocks_in(alloc, Image::new(&bytes)) else {
-        return Err(Fail::from("no blocks"));
-    };
-    let mut seen = Seen::new(alloc);
-    let mut heights = Heights::new(alloc);
-    let answer = check_sub(alloc, &blocks, bid, NODE, &mut seen, &mut heights);
-    Ok((answer, heights.expansions()))
+    let mut known = Known::read(alloc, Image::new(&bytes))?;
+    let answer = known.check(alloc, bid);
+    Ok((answer, known.expansions()))
 }
 
 fn fault_of(kind: Kind, at: u64, bid: u64) -> Fault {
@@ -79,14 +107,26 @@ fn fault_of(kind: Kind, at: u64, bid: u64) -> Fault {
     Fault { kind, place }
 }
 
-fn is_refused<R: Abort>(
+// Stops the test where the check answers something else.
+fn answers<R: Abort>(
     rt: &R,
     alloc: Global,
     plan: Vec<BlockPlan>,
     bid: u64,
+    wanted: (Result<u32, Fault>, u64),
+) -> Result<(), Fail> {
+    is(rt, answer_of(alloc, plan, bid)?, wanted);
+    Ok(())
+}
+
+fn is_refused<R: Abort>(
+    rt: &R,
+    alloc: Global,
+    bodies: Bodies,
+    bid: u64,
     fault: Fault,
 ) -> Result<(), Fail> {
-    let (answer, _) = answer_of(alloc, plan, bid)?;
+    let (answer, _) = answer_of(alloc, plan_of(alloc, bodies)?, bid)?;
     is(rt, answer, Err(fault));
     Ok(())
 }
@@ -105,27 +145,20 @@ fn chain(alloc: Global, lists: u64) -> Result<Vec<BlockPlan>, Fail> {
 #[test]
 fn lists_nest_64_deep(rt: HostRuntime) -> Result<(), Fail> {
     let alloc = rt.alloc();
-    let (answer, expansions) = answer_of(alloc, chain(alloc, 64)?, 6)?;
-    is(&rt, answer, Ok(64));
-    is(&rt, expansions, 64);
+    answers(&rt, alloc, chain(alloc, 64)?, 6, (Ok(64), 64))?;
     is(&rt, LISTS, 64);
-    is_refused(
-        &rt,
-        alloc,
-        chain(alloc, 65)?,
-        6,
-        fault_of(Kind::Nesting, 0, 6),
-    )
+    let (answer, _) = answer_of(alloc, chain(alloc, 65)?, 6)?;
+    is(&rt, answer, Err(fault_of(Kind::Nesting, 0, 6)));
+    Ok(())
 }
 
 // The identifier is told as the node has it, with its bit 0.
 #[test]
 fn a_list_below_itself(rt: HostRuntime) -> Result<(), Fail> {
-    let alloc = rt.alloc();
+    let bodies = [(6, List(0, 1, &[0x671, 0, 6]))];
     for bid in [6, 7] {
-        let mut plan = Vec::new(alloc);
-        add(&mut plan, 6, list(alloc, 0, 1, &[0x671, 0, 6])?)?;
-        is_refused(&rt, alloc, plan, bid, fault_of(Kind::Nesting, 0, bid))?;
+        let fault = fault_of(Kind::Nesting, 0, bid);
+        is_refused(&rt, rt.alloc(), &bodies, bid, fault)?;
     }
     Ok(())
 }
@@ -133,7 +166,6 @@ fn a_list_below_itself(rt: HostRuntime) -> Result<(), Fail> {
 // The data of an entry comes before its subnodes, and an entry before the next one.
 #[test]
 fn two_faults_of_one_list(rt: HostRuntime) -> Result<(), Fail> {
-    let alloc = rt.alloc();
     let missing = fault_of(Kind::BlockMissing, 0, 0x100);
     let nesting = fault_of(Kind::Nesting, 0, 6);
     for (numbers, fault) in [
@@ -141,9 +173,7 @@ fn two_faults_of_one_list(rt: HostRuntime) -> Result<(), Fail> {
         ([0x692, 0, 6, 0x671, 0x100, 0], nesting),
         ([0x671, 0x100, 6, 0x692, 0, 6], missing),
     ] {
-        let mut plan = Vec::new(alloc);
-        add(&mut plan, 6, list(alloc, 0, 2, &numbers)?)?;
-        is_refused(&rt, alloc, plan, 6, fault)?;
+        is_refused(&rt, rt.alloc(), &[(6, List(0, 2, &numbers))], 6, fault)?;
     }
     Ok(())
 }
@@ -151,135 +181,95 @@ fn two_faults_of_one_list(rt: HostRuntime) -> Result<(), Fail> {
 // All below an entry comes before the next entry.
 #[test]
 fn depth_comes_first(rt: HostRuntime) -> Result<(), Fail> {
-    let alloc = rt.alloc();
-    let mut plan = Vec::new(alloc);
-    add(
-        &mut plan,
-        6,
-        list(alloc, 0, 2, &[0x671, 0, 10, 0x692, 0x100, 0])?,
-    )?;
-    add(&mut plan, 10, list(alloc, 0, 1, &[0x8025, 0, 14])?)?;
-    add(&mut plan, 14, list(alloc, 0, 1, &[0x8045, 0x200, 0])?)?;
-    is_refused(&rt, alloc, plan, 6, fault_of(Kind::BlockMissing, 0, 0x200))
+    let fault = fault_of(Kind::BlockMissing, 0, 0x200);
+    is_refused(&rt, rt.alloc(), &DEEP, 6, fault)
 }
 
+const DEEP: [(u64, Body); 3] = [
+    (6, List(0, 2, &[0x671, 0, 10, 0x692, 0x100, 0])),
+    (10, List(0, 1, &[0x8025, 0, 14])),
+    (14, List(0, 1, &[0x8045, 0x200, 0])),
+];
+
 // An SIBLOCK of two SLBLOCKs, the first of two entries and the second of one, below which a list nests.
-fn two_leaves(alloc: Global) -> Result<Vec<BlockPlan>, Fail> {
-    let mut plan = Vec::new(alloc);
-    add(&mut plan, 4, Vec::from_slice(alloc, b"data")?)?;
-    add(&mut plan, 6, list(alloc, 1, 2, &[0x671, 10, 0x8025, 14])?)?;
-    add(
-        &mut plan,
-        10,
-        list(alloc, 0, 2, &[0x671, 4, 0, 0x692, 5, 0])?,
-    )?;
-    add(
-        &mut plan,
-        14,
-        list(alloc, 0, 1, &[0xffff_ffff_0000_8025, 4, 18])?,
-    )?;
-    add(&mut plan, 18, list(alloc, 0, 0, &[])?)?;
-    Ok(plan)
-}
+const TWO_LEAVES: [(u64, Body); 5] = [
+    (4, Bytes(b"data")),
+    (6, List(1, 2, &[0x671, 10, 0x8025, 14])),
+    (10, List(0, 2, &[0x671, 4, 0, 0x692, 5, 0])),
+    (14, List(0, 1, &[0xffff_ffff_0000_8025, 4, 18])),
+    (18, List(0, 0, &[])),
+];
 
 #[test]
 fn a_list_of_two_leaves(rt: HostRuntime) -> Result<(), Fail> {
     let alloc = rt.alloc();
-    let (answer, expansions) = answer_of(alloc, two_leaves(alloc)?, 6)?;
-    is(&rt, answer, Ok(2));
-    is(&rt, expansions, 4);
-    let bytes = image_of(alloc, two_leaves(alloc)?)?;
-    let Ok(blocks) = blocks_in(alloc, Image::new(&bytes)) else {
-        panic!(rt; "no blocks");
-    };
-    let mut seen = Seen::new(alloc);
-    let mut heights = Heights::new(alloc);
-    let Ok(_) = check_sub(alloc, &blocks, 7, NODE, &mut seen, &mut heights) else {
-        panic!(rt; "no list");
-    };
-    let wanted = [(0x671, 4, 0), (0x692, 5, 0), (0x8025, 4, 18)];
-    let mut list = subs(&blocks, 6);
-    for (nid, bid_data, bid_sub) in wanted {
-        let sub = Sub {
-            nid,
-            bid_data,
-            bid_sub,
-        };
-        is(&rt, list.next(), Some(sub));
-        is(&rt, find_sub(&blocks, 7, nid), Some(sub));
+    answers(&rt, alloc, plan_of(alloc, &TWO_LEAVES)?, 6, (Ok(2), 4))?;
+    let bytes = store(alloc, &TWO_LEAVES)?;
+    let tree = Tree::read(alloc, Image::new(&bytes), 7)?;
+    let mut list = tree.subs(6);
+    for (nid, bid_data, bid_sub) in [(0x671, 4, 0), (0x692, 5, 0), (0x8025, 4, 18)] {
+        let sub = sub_of(nid, bid_data, bid_sub);
+        is(&rt, list.next(), sub);
+        is(&rt, tree.find(nid), sub);
     }
     is(&rt, list.next(), None);
     // One that is behind all, one that is before all, and one between two.
     for nid in [0x8045, 0x670, 0x672] {
-        is(&rt, find_sub(&blocks, 7, nid), None);
+        is(&rt, tree.find(nid), None);
     }
     Ok(())
+}
+
+fn sub_of(nid: u32, bid_data: u64, bid_sub: u64) -> Option<Sub> {
+    Some(Sub {
+        nid,
+        bid_data,
+        bid_sub,
+    })
 }
 
 // Identifiers that fall, in and across the SLBLOCKs: each is found all the same.
 #[test]
 fn a_list_that_falls(rt: HostRuntime) -> Result<(), Fail> {
     let alloc = rt.alloc();
-    let mut plan = Vec::new(alloc);
-    add(&mut plan, 6, list(alloc, 1, 2, &[0x8025, 10, 0x671, 14])?)?;
-    add(
-        &mut plan,
-        10,
-        list(alloc, 0, 2, &[0x8045, 0, 0, 0x8025, 0, 0])?,
-    )?;
-    add(
-        &mut plan,
-        14,
-        list(alloc, 0, 2, &[0x692, 0, 0, 0x671, 0, 0])?,
-    )?;
-    let bytes = image_of(alloc, plan)?;
-    let Ok(blocks) = blocks_in(alloc, Image::new(&bytes)) else {
-        panic!(rt; "no blocks");
-    };
-    let mut seen = Seen::new(alloc);
-    let mut heights = Heights::new(alloc);
-    let Ok(_) = check_sub(alloc, &blocks, 6, NODE, &mut seen, &mut heights) else {
-        panic!(rt; "no list");
-    };
+    let bytes = store(alloc, &FALLING)?;
+    let tree = Tree::read(alloc, Image::new(&bytes), 6)?;
     for nid in [0x8045, 0x8025, 0x692, 0x671] {
-        let sub = Sub {
-            nid,
-            bid_data: 0,
-            bid_sub: 0,
-        };
-        is(&rt, find_sub(&blocks, 6, nid), Some(sub));
+        is(&rt, tree.find(nid), sub_of(nid, 0, 0));
     }
-    is(&rt, find_sub(&blocks, 6, 0x673), None);
+    is(&rt, tree.find(0x673), None);
     Ok(())
 }
+
+const FALLING: [(u64, Body); 3] = [
+    (6, List(1, 2, &[0x8025, 10, 0x671, 14])),
+    (10, List(0, 2, &[0x8045, 0, 0, 0x8025, 0, 0])),
+    (14, List(0, 2, &[0x692, 0, 0, 0x671, 0, 0])),
+];
 
 #[test]
 fn no_block_has_no_subnodes(rt: HostRuntime) -> Result<(), Fail> {
     let alloc = rt.alloc();
+    let bytes = store(alloc, &TWO_LEAVES)?;
     for bid in [0, 1] {
-        is(&rt, answer_of(alloc, two_leaves(alloc)?, bid)?, (Ok(0), 0));
-        let bytes = image_of(alloc, two_leaves(alloc)?)?;
-        let Ok(blocks) = blocks_in(alloc, Image::new(&bytes)) else {
-            panic!(rt; "no blocks");
-        };
-        is(&rt, subs(&blocks, bid).next(), None);
-        let mut seen = Seen::new(alloc);
-        let mut heights = Heights::new(alloc);
-        let Ok(_) = check_sub(alloc, &blocks, bid, NODE, &mut seen, &mut heights) else {
-            panic!(rt; "no list");
-        };
-        is(&rt, find_sub(&blocks, bid, 0x671), None);
+        answers(&rt, alloc, plan_of(alloc, &TWO_LEAVES)?, bid, (Ok(0), 0))?;
+        let tree = Tree::read(alloc, Image::new(&bytes), bid)?;
+        has_none(&rt, &tree, bid);
     }
     Ok(())
+}
+
+fn has_none<R: Abort>(rt: &R, tree: &Tree, bid: u64) {
+    is(rt, tree.subs(bid).next(), None);
+    is(rt, tree.find(0x671), None);
 }
 
 #[test]
 fn a_list_without_entries(rt: HostRuntime) -> Result<(), Fail> {
     let alloc = rt.alloc();
     for level in [0, 1] {
-        let mut plan = Vec::new(alloc);
-        add(&mut plan, 6, list(alloc, level, 0, &[])?)?;
-        is(&rt, answer_of(alloc, plan, 6)?, (Ok(1), 1));
+        let plan = plan_of(alloc, &[(6, List(level, 0, &[]))])?;
+        answers(&rt, alloc, plan, 6, (Ok(1), 1))?;
     }
     Ok(())
 }

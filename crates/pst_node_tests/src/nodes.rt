@@ -11,8 +11,9 @@ mod views;
 
 use crate::told::is;
 use pst_bytes::Image;
+use pst_fault::Fault;
 use pst_make::{BlockPlan, Change, NodePlan, Plan, build, change_all, flip, m0, set};
-use pst_ndb::{check_ndb, counts_agree};
+use pst_ndb::{Checked, Node, check_ndb, counts_agree};
 use std::alloc::Global;
 use std::process::Abort;
 use std::test::Fail;
@@ -49,37 +50,101 @@ fn is_answered<R: Abort>(rt: &R, alloc: Global, image: &[u8], line: &str) -> Res
     Ok(())
 }
 
+// The small store with changes.
+fn changed(alloc: Global, changes: &[Change]) -> Result<Vec<u8>, Fail> {
+    let mut image = m0(alloc)?;
+    change_all(&mut image, changes)?;
+    Ok(image)
+}
+
 // Whether each row is answered with its line, done to the small store.
 fn are_answered<R: Abort>(rt: &R, alloc: Global, rows: &[Row]) -> Result<(), Fail> {
     for (changes, line) in rows {
-        let mut image = m0(alloc)?;
-        change_all(&mut image, changes)?;
-        is_answered(rt, alloc, &image, line)?;
+        is_answered(rt, alloc, &changed(alloc, changes)?, line)?;
     }
     Ok(())
 }
 
-// A store of blocks, each by its identifier and body, and nodes, each by its identifier, data and subnodes.
-fn store(
-    alloc: Global,
-    blocks: &[(u64, &[u8])],
-    nodes: &[(u32, u64, u64)],
-) -> Result<Vec<u8>, Fail> {
-    let mut plan = Plan {
-        blocks: Vec::new(alloc),
-        nodes: Vec::new(alloc),
+// A file that is good; a test's proof needs to know no more of it.
+fn good<'a>(alloc: Global, image: &'a [u8]) -> Result<Checked<'a>, Fail> {
+    let Ok(checked) = check_ndb(alloc, Image::new(image)) else {
+        return Err(Fail::from("refused"));
     };
-    for (bid, bytes) in blocks {
-        let body = Vec::from_slice(alloc, bytes)?;
-        plan.blocks.push(BlockPlan { bid: *bid, body })?;
+    Ok(checked)
+}
+
+fn node_in<'a>(checked: &Checked<'a>, nid: u32) -> Result<Node<'a>, Fail> {
+    let Some(node) = checked.ndb.node(nid) else {
+        return Err(Fail::from("no node"));
+    };
+    Ok(node)
+}
+
+// The fault that the check answers.
+fn fault_in(alloc: Global, image: &[u8]) -> Option<Fault> {
+    check_ndb(alloc, Image::new(image)).err()
+}
+
+// The identifiers of a node: its own, the top one's, its data's and its subnodes'.
+type Identifiers = (u32, u32, u64, u64);
+
+fn identifiers(node: &Node) -> Identifiers {
+    (node.nid(), node.top(), node.bid_data(), node.bid_sub())
+}
+
+// Blocks by their identifiers: the first bytes of each, and the numbers of 8 bytes behind them.
+type Blocks<'a> = &'a [(u64, &'a [u8], &'a [u64])];
+
+// Nodes by their identifiers: the data of each, and its subnodes.
+type Listed<'a> = &'a [(u32, u64, u64)];
+
+// The body of a block.
+fn naming(alloc: Global, front: &[u8], numbers: &[u64]) -> Result<Vec<u8>, Fail> {
+    let mut body = Vec::from_slice(alloc, front)?;
+    for number in numbers {
+        body.extend_from_slice(&number.to_le_bytes())?;
+    }
+    Ok(body)
+}
+
+fn add_block(plan: &mut Plan, bid: u64, body: Vec<u8>) -> Result<(), Fail> {
+    plan.blocks.push(BlockPlan { bid, body })?;
+    Ok(())
+}
+
+fn add_node(plan: &mut Plan, nid: u32, bid_data: u64, bid_sub: u64) -> Result<(), Fail> {
+    plan.nodes.push(NodePlan {
+        nid,
+        bid_data,
+        bid_sub,
+        parent: 0,
+    })?;
+    Ok(())
+}
+
+fn image_of(alloc: Global, plan: &Plan) -> Result<Vec<u8>, Fail> {
+    let Ok(image) = build(alloc, plan) else {
+        return Err(Fail::from("not made"));
+    };
+    Ok(image)
+}
+
+// A store of blocks and nodes.
+fn store(alloc: Global, blocks: Blocks, nodes: Listed) -> Result<Vec<u8>, Fail> {
+    let mut plan = no_plan(alloc);
+    for (bid, front, numbers) in blocks {
+        add_block(&mut plan, *bid, naming(alloc, front, numbers)?)?;
     }
     for (nid, bid_data, bid_sub) in nodes {
-        plan.nodes.push(NodePlan {
-            nid: *nid,
-            bid_data: *bid_data,
-            bid_sub: *bid_sub,
-            parent: 0,
-        })?;
+        add_node(&mut plan, *nid, *bid_data, *bid_sub)?;
     }
-    build(alloc, &plan).map_err(|_| Fail::from("not made"))
+    image_of(alloc, &plan)
+}
+
+// A plan of nothing.
+fn no_plan(alloc: Global) -> Plan {
+    Plan {
+        blocks: Vec::new(alloc),
+        nodes: Vec::new(alloc),
+    }
 }

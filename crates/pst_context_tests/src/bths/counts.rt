@@ -2,34 +2,33 @@
 
 use super::made::store;
 use super::{BRANCH, HEAD, HIGH, LOW, check_bth};
+use crate::opened::heap_in;
 use crate::told::is;
-use pst_bytes::Image;
-use pst_heap::{check_heap, check_ndb};
 use std::alloc::Global;
 use std::test::Fail;
 
 // How many records the BTH of node 0x21 has.
 fn counted(alloc: Global, image: &[u8]) -> Result<u64, Fail> {
-    let Ok(checked) = check_ndb(alloc, Image::new(image)) else {
-        return Err(Fail::from("refused"));
-    };
-    let node = checked.ndb.node(0x21).ok_or("no node")?;
-    let Ok(heap) = check_heap(node) else {
-        return Err(Fail::from("no heap"));
-    };
+    let heap = heap_in(alloc, image, 0x21)?;
     let Ok(bth) = check_bth(&heap, heap.user_root(), 2, 6) else {
         return Err(Fail::from("no BTH"));
     };
     Ok(bth.count())
 }
 
-// Two leaves of two records each, and one without; a header that names no item.
+// The items of a heap, and how many records its BTH has: two leaves of two records each, and one without; a header that names
+// no item.
+const COUNTS: [(&[&[u8]], u64); 2] = [
+    (&[&HEAD, &BRANCH, &LOW, &[], &HIGH], 4),
+    (&[&[0xb5, 2, 6, 0, 0, 0, 0, 0]], 0),
+];
+
 #[test]
 fn records_are_counted(rt: HostRuntime) -> Result<(), Fail> {
     let alloc = rt.alloc();
-    let image = store(alloc, &[&HEAD, &BRANCH, &LOW, &[], &HIGH])?;
-    is(&rt, counted(alloc, &image)?, 4);
-    let image = store(alloc, &[&[0xb5, 2, 6, 0, 0, 0, 0, 0]])?;
-    is(&rt, counted(alloc, &image)?, 0);
+    for (items, count) in COUNTS {
+        let image = store(alloc, items)?;
+        is(&rt, counted(alloc, &image)?, count);
+    }
     Ok(())
 }

@@ -3,78 +3,98 @@
 ghost use Rattle.pst_ndb.specs.Views.{table_of_ndb};
 ghost use Rattle.pst_heap.specs.Maps.{AreMapsTrue};
 
-use super::*;
+use super::{SPAN, list_of};
+use crate::made::{add_block, add_node, image_of, plan_of};
+use crate::opened::{line_of_fault, ndb_in};
 use crate::told::is;
+use pst_heap::{Maps, check_heap_with};
 use pst_ndb::Ndb;
+use std::alloc::Global;
+use std::test::Fail;
+
+// A file, and what is known of its page maps.
+#[derive(Drop)]
+struct Known<'a> {
+    ndb: Ndb<'a>,
+    maps: Maps,
+    ghost known: { AreMapsTrue (table_of_ndb ndb) maps },
+}
 
 // What a node's data is answered with as a heap, by what is known.
-fn line_of(alloc: Global, ndb: Ndb, nid: u32, maps: &mut Maps) -> Result<String, Fail>
-    requires { AreMapsTrue (table_of_ndb ndb) maps.old }
-    ensures { AreMapsTrue (table_of_ndb ndb.entry) maps.new }
-{
-    let node = ndb.node(nid).ok_or("no node")?;
-    match check_heap_with(node, maps) {
-        Ok(heap) => Ok(format!(in alloc; "yes: {:x}", heap.client())?),
-        Err(fault) => Ok(format!(in alloc; "{fault}")?),
+fn line_of(alloc: Global, known: &mut Known, nid: u32) -> Result<String, Fail> {
+    let Some(node) = known.ndb.node(nid) else {
+        return Err(Fail::from("no node"));
+    };
+    match check_heap_with(node, &mut known.maps) {
+        Ok(heap) => {
+            let client = heap.client();
+            Ok(format!(in alloc; "yes: {client:x}")?)
+        }
+        Err(fault) => line_of_fault(alloc, fault),
     }
 }
 
-// Blocks at 0x4c00, 0x4c40 and 0x4c80, the last without a page map. Nodes 0x21 and 0x61 have the first and 20 times the second,
-// node 0x41 all three, and node 0x81 one with another signature before those.
+// The span of SPAN, with another signature.
+const OTHER: [u8; 18] = [12, 0, 0xed, 0xbc, 0, 0, 0, 0, 0, 0, 0, 0, 0, 0, 0, 0, 12, 0];
+
+// The blocks at 0x4c00, 0x4c40, 0x4c80 and 0x4cc0; the third has no page map.
+const BLOCKS: [(u64, &[u8]); 4] = [
+    (4, &SPAN),
+    (8, &[2, 0, 0, 0, 0, 0, 0, 0]),
+    (12, &[2]),
+    (16, &OTHER),
+];
+
+// The lists of them: each its identifier and level, the block that it names, how often it does so, how many bytes all blocks
+// have, and the block that it names then.
+const LISTS: [(u64, u8, u32, u32, u32, Option<u32>); 7] = [
+    (22, 1, 4, 1, 18, None),
+    (26, 1, 8, 20, 160, None),
+    (30, 1, 8, 20, 161, Some(12)),
+    (34, 1, 16, 1, 18, None),
+    (38, 2, 22, 1, 178, Some(26)),
+    (42, 2, 22, 1, 179, Some(30)),
+    (46, 2, 34, 1, 178, Some(26)),
+];
+
+// Nodes 0x21 and 0x61 have the first and 20 times the second, node 0x41 all three, and node 0x81 one with another signature
+// before those.
+const NODES: [(u32, u64); 4] = [(0x21, 38), (0x41, 42), (0x61, 38), (0x81, 46)];
+
+fn store(alloc: Global) -> Result<Vec<u8>, Fail> {
+    let mut plan = plan_of(alloc, &BLOCKS)?;
+    for (bid, level, named, times, total, other) in LISTS {
+        let body = list_of(alloc, level, named, times, total, other)?;
+        add_block(&mut plan, bid, body)?;
+    }
+    for (nid, bid_data) in NODES {
+        add_node(&mut plan, nid, bid_data, 0)?;
+    }
+    image_of(alloc, &plan)
+}
+
+const BAD_MAP: &str = "no: 21 Heap at 0x4c80 bid 0x2a nid 0x41";
+
+// What is answered of nodes, one after another: a fault is told of each afresh, whatever is known.
+const ROWS: [(u32, &str); 5] = [
+    (0x21, "yes: bc"),
+    (0x41, BAD_MAP),
+    (0x61, "yes: bc"),
+    (0x41, BAD_MAP),
+    (0x81, "no: 21 Heap at 0x4cc0 bid 0x2e nid 0x81"),
+];
+
 #[test]
 fn shared_spans(rt: HostRuntime) -> Result<(), Fail> {
     let alloc = rt.alloc();
-    let first = [12, 0, 0xec, 0xbc, 0, 0, 0, 0, 0, 0, 0, 0, 0, 0, 0, 0, 12, 0];
-    let mut other = first;
-    other[2] = 0xed;
-    let mut plan = Plan {
-        blocks: Vec::new(alloc),
-        nodes: Vec::new(alloc),
+    let image = store(alloc)?;
+    let mut known = Known {
+        ndb: ndb_in(alloc, &image)?,
+        maps: Maps::new(alloc),
     };
-    for (bid, body) in [
-        (4, Vec::from_slice(alloc, &first)?),
-        (8, Vec::from_slice(alloc, &[2, 0, 0, 0, 0, 0, 0, 0])?),
-        (12, Vec::from_slice(alloc, &[2])?),
-        (16, Vec::from_slice(alloc, &other)?),
-        (22, list_of(alloc, 1, 4, 1, 18, None)?),
-        (26, list_of(alloc, 1, 8, 20, 160, None)?),
-        (30, list_of(alloc, 1, 8, 20, 161, Some(12))?),
-        (34, list_of(alloc, 1, 16, 1, 18, None)?),
-        (38, list_of(alloc, 2, 22, 1, 178, Some(26))?),
-        (42, list_of(alloc, 2, 22, 1, 179, Some(30))?),
-        (46, list_of(alloc, 2, 34, 1, 178, Some(26))?),
-    ] {
-        plan.blocks.push(BlockPlan { bid, body })?;
+    for (nid, line) in ROWS {
+        let told = line_of(alloc, &mut known, nid)?;
+        is(&rt, told.as_str(), line);
     }
-    for (nid, bid_data) in [(0x21, 38), (0x41, 42), (0x61, 38), (0x81, 46)] {
-        plan.nodes.push(NodePlan {
-            nid,
-            bid_data,
-            bid_sub: 0,
-            parent: 0,
-        })?;
-    }
-    let image = build(alloc, &plan).expect(&rt, "not made");
-    let Ok(checked) = check_ndb(alloc, Image::new(&image)) else {
-        return Err(Fail::from("refused"));
-    };
-    // A fault is told of each node afresh, whatever is known.
-    let ndb = checked.ndb;
-    let mut maps = Maps::new(alloc);
-    let bad = "no: 21 Heap at 0x4c80 bid 0x2a nid 0x41";
-    let told = line_of(alloc, ndb, 0x21, &mut maps)?;
-    is(&rt, told.as_str(), "yes: bc");
-    let told = line_of(alloc, ndb, 0x41, &mut maps)?;
-    is(&rt, told.as_str(), bad);
-    let told = line_of(alloc, ndb, 0x61, &mut maps)?;
-    is(&rt, told.as_str(), "yes: bc");
-    let told = line_of(alloc, ndb, 0x41, &mut maps)?;
-    is(&rt, told.as_str(), bad);
-    let told = line_of(alloc, ndb, 0x81, &mut maps)?;
-    is(
-        &rt,
-        told.as_str(),
-        "no: 21 Heap at 0x4cc0 bid 0x2e nid 0x81",
-    );
     Ok(())
 }

@@ -1,8 +1,9 @@
 //! Tables whose row matrix is an item of the heap.
 
 use super::is_answered;
+use crate::made::m1_with;
+use pst_make::Change;
 use pst_make::Change::Set;
-use pst_make::{Change, build, change_all, m1_plan};
 use std::test::Fail;
 
 const AT_INFO: &str = "no: 25 Table at 0x4c8c bid 0xc nid 0x12d";
@@ -131,10 +132,7 @@ const TABLE_ROWS: [(&[Change<'static>], &str); 42] = [
 fn tables_in_a_heap(rt: HostRuntime) -> Result<(), Fail> {
     let alloc = rt.alloc();
     for (changes, line) in TABLE_ROWS {
-        let mut plan = m1_plan(alloc)?;
-        let found = plan.blocks.get_mut(2).expect(&rt, "no block");
-        change_all(&mut found.body, changes)?;
-        let image = build(alloc, &plan).expect(&rt, "not made");
+        let image = m1_with(alloc, 2, changes)?;
         is_answered(&rt, alloc, &image, 0x12d, line)?;
     }
     Ok(())

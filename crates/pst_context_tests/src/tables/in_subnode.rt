@@ -3,11 +3,11 @@
 mod rows;
 
 use super::is_answered;
-use pst_make::{BlockPlan, Change, NodePlan, Plan, build, change_all};
-use rows::{
-    FULL_BLOCK, IN_ONE_BLOCK, IN_TWO_BLOCKS, LONGEST_ROWS, LONGEST_ROWS_SHUFFLED, SHORTEST_ROWS,
-};
+use crate::made::{add_block, add_blocks, add_node, changed, image_of, plan_of};
+use pst_make::{Change, Plan, change_all};
+use rows::{IN_TWO_BLOCKS, OF_ALL_LENGTHS};
 use std::alloc::Global;
+use std::process::Abort;
 use std::test::Fail;
 
 // A table of three rows, 1 to 3, with one column: the header of a heap; TCINFO at 12, which names subnode 0x41 as the matrix; the
@@ -58,60 +58,39 @@ const SIBLOCK: [u8; 40] = [
     0, 0, 0, 38, 0, 0, 0, 0, 0, 0, 0,
 ];
 
-fn store(alloc: Global, row: Row) -> Result<Vec<u8>, Fail> {
-    let mut plan = Plan {
-        blocks: Vec::new(alloc),
-        nodes: Vec::new(alloc),
-    };
-    let mut body = Vec::from_slice(alloc, &TABLE)?;
-    change_all(&mut body, row.changes)?;
-    plan.blocks.push(BlockPlan { bid: 4, body })?;
-    for block in row.blocks {
+// Adds the blocks of the rows to a plan.
+fn add_rows(alloc: Global, plan: &mut Plan, blocks: &[Block]) -> Result<(), Fail> {
+    for block in blocks {
         let mut body = vec![in alloc; 0u8; block.len]?;
         change_all(&mut body, block.changes)?;
-        plan.blocks.push(BlockPlan {
-            bid: block.bid,
-            body,
-        })?;
+        add_block(plan, block.bid, body)?;
     }
-    for (bid, bytes) in row.lists {
-        let body = Vec::from_slice(alloc, bytes)?;
-        plan.blocks.push(BlockPlan { bid: *bid, body })?;
+    Ok(())
+}
+
+fn store(alloc: Global, row: Row) -> Result<Vec<u8>, Fail> {
+    let table = changed(alloc, &TABLE, row.changes)?;
+    let mut plan = plan_of(alloc, &[(4, &table)])?;
+    add_rows(alloc, &mut plan, row.blocks)?;
+    add_blocks(alloc, &mut plan, row.lists)?;
+    let (none, data) = (slblock(0x61, 0), slblock(0x41, row.data));
+    let subnodes: [(u64, &[u8]); 3] = [(30, &SIBLOCK), (34, &none), (38, &data)];
+    add_blocks(alloc, &mut plan, &subnodes)?;
+    add_node(&mut plan, 0x21, 4, 30)?;
+    image_of(alloc, &plan)
+}
+
+// Whether each store is answered with its line.
+fn are_answered<R: Abort>(rt: &R, alloc: Global, rows: &[Row]) -> Result<(), Fail> {
+    for row in rows {
+        let image = store(alloc, *row)?;
+        is_answered(rt, alloc, &image, 0x21, row.line)?;
     }
-    let lists: [(u64, &[u8]); 3] = [
-        (30, &SIBLOCK),
-        (34, &slblock(0x61, 0)),
-        (38, &slblock(0x41, row.data)),
-    ];
-    for (bid, bytes) in lists {
-        let body = Vec::from_slice(alloc, bytes)?;
-        plan.blocks.push(BlockPlan { bid, body })?;
-    }
-    plan.nodes.push(NodePlan {
-        nid: 0x21,
-        bid_data: 4,
-        bid_sub: 30,
-        parent: 0,
-    })?;
-    build(alloc, &plan).map_err(|_| Fail::from("not made"))
+    Ok(())
 }
 
 #[test]
 fn tables_in_subnodes(rt: HostRuntime) -> Result<(), Fail> {
-    let alloc = rt.alloc();
-    for row in IN_TWO_BLOCKS {
-        let image = store(alloc, row)?;
-        is_answered(&rt, alloc, &image, 0x21, row.line)?;
-    }
-    for row in [
-        IN_ONE_BLOCK,
-        FULL_BLOCK,
-        LONGEST_ROWS,
-        LONGEST_ROWS_SHUFFLED,
-        SHORTEST_ROWS,
-    ] {
-        let image = store(alloc, row)?;
-        is_answered(&rt, alloc, &image, 0x21, row.line)?;
-    }
-    Ok(())
+    are_answered(&rt, rt.alloc(), &IN_TWO_BLOCKS)?;
+    are_answered(&rt, rt.alloc(), &OF_ALL_LENGTHS)
 }

@@ -30,7 +30,10 @@ const COUNTS: [(u16, &[u8], Option<u32>); 20] = [
 // The bytes of each value of a value of several, one after another, each behind its length.
 fn listed(alloc: Global, value: Value, kind: u16) -> Result<Vec<u8>, Fail> {
     let mut all = Vec::new(alloc);
-    for one in elements_from(value, PropType(kind)).ok_or("no list")? {
+    let Some(elements) = elements_from(value, PropType(kind)) else {
+        return Err(Fail::from("no list"));
+    };
+    for one in elements {
         all.push((one.len() % 256) as u8)?;
         for byte in bytes_from(one) {
             all.push(byte)?;
@@ -39,18 +42,26 @@ fn listed(alloc: Global, value: Value, kind: u16) -> Result<Vec<u8>, Fail> {
     Ok(all)
 }
 
+const HIGH: [u8; 8] = [0xfe, 0xff, 0xff, 0xff, 0xff, 0xff, 0xff, 0xff];
+
+// Numbers and truth values of bytes in one piece.
+fn numbers_of_bytes<R: Abort>(rt: &R) {
+    is(rt, as_i16(Value::Whole(0, &HIGH[..2])), Some(-2));
+    is(rt, as_i32(Value::Whole(0, &HIGH[..4])), Some(-2));
+    is(rt, as_i64(Value::Whole(0, &HIGH)), Some(-2));
+    is(rt, as_u32(Value::Whole(0, &HIGH[..4])), Some(0xffff_fffe));
+    is(
+        rt,
+        as_u64(Value::Whole(0, &HIGH)),
+        Some(0xffff_ffff_ffff_fffe),
+    );
+    is(rt, as_bool(Value::Whole(0, &HIGH[..1])), Some(true));
+    is(rt, as_bool(Value::Whole(0, &[0])), Some(false));
+}
+
 #[test]
 fn bytes_are_read(rt: HostRuntime) -> Result<(), Fail> {
-    let alloc = rt.alloc();
-    let high = [0xfe, 0xff, 0xff, 0xff, 0xff, 0xff, 0xff, 0xff];
-    let of = |len: usize| Value::Whole(0, &high[..len.min(8)]);
-    is(&rt, as_i16(of(2)), Some(-2));
-    is(&rt, as_i32(of(4)), Some(-2));
-    is(&rt, as_i64(of(8)), Some(-2));
-    is(&rt, as_u32(of(4)), Some(0xffff_fffe));
-    is(&rt, as_u64(of(8)), Some(0xffff_ffff_ffff_fffe));
-    is(&rt, as_bool(of(1)), Some(true));
-    is(&rt, as_bool(Value::Whole(0, &[0])), Some(false));
+    numbers_of_bytes(&rt);
     let text = Value::Whole(0, &[0x41, 0, 0, 0xd8, 0x42]);
     is(&rt, units16(text).next(), Some(0x41));
     is(&rt, units16(text).count(), 2);
@@ -61,44 +72,62 @@ fn bytes_are_read(rt: HostRuntime) -> Result<(), Fail> {
     Ok(())
 }
 
+// The bytes of a value from one number to another, which it has.
+fn part<'a, R: Abort>(rt: &R, whole: Value<'a>, from: u64, to: u64) -> Value<'a> {
+    whole.part(from, to).expect(rt, "no part")
+}
+
+// Numbers of parts of the GUID, which lie in several pieces.
+fn parts_are_read<R: Abort>(rt: &R, whole: Value) {
+    is(rt, as_i16(part(rt, whole, 2, 4)), Some(2));
+    is(rt, as_i32(part(rt, whole, 1, 5)), Some(0x203));
+    is(rt, as_u32(part(rt, whole, 1, 5)), Some(0x203));
+    is(rt, as_i64(part(rt, whole, 0, 8)), Some(0x20328));
+    is(
+        rt,
+        as_u64(part(rt, whole, 1, 9)),
+        Some(0xc000_0000_0000_0203),
+    );
+    is(rt, units16(part(rt, whole, 1, 4)).next(), Some(0x203));
+    is(rt, as_object(whole), Some((0x20328, 0)));
+    is(rt, as_bool(whole), None);
+}
+
+// The GUID, and its bytes as two numbers of 8.
+fn guid_is_read<R: Abort>(rt: &R, alloc: Global, whole: Value) -> Result<(), Fail> {
+    let guid = as_guid(whole).expect(rt, "no GUID");
+    let text = format!(in alloc; "{guid}")?;
+    is(rt, text.as_str(), "00020328-0000-0000-c000-000000000046");
+    let numbers = listed(alloc, whole, 0x1014)?;
+    is(rt, numbers.as_slice(), NUMBERS.as_slice());
+    Ok(())
+}
+
+const NUMBERS: [u8; 18] = [
+    8, 0x28, 3, 2, 0, 0, 0, 0, 0, 8, 0xc0, 0, 0, 0, 0, 0, 0, 0x46,
+];
+
+// The two texts.
+fn texts_are_read<R: Abort>(rt: &R, alloc: Global, texts: Value) -> Result<(), Fail> {
+    is(rt, multi_count(texts, PropType(0x101F)), Some(2));
+    let both = listed(alloc, texts, 0x101F)?;
+    let wanted = [2, b'A', 0, 4, b'B', 0, b'C', 0];
+    is(rt, both.as_slice(), wanted.as_slice());
+    let last = multi(texts, PropType(0x101F), 1).expect(rt, "no text");
+    is(rt, units16(last).next(), Some(u16::from(b'B')));
+    holds(rt, multi(texts, PropType(0x101F), 2).is_none());
+    Ok(())
+}
+
 #[test]
 fn pieces_are_read(rt: HostRuntime) -> Result<(), Fail> {
     let alloc = rt.alloc();
     let image = store(alloc)?;
-    let heap = heap_in(alloc, &image)?;
+    let heap = heap_in(alloc, &image, 0x21)?;
     let whole = named_value(&heap, 0x41).expect(&rt, "no subnode");
     holds(&rt, matches!(whole, Value::Pieces(_)));
-    let part = |from: u64, to: u64| whole.part(from, to).ok_or("no part");
-    is(&rt, as_i16(part(2, 4)?), Some(2));
-    is(&rt, as_i32(part(1, 5)?), Some(0x203));
-    is(&rt, as_u32(part(1, 5)?), Some(0x203));
-    is(&rt, as_i64(part(0, 8)?), Some(0x20328));
-    is(&rt, as_u64(part(1, 9)?), Some(0xc000_0000_0000_0203));
-    is(&rt, as_object(whole), Some((0x20328, 0)));
-    is(&rt, as_bool(whole), None);
-    let guid = as_guid(whole).expect(&rt, "no GUID");
-    let text = format!(in alloc; "{guid}")?;
-    is(&rt, text.as_str(), "00020328-0000-0000-c000-000000000046");
-    is(&rt, units16(part(1, 4)?).next(), Some(0x203));
-    let numbers = listed(alloc, whole, 0x1014)?;
-    is(
-        &rt,
-        numbers.as_slice(),
-        [
-            8, 0x28, 3, 2, 0, 0, 0, 0, 0, 8, 0xc0, 0, 0, 0, 0, 0, 0, 0x46,
-        ]
-        .as_slice(),
-    );
+    parts_are_read(&rt, whole);
+    guid_is_read(&rt, alloc, whole)?;
     let texts = named_value(&heap, 0xa1).expect(&rt, "no subnode");
-    is(&rt, multi_count(texts, PropType(0x101F)), Some(2));
-    let both = listed(alloc, texts, 0x101F)?;
-    is(
-        &rt,
-        both.as_slice(),
-        [2, b'A', 0, 4, b'B', 0, b'C', 0].as_slice(),
-    );
-    let last = multi(texts, PropType(0x101F), 1).expect(&rt, "no text");
-    is(&rt, units16(last).next(), Some(u16::from(b'B')));
-    holds(&rt, multi(texts, PropType(0x101F), 2).is_none());
-    Ok(())
+    texts_are_read(&rt, alloc, texts)
 }

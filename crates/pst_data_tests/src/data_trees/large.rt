@@ -3,214 +3,162 @@
 use super::*;
 use crate::told::{holds, is};
 
-// An image whose XXBLOCK 0x0e names one XBLOCK 1,021 times, which names one body of so many bytes 1,021 times.
-fn same_body(alloc: Global, len: usize) -> Result<Vec<u8>, Fail> {
-    let leaves = often(alloc, 4, 1021)?;
-    let children = often(alloc, 0x0a, 1021)?;
-    let total = u32::try_from(len).unwrap_or(0);
-    store(
-        alloc,
-        &[(4, 0x63, len)],
-        &[
-            (0x0a, 1, total.saturating_mul(1021), &leaves),
-            (0x0e, 2, total.saturating_mul(1_042_441), &children),
-        ],
-    )
-}
+// An XXBLOCK 0x0e that names one XBLOCK 1,021 times, which names one body 1,021 times: an empty one, and one of a byte.
+const EMPTY_BODY: Bodies<'static> = &[(4, 0x63, 0)];
+
+const EMPTY: Lists<'static> = &[(0x0a, 1, 0, &[(4, 1021)]), (0x0e, 2, 0, &[(0x0a, 1021)])];
+
+const SHORT_BODY: Bodies<'static> = &[(4, 0x63, 1)];
+
+const SHORT: Lists<'static> = &[
+    (0x0a, 1, 1021, &[(4, 1021)]),
+    (0x0e, 2, 1_042_441, &[(0x0a, 1021)]),
+];
 
 #[test]
 fn a_million_empty_spans(rt: HostRuntime) -> Result<(), Fail> {
     let alloc = rt.alloc();
-    let image = same_body(alloc, 0)?;
-    let Ok(blocks) = blocks_in(alloc, Image::new(&image)) else {
-        return Err(Fail::from("no blocks"));
-    };
-    let mut seen = Seen::new(alloc);
-    let Ok(()) = check_data(alloc, &blocks, 0x0e, NODE, &mut seen) else {
-        return Err(Fail::from("no data tree"));
-    };
-    is(&rt, leaf_count(&blocks, 0x0e), 1_042_441);
-    let body = leaf(&blocks, 0x0e, 1_042_440).expect(&rt, "no leaf");
-    is(&rt, (body.at, body.len), (0x4c00, 0));
-    holds(&rt, leaf(&blocks, 0x0e, 1_042_441).is_none());
-    let empty = value(&blocks, 0x0e);
-    holds(&rt, matches!(empty, Value::Whole(0, _)));
-    is(&rt, (empty.len(), empty.at(), empty.byte(0)), (0, 0, None));
-    holds(&rt, empty.part(0, 0).is_some());
-    holds(&rt, empty.number16(0).is_none());
-    let mut slices = empty.slices();
-    is(&rt, slices.next().map(|slice| slice.len()), Some(0));
-    holds(&rt, slices.next().is_none());
+    let image = store(alloc, EMPTY_BODY, EMPTY)?;
+    let tree = Tree::read(alloc, Image::new(&image), 0x0e)?;
+    is(&rt, tree.leaf_count(), 1_042_441);
+    is(&rt, tree.leaf(1_042_440), Some(Span { at: 0x4c00, len: 0 }));
+    is(&rt, tree.leaf(1_042_441), None);
+    let empty = tree.value();
+    is(&rt, shown(&empty), (true, 0, 0, [None; 2]));
+    is(&rt, shown(&part_of(&empty, 0, 0)?), (true, 0, 0, [None; 2]));
+    is(&rt, number(&empty, 0, 2), None);
+    has_slices(&rt, &empty, &[0]);
     Ok(())
 }
 
 #[test]
 fn a_million_spans_of_one_byte(rt: HostRuntime) -> Result<(), Fail> {
     let alloc = rt.alloc();
-    let image = same_body(alloc, 1)?;
-    let Ok(blocks) = blocks_in(alloc, Image::new(&image)) else {
-        return Err(Fail::from("no blocks"));
-    };
-    let mut seen = Seen::new(alloc);
-    let Ok(()) = check_data(alloc, &blocks, 0x0e, NODE, &mut seen) else {
-        return Err(Fail::from("no data tree"));
-    };
-    let long = value(&blocks, 0x0e);
-    holds(&rt, matches!(long, Value::Pieces(_)));
-    is(&rt, (long.len(), long.at()), (1_042_441, 0x4c00));
-    is(
-        &rt,
-        (long.byte(1_042_440), long.byte(1_042_441)),
-        (Some(0x63), None),
-    );
-    is(
-        &rt,
-        (long.number16(1_042_439), long.number16(1_042_440)),
-        (Some(0x6363), None),
-    );
-    let last = long.part(1_040_441, 1_042_441).expect(&rt, "no part");
-    is(&rt, (last.len(), last.at()), (2000, 0x4c00));
-    let one = long.part(1_042_440, 1_042_441).expect(&rt, "no part");
-    holds(&rt, matches!(one, Value::Whole(_, _)));
-    is(&rt, one.at(), 0x4c00);
-    let mut total = 0u64;
-    for slice in long.slices() {
-        total = total.saturating_add(slice.len() as u64);
-    }
-    is(&rt, total, 1_042_441);
+    let image = store(alloc, SHORT_BODY, SHORT)?;
+    let long = Tree::read(alloc, Image::new(&image), 0x0e)?.value();
+    is(&rt, extent(&long), (false, 1_042_441, 0x4c00));
+    has_bytes(&rt, &long, &[(1_042_440, Some(0x63)), (1_042_441, None)]);
+    is(&rt, number(&long, 1_042_439, 2), Some(0x6363));
+    is(&rt, number(&long, 1_042_440, 2), None);
+    let last = part_of(&long, 1_040_441, 1_042_441)?;
+    is(&rt, extent(&last), (false, 2000, 0x4c00));
+    let one = part_of(&long, 1_042_440, 1_042_441)?;
+    is(&rt, extent(&one), (true, 1, 0x4c00));
+    is(&rt, len_of_all(long.slices()), 1_042_441);
     Ok(())
 }
 
+// How many bytes slices have in all.
+fn len_of_all(slices: Slices) -> u64 {
+    let mut total = 0u64;
+    for slice in slices {
+        total = total.saturating_add(slice.len() as u64);
+    }
+    total
+}
+
 // One body with bytes, named once in the middle of a million empty spans.
+const ONE_OF_ALL: Bodies<'static> = &[(4, 0, 0), (8, 0x41, 3)];
+
+const IN_THE_MIDDLE: Lists<'static> = &[
+    (0x0a, 1, 0, &[(4, 1021)]),
+    (0x0e, 1, 3, &[(4, 510), (8, 1), (4, 510)]),
+    (0x12, 2, 3, &[(0x0a, 510), (0x0e, 1), (0x0a, 510)]),
+];
+
 #[test]
 fn one_span_with_bytes_among_a_million(rt: HostRuntime) -> Result<(), Fail> {
     let alloc = rt.alloc();
-    let empty = often(alloc, 4, 1021)?;
-    let mut middle = often(alloc, 4, 510)?;
-    middle.push(8)?;
-    let mut children = often(alloc, 0x0a, 510)?;
-    children.push(0x0e)?;
-    for _ in 0..510 {
-        middle.push(4)?;
-        children.push(0x0a)?;
-    }
-    let image = store(
-        alloc,
-        &[(4, 0, 0), (8, 0x41, 3)],
-        &[
-            (0x0a, 1, 0, &empty),
-            (0x0e, 1, 3, &middle),
-            (0x12, 2, 3, &children),
-        ],
-    )?;
-    let Ok(blocks) = blocks_in(alloc, Image::new(&image)) else {
-        return Err(Fail::from("no blocks"));
-    };
-    let mut seen = Seen::new(alloc);
-    let Ok(()) = check_data(alloc, &blocks, 0x12, NODE, &mut seen) else {
-        return Err(Fail::from("no data tree"));
-    };
-    let body = leaf(&blocks, 0x12, 521_220).expect(&rt, "no leaf");
-    is(&rt, (body.at, body.len), (0x4c40, 3));
-    let three = value(&blocks, 0x12);
-    holds(&rt, matches!(three, Value::Whole(0x4c40, _)));
-    is(
-        &rt,
-        (three.len(), three.byte(2), three.byte(3)),
-        (3, Some(0x41), None),
-    );
-    is(&rt, three.part(1, 3).map(|part| part.at()), Some(0x4c41));
-    is(
-        &rt,
-        (three.number16(1), three.number32(0)),
-        (Some(0x4141), None),
-    );
+    let image = store(alloc, ONE_OF_ALL, IN_THE_MIDDLE)?;
+    let tree = Tree::read(alloc, Image::new(&image), 0x12)?;
+    is(&rt, tree.leaf(521_220), Some(Span { at: 0x4c40, len: 3 }));
+    let three = tree.value();
+    is(&rt, shown(&three), (true, 3, 0x4c40, [Some(0x41); 2]));
+    has_bytes(&rt, &three, &[(2, Some(0x41)), (3, None)]);
+    let part = part_of(&three, 1, 3)?;
+    is(&rt, part.at(), 0x4c41);
+    is(&rt, number(&three, 1, 2), Some(0x4141));
+    is(&rt, number(&three, 0, 4), None);
     Ok(())
 }
 
 // The first span and the last of a million have a byte each, and no other has one.
+const TWO_OF_ALL: Bodies<'static> = &[(4, 0, 0), (8, 0x41, 1)];
+
+const AT_BOTH_ENDS: Lists<'static> = &[
+    (0x0a, 1, 0, &[(4, 1021)]),
+    (0x0e, 1, 1, &[(8, 1), (4, 1020)]),
+    (0x12, 1, 1, &[(4, 1020), (8, 1)]),
+    (0x16, 2, 2, &[(0x0e, 1), (0x0a, 1019), (0x12, 1)]),
+];
+
 #[test]
 fn spans_with_bytes_alone(rt: HostRuntime) -> Result<(), Fail> {
     let alloc = rt.alloc();
-    let empty = often(alloc, 4, 1021)?;
-    let mut first = often(alloc, 8, 1)?;
-    first.extend_from_slice(&often(alloc, 4, 1020)?)?;
-    let mut last = often(alloc, 4, 1020)?;
-    last.push(8)?;
-    let mut children = often(alloc, 0x0e, 1)?;
-    children.extend_from_slice(&often(alloc, 0x0a, 1019)?)?;
-    children.push(0x12)?;
-    let lists: [(u64, u8, u32, &[u64]); 4] = [
-        (0x0a, 1, 0, &empty),
-        (0x0e, 1, 1, &first),
-        (0x12, 1, 1, &last),
-        (0x16, 2, 2, &children),
-    ];
-    let image = store(alloc, &[(4, 0, 0), (8, 0x41, 1)], &lists)?;
-    let Ok(blocks) = blocks_in(alloc, Image::new(&image)) else {
-        return Err(Fail::from("no blocks"));
-    };
-    let mut seen = Seen::new(alloc);
-    let Ok(()) = check_data(alloc, &blocks, 0x16, NODE, &mut seen) else {
-        return Err(Fail::from("no data tree"));
-    };
-    let few = value(&blocks, 0x16).with_bytes();
-    is(
-        &rt,
-        (few.len(), few.byte(1), few.byte(2)),
-        (2, Some(0x41), None),
-    );
-    let mut slices = few.slices();
-    is(&rt, slices.next().map(|slice| slice.len()), Some(1));
-    is(&rt, slices.next().map(|slice| slice.len()), Some(1));
-    holds(&rt, slices.next().is_none());
+    let image = store(alloc, TWO_OF_ALL, AT_BOTH_ENDS)?;
+    let few = with_bytes_of(&Tree::read(alloc, Image::new(&image), 0x16)?);
+    is(&rt, few.len(), 2);
+    has_bytes(&rt, &few, &[(1, Some(0x41)), (2, None)]);
+    has_slices(&rt, &few, &[1, 1]);
     Ok(())
 }
+
+// The value of a tree, without the spans that have no bytes.
+fn with_bytes_of<'a>(tree: &Tree<'a>) -> Value<'a> {
+    tree.value().with_bytes()
+}
+
+// The number of so many bytes at an offset.
+fn number(value: &Value, at: u64, size: u8) -> Option<u64> {
+    match size {
+        2 => value.number16(at).map(u64::from),
+        4 => value.number32(at).map(u64::from),
+        _ => value.number64(at),
+    }
+}
+
+// Offsets and sizes, and the numbers that stand there in eight bytes 11, 22 22 and 33 33 33 33 33.
+const NUMBERS: [(u64, u8, Option<u64>); 9] = [
+    (0, 8, Some(0x3333_3333_3322_2211)),
+    (0, 4, Some(0x3322_2211)),
+    (4, 4, Some(0x3333_3333)),
+    (5, 4, None),
+    (0, 2, Some(0x2211)),
+    (2, 2, Some(0x3322)),
+    (7, 2, None),
+    (1, 8, None),
+    (u64::MAX, 8, None),
+];
+
+const THREE_BODIES: Bodies<'static> = &[(4, 0x11, 1), (8, 0x22, 2), (12, 0x33, 5)];
+
+const OF_THREE: Lists<'static> = &[(0x12, 1, 8, &[(4, 1), (8, 1), (12, 1)])];
 
 // Numbers whose bytes lie in several bodies.
 #[test]
 fn numbers_across_pieces(rt: HostRuntime) -> Result<(), Fail> {
     let alloc = rt.alloc();
-    let image = store(
-        alloc,
-        &[(4, 0x11, 1), (8, 0x22, 2), (12, 0x33, 5)],
-        &[(0x12, 1, 8, &[4, 8, 12])],
-    )?;
-    let Ok(blocks) = blocks_in(alloc, Image::new(&image)) else {
-        return Err(Fail::from("no blocks"));
-    };
-    let mut seen = Seen::new(alloc);
-    let Ok(()) = check_data(alloc, &blocks, 0x12, NODE, &mut seen) else {
-        return Err(Fail::from("no data tree"));
-    };
-    let eight = value(&blocks, 0x12);
-    is(&rt, eight.number64(0), Some(0x3333_3333_3322_2211));
-    is(
-        &rt,
-        (eight.number32(0), eight.number32(4), eight.number32(5)),
-        (Some(0x3322_2211), Some(0x3333_3333), None),
-    );
-    is(
-        &rt,
-        (eight.number16(0), eight.number16(2), eight.number16(7)),
-        (Some(0x2211), Some(0x3322), None),
-    );
-    is(
-        &rt,
-        (eight.number64(1), eight.number64(u64::MAX)),
-        (None, None),
-    );
+    let image = store(alloc, THREE_BODIES, OF_THREE)?;
     let image = Image::new(&image);
-    let span = leaf(&blocks, 0x12, 1).expect(&rt, "no leaf");
+    let tree = Tree::read(alloc, image, 0x12)?;
+    let eight = tree.value();
+    for (at, size, wanted) in NUMBERS {
+        is(&rt, number(&eight, at, size), wanted);
+    }
+    let two = value_of_leaf(&tree, image, 1)?;
+    is(&rt, shown(&two), (true, 2, 0x4c40, [Some(0x22); 2]));
+    is(&rt, number(&two, 0, 2), Some(0x2222));
+    holds(&rt, empty_value(image).is_empty());
+    Ok(())
+}
+
+// The value of the span with a number.
+fn value_of_leaf<'a>(tree: &Tree<'a>, image: Image<'a>, n: u64) -> Result<Value<'a>, Fail> {
+    let Some(span) = tree.leaf(n) else {
+        return Err(Fail::from("no leaf"));
+    };
     let Some(_) = image.lend(span) else {
         return Err(Fail::from("no bytes"));
     };
-    let two = value_at(image, span);
-    is(
-        &rt,
-        (two.at(), two.len(), two.number16(0)),
-        (0x4c40, 2, Some(0x2222)),
-    );
-    holds(&rt, empty_value(image).is_empty());
-    Ok(())
+    Ok(value_at(image, span))
 }

@@ -3,24 +3,26 @@
 use super::*;
 use crate::told::is;
 
-// An image of three data blocks, of two XBLOCKs that name one and two of them, an empty XBLOCK, and an XXBLOCK that names
-// these in turn 1,021 times: none, the first two, the last, the first two. So every four have five spans.
+// Three data blocks, two XBLOCKs that name one and two of them, and an empty XBLOCK.
+const BODIES: Bodies<'static> = &[(4, 0x61, 1), (8, 0x62, 2), (12, 0x63, 4)];
+
+const XBLOCKS: Lists<'static> = &[
+    (0x12, 1, 0, &[]),
+    (0x16, 1, 3, &[(4, 1), (8, 1)]),
+    (0x1a, 1, 4, &[(12, 1)]),
+];
+
+// An image of these, and of an XXBLOCK that names the XBLOCKs in turn 1,021 times: none, the first two, the last, the first two.
+// So every four have five spans.
 fn many_parts(alloc: Global) -> Result<Vec<u8>, Fail> {
     let mut children = Vec::new(alloc);
     for _ in 0..255 {
         children.extend_from_slice(&[0x12, 0x16, 0x1a, 0x17])?;
     }
     children.push(0x12)?;
-    store(
-        alloc,
-        &[(4, 0x61, 1), (8, 0x62, 2), (12, 0x63, 4)],
-        &[
-            (0x12, 1, 0, &[]),
-            (0x16, 1, 3, &[4, 8]),
-            (0x1a, 1, 4, &[12]),
-            (0x1e, 2, 2550, &children),
-        ],
-    )
+    let mut plan = plan_of(alloc, BODIES, XBLOCKS)?;
+    add(&mut plan, 0x1e, list_of(alloc, 2, 2550, &children)?)?;
+    image_of(alloc, &plan)
 }
 
 // How many bytes the span with a number has: those of the first, second, third, first and second block, over and over.
@@ -45,26 +47,20 @@ fn len_at(leaves: &mut Leaves, n: u64) -> Option<u64> {
 fn spans_in_order_and_backwards(rt: HostRuntime) -> Result<(), Fail> {
     let alloc = rt.alloc();
     let image = many_parts(alloc)?;
-    let Ok(blocks) = blocks_in(alloc, Image::new(&image)) else {
-        return Err(Fail::from("no blocks"));
-    };
-    let mut seen = Seen::new(alloc);
-    let Ok(()) = check_data(alloc, &blocks, 0x1e, NODE, &mut seen) else {
-        return Err(Fail::from("no data tree"));
-    };
-    is(&rt, leaf_count(&blocks, 0x1e), 1275);
-    let mut forwards = Leaves::of(&blocks, 0x1e);
+    let tree = Tree::read(alloc, Image::new(&image), 0x1e)?;
+    is(&rt, tree.leaf_count(), 1275);
+    let mut forwards = tree.leaves();
     for n in 0..1277 {
         is(&rt, len_at(&mut forwards, n), len_of(n));
     }
-    let mut backwards = Leaves::of(&blocks, 0x1e);
+    let mut backwards = tree.leaves();
     for i in 0..1277 {
         let n = 1276 - i;
         is(&rt, len_at(&mut backwards, n), len_of(n));
     }
     // The same place as `leaf` gives, too.
     for n in [0, 1, 2, 5, 637, 1274, 1275] {
-        is(&rt, backwards.leaf(n), leaf(&blocks, 0x1e, n));
+        is(&rt, backwards.leaf(n), tree.leaf(n));
     }
     Ok(())
 }
@@ -73,15 +69,9 @@ fn spans_in_order_and_backwards(rt: HostRuntime) -> Result<(), Fail> {
 fn spans_out_of_order(rt: HostRuntime) -> Result<(), Fail> {
     let alloc = rt.alloc();
     let image = many_parts(alloc)?;
-    let Ok(blocks) = blocks_in(alloc, Image::new(&image)) else {
-        return Err(Fail::from("no blocks"));
-    };
-    let mut seen = Seen::new(alloc);
-    let Ok(()) = check_data(alloc, &blocks, 0x1e, NODE, &mut seen) else {
-        return Err(Fail::from("no data tree"));
-    };
+    let tree = Tree::read(alloc, Image::new(&image), 0x1e)?;
     // The last one first, so that all parts are passed at once; then steps of all lengths.
-    let mut leaves = Leaves::of(&blocks, 0x1e);
+    let mut leaves = tree.leaves();
     is(&rt, len_at(&mut leaves, 1274), Some(2));
     is(&rt, len_at(&mut leaves, u64::MAX), None);
     for i in 0..1300u64 {
@@ -89,46 +79,28 @@ fn spans_out_of_order(rt: HostRuntime) -> Result<(), Fail> {
         is(&rt, len_at(&mut leaves, n), len_of(n));
     }
     // Far apart, by one that knows only what it came to.
-    let mut fresh = Leaves::of(&blocks, 0x1e);
+    let mut fresh = tree.leaves();
     for n in [42, 41, 640, 39, 1000, 3, 999, 1271, 0] {
         is(&rt, len_at(&mut fresh, n), len_of(n));
     }
     Ok(())
 }
 
+const TWO_BODIES: Bodies<'static> = &[(4, 0x61, 1), (8, 0x62, 2)];
+
+const FEW_PARTS: Lists<'static> = &[
+    (0x12, 1, 0, &[]),
+    (0x16, 1, 3, &[(4, 1), (8, 1)]),
+    (0x1a, 2, 0, &[]),
+    (0x1e, 2, 0, &[(0x12, 2)]),
+];
+
 #[test]
 fn spans_of_one_part(rt: HostRuntime) -> Result<(), Fail> {
     let alloc = rt.alloc();
-    let image = store(
-        alloc,
-        &[(4, 0x61, 1), (8, 0x62, 2)],
-        &[
-            (0x12, 1, 0, &[]),
-            (0x16, 1, 3, &[4, 8]),
-            (0x1a, 2, 0, &[]),
-            (0x1e, 2, 0, &[0x12, 0x12]),
-        ],
-    )?;
-    let Ok(blocks) = blocks_in(alloc, Image::new(&image)) else {
-        return Err(Fail::from("no blocks"));
-    };
-    // No block, data blocks, XBLOCKs, and XXBLOCKs without a span.
-    let trees: [(u64, [Option<u64>; 3]); 7] = [
-        (0, [None, None, None]),
-        (4, [Some(1), None, None]),
-        (9, [Some(2), None, None]),
-        (0x12, [None, None, None]),
-        (0x16, [Some(1), Some(2), None]),
-        (0x1a, [None, None, None]),
-        (0x1e, [None, None, None]),
-    ];
-    for (bid, lens) in trees {
-        let mut seen = Seen::new(alloc);
-        let Ok(()) = check_data(alloc, &blocks, bid, NODE, &mut seen) else {
-            return Err(Fail::from("no data tree"));
-        };
-        let mut leaves = Leaves::of(&blocks, bid);
-        let [first, second, third] = lens;
+    let image = store(alloc, TWO_BODIES, FEW_PARTS)?;
+    for (bid, [first, second, third]) in ONE_PART {
+        let mut leaves = Tree::read(alloc, Image::new(&image), bid)?.leaves();
         is(&rt, len_at(&mut leaves, 2), third);
         is(&rt, len_at(&mut leaves, 0), first);
         is(&rt, len_at(&mut leaves, 1), second);
@@ -137,3 +109,14 @@ fn spans_of_one_part(rt: HostRuntime) -> Result<(), Fail> {
     }
     Ok(())
 }
+
+// No block, data blocks, XBLOCKs, and XXBLOCKs without a span; and how many bytes their spans have.
+const ONE_PART: [(u64, [Option<u64>; 3]); 7] = [
+    (0, [None, None, None]),
+    (4, [Some(1), None, None]),
+    (9, [Some(2), None, None]),
+    (0x12, [None, None, None]),
+    (0x16, [Some(1), Some(2), None]),
+    (0x1a, [None, None, None]),
+    (0x1e, [None, None, None]),
+];

@@ -3,13 +3,9 @@
 use super::*;
 use crate::told::is;
 
-// The parts of a data tree without fault: the block identifier of each, and behind it the length of each of its spans.
-fn parts_of(alloc: Global, blocks: &Blocks, bid: u64) -> Result<Vec<u64>, Fail> {
-    let mut seen = Seen::new(alloc);
-    let Ok(()) = check_data(alloc, blocks, bid, NODE, &mut seen) else {
-        return Err(Fail::from("no data tree"));
-    };
-    let parts = Parts::of(blocks, bid);
+// The parts of a data tree: the block identifier of each, and behind it the length of each of its spans.
+fn parts_of(alloc: Global, image: &[u8], bid: u64) -> Result<Vec<u64>, Fail> {
+    let parts = Tree::read(alloc, Image::new(image), bid)?.parts();
     let mut found = Vec::new(alloc);
     for i in 0..parts.count() {
         found.push(parts.bid(i))?;
@@ -20,36 +16,29 @@ fn parts_of(alloc: Global, blocks: &Blocks, bid: u64) -> Result<Vec<u64>, Fail> 
     Ok(found)
 }
 
+// Identifiers, and the parts of their trees: in order, as often as they are named, and as they are written. What is no XXBLOCK
+// is one part.
+const PARTS: [(u64, &[u64]); 5] = [
+    (0x12, &[0x0a, 0x0f, 0, 3, 0, 0x0a, 0x0e, 0, 3, 0]),
+    (0, &[0]),
+    (5, &[5, 3]),
+    (0x0a, &[0x0a]),
+    (0x0e, &[0x0e, 0, 3, 0]),
+];
+
+const LISTS: Lists<'static> = &[
+    (0x0a, 1, 0, &[]),
+    (0x0e, 1, 3, &[(8, 1), (4, 1), (8, 1)]),
+    (0x12, 2, 6, &[(0x0a, 1), (0x0f, 1), (0x0a, 1), (0x0e, 1)]),
+];
+
 #[test]
 fn xblocks_of_an_xxblock(rt: HostRuntime) -> Result<(), Fail> {
     let alloc = rt.alloc();
-    let image = store(
-        alloc,
-        &[(4, 0x64, 3), (8, 0, 0)],
-        &[
-            (0x0a, 1, 0, &[]),
-            (0x0e, 1, 3, &[8, 4, 8]),
-            (0x12, 2, 6, &[0x0a, 0x0f, 0x0a, 0x0e]),
-        ],
-    )?;
-    let Ok(blocks) = blocks_in(alloc, Image::new(&image)) else {
-        return Err(Fail::from("no blocks"));
-    };
-    // In order, as often as they are named, and as they are written.
-    is(
-        &rt,
-        parts_of(alloc, &blocks, 0x12)?.as_slice(),
-        [0x0a, 0x0f, 0, 3, 0, 0x0a, 0x0e, 0, 3, 0].as_slice(),
-    );
-    // What is no XXBLOCK is one part.
-    let alone: [(u64, &[u64]); 4] = [
-        (0, &[0]),
-        (5, &[5, 3]),
-        (0x0a, &[0x0a]),
-        (0x0e, &[0x0e, 0, 3, 0]),
-    ];
-    for (bid, part) in alone {
-        is(&rt, parts_of(alloc, &blocks, bid)?.as_slice(), part);
+    let image = store(alloc, ONE_AND_NONE, LISTS)?;
+    for (bid, wanted) in PARTS {
+        let parts = parts_of(alloc, &image, bid)?;
+        is(&rt, parts.as_slice(), wanted);
     }
     Ok(())
 }

@@ -12,32 +12,32 @@ struct Case<'a> {
     asked: &'a [(u64, bool)],
 }
 
-fn plan_of(alloc: Global, case: &Case) -> Result<Vec<BlockPlan>, Fail> {
+// An SLBLOCK of entries with these identifiers.
+fn slblock_of(alloc: Global, nids: &[u64]) -> Result<Vec<u8>, Fail> {
+    let mut entries = Vec::new(alloc);
+    for nid in nids {
+        entries.extend_from_slice(&[*nid, 0, 0])?;
+    }
+    list(alloc, 0, u8::try_from(nids.len())?, &entries)
+}
+
+fn blocks_of(alloc: Global, case: &Case) -> Result<Vec<BlockPlan>, Fail> {
     let mut plan = Vec::new(alloc);
     for (bid, first, second) in case.siblocks {
         let body = list(alloc, 1, 2, &[0x21, *first, 0x41, *second])?;
         add(&mut plan, *bid, body)?;
     }
     for (bid, nids) in case.slblocks {
-        let mut entries = Vec::new(alloc);
-        for nid in *nids {
-            entries.extend_from_slice(&[*nid, 0, 0])?;
-        }
-        let body = list(alloc, 0, u8::try_from(nids.len())?, &entries)?;
-        add(&mut plan, *bid, body)?;
+        add(&mut plan, *bid, slblock_of(alloc, nids)?)?;
     }
     Ok(plan)
 }
 
 fn are_told<R: Abort>(rt: &R, alloc: Global, case: &Case) -> Result<(), Fail> {
-    let bytes = image_of(alloc, plan_of(alloc, case)?)?;
-    let Ok(blocks) = blocks_in(alloc, Image::new(&bytes)) else {
-        return Err(Fail::from("no blocks"));
-    };
-    let mut seen = Seen::new(alloc);
-    let mut heights = Heights::new(alloc);
+    let bytes = image_of(alloc, blocks_of(alloc, case)?)?;
+    let mut known = Known::read(alloc, Image::new(&bytes))?;
     for (top, is_list) in case.asked {
-        let told = check_sub(alloc, &blocks, *top, NODE, &mut seen, &mut heights);
+        let told = known.check(alloc, *top);
         let place = FIRST.saturating_add(top.saturating_sub(6).saturating_mul(16));
         let answer = if *is_list {
             Ok(1)

@@ -22,10 +22,7 @@ fn wide_chain(alloc: Global) -> Result<Vec<BlockPlan>, Fail> {
 #[test]
 fn shared_lists_are_expanded_once(rt: HostRuntime) -> Result<(), Fail> {
     let alloc = rt.alloc();
-    let (answer, expansions) = answer_of(alloc, wide_chain(alloc)?, 6)?;
-    is(&rt, answer, Ok(64));
-    is(&rt, expansions, 64);
-    Ok(())
+    answers(&rt, alloc, wide_chain(alloc)?, 6, (Ok(64), 64))
 }
 
 // The last list of a chain stands at the top too, and comes first there: below the chain it passes the limit, or just does
@@ -33,85 +30,90 @@ fn shared_lists_are_expanded_once(rt: HostRuntime) -> Result<(), Fail> {
 #[test]
 fn a_known_list_too_deep(rt: HostRuntime) -> Result<(), Fail> {
     let alloc = rt.alloc();
-    for (lists, answer) in [
-        (63, Ok(64)),
-        (64, Err(fault_of(Kind::Nesting, 0, 0x1000_0002))),
-    ] {
-        let mut plan = chain(alloc, lists)?;
-        let last = lists.saturating_mul(4).saturating_add(2);
-        add(
-            &mut plan,
-            0x1000_0002,
-            list(alloc, 0, 2, &[0x31, 0, last, 0x51, 0, 6])?,
-        )?;
-        let (told, expansions) = answer_of(alloc, plan, 0x1000_0002)?;
-        is(&rt, told, answer);
-        is(&rt, expansions, lists.saturating_add(1));
+    let deep = Err(fault_of(Kind::Nesting, 0, 0x1000_0002));
+    for (lists, wanted) in [(63, (Ok(64), 64)), (64, (deep, 65))] {
+        answers(&rt, alloc, below_a_list(alloc, lists)?, 0x1000_0002, wanted)?;
     }
     Ok(())
 }
 
-// A circle of an SLBLOCK and an SIBLOCK, from either; and one of two SLBLOCKs below an SIBLOCK that names the second of them.
-// Each block of it is met once before the circle is told.
+// A chain below a list of two entries, the first of which is the last list of the chain.
+fn below_a_list(alloc: Global, lists: u64) -> Result<Vec<BlockPlan>, Fail> {
+    let mut plan = chain(alloc, lists)?;
+    let last = lists.saturating_mul(4).saturating_add(2);
+    let body = list(alloc, 0, 2, &[0x31, 0, last, 0x51, 0, 6])?;
+    add(&mut plan, 0x1000_0002, body)?;
+    Ok(plan)
+}
+
+// A circle of an SLBLOCK and an SIBLOCK, one of two SLBLOCKs below an SIBLOCK that names the second of them, and a list below
+// itself.
+const CIRCLES: [Bodies; 3] = [
+    &[
+        (6, List(0, 1, &[0x21, 0, 10])),
+        (10, List(1, 1, &[0x21, 6])),
+    ],
+    &[
+        (6, List(0, 1, &[0x21, 0, 10])),
+        (10, List(0, 1, &[0x41, 0, 7])),
+        (14, List(1, 1, &[0x41, 10])),
+    ],
+    &[(6, List(0, 1, &[0x671, 0, 6]))],
+];
+
+// The first from either block. Each block of a circle is met once before it is told.
 #[test]
 fn circles_are_told(rt: HostRuntime) -> Result<(), Fail> {
     let alloc = rt.alloc();
-    for bid in [6, 7, 10, 11] {
-        let mut plan = Vec::new(alloc);
-        add(&mut plan, 6, list(alloc, 0, 1, &[0x21, 0, 10])?)?;
-        add(&mut plan, 10, list(alloc, 1, 1, &[0x21, 6])?)?;
-        let (answer, expansions) = answer_of(alloc, plan, bid)?;
-        is(&rt, answer, Err(fault_of(Kind::Nesting, 0, bid)));
-        is(&rt, expansions, 2);
+    let [two, three, one] = CIRCLES;
+    for (bodies, bid, expansions) in [
+        (two, 6, 2),
+        (two, 7, 2),
+        (two, 10, 2),
+        (two, 11, 2),
+        (three, 14, 3),
+        (one, 6, 1),
+    ] {
+        let nesting = Err(fault_of(Kind::Nesting, 0, bid));
+        answers(
+            &rt,
+            alloc,
+            plan_of(alloc, bodies)?,
+            bid,
+            (nesting, expansions),
+        )?;
     }
-    let mut plan = Vec::new(alloc);
-    add(&mut plan, 6, list(alloc, 0, 1, &[0x21, 0, 10])?)?;
-    add(&mut plan, 10, list(alloc, 0, 1, &[0x41, 0, 7])?)?;
-    add(&mut plan, 14, list(alloc, 1, 1, &[0x41, 10])?)?;
-    let (answer, expansions) = answer_of(alloc, plan, 14)?;
-    is(&rt, answer, Err(fault_of(Kind::Nesting, 0, 14)));
-    is(&rt, expansions, 3);
-    let mut plan = Vec::new(alloc);
-    add(&mut plan, 6, list(alloc, 0, 1, &[0x671, 0, 6])?)?;
-    let (answer, expansions) = answer_of(alloc, plan, 6)?;
-    is(&rt, answer, Err(fault_of(Kind::Nesting, 0, 6)));
-    is(&rt, expansions, 1);
     Ok(())
 }
 
-// An SLBLOCK that two SIBLOCKs name and an entry; after a refusal nothing is left marked, and what is known is told again.
+// An SLBLOCK that two SIBLOCKs name and an entry, and an SIBLOCK above them.
+const SHARED: [(u64, Body); 6] = [
+    (6, List(0, 1, &[0x21, 0, 0])),
+    (10, List(1, 1, &[0x21, 6])),
+    (14, List(1, 1, &[0x21, 7])),
+    (18, List(0, 3, &[0x21, 0, 10, 0x41, 0, 14, 0x61, 0, 6])),
+    (22, List(1, 2, &[0x21, 18, 0x81, 26])),
+    (26, List(0, 1, &[0x81, 0, 0x100])),
+];
+
+// After a refusal nothing is left marked, and what is known is told again.
 #[test]
 fn slblocks_are_shared(rt: HostRuntime) -> Result<(), Fail> {
     let alloc = rt.alloc();
-    let mut plan = Vec::new(alloc);
-    add(&mut plan, 6, list(alloc, 0, 1, &[0x21, 0, 0])?)?;
-    add(&mut plan, 10, list(alloc, 1, 1, &[0x21, 6])?)?;
-    add(&mut plan, 14, list(alloc, 1, 1, &[0x21, 7])?)?;
-    add(
-        &mut plan,
-        18,
-        list(alloc, 0, 3, &[0x21, 0, 10, 0x41, 0, 14, 0x61, 0, 6])?,
-    )?;
-    add(&mut plan, 22, list(alloc, 1, 2, &[0x21, 18, 0x81, 26])?)?;
-    add(&mut plan, 26, list(alloc, 0, 1, &[0x81, 0, 0x100])?)?;
-    let bytes = image_of(alloc, plan)?;
-    let Ok(blocks) = blocks_in(alloc, Image::new(&bytes)) else {
-        return Err(Fail::from("no blocks"));
-    };
-    let mut seen = Seen::new(alloc);
-    let mut heights = Heights::new(alloc);
+    let bytes = store(alloc, &SHARED)?;
+    let mut known = Known::read(alloc, Image::new(&bytes))?;
+    let missing = Err(fault_of(Kind::BlockMissing, 0, 0x100));
     for (bid, answer, expansions) in [
-        (22, Err(fault_of(Kind::BlockMissing, 0, 0x100)), 6),
+        (22, missing, 6),
         (18, Ok(2), 6),
         (19, Ok(2), 6),
         (10, Ok(1), 6),
         (6, Ok(1), 6),
-        (22, Err(fault_of(Kind::BlockMissing, 0, 0x100)), 8),
+        (22, missing, 8),
     ] {
-        let told = check_sub(alloc, &blocks, bid, NODE, &mut seen, &mut heights);
-        is(&rt, told, answer);
-        is(&rt, heights.expansions(), expansions);
+        is(&rt, known.check(alloc, bid), answer);
+        is(&rt, known.expansions(), expansions);
     }
-    heights.keys_rise();
+    known.keys_rise();
     Ok(())
 }

@@ -24,7 +24,7 @@ fn a_file_that_was_cut(rt: HostRuntime) -> Result<(), Fail> {
     let image = m0(rt.alloc())?;
     for n in 0..4240_usize {
         let front = image.get(..64 * n).expect(&rt, "too short");
-        let answer = check_ndb(rt.alloc(), Image::new(front)).err();
+        let answer = fault_in(rt.alloc(), front);
         let wanted = if n <= 8 {
             fault(Kind::Short, 0, 0)
         } else {
@@ -35,6 +35,13 @@ fn a_file_that_was_cut(rt: HostRuntime) -> Result<(), Fail> {
     Ok(())
 }
 
+// Lets the header say where the file ends.
+fn put_end(image: &mut Vec<u8>, len: u64) -> Result<(), Fail> {
+    set(image, 184, &len.to_le_bytes())?;
+    Change::Header.apply(image)?;
+    Ok(())
+}
+
 // The fronts of the small store, where the header says that the file ends there.
 #[test]
 fn a_file_that_ends_early(rt: HostRuntime) -> Result<(), Fail> {
@@ -42,20 +49,23 @@ fn a_file_that_ends_early(rt: HostRuntime) -> Result<(), Fail> {
     for n in 0..=4240_usize {
         let len = 64 * n;
         if len >= 576 {
-            set(&mut image, 184, &(len as u64).to_le_bytes())?;
-            Change::Header.apply(&mut image)?;
+            put_end(&mut image, len as u64)?;
         }
         let front = image.get(..len).expect(&rt, "too short");
-        let answer = check_ndb(rt.alloc(), Image::new(front)).err();
-        let wanted = match len {
-            0..=512 => fault(Kind::Short, 0, 0),
-            513..=18_368 => fault(Kind::Root, 0xc0, 0),
-            18_369..=19_392 => fault(Kind::PagePlace, 0x4a00, 8),
-            19_393..=19_456 => fault(Kind::BlockPlace, 0x4c00, 4),
-            19_457..=19_520 => fault(Kind::BlockPlace, 0x4c40, 8),
-            _ => None,
-        };
-        is_at(&rt, len, answer, wanted);
+        let answer = fault_in(rt.alloc(), front);
+        is_at(&rt, len, answer, fault_by(len));
     }
     Ok(())
+}
+
+// The fault of a file that ends there.
+fn fault_by(len: usize) -> Option<Fault> {
+    match len {
+        0..=512 => fault(Kind::Short, 0, 0),
+        513..=18_368 => fault(Kind::Root, 0xc0, 0),
+        18_369..=19_392 => fault(Kind::PagePlace, 0x4a00, 8),
+        19_393..=19_456 => fault(Kind::BlockPlace, 0x4c00, 4),
+        19_457..=19_520 => fault(Kind::BlockPlace, 0x4c40, 8),
+        _ => None,
+    }
 }

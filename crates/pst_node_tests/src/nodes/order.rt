@@ -29,16 +29,20 @@ const STEPS: [Row<'static>; 6] = [
     ),
 ];
 
+// The small store with the changes of a step, and then those of an earlier one.
+fn with_both(alloc: Global, later: &[Change], earlier: &[Change]) -> Result<Vec<u8>, Fail> {
+    let mut image = changed(alloc, later)?;
+    change_all(&mut image, earlier)?;
+    Ok(image)
+}
+
 #[test]
 fn the_fault_of_the_earlier_step_is_told(rt: HostRuntime) -> Result<(), Fail> {
     for (first, (earlier, line)) in STEPS.iter().enumerate() {
-        let mut image = m0(rt.alloc())?;
-        change_all(&mut image, earlier)?;
+        let image = changed(rt.alloc(), earlier)?;
         is_answered(&rt, rt.alloc(), &image, line)?;
         for (later, _) in STEPS.iter().skip(first).skip(1) {
-            let mut image = m0(rt.alloc())?;
-            change_all(&mut image, later)?;
-            change_all(&mut image, earlier)?;
+            let image = with_both(rt.alloc(), later, earlier)?;
             is_answered(&rt, rt.alloc(), &image, line)?;
         }
     }

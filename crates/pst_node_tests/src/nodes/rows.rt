@@ -17,17 +17,23 @@ fn small_stores_are_good(rt: HostRuntime) -> Result<(), Fail> {
 #[test]
 fn every_fault_is_told(rt: HostRuntime) -> Result<(), Fail> {
     let small = m0(rt.alloc())?;
-    let front = small.get(..563).expect(&rt, "too short");
-    is_answered(&rt, rt.alloc(), &[], "no: 1 Short at 0x0 bid 0x0 nid 0x0")?;
-    is_answered(&rt, rt.alloc(), front, "no: 1 Short at 0x0 bid 0x0 nid 0x0")?;
-    let front = small.get(..271_359).expect(&rt, "too short");
-    is_answered(&rt, rt.alloc(), front, "no: 6 Root at 0xb8 bid 0x0 nid 0x0")?;
-    are_answered(&rt, rt.alloc(), &HEADERS)?;
-    are_answered(&rt, rt.alloc(), &PAGES)?;
-    are_answered(&rt, rt.alloc(), &BLOCKS)?;
-    are_answered(&rt, rt.alloc(), &MAPS)?;
-    are_answered(&rt, rt.alloc(), &NODES)
+    for (len, line) in FRONTS {
+        let front = small.get(..len).expect(&rt, "too short");
+        is_answered(&rt, rt.alloc(), front, line)?;
+    }
+    for rows in FAULTS {
+        are_answered(&rt, rt.alloc(), rows)?;
+    }
+    Ok(())
 }
+
+const FRONTS: [(usize, &str); 3] = [
+    (0, "no: 1 Short at 0x0 bid 0x0 nid 0x0"),
+    (563, "no: 1 Short at 0x0 bid 0x0 nid 0x0"),
+    (271_359, "no: 6 Root at 0xb8 bid 0x0 nid 0x0"),
+];
+
+const FAULTS: [&[Row<'static>]; 5] = [&HEADERS, &PAGES, &BLOCKS, &MAPS, &NODES];
 
 const HEADERS: [Row<'static>; 9] = [
     (&[Set(0, &[0])], "no: 2 Magic at 0x0 bid 0x0 nid 0x0"),
@@ -183,65 +189,74 @@ const LIST_OF_ITSELF: [u8; 32] = [
     0, 0,
 ];
 
+const WHOLE: &str = "yes: 2 pages 3 blocks 4 nodes High 0 lost 0 old";
+
+// Pages and trailers of blocks, and the line of each where a field of its trailer is changed.
+const PAGE_TRAILERS: [(usize, &str); 4] = [
+    (0x4800, "no: 9 PageTrailer at 0x4800 bid 0x4 nid 0x0"),
+    (0x4a00, "no: 9 PageTrailer at 0x4a00 bid 0x8 nid 0x0"),
+    (0x4400, "no: 19 MapPage at 0x4400 bid 0x0 nid 0x0"),
+    (0x4600, WHOLE),
+];
+
+const BLOCK_TRAILERS: [(usize, &str); 3] = [
+    (0x4c30, "no: 14 BlockTrailer at 0x4c00 bid 0x4 nid 0x0"),
+    (0x4c70, "no: 14 BlockTrailer at 0x4c40 bid 0x8 nid 0x0"),
+    (0x4cf0, "no: 14 BlockTrailer at 0x4c80 bid 0xc nid 0x0"),
+];
+
+// Whether a store is answered with a line, where the lowest bit of a byte is flipped.
+fn is_flipped<R: Abort>(rt: &R, alloc: Global, at: usize, line: &str) -> Result<(), Fail> {
+    let mut image = m1(alloc)?;
+    flip(&mut image, at)?;
+    is_answered(rt, alloc, &image, line)
+}
+
 // Each field of each trailer of a store, with its lowest bit flipped.
 #[test]
 fn each_field_of_each_trailer_counts(rt: HostRuntime) -> Result<(), Fail> {
-    let whole = "yes: 2 pages 3 blocks 4 nodes High 0 lost 0 old";
-    for (at, line) in [
-        (0x4800_usize, "no: 9 PageTrailer at 0x4800 bid 0x4 nid 0x0"),
-        (0x4a00, "no: 9 PageTrailer at 0x4a00 bid 0x8 nid 0x0"),
-        (0x4400, "no: 19 MapPage at 0x4400 bid 0x0 nid 0x0"),
-        (0x4600, whole),
-    ] {
+    for (at, line) in PAGE_TRAILERS {
         for field in [496, 497, 498, 500, 504] {
-            let mut image = m1(rt.alloc())?;
-            flip(&mut image, at.saturating_add(field))?;
-            is_answered(&rt, rt.alloc(), &image, line)?;
+            is_flipped(&rt, rt.alloc(), at.saturating_add(field), line)?;
         }
     }
-    for (at, line) in [
-        (
-            0x4c30_usize,
-            "no: 14 BlockTrailer at 0x4c00 bid 0x4 nid 0x0",
-        ),
-        (0x4c70, "no: 14 BlockTrailer at 0x4c40 bid 0x8 nid 0x0"),
-        (0x4cf0, "no: 14 BlockTrailer at 0x4c80 bid 0xc nid 0x0"),
-    ] {
+    for (at, line) in BLOCK_TRAILERS {
         for field in [0, 2, 4, 8] {
-            let mut image = m1(rt.alloc())?;
-            flip(&mut image, at.saturating_add(field))?;
-            is_answered(&rt, rt.alloc(), &image, line)?;
+            is_flipped(&rt, rt.alloc(), at.saturating_add(field), line)?;
         }
     }
     let mut image = m1(rt.alloc())?;
     change_all(&mut image, &[Flip(0x4cf8), Block(0x4c80, 90)])?;
-    is_answered(&rt, rt.alloc(), &image, whole)
+    is_answered(&rt, rt.alloc(), &image, WHOLE)
 }
 
-// A block B-tree of a branch over three leaves: a key of the second leaf is as high as the third leaf's.
+// A block B-tree of a branch over three leaves.
+fn three_leaves(alloc: Global) -> Result<Vec<u8>, Fail> {
+    let mut plan = no_plan(alloc);
+    for n in 1..=41_u64 {
+        add_block(&mut plan, 4 * n, Vec::new(alloc))?;
+    }
+    image_of(alloc, &plan)
+}
+
+// The last key of the second leaf, and what is answered: it is as high as the third leaf's, and it is not.
+const HIGH_KEYS: [(&[Change<'static>], &str); 2] = [
+    (
+        &[Set(0x4dc8, &[164]), Page(0x4c00)],
+        "no: 11 KeyOrder at 0x4dc8 bid 0xc nid 0x0",
+    ),
+    (
+        &[Set(0x4dc8, &[160]), Page(0x4c00)],
+        "yes: 5 pages 41 blocks 0 nodes High 0 lost 0 old",
+    ),
+];
+
 #[test]
 fn keys_keep_the_bounds_of_the_branch(rt: HostRuntime) -> Result<(), Fail> {
-    let mut plan = Plan {
-        blocks: Vec::new(rt.alloc()),
-        nodes: Vec::new(rt.alloc()),
-    };
-    for n in 1..=41_u64 {
-        let body = Vec::new(rt.alloc());
-        plan.blocks.push(BlockPlan { bid: 4 * n, body })?;
+    let mut image = three_leaves(rt.alloc())?;
+    for (changes, line) in HIGH_KEYS {
+        change_all(&mut image, changes)?;
+        is_answered(&rt, rt.alloc(), &image, line)?;
     }
-    let mut image = build(rt.alloc(), &plan).expect(&rt, "not made");
-    change_all(&mut image, &[Set(0x4dc8, &[164]), Page(0x4c00)])?;
-    is_answered(
-        &rt,
-        rt.alloc(),
-        &image,
-        "no: 11 KeyOrder at 0x4dc8 bid 0xc nid 0x0",
-    )?;
-    change_all(&mut image, &[Set(0x4dc8, &[160]), Page(0x4c00)])?;
-    is_answered(
-        &rt,
-        rt.alloc(),
-        &image,
-        "yes: 5 pages 41 blocks 0 nodes High 0 lost 0 old",
-    )
+    Ok(())
 }

@@ -3,98 +3,103 @@
 use super::*;
 use crate::told::is;
 
-// The body of an internal block: its first eight bytes, then numbers of 8 bytes.
-fn body_of(alloc: Global, head: [u8; 8], numbers: &[u64]) -> Result<Vec<u8>, Fail> {
-    let mut body = Vec::from_slice(alloc, &head)?;
-    for number in numbers {
-        body.extend_from_slice(&number.to_le_bytes())?;
-    }
-    Ok(body)
-}
-
 // How many internal blocks were expanded of a file that is good.
 fn expanded(alloc: Global, image: &[u8]) -> Result<u64, Fail> {
-    let Ok(checked) = check_ndb(alloc, Image::new(image)) else {
-        return Err(Fail::from("refused"));
-    };
+    let checked = good(alloc, image)?;
     Ok(checked.work.expansions)
 }
 
 // 2,000 nodes whose data is one XXBLOCK, which names one XBLOCK 1,021 times, which names one body 1,021 times.
+fn one_tree_of_all(alloc: Global) -> Result<Vec<u8>, Fail> {
+    let leaves = vec![in alloc; 4u64; 1021]?;
+    let named = vec![in alloc; 0x0au64; 1021]?;
+    let mut plan = no_plan(alloc);
+    add_block(&mut plan, 4, naming(alloc, b"x", &[])?)?;
+    add_block(&mut plan, 0x0a, naming(alloc, XBLOCK_OF_ALL, &leaves)?)?;
+    add_block(&mut plan, 0x0e, naming(alloc, XXBLOCK_OF_ALL, &named)?)?;
+    for k in 1..=2000u32 {
+        let bid_data = 0x0e + u64::from(k % 2);
+        add_node(&mut plan, k.saturating_mul(0x20), bid_data, 0)?;
+    }
+    image_of(alloc, &plan)
+}
+
+const XBLOCK_OF_ALL: &[u8] = &[1, 1, 0xfd, 3, 0xfd, 3, 0, 0];
+
+const XXBLOCK_OF_ALL: &[u8] = &[1, 2, 0xfd, 3, 0x09, 0xe8, 0x0f, 0];
+
 #[test]
 fn a_tree_of_all_nodes_counts_once(rt: HostRuntime) -> Result<(), Fail> {
-    let alloc = rt.alloc();
-    let leaves = vec![in alloc; 4u64; 1021]?;
-    let xblock = body_of(alloc, [1, 1, 0xfd, 3, 0xfd, 3, 0, 0], &leaves)?;
-    let named = vec![in alloc; 0x0au64; 1021]?;
-    let xxblock = body_of(alloc, [1, 2, 0xfd, 3, 0x09, 0xe8, 0x0f, 0], &named)?;
-    let mut nodes = Vec::new(alloc);
-    for k in 1..=2000u32 {
-        nodes.push((k.saturating_mul(0x20), 0x0e + u64::from(k % 2), 0))?;
-    }
-    let image = store(
-        alloc,
-        &[(4, b"x"), (0x0a, &xblock), (0x0e, &xxblock)],
-        &nodes,
-    )?;
-    is(&rt, expanded(alloc, &image)?, 2);
+    let image = one_tree_of_all(rt.alloc())?;
+    is(&rt, expanded(rt.alloc(), &image)?, 2);
     counts_agree();
     Ok(())
 }
 
 // Two nodes with one list, with either bit 0; in it data trees and lists of which each stands in more than one place: an
 // XBLOCK alone and below an XXBLOCK, an SLBLOCK alone and below two SIBLOCKs. An XBLOCK that nothing names does not count.
+const OFTEN: Blocks<'static> = &[
+    (4, b"data", &[]),
+    (0x0a, &[1, 1, 1, 0, 4, 0, 0, 0], &[4]),
+    (0x0e, &[1, 2, 2, 0, 8, 0, 0, 0], &[0x0a, 0x0b]),
+    (0x12, &[2, 0, 1, 0, 0, 0, 0, 0], &[0x21, 0x0e, 0]),
+    (0x16, &[2, 1, 1, 0, 0, 0, 0, 0], &[0x21, 0x12]),
+    (0x1a, &[2, 1, 1, 0, 0, 0, 0, 0], &[0x21, 0x13]),
+    (
+        0x1e,
+        &[2, 0, 3, 0, 0, 0, 0, 0],
+        &[0x21, 0x0a, 0x16, 0x41, 4, 0x1a, 0x61, 0, 0x12],
+    ),
+    (0x22, &[1, 1, 1, 0, 4, 0, 0, 0], &[4]),
+];
+
+const OF_ONE_LIST: Listed<'static> = &[(0x21, 0x0b, 0x1e), (0x41, 0x0e, 0x1f)];
+
 #[test]
 fn each_block_counts_once(rt: HostRuntime) -> Result<(), Fail> {
     let alloc = rt.alloc();
-    let image = store(
-        alloc,
-        &[
-            (4, b"data"),
-            (0x0a, &body_of(alloc, [1, 1, 1, 0, 4, 0, 0, 0], &[4])?),
-            (
-                0x0e,
-                &body_of(alloc, [1, 2, 2, 0, 8, 0, 0, 0], &[0x0a, 0x0b])?,
-            ),
-            (
-                0x12,
-                &body_of(alloc, [2, 0, 1, 0, 0, 0, 0, 0], &[0x21, 0x0e, 0])?,
-            ),
-            (
-                0x16,
-                &body_of(alloc, [2, 1, 1, 0, 0, 0, 0, 0], &[0x21, 0x12])?,
-            ),
-            (
-                0x1a,
-                &body_of(alloc, [2, 1, 1, 0, 0, 0, 0, 0], &[0x21, 0x13])?,
-            ),
-            (
-                0x1e,
-                &body_of(
-                    alloc,
-                    [2, 0, 3, 0, 0, 0, 0, 0],
-                    &[0x21, 0x0a, 0x16, 0x41, 4, 0x1a, 0x61, 0, 0x12],
-                )?,
-            ),
-            (0x22, &body_of(alloc, [1, 1, 1, 0, 4, 0, 0, 0], &[4])?),
-        ],
-        &[(0x21, 0x0b, 0x1e), (0x41, 0x0e, 0x1f)],
-    )?;
+    let image = store(alloc, OFTEN, OF_ONE_LIST)?;
     is(&rt, expanded(alloc, &image)?, 6);
     let small = m0(alloc)?;
     is(&rt, expanded(alloc, &small)?, 0);
     Ok(())
 }
 
-// Two nodes whose SIBLOCKs name SLBLOCKs of the same four: one that stands twice is told of the second node's SIBLOCK,
-// in whatever order; identifiers that fall, or lie between those of another, are no fault.
+const TWO_LEAVES: &[u8] = &[2, 1, 2, 0, 0, 0, 0, 0];
+
+const TWO_ENTRIES: &[u8] = &[2, 0, 2, 0, 0, 0, 0, 0];
+
+// Two nodes whose SIBLOCKs name SLBLOCKs of the same four.
+fn two_siblocks(alloc: Global, first: u64, second: u64) -> Result<Vec<u8>, Fail> {
+    let numbers = [0x21, first, 0x41, second];
+    let mut plan = no_plan(alloc);
+    add_block(
+        &mut plan,
+        2,
+        naming(alloc, TWO_LEAVES, &[0x21, 0x0a, 0xa1, 0x0e])?,
+    )?;
+    add_block(&mut plan, 6, naming(alloc, TWO_LEAVES, &numbers)?)?;
+    for (bid, entries) in SLBLOCKS {
+        add_block(&mut plan, bid, naming(alloc, TWO_ENTRIES, &entries)?)?;
+    }
+    add_node(&mut plan, 0x21, 0, 2)?;
+    add_node(&mut plan, 0x41, 0, 6)?;
+    image_of(alloc, &plan)
+}
+
+const SLBLOCKS: [(u64, [u64; 6]); 4] = [
+    (0x0a, [0x21, 0, 0, 0x61, 0, 0]),
+    (0x0e, [0xa1, 0, 0, 0xc1, 0, 0]),
+    (0x12, [0x61, 0, 0, 0xe1, 0, 0]),
+    (0x16, [0x41, 0, 0, 0x81, 0, 0]),
+];
+
+// One that stands twice is told of the second node's SIBLOCK, in whatever order; identifiers that fall, or lie between those of
+// another, are no fault.
 #[test]
 fn a_subnode_twice_in_shared_slblocks(rt: HostRuntime) -> Result<(), Fail> {
-    let alloc = rt.alloc();
     let yes = "yes: 2 pages 6 blocks 2 nodes High 0 lost 0 old";
     let no = "no: 17 Subnode at 0x4c40 bid 0x6 nid 0x41";
-    let two_leaves = [2, 1, 2, 0, 0, 0, 0, 0];
-    let two_entries = [2, 0, 2, 0, 0, 0, 0, 0];
     for (first, second, line) in [
         (0x0a, 0x0e, yes),
         (0x0e, 0x0a, yes),
@@ -103,34 +108,8 @@ fn a_subnode_twice_in_shared_slblocks(rt: HostRuntime) -> Result<(), Fail> {
         (0x12, 0x0b, no),
         (0x0a, 0x0a, no),
     ] {
-        let image = store(
-            alloc,
-            &[
-                (2, &body_of(alloc, two_leaves, &[0x21, 0x0a, 0xa1, 0x0e])?),
-                (
-                    6,
-                    &body_of(alloc, two_leaves, &[0x21, first, 0x41, second])?,
-                ),
-                (
-                    0x0a,
-                    &body_of(alloc, two_entries, &[0x21, 0, 0, 0x61, 0, 0])?,
-                ),
-                (
-                    0x0e,
-                    &body_of(alloc, two_entries, &[0xa1, 0, 0, 0xc1, 0, 0])?,
-                ),
-                (
-                    0x12,
-                    &body_of(alloc, two_entries, &[0x61, 0, 0, 0xe1, 0, 0])?,
-                ),
-                (
-                    0x16,
-                    &body_of(alloc, two_entries, &[0x41, 0, 0, 0x81, 0, 0])?,
-                ),
-            ],
-            &[(0x21, 0, 2), (0x41, 0, 6)],
-        )?;
-        is_answered(&rt, alloc, &image, line)?;
+        let image = two_siblocks(rt.alloc(), first, second)?;
+        is_answered(&rt, rt.alloc(), &image, line)?;
     }
     Ok(())
 }

@@ -4,53 +4,59 @@ use super::*;
 use crate::told::{holds, is};
 use pst_bytes::Span;
 use pst_datatree::Value;
-use pst_header::read_header;
-use pst_ndb::Node;
+use pst_header::{Header, read_header};
+use pst_ndb::Nodes;
 
 #[test]
 fn nodes_are_found(rt: HostRuntime) -> Result<(), Fail> {
     let bytes = m0(rt.alloc())?;
-    let image = Image::new(&bytes);
-    let Ok(checked) = check_ndb(rt.alloc(), image) else {
-        panic!(rt; "refused");
-    };
-    let ndb = checked.ndb;
-    is(&rt, Some(ndb.header()), read_header(image).ok());
-    is(&rt, ndb.image().len(), 271_360);
-    holds(&rt, ndb.node(0x999).is_none());
-    holds(&rt, ndb.node(0).is_none());
-    let node = ndb.node(0x122).expect(&rt, "no node");
-    is(&rt, (node.nid(), node.top()), (0x122, 0x122));
-    is(&rt, (node.bid_data(), node.bid_sub()), (8, 0));
+    let checked = good(rt.alloc(), &bytes)?;
+    is(&rt, Some(checked.ndb.header()), header_in(&bytes));
+    is(&rt, checked.ndb.image().len(), 271_360);
+    holds(&rt, !has_node(&checked, 0x999));
+    holds(&rt, !has_node(&checked, 0));
+    let node = node_in(&checked, 0x122)?;
+    is(&rt, identifiers(&node), (0x122, 0x122, 8, 0));
     is(&rt, node.image().len(), 271_360);
     is(&rt, node.leaf_count(), 1);
-    is(
-        &rt,
-        node.leaf(0),
-        Some(Span {
-            at: 0x4c40,
-            len: 38,
-        }),
-    );
+    is(&rt, node.leaf(0), FOLDER);
     is(&rt, node.leaf(1), None);
     Ok(())
+}
+
+fn has_node(checked: &Checked, nid: u32) -> bool {
+    checked.ndb.node(nid).is_some()
+}
+
+const FOLDER: Option<Span> = Some(Span {
+    at: 0x4c40,
+    len: 38,
+});
+
+fn header_in(bytes: &[u8]) -> Option<Header> {
+    read_header(Image::new(bytes)).ok()
 }
 
 #[test]
 fn nodes_come_in_order(rt: HostRuntime) -> Result<(), Fail> {
     let bytes = m0(rt.alloc())?;
-    let Ok(checked) = check_ndb(rt.alloc(), Image::new(&bytes)) else {
-        panic!(rt; "refused");
-    };
-    let mut nodes = checked.ndb.nodes();
+    let mut nodes = nodes_in(&good(rt.alloc(), &bytes)?);
     for (nid, bid_data) in [(0x21, 4), (0x122, 8)] {
-        let node = nodes.next().expect(&rt, "no node");
-        is(&rt, (node.nid(), node.top()), (nid, nid));
-        is(&rt, (node.bid_data(), node.bid_sub()), (bid_data, 0));
+        is(&rt, next_in(&mut nodes), Some((nid, nid, bid_data, 0)));
     }
-    holds(&rt, nodes.next().is_none());
-    holds(&rt, nodes.next().is_none());
+    is(&rt, next_in(&mut nodes), None);
+    is(&rt, next_in(&mut nodes), None);
     Ok(())
+}
+
+fn nodes_in<'a>(checked: &Checked<'a>) -> Nodes<'a> {
+    checked.ndb.nodes()
+}
+
+// The identifiers of the next node.
+fn next_in(nodes: &mut Nodes) -> Option<Identifiers> {
+    let node = nodes.next()?;
+    Some(identifiers(&node))
 }
 
 // The bytes of a node, which stay when its database is gone.

@@ -5,7 +5,7 @@ use pst_make::Change;
 use pst_make::Change::Set;
 
 // Rows of 2,000 bytes, whose numbers do not rise, in one block; the cell of the last one is not there.
-pub(super) const IN_ONE_BLOCK: Row<'static> = Row {
+const IN_ONE_BLOCK: Row<'static> = Row {
     changes: &[
         Set(18, &[0xcf, 7, 0xd0, 7]),
         Set(54, &[2]),
@@ -97,7 +97,7 @@ pub(super) const IN_TWO_BLOCKS: [Row<'static>; 3] = [
 ];
 
 // Rows of 4,088 bytes, two of which fill a block.
-pub(super) const FULL_BLOCK: Row<'static> = Row {
+const FULL_BLOCK: Row<'static> = Row {
     changes: &[Set(18, &[0xf7, 0xf, 0xf8, 0xf])],
     blocks: &[
         Block {
@@ -143,7 +143,7 @@ const TWO_XBLOCKS: [(u64, &[u8]); 3] = [
     ),
 ];
 
-pub(super) const LONGEST_ROWS: Row<'static> = Row {
+const LONGEST_ROWS: Row<'static> = Row {
     changes: &[Set(18, &[0xef, 0x1f, 0xf0, 0x1f])],
     blocks: &[
         Block {
@@ -168,7 +168,7 @@ pub(super) const LONGEST_ROWS: Row<'static> = Row {
 };
 
 // The same, where the numbers of the rows do not rise: the last block, then the first, then the second.
-pub(super) const LONGEST_ROWS_SHUFFLED: Row<'static> = Row {
+const LONGEST_ROWS_SHUFFLED: Row<'static> = Row {
     changes: &[
         Set(18, &[0xef, 0x1f, 0xf0, 0x1f]),
         Set(54, &[2]),
@@ -198,7 +198,7 @@ pub(super) const LONGEST_ROWS_SHUFFLED: Row<'static> = Row {
 };
 
 // Rows of 4 bytes, 2,044 to a block, in a table without columns: the first, the last of a block, and the one behind it.
-pub(super) const SHORTEST_ROWS: Row<'static> = Row {
+const SHORTEST_ROWS: Row<'static> = Row {
     changes: &[Set(13, &[0]), Set(62, &[0xfb, 7]), Set(70, &[0xfc, 7])],
     blocks: &[
         Block {
@@ -221,3 +221,12 @@ pub(super) const SHORTEST_ROWS: Row<'static> = Row {
     data: 18,
     line: "yes, 1 4c32, 2 4c3a, 3 4c42",
 };
+
+// Rows of each of these lengths.
+pub(super) const OF_ALL_LENGTHS: [Row<'static>; 5] = [
+    IN_ONE_BLOCK,
+    FULL_BLOCK,
+    LONGEST_ROWS,
+    LONGEST_ROWS_SHUFFLED,
+    SHORTEST_ROWS,
+];

@@ -4,4 +4,4 @@ use Rattle.pst_subnode.specs.Heights as heights
 use Rattle.pst_data_tests.proofs.subnodes.sharing.slblocks_are_shared.Given as goal
 
 abbrev pub invariant-loop-bid : goal.invariant-loop-bid
-invariant-loop-bid g l = seen.IsSeenTrue (table_of l.blocks) l.seen × heights.AreHeightsTrue (table_of l.blocks) l.heights
+invariant-loop-bid g l = seen.IsSeenTrue (table_of l.known.blocks) l.known.seen × heights.AreHeightsTrue (table_of l.known.blocks) l.known.heights

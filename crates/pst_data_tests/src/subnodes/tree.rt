@@ -1,0 +1,147 @@
+//! One list of subnodes of a made store, and what is known of several. What they answer has no clauses but
+//! that what is known is true, and an index is one of its list: a test's proof needs no more.
+
+ghost use Rattle.std.specs.Prelude.{◌≡◌, None};
+ghost use Rattle.pst_block.specs.Blocks.{table_of};
+ghost use Rattle.pst_subnode.specs.declared.check.TheConstants.{LISTS};
+ghost use Rattle.pst_subnode.specs.Tree.{sub_fault};
+
+use super::*;
+
+/// What is known of the trees of a store, and of its lists.
+#[derive(Drop)]
+pub(crate) struct Known<'a> {
+    blocks: Blocks<'a>,
+    seen: Seen,
+    heights: Heights,
+}
+
+impl<'a> Known<'a> {
+    ghost use Rattle.std.specs.Prelude.{IfOk};
+    ghost use Rattle.pst_block.specs.Blocks.{table_of};
+    ghost use Rattle.pst_subnode.specs.Known.{AreBothTrue};
+
+    /// Nothing yet.
+    pub(crate) fn read(alloc: Global, image: Image<'a>) -> Result<Known<'a>, Fail>
+        ensures { IfOk result (λ k. AreBothTrue (table_of k.blocks) k.seen k.heights) }
+    {
+        let Ok(blocks) = blocks_in(alloc, image) else {
+            return Err(Fail::from("no blocks"));
+        };
+        Ok(Known {
+            blocks,
+            seen: Seen::new(alloc),
+            heights: Heights::new(alloc),
+        })
+    }
+
+    /// What the check of a list answers.
+    pub(crate) fn check(&mut self, alloc: Global, bid: u64) -> Result<u32, Fault>
+        requires { AreBothTrue (table_of self.old.blocks) self.old.seen self.old.heights }
+        ensures { AreBothTrue (table_of self.new.blocks) self.new.seen self.new.heights }
+    {
+        check_sub(
+            alloc,
+            &self.blocks,
+            bid,
+            NODE,
+            &mut self.seen,
+            &mut self.heights,
+        )
+    }
+
+    /// How many lists have been expanded.
+    pub(crate) fn expansions(&self) -> u64 {
+        self.heights.expansions()
+    }
+
+    /// The law that no block is known twice.
+    pub(crate) fn keys_rise(&self) {
+        self.heights.keys_rise();
+    }
+}
+
+/// A list without fault, and the blocks that it stands in.
+#[derive(Clone, Copy)]
+pub(crate) struct Tree<'a> {
+    blocks: Blocks<'a>,
+    bid: u64,
+    ghost sound: { sub_fault (table_of blocks) LISTS bid ≡ None },
+}
+
+impl<'a> Tree<'a> {
+    ghost use Rattle.std.specs.Prelude.{IfOk};
+    ghost use Rattle.pst_block.specs.Blocks.{table_of};
+    ghost use Rattle.pst_subnode.specs.Index.{IsIndexOf};
+    ghost use Rattle.pst_subnode.specs.List.{subs_of};
+
+    /// The list of a block identifier.
+    pub(crate) fn read(alloc: Global, image: Image<'a>, bid: u64) -> Result<Tree<'a>, Fail> {
+        let Ok(blocks) = blocks_in(alloc, image) else {
+            return Err(Fail::from("no blocks"));
+        };
+        let mut seen = Seen::new(alloc);
+        let mut heights = Heights::new(alloc);
+        let Ok(_) = check_sub(alloc, &blocks, bid, NODE, &mut seen, &mut heights) else {
+            return Err(Fail::from("no list"));
+        };
+        Ok(Tree { blocks, bid })
+    }
+
+    /// Its entries, by another identifier of the same block, too.
+    pub(crate) fn subs(&self, bid: u64) -> Subs<'a> {
+        subs(&self.blocks, bid)
+    }
+
+    /// The entry of a subnode.
+    pub(crate) fn find(&self, nid: u32) -> Option<Sub> {
+        find_sub(&self.blocks, self.bid, nid)
+    }
+
+    /// The list with an index of it.
+    pub(crate) fn indexed(&self, alloc: Global) -> Result<Indexed<'a>, Fail>
+        ensures { IfOk result (λ i. IsIndexOf i.index (subs_of (table_of i.blocks) i.bid)) }
+    {
+        let Ok(index) = SubIndex::of(alloc, &self.blocks, self.bid) else {
+            return Err(Fail::from("no memory"));
+        };
+        Ok(Indexed {
+            blocks: self.blocks,
+            bid: self.bid,
+            index,
+        })
+    }
+
+    /// The list with an index that holds nothing.
+    pub(crate) fn without_index(&self) -> Indexed<'a>
+        ensures { IsIndexOf result.index (subs_of (table_of result.blocks) result.bid) }
+    {
+        Indexed {
+            blocks: self.blocks,
+            bid: self.bid,
+            index: SubIndex::none(),
+        }
+    }
+}
+
+/// A list without fault, and an index of it.
+#[derive(Drop)]
+pub(crate) struct Indexed<'a> {
+    blocks: Blocks<'a>,
+    bid: u64,
+    index: SubIndex,
+    ghost sound: { sub_fault (table_of blocks) LISTS bid ≡ None },
+}
+
+impl<'a> Indexed<'a> {
+    ghost use Rattle.pst_block.specs.Blocks.{table_of};
+    ghost use Rattle.pst_subnode.specs.Index.{IsIndexOf};
+    ghost use Rattle.pst_subnode.specs.List.{subs_of};
+
+    /// The entry of a subnode.
+    pub(crate) fn find(&self, nid: u32) -> Option<Sub>
+        requires { IsIndexOf self.now.index (subs_of (table_of self.now.blocks) self.now.bid) }
+    {
+        find_sub_by(&self.blocks, self.bid, &self.index, nid)
+    }
+}
