@@ -28,18 +28,22 @@ def imported(text):
 
 
 def public_clauses(text):
-    """The clauses of public functions, and the ghost members of iterators."""
-    public = False
+    """The clauses of public functions, and the ghost members of iterators, each with all of its lines."""
+    public, clause, depth = False, "", 0
     for line in text.split("\n"):
         code = line.strip()
-        if re.match(r"(pub(\([a-z]+\))? )?(const )?fn ", code):
-            public = code.startswith("pub fn") or code.startswith("pub const fn")
-        elif code == "{" or code.endswith(" {"):
-            public = False
-        elif public and re.match(r"(requires|ensures)\b", code):
-            yield code
-        if code.startswith("ghost next_gives"):
-            yield code
+        if not depth:
+            if re.match(r"(pub(\([a-z]+\))? )?(const )?fn ", code):
+                public = code.startswith("pub fn") or code.startswith("pub const fn")
+            elif code == "{" or (code.endswith(" {") and not re.match(r"(requires|ensures)\b", code)):
+                public = False
+            if not (public and re.match(r"(requires|ensures)\b", code)) and not code.startswith("ghost next_gives"):
+                continue
+        clause += f" {code}"
+        depth += code.count("{") - code.count("}")
+        if not depth:
+            yield clause
+            clause = ""
 
 
 def main():
