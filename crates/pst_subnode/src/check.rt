@@ -20,7 +20,7 @@ use pst_fault::{Fault, Kind, Place};
 use std::alloc::Global;
 
 /// How many lists may nest.
-pub const LISTS: u32 = 64;
+pub const LISTS: u32 = 256;
 
 // A fault, under the node whose subnodes begin with a block identifier.
 fn fault_at_top(fault: Fault, bid: u64, nid: u32) -> Fault
@@ -43,7 +43,7 @@ fn fault_at_top(fault: Fault, bid: u64, nid: u32) -> Fault
 /// Checks the subnodes of a node, by the identifier that the node has for them ([MS-PST] 2.2.2.8.3.3), and answers their
 /// height: how many lists nest. In order, with `nid` as the node:
 ///
-/// - Nesting, with the identifier of the node's subnodes as it is written, where a list would begin below 64 others; it
+/// - Nesting, with the identifier of the node's subnodes as it is written, where a list would begin below 256 others; it
 ///   is not looked up;
 /// - BlockMissing, with the identifier as it is written, where the block B-tree lacks a block that is named;
 /// - Subnode, at the block of the list with the breach and with the identifier of its entry: the block is external, btype
@@ -89,8 +89,8 @@ pub fn check_sub(
     ensures grows { CountsGrow seen.old heights.old seen.new heights.new }
     ensures counts { OnOk result (KeepsCounts seen.old heights.old seen.new heights.new) }
 {
-    match height_of(alloc, blocks, bid, LISTS, seen, heights) {
-        Ok(height) => Ok(height),
+    match height_of(alloc, blocks, bid, LISTS as u16, seen, heights) {
+        Ok(height) => Ok(u32::from(height)),
         Err(fault) => Err(fault_at_top(fault, bid, nid)),
     }
 }

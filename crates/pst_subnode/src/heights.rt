@@ -13,7 +13,7 @@ use std::collections::BTreeMap;
 #[derive(Drop)]
 pub struct Heights {
     // By the keys of the lists: a height, or 0 for a list that is being expanded.
-    pub(crate) states: BTreeMap<u64, u32>,
+    pub(crate) states: BTreeMap<u64, u16>,
     pub(crate) expansions: u64,
     pub(crate) ranges: Ranges,
 }
@@ -58,7 +58,7 @@ impl Heights {
 
     // What is known of a list.
     #[tactic(auto, unfolding(crate::specs::Heights::state_at))]
-    pub(crate) fn state(&self, bid: u64) -> Option<u32>
+    pub(crate) fn state(&self, bid: u64) -> Option<u16>
         ensures { result ≡ state_of self.now bid }
     {
         self.states.get(&PageKind::Bbt.key_of(bid)).copied()
@@ -66,7 +66,7 @@ impl Heights {
 
     // A list has this state from now on. It is counted as expanded where nothing was known of it.
     #[tactic(auto, using(crate::proofs::StateLemmas::new_counted, crate::proofs::StateLemmas::old_counted), unfolding(crate::specs::Heights::state_at))]
-    fn put(&mut self, bid: u64, state: u32) -> Result<(), Fault>
+    fn put(&mut self, bid: u64, state: u16) -> Result<(), Fault>
         ensures put { OnOk result ((key : ℕ) → state_at self.new key ≡
             cond (eq_by_cmp nat_cmp (bid_key bid) key) (Some state) (state_at self.old key)) }
         ensures same { OnErr result ((key : ℕ) → state_at self.new key ≡ state_at self.old key) }
@@ -107,7 +107,7 @@ impl Heights {
     }
 
     // A list has this height; or memory is refused, and nothing is known of it any more.
-    pub(crate) fn settle(&mut self, bid: u64, height: u32) -> Result<(), Fault>
+    pub(crate) fn settle(&mut self, bid: u64, height: u16) -> Result<(), Fault>
         ensures put { OnOk result ((key : ℕ) → state_at self.new key ≡
             cond (eq_by_cmp nat_cmp (bid_key bid) key) (Some height) (state_at self.old key)) }
         ensures forgotten { OnErr result ((key : ℕ) → state_at self.new key ≡

@@ -30,7 +30,7 @@ pub(crate) fn nesting_fault() -> Fault
 }
 
 // What is known of a list, where so many lists may nest: a list that is being expanded would nest in itself.
-pub(crate) fn height_known(height: u32, limit: u32) -> Result<u32, Fault>
+pub(crate) fn height_known(height: u16, limit: u16) -> Result<u16, Fault>
     ensures marked { height ≡ 0 → result ≡ Err nesting }
     ensures fits { 0 < height → height ≤ limit → result ≡ Ok height }
     ensures high { limit < height → result ≡ Err nesting }

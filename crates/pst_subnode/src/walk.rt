@@ -33,10 +33,10 @@ fn height_of_entry(
     alloc: Global,
     blocks: &Blocks,
     sub: Sub,
-    limit: u32,
+    limit: u16,
     seen: &mut Seen,
     heights: &mut Heights,
-) -> Result<u32, Fault>
+) -> Result<u16, Fault>
     requires begun { let t = table_of blocks.now in
         IsBegun t seen.old heights.old (at_entry t sub) 1 limit }
     ensures exact { let t = table_of blocks.now in
@@ -59,10 +59,10 @@ fn height_of_entries(
     alloc: Global,
     blocks: &Blocks,
     subs: Subs,
-    limit: u32,
+    limit: u16,
     seen: &mut Seen,
     heights: &mut Heights,
-) -> Result<u32, Fault>
+) -> Result<u16, Fault>
     requires begun { let t = table_of blocks.now in
         IsBegun t seen.old heights.old (at_entries t (subs_left subs)) 1 limit }
     ensures exact { let t = table_of blocks.now in
@@ -89,10 +89,10 @@ fn height_of_slblock(
     alloc: Global,
     blocks: &Blocks,
     bid: u64,
-    limit: u32,
+    limit: u16,
     seen: &mut Seen,
     heights: &mut Heights,
-) -> Result<u32, Fault>
+) -> Result<u16, Fault>
     requires room { 0 < limit }
     requires is_list { IsSlblockList (table_of blocks.now) bid }
     requires begun { let t = table_of blocks.now in
@@ -127,10 +127,10 @@ fn height_of_leaf(
     blocks: &Blocks,
     holder: BlockEntry,
     i: u16,
-    limit: u32,
+    limit: u16,
     seen: &mut Seen,
     heights: &mut Heights,
-) -> Result<u32, Fault>
+) -> Result<u16, Fault>
     requires room { 0 < limit }
     requires within { IsWithin (table_of blocks.now).image holder }
     requires fits { 24 + 16 * i ≤ length (body_of (table_of blocks.now) holder) }
@@ -162,10 +162,10 @@ fn height_of_leaves(
     blocks: &Blocks,
     holder: BlockEntry,
     count: u16,
-    limit: u32,
+    limit: u16,
     seen: &mut Seen,
     heights: &mut Heights,
-) -> Result<u32, Fault>
+) -> Result<u16, Fault>
     requires room { 0 < limit }
     requires within { IsWithin (table_of blocks.now).image holder }
     requires fits { 8 + 16 * count ≤ length (body_of (table_of blocks.now) holder) }
@@ -197,10 +197,10 @@ fn height_of_siblock(
     blocks: &Blocks,
     bid: u64,
     entry: BlockEntry,
-    limit: u32,
+    limit: u16,
     seen: &mut Seen,
     heights: &mut Heights,
-) -> Result<u32, Fault>
+) -> Result<u16, Fault>
     requires room { 0 < limit }
     requires within { IsWithin (table_of blocks.now).image entry }
     requires is_list { IsSiList (table_of blocks.now) bid entry }
@@ -236,10 +236,10 @@ fn height_of_list(
     alloc: Global,
     blocks: &Blocks,
     bid: u64,
-    limit: u32,
+    limit: u16,
     seen: &mut Seen,
     heights: &mut Heights,
-) -> Result<u32, Fault>
+) -> Result<u16, Fault>
     requires room { 0 < limit }
     requires named { no_block bid ≡ false }
     requires begun { let t = table_of blocks.now in
@@ -271,10 +271,10 @@ pub(crate) fn height_of(
     alloc: Global,
     blocks: &Blocks,
     bid: u64,
-    limit: u32,
+    limit: u16,
     seen: &mut Seen,
     heights: &mut Heights,
-) -> Result<u32, Fault>
+) -> Result<u16, Fault>
     requires begun { let t = table_of blocks.now in
         IsBegun t seen.old heights.old (at_list t bid) 1 limit }
     ensures exact { let t = table_of blocks.now in

@@ -11,7 +11,7 @@ pub returns-in-Ok-clause-found : goal.returns-in-Ok-clause-found
 returns-in-Ok-clause-found c =
     let t = table_of c.args.blocks.now in
     let is = c.in-Ok.ensures.exact in
-    ((sub_law t LISTS c.args.bid c.in-Ok.height (subs_of t c.args.bid)).1 (is.0, is.1, refl)).0
+    rw c.from.ensures (((sub_law t LISTS c.args.bid c.in-Ok.height (subs_of t c.args.bid)).1 (is.0, is.1, refl)).0)
 
 pub returns-in-Err-clause-only : goal.returns-in-Err-clause-only
 returns-in-Err-clause-only c = λ height list has le.
