@@ -22,3 +22,6 @@ pub mod AddLemmas
 pub mod PartLemmas
 pub mod StateLemmas
 pub mod WalkLemmas
+pub mod WeightLemmas
+pub mod ExpandLemmas
+pub mod StackLemmas

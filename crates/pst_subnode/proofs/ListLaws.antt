@@ -1,11 +1,10 @@
 -- The grammar of a subnode list, and its first fault and entries, say the same.
-use Rattle.std.proofs.Common.{◌≡◌, ℕ, zero, suc, ◌<◌, Bool, true, false, List, [], ◌∷◌, ◌++◌, Option, Some, None, refl, sym, ap, ◌∙◌, arith, ◌⊎◌, inl, inr, ◌↔◌, map}
-use Rattle.std.specs.Prelude.{cond, not, nat_eq, ◌&&◌, if◌then◌else◌}
+use Rattle.std.proofs.Common.{◌≡◌, ℕ, Bool, true, false, List, [], ◌∷◌, Some, None, refl, sym, ap, ◌∙◌, arith, ◌⊎◌, inl, inr, ◌↔◌, map}
+use Rattle.std.specs.Prelude.{cond, nat_eq, if◌then◌else◌}
 use Rattle.std.specs.List.{list_any, IsDistinct, AllByRecursion}
 use Rattle.std.proofs.lemmas.Bool.Decides.{nat_tests}
 use Rattle.std.proofs.lemmas.Bool.{or_parts}
-use Rattle.pst_fault.specs.declared.fault.Fault.{Fault}
-use Rattle.pst_fault.specs.First.{◌then◌, holds_or, first_below, join_below, AreJoined}
+use Rattle.pst_fault.specs.First.{◌then◌, holds_or}
 use Rattle.pst_fault.proofs.FirstLemmas.{none_then, then_none, holds_or_none, holds_or_true, guard_then}
 use Rattle.pst_fault.proofs.EachLemmas.{there_is}
 use Rattle.pst_fault.proofs.GeneralLemmas.{clear_and}
@@ -14,7 +13,6 @@ use Rattle.pst_page.specs.declared.entry.BlockEntry.{BlockEntry}
 use Rattle.pst_block.specs.Table.{Table, entry_of, body_of}
 use Rattle.pst_datatree.specs.Bid.{is_internal}
 use Rattle.pst_datatree.specs.Data.{block_missing}
-use Rattle.pst_fault.specs.Each.{there_or}
 use Rattle.pst_subnode.specs.declared.sub.Sub.{Sub}
 use Rattle.pst_datatree.specs.List.{count_in}
 use Rattle.pst_subnode.specs.Body.{leaf_bid_in, is_slblock, is_siblock, has_level_one}

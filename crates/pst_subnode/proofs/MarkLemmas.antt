@@ -17,7 +17,7 @@ use Rattle.pst_subnode.specs.declared.sub.Sub.{Sub}
 use Rattle.pst_subnode.specs.declared.heights.Heights.{Heights}
 use Rattle.pst_subnode.specs.List.{subs_of, list_fault}
 use Rattle.pst_fault.specs.Each.{first_of}
-use Rattle.pst_subnode.specs.Tree.{entry_fault, nesting, sub_fault, sub_height}
+use Rattle.pst_subnode.specs.Tree.{entry_fault, nesting, sub_fault}
 use Rattle.pst_subnode.specs.Heights.{state_at, state_of, NoNewMarks}
 use Rattle.pst_subnode.specs.Marks.{at_list, at_entries, at_entry, IsSiList, rank_at, rank_of, LeadsTo, HaveCome}
 use Rattle.pst_datatree.proofs.KeyLemmas.{none_same}

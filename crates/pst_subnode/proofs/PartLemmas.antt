@@ -1,5 +1,5 @@
 -- What a walk adds to what is known, over the parts of a list and in loops.
-use Rattle.std.proofs.Common.{◌≡◌, ℕ, ◌+◌, ◌<◌, List, [], ◌∷◌, arith, ◌⊎◌, inl, inr}
+use Rattle.std.proofs.Common.{◌≡◌, ℕ, ◌+◌, ◌<◌, List, [], ◌∷◌, arith, inl, inr}
 use Rattle.std.proofs.lemmas.Bool.{cases_lt}
 use Rattle.std.specs.List.{Contains}
 use Rattle.pst_page.specs.declared.entry.BlockEntry.{BlockEntry}
@@ -13,7 +13,7 @@ use Rattle.pst_subnode.specs.Body.{leaf_bid_in}
 use Rattle.pst_subnode.specs.List.{subs_of}
 use Rattle.pst_subnode.specs.Marks.{IsList, IsSiList, rank_of}
 use Rattle.pst_subnode.specs.Reach.{NamesNext, Leads, goes_on}
-use Rattle.pst_subnode.specs.Known.{IsKnownBlock, Adds, IsKnownList, IsKnownEntry, AreLedTo, AreLedEach, AreKnownEach}
+use Rattle.pst_subnode.specs.Known.{IsKnownBlock, Adds, IsKnownList, IsKnownEntry, AreLedTo, AreLedEach, AreKnownEach, AreKnownOr}
 use Rattle.pst_subnode.proofs.ReachLemmas.{slblock_names, siblock_names, slblock_only, siblock_only}
 use Rattle.pst_subnode.proofs.AddLemmas.{contains_cases, adds_then, adds_of, high_later, entry_later}
 
@@ -54,10 +54,6 @@ leaf_next t e AreLed i s h s' h' before adds this j lt x internal =
       | inl less ↦ high_later h h' (leaf_bid_in (body_of t e) j) adds.lists (before j less x internal)
       | inr least ↦ let same : j ≡ i = omega arith in rw same (this x (rw same at internal))
     ]
-
--- entries are known, or still to come
-abbrev pub AreKnownOr : Table → Seen → Heights → List Sub → List Sub → Type 0
-AreKnownOr t s h xs rest = (sub : Sub) → Contains xs sub → IsKnownEntry t s h sub ⊎ Contains rest sub
 
 pub entry_next : (t : Table) (AreLed : List ℕ → Type 0) (all xs rest : List Sub) (sub : Sub) (s : Seen) (h : Heights) (s' : Seen) (h' : Heights) → xs ≡ sub ∷ rest → AreKnownOr t s h all xs → Adds t AreLed s h s' h' → IsKnownEntry t s' h' sub → AreKnownOr t s' h' all rest
 entry_next t AreLed all xs rest sub s h s' h' is so_far adds this other w =

@@ -13,13 +13,14 @@ use Rattle.pst_subnode.specs.declared.sub.Sub.{Sub}
 use Rattle.pst_subnode.specs.declared.heights.Heights.{Heights}
 use Rattle.pst_datatree.specs.List.{count_in}
 use Rattle.pst_subnode.specs.Body.{leaf_bid_in}
-use Rattle.pst_subnode.specs.List.{subs_of, list_fault}
+use Rattle.pst_subnode.specs.List.{subs_of}
 use Rattle.pst_subnode.specs.Tree.{sub_fault, sub_height}
 use Rattle.pst_subnode.specs.Heights.{list_expansions, state_of, AreTrue, AreAlike, AreHeightsCounted, NoNewMarks}
 use Rattle.pst_subnode.specs.Marks.{IsSlblockList, IsSiList}
 use Rattle.pst_subnode.specs.Reach.{NamesNext, Leads}
 use Rattle.pst_subnode.specs.Known.{IsKnownBlock, AreLedTo, AreLedEach, AreLedBelow}
 use Rattle.pst_subnode.specs.Walk.{IsWalked, KeepsCounts}
+use Rattle.pst_subnode.specs.Stack.{IsMarking}
 use Rattle.pst_subnode.proofs.MarkLemmas.{IsPut, IsSame}
 use Rattle.pst_subnode.proofs.StateLemmas.{alike_same, forget_true, settle_true}
 use Rattle.pst_subnode.proofs.AddLemmas.{adds_none, adds_then, adds_of, adds_alike, adds_first, forgets, settles}
@@ -99,13 +100,6 @@ walked_alike t AreLed s h h' trees lists alike = walked_same t AreLed s h h' tre
 
 pub walked_behind : (t : Table) (AreLed : List ℕ → Type 0) (s : Seen) (h h' : Heights) (s'' : Seen) (h'' : Heights) → IsSeenTrue t s → AreTrue t h' → AreAlike h h' → IsWalked t AreLed s h' s'' h'' → IsWalked t AreLed s h s'' h''
 walked_behind t AreLed s h h' s'' h'' trees lists alike walked = walked_then t AreLed s h s h' s'' h'' (walked_alike t AreLed s h h' trees lists alike) walked
-
--- a list without fault of its own blocks, of which nothing was known, is marked
-pub record IsMarking (t : Table) (bid : ℕ) (h begun : Heights) : Type 0 where
-  pub list : list_fault t bid ≡ None
-  pub fresh : state_of h bid ≡ None
-  pub put : IsPut h begun bid (Some 0)
-  pub grows : list_expansions h ≤ list_expansions begun
 
 forget_marks : (old begun mid new : Heights) (bid : ℕ) → IsPut old begun bid (Some 0) → NoNewMarks begun mid → IsPut mid new bid None → NoNewMarks old new
 forget_marks old begun mid new bid first marks last q marked = by_test (eq_by_cmp nat_cmp (bid_key bid) (bid_key q)) (last (bid_key q)) (first (bid_key q))

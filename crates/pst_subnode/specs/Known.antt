@@ -67,3 +67,7 @@ AreLedBelow t e count from = (i : ℕ) → i < count → Leads t from (leaf_bid_
 
 abbrev pub AreKnownBelow : Table → Heights → BlockEntry → ℕ → Type 0
 AreKnownBelow t h e count = (i : ℕ) → i < count → IsKnownList t h (leaf_bid_in (body_of t e) i)
+
+-- entries are known, or still to come
+abbrev pub AreKnownOr : Table → Seen → Heights → List Sub → List Sub → Type 0
+AreKnownOr t s h xs rest = (sub : Sub) → Contains xs sub → IsKnownEntry t s h sub ⊎ Contains rest sub

@@ -11,5 +11,7 @@ pub mod Marks
 pub mod Reach
 pub mod Known
 pub mod Walk
+pub mod Weight
+pub mod Stack
 pub mod Relation
 pub mod Laws

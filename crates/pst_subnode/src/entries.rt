@@ -160,7 +160,7 @@ impl<'a> Subs<'a> {
 
     // The entries of an SLBLOCK, by its identifier; another block has none.
     #[tactic(auto, unfolding(crate::specs::List::slblock_subs))]
-    fn of_leaf(blocks: &Blocks<'a>, bid: u64) -> Subs<'a>
+    pub(crate) fn of_leaf(blocks: &Blocks<'a>, bid: u64) -> Subs<'a>
         ensures left { subs_left result ≡
             subs_at (slblock_subs (table_of blocks.now)) (entry_of (table_of blocks.now) bid) }
         ensures blocks { result.blocks ≡ blocks.now }

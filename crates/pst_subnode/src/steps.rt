@@ -1,6 +1,6 @@
 //! The steps of the walk of lists that walk no further.
 
-ghost use Rattle.std.specs.Prelude.{◌≡◌, ◌+◌, ◌*◌, ◌<◌, ◌≤◌, length, Ok, Err, OnOk};
+ghost use Rattle.std.specs.Prelude.{◌≡◌, ◌+◌, ◌*◌, ◌<◌, ◌≤◌, length, Ok, Err, IfOk, OnOk};
 ghost use Rattle.pst_fault.specs.First.{Tells};
 ghost use Rattle.pst_block.specs.Blocks.{table_of};
 ghost use Rattle.pst_block.specs.Table.{body_of, IsWithin};
@@ -34,6 +34,7 @@ pub(crate) fn height_known(height: u16, limit: u16) -> Result<u16, Fault>
     ensures marked { height ≡ 0 → result ≡ Err nesting }
     ensures fits { 0 < height → height ≤ limit → result ≡ Ok height }
     ensures high { limit < height → result ≡ Err nesting }
+    ensures known { IfOk result (λ h. (h ≡ height) × (0 < h) × (h ≤ limit)) }
 {
     if height == 0 || height > limit {
         return Err(nesting_fault());
