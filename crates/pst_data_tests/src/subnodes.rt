@@ -143,11 +143,11 @@ fn chain(alloc: Global, lists: u64) -> Result<Vec<BlockPlan>, Fail> {
 }
 
 #[test]
-fn lists_nest_64_deep(rt: HostRuntime) -> Result<(), Fail> {
+fn lists_nest_256_deep(rt: HostRuntime) -> Result<(), Fail> {
     let alloc = rt.alloc();
-    answers(&rt, alloc, chain(alloc, 64)?, 6, (Ok(64), 64))?;
-    is(&rt, LISTS, 64);
-    let (answer, _) = answer_of(alloc, chain(alloc, 65)?, 6)?;
+    answers(&rt, alloc, chain(alloc, 256)?, 6, (Ok(256), 256))?;
+    is(&rt, LISTS, 256);
+    let (answer, _) = answer_of(alloc, chain(alloc, 257)?, 6)?;
     is(&rt, answer, Err(fault_of(Kind::Nesting, 0, 6)));
     Ok(())
 }

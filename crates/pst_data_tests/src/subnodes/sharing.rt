@@ -3,11 +3,11 @@
 use super::*;
 use crate::told::is;
 
-// 64 lists of 340 entries, each of which names the next list.
+// 256 lists of 340 entries, each of which names the next list.
 fn wide_chain(alloc: Global) -> Result<Vec<BlockPlan>, Fail> {
     let mut plan = Vec::new(alloc);
-    for k in 1..=64u64 {
-        let below = if k == 64 { 0 } else { 4 * k + 6 };
+    for k in 1..=256u64 {
+        let below = if k == 256 { 0 } else { 4 * k + 6 };
         let mut body = Vec::from_slice(alloc, &[2, 0, 84, 1, 0, 0, 0, 0])?;
         for nid in 1..=340u64 {
             for number in [nid, 0, below] {
@@ -22,7 +22,7 @@ fn wide_chain(alloc: Global) -> Result<Vec<BlockPlan>, Fail> {
 #[test]
 fn shared_lists_are_expanded_once(rt: HostRuntime) -> Result<(), Fail> {
     let alloc = rt.alloc();
-    answers(&rt, alloc, wide_chain(alloc)?, 6, (Ok(64), 64))
+    answers(&rt, alloc, wide_chain(alloc)?, 6, (Ok(256), 256))
 }
 
 // The last list of a chain stands at the top too, and comes first there: below the chain it passes the limit, or just does
@@ -31,7 +31,7 @@ fn shared_lists_are_expanded_once(rt: HostRuntime) -> Result<(), Fail> {
 fn a_known_list_too_deep(rt: HostRuntime) -> Result<(), Fail> {
     let alloc = rt.alloc();
     let deep = Err(fault_of(Kind::Nesting, 0, 0x1000_0002));
-    for (lists, wanted) in [(63, (Ok(64), 64)), (64, (deep, 65))] {
+    for (lists, wanted) in [(255, (Ok(256), 256)), (256, (deep, 257))] {
         answers(&rt, alloc, below_a_list(alloc, lists)?, 0x1000_0002, wanted)?;
     }
     Ok(())

@@ -159,11 +159,11 @@ fn nested(alloc: Global, lists: u64) -> Result<Vec<u8>, Fail> {
 }
 
 #[test]
-fn lists_nest_64_deep(rt: HostRuntime) -> Result<(), Fail> {
-    let image = nested(rt.alloc(), 64)?;
-    let line = "yes: 6 pages 64 blocks 1 nodes High 0 lost 0 old";
+fn lists_nest_256_deep(rt: HostRuntime) -> Result<(), Fail> {
+    let image = nested(rt.alloc(), 256)?;
+    let line = "yes: 15 pages 256 blocks 1 nodes High 0 lost 0 old";
     is_answered(&rt, rt.alloc(), &image, line)?;
-    let image = nested(rt.alloc(), 65)?;
+    let image = nested(rt.alloc(), 257)?;
     let line = "no: 18 Nesting at 0x0 bid 0x2 nid 0x21";
     is_answered(&rt, rt.alloc(), &image, line)
 }

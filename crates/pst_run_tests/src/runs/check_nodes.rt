@@ -71,15 +71,15 @@ pub(super) const NODES: [Case<'static>; 11] = [
         answer: No("no: 17 Subnode at 0x4c00 bid 0x4 nid 0x122\n"),
     },
     Case {
-        what: "lists that nest 65 deep",
-        store: Store::Nested(65),
+        what: "lists that nest 257 deep",
+        store: Store::Nested(257),
         changes: &[],
         answer: No("no: 18 Nesting at 0x0 bid 0xe nid 0x201\n"),
     },
     Case {
-        what: "a missing list where none may be, 65 deep",
-        store: Store::Nested(64),
-        changes: &[Set(0x6458, &[0x02, 0x40]), Block(0x6440, 32)],
+        what: "a missing list where none may be, 257 deep",
+        store: Store::Nested(256),
+        changes: &[Set(0xa658, &[0x02, 0x40]), Block(0xa640, 32)],
         answer: No("no: 18 Nesting at 0x0 bid 0xe nid 0x201\n"),
     },
     Case {
@@ -139,11 +139,11 @@ const GOOD: [Case<'static>; 4] = [
         ),
     },
     Case {
-        what: "lists that nest 64 deep",
-        store: Store::Nested(64),
+        what: "lists that nest 256 deep",
+        store: Store::Nested(256),
         changes: &[],
         answer: Yes(
-            "{\"blocks\":66,\"folders\":1,\"lost\":[],\"messages\":0,\"nodes\":3,\"order\":\"high\",\"pages\":6,\"verdict\":\"yes\"}\n",
+            "{\"blocks\":258,\"folders\":1,\"lost\":[],\"messages\":0,\"nodes\":3,\"order\":\"high\",\"pages\":15,\"verdict\":\"yes\"}\n",
         ),
     },
 ];
