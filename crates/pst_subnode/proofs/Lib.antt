@@ -25,3 +25,4 @@ pub mod WalkLemmas
 pub mod WeightLemmas
 pub mod ExpandLemmas
 pub mod StackLemmas
+pub mod PassLemmas

@@ -1,5 +1,5 @@
 -- The lists on the stack of the walk: one is pushed, goes on, gets its height, or is given up.
-use Rattle.std.proofs.Common.{◌≡◌, ℕ, ◌+◌, ◌-◌, ◌<◌, ◌≤◌, max, List, [], ◌∷◌, ◌++◌, Some, None, Result, Ok, Err, refl, sym, ap, ◌∙◌, arith, inl, inr}
+use Rattle.std.proofs.Common.{◌≡◌, ℕ, ◌+◌, ◌-◌, ◌*◌, ◌<◌, ◌≤◌, max, List, [], ◌∷◌, ◌++◌, Some, None, Result, Ok, Err, refl, sym, ap, ◌∙◌, arith, ◌⊎◌, inl, inr}
 use Rattle.std.specs.Prelude.{cond, reverse}
 use Rattle.std.specs.Ordering.{nat_cmp, eq_by_cmp}
 use Rattle.pst_block.specs.Block.{bid_key}
@@ -26,8 +26,8 @@ use Rattle.pst_subnode.specs.Left.{subs_left}
 use Rattle.pst_subnode.specs.Heights.{list_expansions, AreTrue, AreAlike, AreHeightsCounted}
 use Rattle.pst_subnode.specs.Reach.{NamesNext, Leads}
 use Rattle.pst_subnode.specs.Known.{IsKnownBlock, AreLedTo}
-use Rattle.pst_subnode.specs.Walk.{IsWalked}
-use Rattle.pst_subnode.specs.Stack.{IsAnswered, IsRefused, IsSince, IsWaiting, EntriesAt, LeavesAt, Start, IsStart, AreWaiting, IsExpanding, IsAnswering, IsGivingUp, IsNext, Opens, Enters}
+use Rattle.pst_subnode.specs.Walk.{IsWalked, KeepsCounts}
+use Rattle.pst_subnode.specs.Stack.{IsAnswered, IsRefused, IsLeft, IsSince, IsWaiting, EntriesAt, LeavesAt, Start, IsStart, AreWaiting, IsExpanding, IsAnswering, IsGivingUp, IsOpened, IsNext, Opens, Enters}
 use Rattle.pst_subnode.proofs.MarkLemmas.{IsPut, IsSame, rank_small}
 use Rattle.pst_subnode.proofs.StateLemmas.{same_true, alike_same}
 use Rattle.pst_subnode.proofs.HeightLaws.{height_low}
@@ -81,9 +81,9 @@ entered t a frames bid limit s h h' (Ok (Expands f)) waits opened = record {
 entered t a frames bid limit s h h' (Ok (Answers height)) waits answered = record { bid = bid; limit = limit; seen = s; heights = h; waits = waits; answered = answered }
 entered t a frames bid limit s h h' (Err fault) waits refused = record { bid = bid; limit = limit; seen = s; heights = h; waits = waits; refused = refused }
 
--- the same, above a frame that was pushed
-pub entered_below : (t : Table) (a : Start) (frames : List Frame) (f : Frame) (bid limit : ℕ) (s : Seen) (h h' : Heights) (r : Result Turn Fault) → AreWaiting t a (f ∷ reverse frames) bid limit s h → Enters t bid limit s h r h' → IsNext t a (frames ++ (f ∷ [])) r s h'
-entered_below t a frames f bid limit s h h' r waits enters = entered t a (frames ++ (f ∷ [])) bid limit s h h' r (rw last_first waits) enters
+-- an opened list, above a frame that was pushed
+pub opened_below : (t : Table) (a : Start) (frames : List Frame) (f g : Frame) (bid limit : ℕ) (s : Seen) (h h' : Heights) → AreWaiting t a (f ∷ reverse frames) bid limit s h → IsOpened t bid limit g s h h' → IsExpanding t a (frames ++ (f ∷ [])) g s h'
+opened_below t a frames f g bid limit s h h' waits opened = entered t a (frames ++ (f ∷ [])) bid limit s h h' (Ok (Expands g)) (rw last_first waits) opened
 
 -- ---- a list is given up
 
@@ -98,12 +98,12 @@ pub since_below : (t : Table) (f : Frame) (bid limit : ℕ) (s : Seen) (h : Heig
 since_below t f bid limit s h s' h' s'' h'' since waiting walked =
     walked_then t (λ from. Leads t from f.bid) s since.begun s' h' s'' h'' since.walked (walked_of t (λ from. Leads t from bid) (λ from. Leads t from f.bid) s' h' s'' h'' waiting.led walked)
 
-pub given_up : (t : Table) (a : Start) (frames : List Frame) (f : Frame) (fault : Fault) (s : Seen) (h new : Heights) → IsGivingUp t a (frames ++ (f ∷ [])) fault s h → IsPut h new f.bid None → new.ranges ≡ h.ranges → list_expansions h ≤ list_expansions new → IsGivingUp t a frames fault s new
-given_up t a frames f fault s h new up put ranges grows =
-    let w : AreWaiting t a (f ∷ reverse frames) up.bid up.limit up.seen up.heights = (rw last_first at up.waits) in
+-- the list below it is refused
+pub below_given_up : (t : Table) (a : Start) (frames : List Frame) (f : Frame) (fault : Fault) (bid limit : ℕ) (s : Seen) (h : Heights) (s' : Seen) (h' new : Heights) → AreWaiting t a (f ∷ reverse frames) bid limit s h → IsRefused t bid limit fault s h s' h' → IsPut h' new f.bid None → new.ranges ≡ h'.ranges → list_expansions h' ≤ list_expansions new → IsGivingUp t a frames fault s' new
+below_given_up t a frames f fault bid limit s h s' h' new w refused put ranges grows =
     let since = w.3 in
     let waiting = w.4 in
-    let whole = since_below t f up.bid up.limit w.0 w.1 up.seen up.heights s h since waiting up.refused.walked in
+    let whole = since_below t f bid limit w.0 w.1 s h s' h' since waiting refused.walked in
     record {
       bid = f.bid;
       limit = f.limit;
@@ -111,10 +111,21 @@ given_up t a frames f fault s h new up put ranges grows =
       heights = w.1;
       waits = w.2;
       refused = record {
-        exact = elim up.refused.exact [ inl memory ↦ inl memory | inr is ↦ inr (waiting.refuses fault is) ];
-        walked = walked_forget t f.bid w.0 s w.1 since.begun h new since.marking whole put ranges grows;
+        exact = elim refused.exact [ inl memory ↦ inl memory | inr is ↦ inr (waiting.refuses fault is) ];
+        walked = walked_forget t f.bid w.0 s' w.1 since.begun h' new since.marking whole put ranges grows;
       };
     }
+
+pub given_up : (t : Table) (a : Start) (frames : List Frame) (f : Frame) (fault : Fault) (s : Seen) (h new : Heights) → IsGivingUp t a (frames ++ (f ∷ [])) fault s h → IsPut h new f.bid None → new.ranges ≡ h.ranges → list_expansions h ≤ list_expansions new → IsGivingUp t a frames fault s new
+given_up t a frames f fault s h new up put ranges grows =
+    let w : AreWaiting t a (f ∷ reverse frames) up.bid up.limit up.seen up.heights = (rw last_first at up.waits) in
+    below_given_up t a frames f fault up.bid up.limit up.seen up.heights s h new w up.refused put ranges grows
+
+-- the list below it is opened, and no memory is left for the stack
+pub both_given_up : (t : Table) (a : Start) (frames : List Frame) (f g : Frame) (fault : Fault) (bid limit : ℕ) (s : Seen) (h h' mid new : Heights) → AreWaiting t a (f ∷ reverse frames) bid limit s h → IsOpened t bid limit g s h h' → fault ≡ no_memory → IsPut h' mid g.bid None → mid.ranges ≡ h'.ranges → list_expansions h' ≤ list_expansions mid → IsPut mid new f.bid None → new.ranges ≡ mid.ranges → list_expansions mid ≤ list_expansions new → IsGivingUp t a frames fault s new
+both_given_up t a frames f g fault bid limit s h h' mid new w opened memory first first_ranges first_grows put ranges grows =
+    let forgot : IsPut h' mid bid None = (rw opened.same_bid at first) in
+    below_given_up t a frames f fault bid limit s h s mid new w (since_forgotten t bid limit fault s h s h' mid opened.since (inl memory) forgot first_ranges first_grows) put ranges grows
 
 pub all_given_up : (t : Table) (a : Start) (frames : List Frame) (fault : Fault) (s : Seen) (h : Heights) → frames ≡ [] → IsGivingUp t a frames fault s h → IsRefused t a.bid a.limit fault a.seen a.heights s h
 all_given_up t a frames fault s h none up = at_start up.bid up.limit up.seen up.heights (rw none at up.waits) up.refused
@@ -135,25 +146,29 @@ own_given_up t a frames f fault s h s' h' new waits since exact put ranges grows
 
 -- ---- a list goes on, when the one that it waited for has a height
 
-pub resumed : (t : Table) (a : Start) (frames : List Frame) (f g : Frame) (height : ℕ) (s : Seen) (h : Heights) → IsAnswering t a (frames ++ (f ∷ [])) height s h → g.bid ≡ f.bid → g.limit ≡ f.limit → g.most ≡ max f.most height → g.below ≡ f.below → IsExpanding t a frames g s h
-resumed t a frames f g height s h up bid limit most below =
-    let w : AreWaiting t a (f ∷ reverse frames) up.bid up.limit up.seen up.heights = (rw last_first at up.waits) in
+pub below_answered : (t : Table) (a : Start) (frames : List Frame) (f g : Frame) (bid limit height : ℕ) (s : Seen) (h : Heights) (s' : Seen) (h' : Heights) → AreWaiting t a (f ∷ reverse frames) bid limit s h → IsAnswered t bid limit height s h s' h' → g.bid ≡ f.bid → g.limit ≡ f.limit → g.most ≡ max f.most height → g.below ≡ f.below → IsExpanding t a frames g s' h'
+below_answered t a frames f g bid limit height s h s' h' w answered same_bid same_limit most below =
     let since = w.3 in
     let waiting = w.4 in
-    let whole = since_below t f up.bid up.limit w.0 w.1 up.seen up.heights s h since waiting up.answered.walked in
-    let so_far : IsSince t f.bid w.0 w.1 s h = record {
+    let whole = since_below t f bid limit w.0 w.1 s h s' h' since waiting answered.walked in
+    let so_far : IsSince t f.bid w.0 w.1 s' h' = record {
       begun = since.begun;
       marking = since.marking;
       walked = whole;
-      counts = counts_then w.0 w.1 up.seen up.heights s h since.counts up.answered.counts;
+      counts = counts_then w.0 w.1 s h s' h' since.counts answered.counts;
     } in
     record {
       seen = w.0;
       heights = w.1;
-      waits = rw (bid, limit) w.2;
-      since = rw bid so_far;
-      left = rw (bid, limit, most, below) (waiting.resumes height s h up.answered);
+      waits = rw (same_bid, same_limit) w.2;
+      since = rw same_bid so_far;
+      left = rw (same_bid, same_limit, most, below) (waiting.resumes height s' h' answered);
     }
+
+pub resumed : (t : Table) (a : Start) (frames : List Frame) (f g : Frame) (height : ℕ) (s : Seen) (h : Heights) → IsAnswering t a (frames ++ (f ∷ [])) height s h → g.bid ≡ f.bid → g.limit ≡ f.limit → g.most ≡ max f.most height → g.below ≡ f.below → IsExpanding t a frames g s h
+resumed t a frames f g height s h up bid limit most below =
+    let w : AreWaiting t a (f ∷ reverse frames) up.bid up.limit up.seen up.heights = (rw last_first at up.waits) in
+    below_answered t a frames f g up.bid up.limit height up.seen up.heights s h w up.answered bid limit most below
 
 pub all_answered : (t : Table) (a : Start) (frames : List Frame) (height : ℕ) (s : Seen) (h : Heights) → frames ≡ [] → IsAnswering t a frames height s h → IsAnswered t a.bid a.limit height a.seen a.heights s h
 all_answered t a frames height s h none up = at_start up.bid up.limit up.seen up.heights (rw none at up.waits) up.answered

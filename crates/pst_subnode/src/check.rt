@@ -52,8 +52,11 @@ fn fault_at_top(fault: Fault, bid: u64, nid: u32) -> Fault
 ///   identifier names);
 /// - then entry by entry the faults of its data, and those of its own subnodes.
 ///
-/// An identifier that is 0 but for its bit 0 names no block: it has no fault, and the height is 0. Memory is taken to tell
-/// whether a subnode stands twice; where it is refused, that is NoMemory at once.
+/// An identifier that is 0 but for its bit 0 names no block: it has no fault, and the height is 0.
+///
+/// The lists that wait for one below them stand on a stack in memory, so that the walk takes no more of the thread's own stack
+/// where lists nest deeper. Memory is also taken to tell whether a subnode stands twice, and for what is known. Where it is
+/// refused, that is NoMemory at once, and no list is left marked.
 pub fn check_sub(
     alloc: Global,
     blocks: &Blocks,

@@ -109,6 +109,27 @@ fn open<'a>(
     }
 }
 
+// The walk comes to an SLBLOCK that an SIBLOCK names, whose own blocks were checked with it.
+pub(crate) fn enter_leaf<'a>(
+    blocks: &Blocks<'a>,
+    bid: u64,
+    limit: u16,
+    heights: &mut Heights,
+) -> Result<Turn<'a>, Fault>
+    requires room { 0 < limit }
+    requires is_list { IsSlblockList (table_of blocks.now) bid }
+    requires known { AreTrue (table_of blocks.now) heights.old }
+    requires come { let t = table_of blocks.now in HaveCome t heights.old (at_list t bid) 0 limit }
+    ensures enters { let t = table_of blocks.now in (s : SeenTrees) → IsSeenTrue t s →
+        Enters t bid limit s heights.old result heights.new }
+    ensures light { IfOk result (λ turn. turn_weight turn < unit_weight (2 * limit + 1)) }
+{
+    if let Some(height) = heights.state(bid) {
+        return Ok(Turn::Answers(height_known(height, limit)?));
+    }
+    Ok(Turn::Expands(open_slblock(blocks, bid, limit, heights)?))
+}
+
 // The walk comes to the list of a block identifier, where so many may nest.
 pub(crate) fn enter<'a>(
     alloc: Global,

@@ -45,14 +45,14 @@ pub(crate) struct Frame<'a> {
 }
 
 impl<'a> Frame<'a> {
-    // This is left of it.
-    pub(crate) fn left_with(self, below: Below<'a>) -> Frame<'a>
-        ensures { result ≡ record self.entry { below = below.entry } }
+    // This is left of it, and this is the greatest height so far.
+    pub(crate) fn left_with(self, most: u16, below: Below<'a>) -> Frame<'a>
+        ensures { result ≡ record self.entry { most = most; below = below.entry } }
     {
         Frame {
             bid: self.bid,
             limit: self.limit,
-            most: self.most,
+            most,
             below,
         }
     }

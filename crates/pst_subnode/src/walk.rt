@@ -2,7 +2,7 @@
 //! are being expanded stand on a stack, each below the one that it waits for, so that the walk takes no more of the thread's
 //! own stack where lists nest deeper.
 
-ghost use Rattle.std.specs.Prelude.{◌≡◌, ℕ, ◌+◌, ◌*◌, ◌<◌, ◌≤◌, None, [], ◌∷◌, reverse, IfOk, OnOk, IfErr};
+ghost use Rattle.std.specs.Prelude.{◌≡◌, ℕ, ◌+◌, ◌*◌, ◌<◌, ◌≤◌, Some, None, [], ◌∷◌, reverse, Ok, IfOk, OnOk, IfErr, IfSome};
 ghost use Rattle.pst_fault.specs.First.{Tells};
 ghost use Rattle.pst_block.specs.Blocks.{table_of};
 ghost use Rattle.pst_block.specs.Table.{Table};
@@ -12,11 +12,12 @@ ghost use Rattle.pst_subnode.specs.Marks.{at_list, rank_of};
 ghost use Rattle.pst_subnode.specs.Reach.{Leads};
 ghost use Rattle.pst_subnode.specs.Known.{IsKnownList};
 ghost use Rattle.pst_subnode.specs.Walk.{IsBegun, IsWalked, KeepsCounts};
-ghost use Rattle.pst_subnode.specs.Weight.{frame_weight, stack_weight, unit_weight, below_rank, walk_weight};
-ghost use Rattle.pst_subnode.specs.Stack.{Start, AreWaiting, IsExpanding, IsNext, IsGivingUp, IsRefused, Ends};
+ghost use Rattle.pst_subnode.specs.declared.heights.Heights.{Heights as KnownHeights};
+ghost use Rattle.pst_subnode.specs.Weight.{frame_weight, stack_weight, turn_weight, walk_weight};
+ghost use Rattle.pst_subnode.specs.Stack.{Start, AreWaiting, Enters, IsExpanding, IsNext, IsGivingUp, IsRefused, Ends};
 
 use crate::body::{bid_at, body_in};
-use crate::enter::enter;
+use crate::enter::{enter, enter_leaf};
 use crate::entries::Subs;
 use crate::frame::{Below, Frame, LeafBlocks, Turn};
 use crate::heights::Heights;
@@ -26,34 +27,58 @@ use pst_datatree::Seen;
 use pst_fault::Fault;
 use std::alloc::Global;
 
-// A list waits for one below it, which is entered.
+// A list goes on, once the one below it has been entered: what is known of that one counts at once. One that was opened is
+// walked first, and the list waits for it on the stack. Where there is a fault, neither is marked any more.
 fn go_below<'a>(
-    alloc: Global,
-    blocks: &Blocks<'a>,
     frame: Frame<'a>,
-    bid: u64,
-    limit: u16,
+    entered: Result<Turn<'a>, Fault>,
     stack: &mut Vec<Frame<'a>>,
-    seen: &Seen,
     heights: &mut Heights,
 ) -> Result<Turn<'a>, Fault>
-    requires { let t = table_of blocks.now in (a : Start) ×
-        AreWaiting t a (frame ∷ reverse stack.old.items) bid limit seen.now heights.old }
-    ensures next { let t = table_of blocks.now in (a : Start) →
-        AreWaiting t a (frame.entry ∷ reverse stack.old.items) bid limit seen.now heights.old →
-        IsNext t a stack.new.items result seen.now heights.new }
-    ensures falls { IfOk result (λ turn. walk_weight stack.new.items turn <
-        stack_weight (reverse stack.old.items) + (frame_weight frame.entry +
-        unit_weight (below_rank frame.entry.limit frame.entry.below))) }
+    ensures next { (t : Table) (a : Start) (bid : ℕ) (limit : ℕ)
+        (s : SeenTrees) (h : KnownHeights) →
+        AreWaiting t a (frame.entry ∷ reverse stack.old.items) bid limit s h →
+        Enters t bid limit s h entered.entry heights.old →
+        IsNext t a stack.new.items result s heights.new }
+    ensures falls { (unit : ℕ) → IfOk entered.entry (λ turn. turn_weight turn < unit) →
+        IfOk result (λ turn. walk_weight stack.new.items turn <
+        stack_weight (reverse stack.old.items) + (frame_weight frame.entry + unit)) }
 {
-    if let Err(refused) = stack.push(frame) {
-        heights.forget(frame.bid);
-        return Err(Fault::from(refused));
+    match entered {
+        Ok(turn) => match turn {
+            Turn::Answers(height) => Ok(Turn::Expands(frame.with_height(height))),
+            Turn::Expands(opened) => {
+                if let Err(refused) = stack.push(frame) {
+                    heights.forget(opened.bid);
+                    heights.forget(frame.bid);
+                    return Err(Fault::from(refused));
+                }
+                Ok(Turn::Expands(opened))
+            }
+        },
+        Err(fault) => {
+            heights.forget(frame.bid);
+            Err(fault)
+        }
     }
-    enter(alloc, blocks, bid, limit, heights)
 }
 
-// The next entry of an SLBLOCK; or all have been walked, and the list gets its height.
+// The height of a list that has been entered, where it is known.
+fn known_height(entered: &Result<Turn, Fault>) -> Option<u16>
+    ensures known { IfSome result (λ height. entered.now ≡ Ok (Turn.Answers height)) }
+    ensures all { (height : ℕ) → entered.now ≡ Ok (Turn.Answers height) → result ≡ Some height }
+{
+    match entered {
+        Ok(turn) => match turn {
+            Turn::Answers(height) => Some(*height),
+            Turn::Expands(_) => None,
+        },
+        Err(_) => None,
+    }
+}
+
+// The entries of an SLBLOCK that are left, up to the next one whose list has to be opened: what is known of the others counts
+// at once. Or all have been walked, and the list gets its height.
 fn run_entries<'a>(
     alloc: Global,
     blocks: &Blocks<'a>,
@@ -72,57 +97,60 @@ fn run_entries<'a>(
     ensures falls { IfOk result (λ turn. walk_weight stack.new.items turn <
         stack_weight (reverse stack.old.items) + frame_weight frame.entry) }
 {
+    let mut most = frame.most;
     let mut rest = subs;
-    let Some(sub) = rest.next() else {
-        heights.settle(frame.bid, frame.most + 1)?;
-        return Ok(Turn::Answers(frame.most + 1));
-    };
-    if let Err(fault) = check_entry_data(alloc, blocks, sub, seen) {
-        heights.forget(frame.bid);
-        return Err(fault);
+    while let Some(sub) = rest.next() {
+        if let Err(fault) = check_entry_data(alloc, blocks, sub, seen) {
+            heights.forget(frame.bid);
+            return Err(fault);
+        }
+        let entered = enter(alloc, blocks, sub.bid_sub, frame.limit - 1, heights);
+        let Some(height) = known_height(&entered) else {
+            let waits = frame.left_with(most, Below::Entries(rest));
+            return go_below(waits, entered, stack, heights);
+        };
+        most = most.max(height);
     }
-    let waits = frame.left_with(Below::Entries(rest));
-    go_below(
-        alloc,
-        blocks,
-        waits,
-        sub.bid_sub,
-        frame.limit - 1,
-        stack,
-        seen,
-        heights,
-    )
+    heights.settle(frame.bid, most + 1)?;
+    Ok(Turn::Answers(most + 1))
 }
 
-// The next SLBLOCK of an SIBLOCK; or all have been walked, and the list gets its height.
+// The SLBLOCKs of an SIBLOCK that are left, up to the next one that has to be opened: what is known of the others counts at
+// once. Or all have been walked, and the list gets its height.
 fn run_leaves<'a>(
-    alloc: Global,
     blocks: &Blocks<'a>,
     frame: Frame<'a>,
     leaves: LeafBlocks,
     stack: &mut Vec<Frame<'a>>,
-    seen: &mut Seen,
+    seen: &Seen,
     heights: &mut Heights,
 ) -> Result<Turn<'a>, Fault>
     requires below { frame.below ≡ Below.Leaves leaves }
     requires at { let t = table_of blocks.now in (a : Start) ×
-        IsExpanding t a stack.old.items frame seen.old heights.old }
+        IsExpanding t a stack.old.items frame seen.now heights.old }
     ensures next { let t = table_of blocks.now in (a : Start) →
-        IsExpanding t a stack.old.items frame.entry seen.old heights.old →
-        IsNext t a stack.new.items result seen.new heights.new }
+        IsExpanding t a stack.old.items frame.entry seen.now heights.old →
+        IsNext t a stack.new.items result seen.now heights.new }
     ensures falls { IfOk result (λ turn. walk_weight stack.new.items turn <
         stack_weight (reverse stack.old.items) + frame_weight frame.entry) }
 {
-    if leaves.next >= leaves.count {
-        heights.settle(frame.bid, frame.most)?;
-        return Ok(Turn::Answers(frame.most));
+    let mut most = frame.most;
+    let mut rest = leaves;
+    while rest.next < rest.count {
+        let bid = bid_at(body_in(blocks, rest.holder), rest.next);
+        let entered = enter_leaf(blocks, bid, frame.limit, heights);
+        rest = rest.behind();
+        let Some(height) = known_height(&entered) else {
+            let waits = frame.left_with(most, Below::Leaves(rest));
+            return go_below(waits, entered, stack, heights);
+        };
+        most = most.max(height);
     }
-    let bid = bid_at(body_in(blocks, leaves.holder), leaves.next);
-    let waits = frame.left_with(Below::Leaves(leaves.behind()));
-    go_below(alloc, blocks, waits, bid, frame.limit, stack, seen, heights)
+    heights.settle(frame.bid, most)?;
+    Ok(Turn::Answers(most))
 }
 
-// A list is expanded by one step.
+// A list is expanded, up to the next one below it that has to be opened, or to its end.
 fn run<'a>(
     alloc: Global,
     blocks: &Blocks<'a>,
@@ -141,7 +169,7 @@ fn run<'a>(
 {
     match frame.below {
         Below::Entries(subs) => run_entries(alloc, blocks, frame, subs, stack, seen, heights),
-        Below::Leaves(leaves) => run_leaves(alloc, blocks, frame, leaves, stack, seen, heights),
+        Below::Leaves(leaves) => run_leaves(blocks, frame, leaves, stack, seen, heights),
     }
 }
 

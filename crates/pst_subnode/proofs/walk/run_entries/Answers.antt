@@ -1,61 +1,114 @@
-use Rattle.std.proofs.Common.{◌≡◌, ◌+◌, arith, refl, inl}
+use Rattle.std.proofs.Common.{◌≡◌, ℕ, ◌+◌, ◌-◌, ◌*◌, ◌<◌, ◌≤◌, max, arith, refl, sym, ap, ◌∙◌, inl}
+use Rattle.std.specs.Prelude.{reverse}
 use Rattle.std.proofs.lemmas.Result.{err_from_is_err_and, IfOk-weaker}
 use Rattle.pst_block.specs.Blocks.{table_of}
 use Rattle.pst_subnode.specs.declared.frame.Below.TheVariants.{Entries}
-use Rattle.pst_subnode.specs.Stack.{EntriesAt}
-use Rattle.pst_subnode.specs.Weight.{frame_weight, unit_weight, below_rank}
-use Rattle.pst_subnode.proofs.ExpandLemmas.{entries_end, entries_known}
-use Rattle.pst_subnode.proofs.WeightLemmas.{frame_least, entry_taken}
+use Rattle.pst_subnode.specs.Left.{subs_left}
+use Rattle.pst_subnode.specs.Marks.{rank_of}
+use Rattle.pst_subnode.specs.Stack.{IsAnswered, EntriesAt}
+use Rattle.pst_subnode.specs.Weight.{frame_weight, stack_weight, unit_weight, below_rank}
+use Rattle.pst_subnode.proofs.ExpandLemmas.{entry_come, entries_end, entries_known}
+use Rattle.pst_subnode.proofs.WeightLemmas.{frame_least, entry_taken, unit_rises}
 use Rattle.pst_subnode.proofs.StackLemmas.{IsChecked, settled, own_given_up, data_given_up, entry_waits}
+use Rattle.pst_subnode.proofs.PassLemmas.{left_of, entry_passed}
 use Rattle.pst_subnode.proofs.walk.run_entries.Goals as goal
 
-pub returns-in_err-settle-clause-next : goal.returns-in_err-settle-clause-next
-returns-in_err-settle-clause-next c = λ a up.
-    let p = err_from_is_err_and c.from_residual.result c.from_residual.ensures.1 in
-    let put = c.in_err-settle.ensures in
-    rw (p.1, p.2) (own_given_up (table_of c.args.blocks.now) a c.args.stack.now.items c.args.frame _ up.seen up.heights c.args.seen.now c.args.heights.now c.settle.new.self up.waits up.since (inl put.memory) put.forgotten put.ranges put.grows)
-
-pub returns-in_default-clause-next : goal.returns-in_default-clause-next
-returns-in_default-clause-next c = λ a up.
-    let t = table_of c.args.blocks.now in
-    let f = c.args.frame in
-    let at : EntriesAt t f.bid f.limit f.most c.args.subs c.args.seen.now c.args.heights.now = (rw c.requires.below at up.left) in
-    let end = c.in_default.ensures.steps.0 in
-    let put = c.in_ok-settle.ensures in
-    settled t a c.args.stack.now.items f (f.most + 1) c.args.seen.now c.args.heights.now c.settle.new.self up (omega arith) (entries_end t f.bid f.limit f.most c.args.subs c.args.seen.now c.args.heights.now at end) (entries_known t f.bid f.limit f.most c.args.subs c.args.seen.now c.args.heights.now at end) put.put put.ranges put.grows put.keeps
-
-pub returns-in_default-clause-falls : goal.returns-in_default-clause-falls
-returns-in_default-clause-falls c = omega (arith, frame_least c.args.frame)
+pub check_entry_data-requires : goal.check_entry_data-requires
+check_entry_data-requires c = record { seen = (c.loop-sub.invariant.goes c.requires.at.0 c.requires.at.1).since.walked.trees }
 
 pub returns-in-Err-clause-next : goal.returns-in-Err-clause-next
 returns-in-Err-clause-next c = λ a up.
     let t = table_of c.args.blocks.now in
+    let f = c.args.frame in
+    let now = c.loop-sub.invariant.goes a up in
     let own = c.in-Err.ensures in
-    let checked : IsChecked t c.in-Some.sub c.args.seen.now c.check_entry_data.new.seen = record { trees = own.seen; adds = own.adds; grows = own.grows } in
+    let checked : IsChecked t c.in-Some.sub c.loop-sub.seen c.check_entry_data.new.seen = record { trees = own.seen; adds = own.adds; grows = own.grows } in
     let put = c.forget.ensures in
-    data_given_up t a c.args.stack.now.items c.args.frame c.args.subs c.next.new.self c.in-Some.sub c.in-Err.fault c.args.seen.now c.check_entry_data.new.seen c.args.heights.now c.forget.new.self up c.requires.below c.in-Some.ensures.steps checked own.exact put.put put.ranges (omega (arith, put.counts))
+    rw c.loop-sub.invariant.same (data_given_up t a c.args.stack.now.items (left_of f c.loop-sub.most (Entries c.loop-sub.rest)) c.loop-sub.rest c.next.new.self c.in-Some.sub c.in-Err.fault c.loop-sub.seen c.check_entry_data.new.seen c.loop-sub.heights c.forget.new.self now refl c.in-Some.ensures.steps checked own.exact put.put put.ranges (omega (arith, put.counts)))
 
-pub go_below-requires : goal.go_below-requires
-go_below-requires c =
+pub enter-entered-requires-clause-known : goal.enter-entered-requires-clause-known
+enter-entered-requires-clause-known c = (c.loop-sub.invariant.goes c.requires.at.0 c.requires.at.1).since.walked.lists
+
+pub enter-entered-requires-clause-come : goal.enter-entered-requires-clause-come
+enter-entered-requires-clause-come c =
     let t = table_of c.args.blocks.now in
+    let f = c.args.frame in
+    let now = c.loop-sub.invariant.goes c.requires.at.0 c.requires.at.1 in
     let own = c.in_default-check_entry_data.ensures in
-    let checked : IsChecked t c.in-Some.sub c.args.seen.now c.check_entry_data.new.seen = record { trees = own.seen; adds = own.adds; grows = own.grows } in
-    let waits = entry_waits t c.requires.at.0 c.args.stack.now.items c.args.frame c.args.subs c.next.new.self c.in-Some.sub c.args.seen.now c.check_entry_data.new.seen c.args.heights.now c.requires.at.1 c.requires.below c.in-Some.ensures.steps checked own.exact.0 own.there own.counts in
-    (c.requires.at.0, rw c.left_with-waits.ensures waits)
+    entry_come t f.bid f.limit c.loop-sub.most c.loop-sub.rest c.next.new.self c.in-Some.sub c.loop-sub.seen c.check_entry_data.new.seen c.loop-sub.heights now.left c.in-Some.ensures.steps own.exact.0
+
+pub returns-in_default-known_height-clause-next : goal.returns-in_default-known_height-clause-next
+returns-in_default-known_height-clause-next c = λ a up.
+    let t = table_of c.args.blocks.now in
+    let f = c.args.frame in
+    let own = c.in_default-check_entry_data.ensures in
+    let checked : IsChecked t c.in-Some.sub c.loop-sub.seen c.check_entry_data.new.seen = record { trees = own.seen; adds = own.adds; grows = own.grows } in
+    let waits = entry_waits t a c.args.stack.now.items (left_of f c.loop-sub.most (Entries c.loop-sub.rest)) c.loop-sub.rest c.next.new.self c.in-Some.sub c.loop-sub.seen c.check_entry_data.new.seen c.loop-sub.heights (c.loop-sub.invariant.goes a up) refl c.in-Some.ensures.steps checked own.exact.0 own.there own.counts in
+    c.go_below.ensures.next t a c.in-Some.sub.bid_sub (f.limit - 1) c.check_entry_data.new.seen c.loop-sub.heights (rw (c.left_with-waits.ensures, c.loop-sub.invariant.same) waits) (c.enter-entered.ensures.enters c.check_entry_data.new.seen own.seen)
+
+pub returns-in_default-known_height-clause-falls : goal.returns-in_default-known_height-clause-falls
+returns-in_default-known_height-clause-falls c =
+    let t = table_of c.args.blocks.now in
+    let f = c.args.frame in
+    let own = c.in_default-check_entry_data.ensures in
+    let checked : IsChecked t c.in-Some.sub c.loop-sub.seen c.check_entry_data.new.seen = record { trees = own.seen; adds = own.adds; grows = own.grows } in
+    let waits = entry_waits t c.requires.at.0 c.args.stack.now.items (left_of f c.loop-sub.most (Entries c.loop-sub.rest)) c.loop-sub.rest c.next.new.self c.in-Some.sub c.loop-sub.seen c.check_entry_data.new.seen c.loop-sub.heights (c.loop-sub.invariant.goes c.requires.at.0 c.requires.at.1) refl c.in-Some.ensures.steps checked own.exact.0 own.there own.counts in
+    let w = c.left_with-waits.result in
+    let below : w.below ≡ Entries c.next.new.self = rw c.left_with-waits.ensures refl in
+    let limit : w.limit ≡ f.limit = rw c.left_with-waits.ensures refl in
+    let rank : below_rank w.limit w.below ≡ 2 * f.limit = rw (below, limit) refl in
+    let taken = entry_taken (left_of f c.loop-sub.most (Entries c.loop-sub.rest)) w c.loop-sub.rest c.next.new.self c.in-Some.sub refl below limit c.in-Some.ensures.steps in
+    let rises : unit_weight (2 * (f.limit - 1) + rank_of t c.in-Some.sub.bid_sub + 1) ≤ unit_weight (2 * f.limit) = unit_rises _ _ (omega (arith, waits.4.lower)) in
+    let same : stack_weight (reverse c.loop-sub.stack.items) ≡ stack_weight (reverse c.args.stack.now.items) = ap (λ xs. stack_weight (reverse xs)) c.loop-sub.invariant.same in
+    let light = c.go_below.ensures.falls (unit_weight (2 * f.limit)) (IfOk-weaker c.enter-entered.result _ _ (λ turn less. omega (arith, rises, less)) c.enter-entered.ensures.light) in
+    IfOk-weaker c.go_below.result _ _ (λ turn less. omega (arith, rw rank at taken, same, c.loop-sub.invariant.light, less)) light
+
+pub loop-sub-preserved : goal.loop-sub-preserved
+loop-sub-preserved c =
+    let t = table_of c.args.blocks.now in
+    let f = c.args.frame in
+    let sub = c.in-Some.sub in
+    let own = c.in_default-check_entry_data.ensures in
+    let checked : IsChecked t sub c.loop-sub.seen c.check_entry_data.new.seen = record { trees = own.seen; adds = own.adds; grows = own.grows } in
+    let most : c.max-most.result ≡ max c.loop-sub.most c.in-Some-known_height.height = c.max-most.ensures in
+    let taken = entry_taken (left_of f c.loop-sub.most (Entries c.loop-sub.rest)) (left_of f c.max-most.result (Entries c.next.new.self)) c.loop-sub.rest c.next.new.self sub refl refl refl c.in-Some.ensures.steps in
+    record {
+      same = c.loop-sub.invariant.same;
+      goes = λ a up.
+          let answered : IsAnswered t sub.bid_sub (f.limit - 1) c.in-Some-known_height.height c.check_entry_data.new.seen c.loop-sub.heights c.check_entry_data.new.seen c.enter-entered.new.heights = (rw c.in-Some-known_height.ensures.known at (c.enter-entered.ensures.enters c.check_entry_data.new.seen own.seen)) in
+          rw most (entry_passed t a c.args.stack.now.items f c.loop-sub.rest c.next.new.self sub c.loop-sub.most c.in-Some-known_height.height c.loop-sub.seen c.check_entry_data.new.seen c.loop-sub.heights c.enter-entered.new.heights (c.loop-sub.invariant.goes a up) c.in-Some.ensures.steps checked own.exact.0 own.there own.counts answered);
+      light = omega (arith, taken, c.loop-sub.invariant.light);
+    }
+
+pub overflow_add-most : goal.overflow_add-most
+overflow_add-most c =
+    let now = c.loop-sub.invariant.goes c.requires.at.0 c.requires.at.1 in
+    let small : c.loop-sub.most < c.args.frame.limit = now.left.small in
+    omega (arith, small)
+
+pub overflow_add-result : goal.overflow_add-result
+overflow_add-result c =
+    let now = c.loop-sub.invariant.goes c.requires.at.0 c.requires.at.1 in
+    let small : c.loop-sub.most < c.args.frame.limit = now.left.small in
+    omega (arith, small)
+
+pub returns-in_err-settle-clause-next : goal.returns-in_err-settle-clause-next
+returns-in_err-settle-clause-next c = λ a up.
+    let p = err_from_is_err_and c.from_residual.result c.from_residual.ensures.1 in
+    let now = c.loop-sub.invariant.goes a up in
+    let put = c.in_err-settle.ensures in
+    rw (p.1, p.2, c.loop-sub.invariant.same) (own_given_up (table_of c.args.blocks.now) a c.args.stack.now.items c.args.frame _ now.seen now.heights c.loop-sub.seen c.loop-sub.heights c.settle.new.self now.waits now.since (inl put.memory) put.forgotten put.ranges put.grows)
 
 pub returns-clause-next : goal.returns-clause-next
 returns-clause-next c = λ a up.
     let t = table_of c.args.blocks.now in
-    let own = c.in_default-check_entry_data.ensures in
-    let checked : IsChecked t c.in-Some.sub c.args.seen.now c.check_entry_data.new.seen = record { trees = own.seen; adds = own.adds; grows = own.grows } in
-    let waits = entry_waits t a c.args.stack.now.items c.args.frame c.args.subs c.next.new.self c.in-Some.sub c.args.seen.now c.check_entry_data.new.seen c.args.heights.now up c.requires.below c.in-Some.ensures.steps checked own.exact.0 own.there own.counts in
-    c.go_below.ensures.next a (rw c.left_with-waits.ensures waits)
+    let f = c.args.frame in
+    let now = c.loop-sub.invariant.goes a up in
+    let most = c.loop-sub.most in
+    let rest = c.loop-sub.rest in
+    let end = c.in_default.ensures.steps.0 in
+    let put = c.in_ok-settle.ensures in
+    rw c.loop-sub.invariant.same (settled t a c.args.stack.now.items (left_of f most (Entries rest)) (most + 1) c.loop-sub.seen c.loop-sub.heights c.settle.new.self now (omega arith) (entries_end t f.bid f.limit most rest c.loop-sub.seen c.loop-sub.heights now.left end) (entries_known t f.bid f.limit most rest c.loop-sub.seen c.loop-sub.heights now.left end) put.put put.ranges put.grows put.keeps)
 
 pub returns-clause-falls : goal.returns-clause-falls
-returns-clause-falls c =
-    let f = c.args.frame in
-    let g = c.left_with-waits.result in
-    let below : g.below ≡ Entries c.next.new.self = rw c.left_with-waits.ensures refl in
-    let limit : g.limit ≡ f.limit = rw c.left_with-waits.ensures refl in
-    let taken : frame_weight g + unit_weight (below_rank g.limit g.below) ≡ frame_weight f = entry_taken f g c.args.subs c.next.new.self c.in-Some.sub c.requires.below below limit c.in-Some.ensures.steps in
-    IfOk-weaker c.go_below.result _ _ (λ turn less. omega (arith, taken, less)) c.go_below.ensures.falls
+returns-clause-falls c = rw c.loop-sub.invariant.same (omega (arith, frame_least c.args.frame))
