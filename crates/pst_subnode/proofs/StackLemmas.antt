@@ -1,5 +1,5 @@
 -- The lists on the stack of the walk: one is pushed, goes on, gets its height, or is given up.
-use Rattle.std.proofs.Common.{◌≡◌, ℕ, ◌+◌, ◌-◌, ◌*◌, ◌<◌, ◌≤◌, max, List, [], ◌∷◌, ◌++◌, Some, None, Result, Ok, Err, refl, sym, ap, ◌∙◌, arith, ◌⊎◌, inl, inr}
+use Rattle.std.proofs.Common.{◌≡◌, ℕ, ◌+◌, ◌-◌, ◌<◌, ◌≤◌, max, List, [], ◌∷◌, ◌++◌, Some, None, Result, Ok, Err, refl, sym, ap, ◌∙◌, arith, inl, inr}
 use Rattle.std.specs.Prelude.{cond, reverse}
 use Rattle.std.specs.Ordering.{nat_cmp, eq_by_cmp}
 use Rattle.pst_block.specs.Block.{bid_key}
@@ -26,8 +26,8 @@ use Rattle.pst_subnode.specs.Left.{subs_left}
 use Rattle.pst_subnode.specs.Heights.{list_expansions, AreTrue, AreAlike, AreHeightsCounted}
 use Rattle.pst_subnode.specs.Reach.{NamesNext, Leads}
 use Rattle.pst_subnode.specs.Known.{IsKnownBlock, AreLedTo}
-use Rattle.pst_subnode.specs.Walk.{IsWalked, KeepsCounts}
-use Rattle.pst_subnode.specs.Stack.{IsAnswered, IsRefused, IsLeft, IsSince, IsWaiting, EntriesAt, LeavesAt, Start, IsStart, AreWaiting, IsExpanding, IsAnswering, IsGivingUp, IsOpened, IsNext, Opens, Enters}
+use Rattle.pst_subnode.specs.Walk.{IsWalked}
+use Rattle.pst_subnode.specs.Stack.{IsAnswered, IsRefused, IsSince, IsWaiting, EntriesAt, LeavesAt, Start, IsStart, AreWaiting, IsExpanding, IsAnswering, IsGivingUp, IsOpened, IsNext, Opens, Enters}
 use Rattle.pst_subnode.proofs.MarkLemmas.{IsPut, IsSame, rank_small}
 use Rattle.pst_subnode.proofs.StateLemmas.{same_true, alike_same}
 use Rattle.pst_subnode.proofs.HeightLaws.{height_low}

@@ -1,4 +1,4 @@
-use Rattle.std.proofs.Common.{◌≡◌, ℕ, ◌+◌, ◌<◌, Ok, Err, arith, refl, ap, ◌∙◌}
+use Rattle.std.proofs.Common.{◌≡◌, ◌+◌, ◌<◌, Ok, Err, arith, refl, ap, ◌∙◌}
 use Rattle.std.specs.Prelude.{reverse}
 use Rattle.pst_subnode.specs.declared.frame.Turn.TheVariants.{Expands, Answers}
 use Rattle.pst_subnode.specs.Stack.{IsAnswered, IsOpened, IsRefused}

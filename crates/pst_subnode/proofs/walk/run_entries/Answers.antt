@@ -1,12 +1,11 @@
-use Rattle.std.proofs.Common.{◌≡◌, ℕ, ◌+◌, ◌-◌, ◌*◌, ◌<◌, ◌≤◌, max, arith, refl, sym, ap, ◌∙◌, inl}
+use Rattle.std.proofs.Common.{◌≡◌, ◌+◌, ◌-◌, ◌*◌, ◌<◌, ◌≤◌, max, arith, refl, ap, inl}
 use Rattle.std.specs.Prelude.{reverse}
 use Rattle.std.proofs.lemmas.Result.{err_from_is_err_and, IfOk-weaker}
 use Rattle.pst_block.specs.Blocks.{table_of}
 use Rattle.pst_subnode.specs.declared.frame.Below.TheVariants.{Entries}
-use Rattle.pst_subnode.specs.Left.{subs_left}
 use Rattle.pst_subnode.specs.Marks.{rank_of}
-use Rattle.pst_subnode.specs.Stack.{IsAnswered, EntriesAt}
-use Rattle.pst_subnode.specs.Weight.{frame_weight, stack_weight, unit_weight, below_rank}
+use Rattle.pst_subnode.specs.Stack.{IsAnswered}
+use Rattle.pst_subnode.specs.Weight.{stack_weight, unit_weight, below_rank}
 use Rattle.pst_subnode.proofs.ExpandLemmas.{entry_come, entries_end, entries_known}
 use Rattle.pst_subnode.proofs.WeightLemmas.{frame_least, entry_taken, unit_rises}
 use Rattle.pst_subnode.proofs.StackLemmas.{IsChecked, settled, own_given_up, data_given_up, entry_waits}

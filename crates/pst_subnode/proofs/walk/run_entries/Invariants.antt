@@ -1,4 +1,4 @@
-use Rattle.std.proofs.Common.{◌≡◌, ℕ, ◌≤◌, length}
+use Rattle.std.proofs.Common.{◌≡◌, ◌≤◌, length}
 use Rattle.pst_block.specs.Blocks.{table_of}
 use Rattle.pst_subnode.specs.declared.frame.Below.TheVariants.{Entries}
 use Rattle.pst_subnode.specs.Left.{subs_left}

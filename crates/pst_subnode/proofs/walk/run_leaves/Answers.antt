@@ -1,4 +1,4 @@
-use Rattle.std.proofs.Common.{◌≡◌, ℕ, ◌+◌, ◌*◌, ◌<◌, ◌≤◌, max, arith, refl, ap, ◌∙◌, inl}
+use Rattle.std.proofs.Common.{◌≡◌, ◌+◌, ◌*◌, max, arith, refl, ap, ◌∙◌, inl}
 use Rattle.std.specs.Prelude.{reverse}
 use Rattle.std.proofs.lemmas.Result.{err_from_is_err_and, IfOk-weaker}
 use Rattle.pst_block.specs.Blocks.{table_of}
@@ -6,7 +6,7 @@ use Rattle.pst_block.specs.Table.{body_of}
 use Rattle.pst_subnode.specs.declared.frame.Below.TheVariants.{Leaves}
 use Rattle.pst_subnode.specs.Body.{leaf_bid_in}
 use Rattle.pst_subnode.specs.Stack.{IsAnswered}
-use Rattle.pst_subnode.specs.Weight.{frame_weight, stack_weight, unit_weight, below_rank}
+use Rattle.pst_subnode.specs.Weight.{stack_weight, unit_weight, below_rank}
 use Rattle.pst_subnode.proofs.LeafLemmas.{leaf_list}
 use Rattle.pst_subnode.proofs.ExpandLemmas.{leaf_come, leaf_rank, leaves_end, leaves_known, leaves_most, leaves_fit}
 use Rattle.pst_subnode.proofs.WeightLemmas.{frame_least, leaf_taken}
