@@ -6,6 +6,10 @@ use Rattle.byteorder.specs.Endian.{little_number}
 use Rattle.pst_bytes.specs.declared.Image.{Image}
 use Rattle.pst_bytes.specs.declared.span.Span.{Span}
 
+-- the memory that an image shows: the borrow of the file's bytes that it was made of, their place in memory with them
+abbrev pub memory_of : Image → Bor (List ℕ)
+memory_of image = image.bytes
+
 -- the bytes that an image shows
 abbrev pub bytes_of : Image → List ℕ
 bytes_of image = image.bytes.now

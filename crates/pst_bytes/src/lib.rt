@@ -12,7 +12,7 @@
 #![tactic(auto)]
 
 ghost use Rattle.std.specs.Prelude.{◌≡◌, ◌+◌, ◌≤◌, ◌↔◌, [], length, option_map, IfSome, IsTrue};
-ghost use Rattle.pst_bytes.specs.Image.{bytes_of, bytes_at, num, number_at, lent, IsInside, IsPartOf};
+ghost use Rattle.pst_bytes.specs.Image.{memory_of, bytes_of, bytes_at, num, number_at, lent, IsInside, IsPartOf};
 
 mod span;
 
@@ -30,7 +30,8 @@ pub struct Image<'a> {
 impl<'a> Image<'a> {
     /// The image that these bytes are. Nothing is read or copied.
     pub fn new(bytes: &'a [u8]) -> Image<'a>
-        ensures { bytes_of result ≡ bytes.entry.now }
+        ensures memory { memory_of result ≡ bytes.entry }
+        ensures bytes { bytes_of result ≡ bytes.entry.now }
     {
         Image { bytes }
     }
