@@ -1,17 +1,16 @@
--- The block B-tree and the node B-tree as views, and their entries.
+-- What the block B-tree and the node B-tree show, and their entries.
 use Rattle.std.specs.Prelude.{List}
 use Rattle.pst_page.specs.declared.entry.BlockEntry.{BlockEntry}
 use Rattle.pst_page.specs.declared.entry.NodeEntry.{NodeEntry}
-use Rattle.pst_btree.specs.declared.tree.TreeView.{TreeView}
 use Rattle.pst_btree.specs.declared.block_tree.BlockTree.{BlockTree}
 use Rattle.pst_btree.specs.declared.node_tree.NodeTree.{NodeTree}
-use Rattle.pst_btree.specs.View.{block_entries_of, node_entries_of}
+use Rattle.pst_btree.specs.View.{TreeParts, tree_parts, block_entries_of, node_entries_of}
 
-abbrev pub block_view : BlockTree → TreeView
-block_view tree = tree.view
+abbrev pub block_view : BlockTree → TreeParts
+block_view tree = tree_parts tree.view
 
-abbrev pub node_view : NodeTree → TreeView
-node_view tree = tree.view
+abbrev pub node_view : NodeTree → TreeParts
+node_view tree = tree_parts tree.view
 
 -- the entries of its leaves, from left to right
 abbrev pub block_entries : BlockTree → List BlockEntry

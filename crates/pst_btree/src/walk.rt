@@ -9,7 +9,7 @@ ghost use Rattle.pst_page.specs.Page.{level_at};
 ghost use Rattle.pst_space.specs.Claimed.{unit_total};
 ghost use Rattle.pst_space.specs.Step.{GivesStepBy, ClaimsSome};
 ghost use Rattle.pst_btree.specs.Tree.{page_spans_at};
-ghost use Rattle.pst_btree.specs.View.{entries, IsWalkedTree};
+ghost use Rattle.pst_btree.specs.View.{tree_parts, entries, IsWalkedTree};
 ghost use Rattle.pst_btree.specs.Walk.{tree_walk, found_so_far};
 
 use crate::tree::TreeView;
@@ -43,11 +43,12 @@ pub fn walk<'a>(
     requires head { Head (bytes_of image) header.now }
     requires units { length claims.old ≡ unit_total header.now }
     ensures same { length claims.new ≡ length claims.old }
-    ensures exact { GivesStepBy (λ x. found_so_far claims.new (entries x.0) x.0.pages) result
-        claims.new (tree_walk kind (bytes_of image.entry) (end_of header.now) claims.old root) }
-    ensures walked { IfOk result (λ x.
-        IsWalkedTree image.entry (end_of header.now) kind root claims.old claims.new x.0) }
-    ensures places { IfOk result (λ x. x.1.items ≡ entries x.0) }
+    ensures exact { GivesStepBy (λ x.
+        found_so_far claims.new (entries (tree_parts x.0)) x.0.pages) result claims.new
+        (tree_walk kind (bytes_of image.entry) (end_of header.now) claims.old root) }
+    ensures walked { IfOk result (λ x. IsWalkedTree image.entry (end_of header.now) kind root
+        claims.old claims.new (tree_parts x.0)) }
+    ensures places { IfOk result (λ x. x.1.items ≡ entries (tree_parts x.0)) }
     ensures inside { IfOk result (λ x.
         All (λ at. at + entry_size kind 0 ≤ length (bytes_of image.entry)) x.1.items) }
     ensures some { ClaimsSome claims.old claims.new
