@@ -68,7 +68,7 @@ cut_span_shift a from to p x at low high =
           rw (no, also) refl
     ]
 
-cut_cons : (from to : ℕ) (s : Span) (rest : List Span) → cut from to (s ∷ rest) ≡ cut_span from to s ++ cut (from - s.len) (to - s.len) rest
+pub cut_cons : (from to : ℕ) (s : Span) (rest : List Span) → cut from to (s ∷ rest) ≡ cut_span from to s ++ cut (from - s.len) (to - s.len) rest
 unfolding cut
 cut_cons from to s rest = refl
 

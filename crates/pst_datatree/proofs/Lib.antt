@@ -16,3 +16,4 @@ pub mod SliceLemmas
 pub mod AddLemmas
 pub mod PartsLemmas
 pub mod LeafLemmas
+pub mod SameLemmas

@@ -1,5 +1,5 @@
 -- Whole XBLOCKs are passed over by their totals.
-use Rattle.std.proofs.Common.{◌≡◌, ℕ, ◌+◌, ◌-◌, ◌<◌, ◌≤◌, min, List, [], ◌∷◌, ◌++◌, length, drop, Some, sym, ap, ◌∙◌, arith, inl, inr, length-append}
+use Rattle.std.proofs.Common.{◌≡◌, ℕ, ◌+◌, ◌-◌, ◌<◌, ◌≤◌, min, List, [], ◌∷◌, ◌++◌, length, drop, Some, refl, sym, ap, ◌∙◌, arith, inl, inr, length-append}
 use Rattle.std.proofs.lemmas.Bool.{cases_lt}
 use Rattle.pst_bytes.specs.declared.span.Span.{Span}
 use Rattle.pst_page.specs.declared.entry.BlockEntry.{BlockEntry}
@@ -7,11 +7,11 @@ use Rattle.pst_block.specs.Table.{Table, body_of}
 use Rattle.pst_datatree.specs.declared.position.Position.{Position}
 use Rattle.pst_datatree.specs.List.{count_in}
 use Rattle.pst_datatree.specs.Data.{size_of, xblock_spans, child_spans}
-use Rattle.pst_datatree.specs.Cut.{cut}
+use Rattle.pst_datatree.specs.Cut.{cut, cut_span}
 use Rattle.pst_datatree.specs.Spans.{nonempty}
 use Rattle.pst_fault.specs.First.{join_from}
 use Rattle.pst_datatree.specs.Position.{xxblock_left, Passes}
-use Rattle.pst_datatree.proofs.CutLemmas.{size_of_cons, cut_with, cut_without, cut_nil}
+use Rattle.pst_datatree.proofs.CutLemmas.{size_of_cons, cut_cons, cut_with, cut_without, cut_nil}
 use Rattle.pst_datatree.proofs.ValueLemmas.{with_bytes, without_bytes}
 use Rattle.pst_datatree.proofs.PositionLemmas.{from_step, xxblock_pass}
 
@@ -78,4 +78,22 @@ nonempty_is_cut to (x ∷ rest) h =
           ∙ ap (λ n. cut n (to - x.len) rest) from
           ∙ nonempty_is_cut (to - x.len) rest (omega (arith, size, h))
           ∙ sym (without_bytes x rest le)
+    ]
+
+-- and of the nonempty spans each part is that of all spans
+pub part_of_nonempty : (from to : ℕ) (xs : List Span) → cut from to (nonempty xs) ≡ cut from to xs
+part_of_nonempty from to [] = refl
+part_of_nonempty from to (x ∷ rest) =
+    elim (cases_lt 0 x.len) [
+      | inl lt ↦
+          rw (with_bytes x rest lt)
+          (cut_cons from to x (nonempty rest)
+          ∙ ap (λ zs. cut_span from to x ++ zs) (part_of_nonempty (from - x.len) (to - x.len) rest)
+          ∙ sym (cut_cons from to x rest))
+      | inr le ↦
+          let low : from - x.len ≡ from = omega arith in
+          let high : to - x.len ≡ to = omega arith in
+          rw (without_bytes x rest le)
+          (part_of_nonempty from to rest
+          ∙ sym (cut_without from to x rest (omega (arith, le)) ∙ ap (λ n. cut n (to - x.len) rest) low ∙ ap (λ n. cut from n rest) high))
     ]

@@ -15,5 +15,6 @@ pub mod After
 pub mod Shown
 pub mod Laws
 pub mod Slices
+pub mod Same
 pub mod Marks
 pub mod Leaves

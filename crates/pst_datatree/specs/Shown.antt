@@ -34,6 +34,12 @@ abbrev pub place_in : Value → ℕ
 place_in (Whole at slice) = at
 place_in (Pieces p) = (first_span (nonempty (spans_left p))).at
 
+-- A value without the spans of another that have no byte: the same slice, or pieces of the same file that are the other spans.
+abbrev pub KeepsBytes : Value → Value → Type 0
+KeepsBytes (Whole at slice) kept = kept ≡ Whole at slice
+KeepsBytes (Pieces p) (Whole at slice) = ⊥
+KeepsBytes (Pieces p) (Pieces q) = (spans_left q ≡ nonempty (spans_left p)) × (file_of q ≡ file_of p)
+
 -- a value is a slice that begins so many bytes behind the start of another, in the same memory, and has this place
 abbrev pub IsSlice : ℕ → List ℕ → Bor (List ℕ) → ℕ → Value → Type 0
 IsSlice place bytes other from (Whole at slice) =

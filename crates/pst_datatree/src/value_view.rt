@@ -43,7 +43,7 @@ fn place_of(pieces: Pieces) -> u64
 
 impl<'a> Value<'a> {
     ghost use Rattle.std.specs.Prelude.{◌≤◌, ◌↔◌, IsSome, IsTrue, IfSome, length, slice_range};
-    ghost use Rattle.pst_datatree.specs.Shown.{bytes_in, size_in, place_in, IsPart};
+    ghost use Rattle.pst_datatree.specs.Shown.{bytes_in, size_in, place_in, IsPart, KeepsBytes};
     ghost use Rattle.pst_datatree.specs.Slices.{value_slices, slices_in, AreOf};
 
     /// How many bytes the value has.
@@ -111,6 +111,7 @@ impl<'a> Value<'a> {
     /// The same bytes, each piece with some: spans without bytes are passed over, and XBLOCKs of such spans in one step each.
     #[tactic(auto, using(crate::proofs::ValueLemmas::bytes_with_bytes))]
     pub fn with_bytes(&self) -> Value<'a>
+        ensures shown { KeepsBytes self.now result }
         ensures bytes { bytes_in result ≡ bytes_in self.now }
     {
         match self {
