@@ -1,5 +1,5 @@
 -- Nodes are listed exactly where the file has them.
-use Rattle.std.proofs.Common.{◌≡◌, ℕ, List, map, length, Option, Some, None, Ok, Err, refl, sym, ap, ◌∙◌}
+use Rattle.std.proofs.Common.{◌≡◌, ℕ, List, ◌++◌, map, length, Option, Some, None, Ok, Err, refl, sym, ap, ◌∙◌}
 use Rattle.pst_fault.specs.declared.fault.Fault.{Fault}
 use Rattle.pst_fault.specs.First.{answer}
 use Rattle.pst_header.specs.declared.header.Header.{Header}
@@ -10,9 +10,10 @@ use Rattle.pst_page.specs.declared.entry.NodeEntry.{NodeEntry}
 use Rattle.pst_page.specs.Entry.{node_entry_at}
 use Rattle.pst_space.specs.Claimed.{maps_claimed}
 use Rattle.pst_space.specs.Step.{Step, ◌>>=◌}
-use Rattle.pst_btree.specs.Tree.{entries_of, pages_of}
+use Rattle.pst_btree.specs.Tree.{entries_of, pages_of, page_spans}
 use Rattle.pst_btree.specs.Walk.{Found, found_so_far, tree_walk}
 use Rattle.pst_btree.proofs.TreeLaws.{walk_claims}
+use Rattle.pst_ndb.proofs.SpaceLaws.{claim_parts, claim_join, pages_units, apart_claims, claims_apart}
 use Rattle.pst_ndb.specs.Trees.{listed, listed_under, trees_walk, listed_nodes, HasNodes, ListingLaw}
 
 -- ---- what is listed was walked
@@ -43,19 +44,19 @@ has_nodes I nodes e =
     let (n, second, are) = list_is I nodes (tree_walk Nbt I (end_of h) b.claimed h.nbt) rest in
     let (level, tree, t, f) = (walk_claims Bbt I (end_of h) (maps_claimed h) h.bbt b).0 first in
     let (nlevel, ntree, nt, nf) = (walk_claims Nbt I (end_of h) b.claimed h.nbt n).0 second in
+    let head = (header_law I h).1 (none, refl) in
+    let units = pages_units I h tree ntree head (level, t) (nlevel, nt) in
+    let pages = claim_join (maps_claimed h) b.claimed n.claimed (page_spans tree) (page_spans ntree) f.claims nf.claims in
     record {
       header = h;
-      head = (header_law I h).1 (none, refl);
+      head = head;
       block_level = level;
       block_tree = tree;
       is_block_tree = t;
-      taken = b.claimed;
-      block_pages = f.claims;
       node_level = nlevel;
       node_tree = ntree;
       is_node_tree = nt;
-      taken_then = n.claimed;
-      node_pages = nf.claims;
+      apart = claims_apart h (page_spans tree ++ page_spans ntree) n.claimed units pages;
       entries = are ∙ ap (map (node_entry_at I)) nf.entries;
     }
 
@@ -63,10 +64,13 @@ lists_them : (I : List ℕ) (nodes : List NodeEntry) → HasNodes I nodes → li
 unfolding listed_nodes trees_walk
 lists_them I nodes has =
     let h = has.header in
-    let b = found_so_far has.taken (entries_of has.block_tree) (length (pages_of has.block_tree)) in
-    let n = found_so_far has.taken_then (entries_of has.node_tree) (length (pages_of has.node_tree)) in
-    let first = (walk_claims Bbt I (end_of h) (maps_claimed h) h.bbt b).1 (has.block_level, has.block_tree, has.is_block_tree, record { entries = refl; pages = refl; claims = has.block_pages }) in
-    let second = (walk_claims Nbt I (end_of h) has.taken h.nbt n).1 (has.node_level, has.node_tree, has.is_node_tree, record { entries = refl; pages = refl; claims = has.node_pages }) in
+    let units = pages_units I h has.block_tree has.node_tree has.head (has.block_level, has.is_block_tree) (has.node_level, has.is_node_tree) in
+    let all = apart_claims I h (page_spans has.block_tree ++ page_spans has.node_tree) units has.apart in
+    let parts = claim_parts (maps_claimed h) (page_spans has.block_tree) (page_spans has.node_tree) all.0 all.1 in
+    let b = found_so_far parts.0 (entries_of has.block_tree) (length (pages_of has.block_tree)) in
+    let n = found_so_far all.0 (entries_of has.node_tree) (length (pages_of has.node_tree)) in
+    let first = (walk_claims Bbt I (end_of h) (maps_claimed h) h.bbt b).1 (has.block_level, has.block_tree, has.is_block_tree, record { entries = refl; pages = refl; claims = parts.1 }) in
+    let second = (walk_claims Nbt I (end_of h) parts.0 h.nbt n).1 (has.node_level, has.node_tree, has.is_node_tree, record { entries = refl; pages = refl; claims = parts.2 }) in
     let both = step_again (tree_walk Bbt I (end_of h) (maps_claimed h) h.bbt) (λ blocks. tree_walk Nbt I (end_of h) blocks.claimed h.nbt) b first ∙ second in
     ap (listed_under I) (head_only I h has.head) ∙ ap (listed I) both ∙ ap (λ x. Ok x) (sym has.entries)
 

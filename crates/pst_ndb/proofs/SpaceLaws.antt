@@ -72,6 +72,15 @@ used_units I h blocks nodes head (b, bt) (n, nt) good =
     (units_append m (page_spans blocks) (page_spans nodes) (tree_units Bbt I (end_of h) b m blocks long bt.spells) (tree_units Nbt I (end_of h) n m nodes long nt.spells))
     (blocks_units I (end_of h) m (blocks_in I blocks) long good))
 
+-- and so is each page
+pub pages_units : (I : List ℕ) (h : Header) (blocks nodes : Tree) → Head I h → IsSpelt Bbt I (end_of h) h.bbt blocks → IsSpelt Nbt I (end_of h) h.nbt nodes
+    → AreUnits (replicate (unit_total h) false) (map_pages h ++ (page_spans blocks ++ page_spans nodes))
+pages_units I h blocks nodes head (b, bt) (n, nt) =
+    let m : Claimed = replicate (unit_total h) false in
+    let long : length m ≡ unit_total h = length-replicate (unit_total h) false in
+    units_append m (map_pages h) (page_spans blocks ++ page_spans nodes) (maps_units h m head.last_map long)
+    (units_append m (page_spans blocks) (page_spans nodes) (tree_units Bbt I (end_of h) b m blocks long bt.spells) (tree_units Nbt I (end_of h) n m nodes long nt.spells))
+
 -- they are apart exactly where, once the map pages are claimed, the others can be
 pub apart_claims : (I : List ℕ) (h : Header) (spans : List Span) → AreUnits (replicate (unit_total h) false) (map_pages h ++ spans) → AreApart (map_pages h ++ spans) → (new : Claimed) × (claim_all (maps_claimed h) spans ≡ Some new)
 unfolding nothing_claimed

@@ -1,5 +1,5 @@
 -- Both B-trees of a file ([MS-PST] 2.2.2.7.7): their walks, and the nodes that they list.
-use Rattle.std.specs.Prelude.{◌≡◌, ◌⊎◌, ◌↔◌, ℕ, ◌++◌, List, map, Some, Result, Ok, Err}
+use Rattle.std.specs.Prelude.{◌≡◌, ◌⊎◌, ◌↔◌, ℕ, ◌++◌, List, map, Result, Ok, Err}
 use Rattle.pst_bytes.specs.declared.span.Span.{Span}
 use Rattle.pst_fault.specs.declared.fault.Fault.{Fault}
 use Rattle.pst_fault.specs.Fault.{no_memory}
@@ -10,7 +10,8 @@ use Rattle.pst_header.specs.Header.{header_fault, fields, end_of}
 use Rattle.pst_page.specs.declared.kind.PageKind.TheVariants.{Bbt, Nbt}
 use Rattle.pst_page.specs.declared.entry.NodeEntry.{NodeEntry}
 use Rattle.pst_page.specs.Entry.{node_entry_at}
-use Rattle.pst_space.specs.Claimed.{Claimed, claim_all, maps_claimed}
+use Rattle.pst_space.specs.Claimed.{Claimed, maps_claimed, map_pages}
+use Rattle.pst_space.specs.Apart.{AreApart}
 use Rattle.pst_space.specs.Step.{Step, ◌>>=◌}
 use Rattle.pst_btree.specs.declared.node_tree.NodeTree.{NodeTree}
 use Rattle.pst_btree.specs.Tree.{Tree, IsTree, entries_of, page_spans}
@@ -52,8 +53,8 @@ ListsNodes (Ok tree) answer = answer ≡ Ok (node_entries tree)
 ListsNodes (Err f) answer = (f ≡ no_memory) ⊎ (answer ≡ Err f)
 
 -- The file has a good header ([MS-PST] 2.2.2.6). A block B-tree and a node B-tree are spelt under the roots that it names,
--- and their keys keep their bounds. Their pages have no byte in common with the map pages or with each other, so they can
--- be claimed one after another. The nodes are the entries of the node B-tree from left to right.
+-- and their keys keep their bounds. No two of the map pages and the pages of both trees have a byte in common. The nodes are
+-- the entries of the node B-tree from left to right.
 pub record HasNodes (I : List ℕ) (nodes : List NodeEntry) : Type 0 where
   pub header : Header
   pub head : Head I header
@@ -61,14 +62,12 @@ pub record HasNodes (I : List ℕ) (nodes : List NodeEntry) : Type 0 where
   pub block_level : ℕ
   pub block_tree : Tree
   pub is_block_tree : IsTree Bbt I (end_of header) header.bbt block_level block_tree
-  pub taken : Claimed
-  pub block_pages : claim_all (maps_claimed header) (page_spans block_tree) ≡ Some taken
   -- the node B-tree
   pub node_level : ℕ
   pub node_tree : Tree
   pub is_node_tree : IsTree Nbt I (end_of header) header.nbt node_level node_tree
-  pub taken_then : Claimed
-  pub node_pages : claim_all taken (page_spans node_tree) ≡ Some taken_then
+  -- their pages and the map pages are apart
+  pub apart : AreApart (map_pages header ++ (page_spans block_tree ++ page_spans node_tree))
   pub entries : nodes ≡ map (node_entry_at I) (entries_of node_tree)
 
 -- nodes are listed exactly where the file has these nodes
