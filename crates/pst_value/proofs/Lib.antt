@@ -4,3 +4,4 @@ pub mod ElementLemmas
 pub mod CursorLemmas
 pub mod ValueLaws
 pub mod AlikeLaws
+pub mod NextLemmas

@@ -14,6 +14,7 @@ mod check;
 mod class;
 mod cursor;
 mod elements;
+mod elements_view;
 mod gather;
 mod laws;
 mod named;
@@ -24,7 +25,8 @@ mod units;
 
 pub use check::{check_value_by, known_value, resolve, resolve_at, resolve_by};
 pub use class::Class;
-pub use elements::{Elements, elements_from, multi};
+pub use elements::{elements_from, multi};
+pub use elements_view::Elements;
 pub use laws::{value_decides, value_is_of_no_place, values_are_of_keys};
 pub use named::{missing_at, named_value, named_value_by};
 pub use prop_type::PropType;
