@@ -42,11 +42,14 @@ pub parts_behind : (v other : Value) (from behind size : ℕ) → HaveSameParts 
 parts_behind (Whole at slice) (Whole place other) from behind size same = (same.0, same.1, ap (λ n. n + size) same.2)
 parts_behind (Whole at slice) (Pieces q) from behind size same = absurd same
 parts_behind (Pieces p) (Whole at slice) from behind size same = absurd same
-parts_behind (Pieces p) (Pieces q) from behind size same = (same.0, λ more.
-    let m : size + more - size ≡ more = omega arith in
-    let here : (n : ℕ) (xs : List Span) → cut (n + size) (n + size + more) xs ≡ cut size (size + more) (cut n (n + (size + more)) xs) =
-        λ n xs. rw m at (part_of_part n (size + more) size (size + more) xs (omega arith) (omega arith)) in
-    here behind (spans_left q) ∙ ap (cut size (size + more)) (same.1 (size + more)) ∙ sym (here from (spans_left p)))
+parts_behind (Pieces p) (Pieces q) from behind size same = (
+  same.0,
+  λ more.
+      let m : size + more - size ≡ more = omega arith in
+      let here : (n : ℕ) (xs : List Span) → cut (n + size) (n + size + more) xs ≡ cut size (size + more) (cut n (n + (size + more)) xs) =
+      λ n xs. rw m at (part_of_part n (size + more) size (size + more) xs (omega arith) (omega arith)) in
+      here behind (spans_left q) ∙ ap (cut size (size + more)) (same.1 (size + more)) ∙ sym (here from (spans_left p)),
+)
 
 -- and the same parts as the other has a third has
 pub same_parts_on : (v other third : Value) (from behind last : ℕ) → HaveSameParts v from other behind → HaveSameParts other behind third last → HaveSameParts v from third last
@@ -86,5 +89,5 @@ still_inside here next left span split file inside le within =
     let piece = bytes_at (bytes_of (file_of here)) span in
     let len : length piece ≡ span.len = length_bytes (bytes_of (file_of here)) span inside in
     let whole : length (concat (slices_left here)) ≡ length piece + length (concat (slices_left next)) =
-        ap (λ ss. length (concat ss)) (slices_split here next span split file) ∙ length-append piece (concat (slices_left next)) in
+    ap (λ ss. length (concat ss)) (slices_split here next span split file) ∙ length-append piece (concat (slices_left next)) in
     omega arith

@@ -23,10 +23,11 @@ impl<'a> Pc<'a> {
     ghost use Rattle.std.specs.Prelude.{◌≡◌, IfSome, None, option_map};
     ghost use Rattle.pst_bytes.specs.Image.{IsInside};
     ghost use Rattle.pst_btree.specs.Entries.{first_with};
-    ghost use Rattle.pst_ndb.specs.Views.{table_of_node, roots_of, IsIndexedBy};
+    ghost use Rattle.pst_ndb.specs.Views.{image_of_node, table_of_node, nid_of, roots_of, IsIndexedBy};
     ghost use Rattle.pst_heap.specs.View.{node_of};
     ghost use Rattle.pst_bth.specs.View.{heap_of, sizes_in, records_of};
     ghost use Rattle.pst_pc.specs.Fault.{property_fault, pc_fault};
+    ghost use Rattle.pst_pc.specs.Grammar.{IsPc};
     ghost use Rattle.pst_pc.specs.Values.{pc_sizes, pc_records, props_of, id_of};
     ghost use Rattle.pst_pc.specs.View.{node_of_pc, property_of, IsPropAt, IsPropWith};
 
@@ -38,10 +39,13 @@ impl<'a> Pc<'a> {
         Pc { heap }
     }
 
-    /// What is known of every property context: it has no first fault.
+    /// What is known of every property context: it has no first fault, so it is one by the grammar.
+    #[tactic(auto, using(crate::proofs::PcLaws::none_pc))]
     pub fn is_sound(&self)
-        ensures { let node = node_of_pc self.now in
+        ensures sound { let node = node_of_pc self.now in
             pc_fault (table_of_node node) (roots_of node) ≡ None }
+        ensures context { let node = node_of_pc self.now in
+            IsPc (table_of_node node) (roots_of node) }
     {}
 
     /// The node whose data it is.
@@ -57,7 +61,9 @@ impl<'a> Pc<'a> {
     pub fn indexed(self, index: &'a SubIndex) -> Pc<'a>
         requires { IsIndexedBy (node_of_pc self) index.now }
         ensures roots { roots_of (node_of_pc result) ≡ roots_of (node_of_pc self.entry) }
+        ensures image { image_of_node (node_of_pc result) ≡ image_of_node (node_of_pc self.entry) }
         ensures table { table_of_node (node_of_pc result) ≡ table_of_node (node_of_pc self.entry) }
+        ensures nid { nid_of (node_of_pc result) ≡ nid_of (node_of_pc self.entry) }
     {
         Pc::of(known_heap(self.node().indexed(index)))
     }
