@@ -24,9 +24,10 @@ impl<'a> Tc<'a> {
     ghost use Rattle.std.specs.Prelude.{◌≡◌, IfSome, None, length, option_map};
     ghost use Rattle.pst_bytes.specs.Image.{IsInside};
     ghost use Rattle.pst_btree.specs.Entries.{first_with};
-    ghost use Rattle.pst_ndb.specs.Views.{table_of_node, roots_of, IsIndexedBy};
+    ghost use Rattle.pst_ndb.specs.Views.{image_of_node, table_of_node, nid_of, roots_of, IsIndexedBy};
     ghost use Rattle.pst_heap.specs.View.{node_of};
     ghost use Rattle.pst_tc.specs.Fault.{tc_fault, tc_body_fault};
+    ghost use Rattle.pst_tc.specs.Grammar.{IsTc};
     ghost use Rattle.pst_tc.specs.Values.{info_of, tc_columns, row_id_of, tc_rows};
     ghost use Rattle.pst_tc.specs.Tc.{node_of_tc};
     ghost use Rattle.pst_tc.specs.View.{row_parts, tc_of_row};
@@ -40,10 +41,13 @@ impl<'a> Tc<'a> {
         Tc { heap }
     }
 
-    /// What is known of every table context: it has no first fault.
+    /// What is known of every table context: it has no first fault, so it is one by the grammar.
+    #[tactic(auto, using(crate::proofs::TcLaws::none_tc))]
     pub fn is_sound(&self)
-        ensures { let node = node_of_tc self.now in
+        ensures sound { let node = node_of_tc self.now in
             tc_fault (table_of_node node) (roots_of node) ≡ None }
+        ensures context { let node = node_of_tc self.now in
+            IsTc (table_of_node node) (roots_of node) }
     {}
 
     /// The node whose data it is.
@@ -59,7 +63,9 @@ impl<'a> Tc<'a> {
     pub fn indexed(self, index: &'a SubIndex) -> Tc<'a>
         requires { IsIndexedBy (node_of_tc self) index.now }
         ensures roots { roots_of (node_of_tc result) ≡ roots_of (node_of_tc self.entry) }
+        ensures image { image_of_node (node_of_tc result) ≡ image_of_node (node_of_tc self.entry) }
         ensures table { table_of_node (node_of_tc result) ≡ table_of_node (node_of_tc self.entry) }
+        ensures nid { nid_of (node_of_tc result) ≡ nid_of (node_of_tc self.entry) }
     {
         Tc::of(known_heap(self.node().indexed(index)))
     }
