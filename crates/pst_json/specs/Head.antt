@@ -1,9 +1,9 @@
 -- The header as a document, and its line.
-use Rattle.std.specs.Prelude.{ℕ, List, [], ◌∷◌, ◌++◌, codes}
-use Rattle.std.specs.Fmt.{decimal}
+use Rattle.std.specs.Prelude.{ℕ, List, codes}
 use Rattle.serde_json.specs.Data.{Data, object, member, no_members}
 use Rattle.pst_header.specs.declared.header.Header.{Header}
 use Rattle.pst_header.specs.declared.header.Bref.{Bref}
+use Rattle.pst_value_json.specs.Line.{line_of}
 use Rattle.pst_value_json.specs.Parts.{natural}
 
 abbrev pub bref_data : Bref → Data
@@ -24,23 +24,6 @@ head_data h =
     (member (codes "version") (natural h.version)
     no_members)))))))))
 
--- the pieces of a text, one after the other
-abbrev joined : List (List ℕ) → List ℕ
-joined [] = []
-joined (piece ∷ pieces) = piece ++ joined pieces
-
 -- the line that shows a header
-unfoldable pub head_line : Header → List ℕ
-head_line h = joined (
-    codes "{\"bbt\":{\"bid\":" ∷ decimal h.bbt.bid
-    ∷ codes ",\"ib\":" ∷ decimal h.bbt.ib
-    ∷ codes "},\"eof\":" ∷ decimal h.eof
-    ∷ codes ",\"free\":" ∷ decimal h.free
-    ∷ codes ",\"last_amap\":" ∷ decimal h.last_amap
-    ∷ codes ",\"maps_valid\":" ∷ decimal h.maps_valid
-    ∷ codes ",\"nbt\":{\"bid\":" ∷ decimal h.nbt.bid
-    ∷ codes ",\"ib\":" ∷ decimal h.nbt.ib
-    ∷ codes "},\"next_block\":" ∷ decimal h.next_block
-    ∷ codes ",\"next_page\":" ∷ decimal h.next_page
-    ∷ codes ",\"version\":" ∷ decimal h.version
-    ∷ codes "}\n" ∷ [])
+abbrev pub head_line : Header → List ℕ
+head_line h = line_of (head_data h)

@@ -46,7 +46,7 @@ pub fn head_doc(alloc: Global, header: &Header) -> Result<Doc, AllocError>
 }
 
 /// The line that shows a header: the compact text of its document, and a line feed.
-#[tactic(auto, using(crate::proofs::HeadLemmas::head_has_none, crate::proofs::HeadLemmas::line_is))]
+#[tactic(auto, using(crate::proofs::HeadLemmas::head_has_none))]
 pub fn head_line(alloc: Global, header: &Header) -> Result<Vec<u8>, AllocError>
     ensures { IfOk result (λ t. t.items ≡ line_of_head header.now) }
 {

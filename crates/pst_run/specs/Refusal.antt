@@ -1,10 +1,13 @@
--- Refusals: what they come from, and the status that each ends with.
-use Rattle.std.specs.Prelude.{ℕ, Bool, true, false, if◌then◌else◌}
+-- Refusals: what they come from, the status that each ends with, and what is said of it.
+use Rattle.std.specs.Prelude.{ℕ, Bool, true, false, if◌then◌else◌, List, [], ◌∷◌, ◌++◌, codes}
+use Rattle.pst_fault.specs.Fault.{fault_text, hex}
 use Rattle.pst_fault.specs.declared.fault.Fault.{Fault}
 use Rattle.pst_fault.specs.declared.kind.Kind.{Kind}
 use Rattle.pst_fault.specs.declared.kind.Kind.TheVariants.{NoMemory}
 use Rattle.pst_json.specs.declared.fault.DocFault.{DocFault}
 use Rattle.pst_json.specs.declared.fault.DocFault.TheVariants as doc
+use Rattle.pst_json.specs.declared.output.EmitFault.TheVariants.{Closed}
+use Rattle.pst_json.specs.Output.{emit_fault_text}
 use Rattle.pst_run.specs.declared.refusal.Refusal.{Refusal}
 use Rattle.pst_run.specs.declared.refusal.Refusal.TheVariants as refusal
 
@@ -41,3 +44,21 @@ status_of (refusal.NoNode nid) = 1
 status_of refusal.Input = 3
 status_of (refusal.Output f) = 3
 status_of refusal.Memory = 4
+
+-- the line of a refusal, without its line feed
+abbrev pub refusal_text : Refusal → List ℕ
+refusal_text (refusal.Fault f) = fault_text f
+refusal_text (refusal.NoFolder nid) = codes "no folder 0x" ++ hex nid
+refusal_text (refusal.NoNode nid) = codes "no node 0x" ++ hex nid
+refusal_text refusal.Input = codes "cannot read the file"
+refusal_text (refusal.Output f) = emit_fault_text f
+refusal_text refusal.Memory = codes "out of memory"
+
+-- a text as a line
+abbrev pub line_of_text : List ℕ → List ℕ
+line_of_text text = text ++ 10 ∷ []
+
+-- what a refusal says on standard error: its line; of an output that is closed nothing
+abbrev pub refusal_line : Refusal → List ℕ
+refusal_line (refusal.Output Closed) = []
+refusal_line r = line_of_text (refusal_text r)

@@ -1,17 +1,37 @@
 -- What a run writes, and its status.
-use Rattle.std.specs.Prelude.{◌≡◌, ℕ, Bool, true, false, ◌⊎◌, List, Option, Result, Ok, Err}
+use Rattle.std.specs.Prelude.{◌≡◌, ℕ, Bool, true, false, ◌⊎◌, List, Option, Result, Ok, Err, IfSome, codes}
 use Rattle.std.specs.Io.KnownBytes.{Appends, Keeps}
 use Rattle.pst_json.specs.Output.{AppendsFront}
 use Rattle.pst_ask.specs.clap.Words.{IsAmong, Kinds}
 use Rattle.pst_ask.specs.clap.declared.error.Error.{Error}
 use Rattle.pst_ask.specs.clap.declared.error.kind.ErrorKind.{ErrorKind}
 use Rattle.pst_ask.specs.clap.declared.error.kind.ErrorKind.TheVariants as kind
+use Rattle.pst_json.specs.declared.output.EmitFault.{EmitFault}
+use Rattle.pst_ask.specs.declared.ask.Ask.{Ask}
+use Rattle.pst_ask.specs.declared.ask.Lack.{Lack}
+use Rattle.pst_ask.specs.declared.ask.Lack.TheVariants.{Nid, Nothing}
 use Rattle.pst_ask.specs.declared.words.NoOrder.{NoOrder}
 use Rattle.pst_ask.specs.declared.words.NoOrder.TheVariants.{Words, Lacks}
 use Rattle.pst_run.specs.declared.refusal.Refusal.{Refusal}
 use Rattle.pst_run.specs.declared.refusal.Refusal.TheVariants as refusal
-use Rattle.pst_run.specs.Answer.{Told}
-use Rattle.pst_run.specs.Refusal.{status_of}
+use Rattle.pst_run.specs.Answer.{Told, answer_to}
+use Rattle.pst_run.specs.Refusal.{line_of_text, refusal_line, status_of}
+
+-- what both outputs hold, where they tell it
+pub record Outputs : Type 0 where
+  pub out : Option (List ℕ)
+  pub err : Option (List ℕ)
+
+abbrev pub outputs : Option (List ℕ) → Option (List ℕ) → Outputs
+outputs out err = record { out = out; err = err }
+
+-- the error output gains a line, or a front of it where it fails
+abbrev pub SaysLine : List ℕ → Option (List ℕ) → Option (List ℕ) → Type 0
+SaysLine text old new = AppendsFront old new (line_of_text text)
+
+-- the error output gains what a refusal says there, or a front of it where it fails
+abbrev pub Says : Refusal → Option (List ℕ) → Option (List ℕ) → Type 0
+Says r old new = AppendsFront old new (refusal_line r)
 
 -- the status of a text that is shown
 abbrev pub shown_status : Bool → ℕ
@@ -33,19 +53,31 @@ Ends (Ok fails) answer old new = Shows answer fails old new
 Ends (Err (refusal.Fault f)) answer old new = (answer ≡ Err (refusal.Fault f)) × Keeps old new
 Ends (Err (refusal.NoFolder nid)) answer old new = (answer ≡ Err (refusal.NoFolder nid)) × Keeps old new
 Ends (Err (refusal.NoNode nid)) answer old new = (answer ≡ Err (refusal.NoNode nid)) × Keeps old new
-Ends (Err refusal.Input) answer old new = Keeps old new
+Ends (Err refusal.Input) answer old new = ⊥
 Ends (Err (refusal.Output f)) answer old new = ShowsFront answer old new
 Ends (Err refusal.Memory) answer old new = Keeps old new
 
--- The answer is written, and the status is its; or it is that of a refusal of these bytes, and nothing is written. Only a
--- file that cannot be read (3), an output that cannot be written (3) and want of memory (4) give another status.
-abbrev pub Answers : Result Told Refusal → ℕ → Option (List ℕ) → Option (List ℕ) → Type 0
+-- The answer is written, its status is the run's, and nothing is said on the error output; or the answer is a refusal, the
+-- status is its, and its line is said there and nothing written. Only an output that cannot be written (3) and want of memory
+-- (4) give another status, and say so.
+abbrev pub Answers : Result Told Refusal → ℕ → Outputs → Outputs → Type 0
 Answers answer status old new =
-    ((fails : Bool) × (status ≡ shown_status fails) × Shows answer fails old new)
-    ⊎ (((r : Refusal) × (answer ≡ Err r) × (status ≡ status_of r) × Keeps old new)
-    ⊎ (((status ≡ 3) × Keeps old new)
-    ⊎ (((status ≡ 3) × ShowsFront answer old new)
-    ⊎ ((status ≡ 4) × Keeps old new))))
+    ((fails : Bool) × (status ≡ shown_status fails) × Shows answer fails old.out new.out × Keeps old.err new.err)
+    ⊎ (((r : Refusal) × (answer ≡ Err r) × (status ≡ status_of r) × Keeps old.out new.out × Says r old.err new.err)
+    ⊎ (((f : EmitFault) × (status ≡ 3) × ShowsFront answer old.out new.out × Says (refusal.Output f) old.err new.err)
+    ⊎ ((status ≡ 4) × Keeps old.out new.out × Says refusal.Memory old.err new.err)))
+
+-- the bytes did not come: the file cannot be read, or memory was refused, which is said, and nothing is written
+abbrev pub IsUnread : ℕ → Outputs → Outputs → Type 0
+IsUnread status old new =
+    ((status ≡ 3) × Keeps old.out new.out × Says refusal.Input old.err new.err)
+    ⊎ ((status ≡ 4) × Keeps old.out new.out × Says refusal.Memory old.err new.err)
+
+-- The answer to some bytes, which are those of the reader where it tells them; or these did not come.
+abbrev pub CarriesOut : Ask → Option (List ℕ) → ℕ → Outputs → Outputs → Type 0
+CarriesOut ask known status old new =
+    ((bytes : List ℕ) × IfSome known (λ all. bytes ≡ all) × Answers (answer_to ask bytes) status old new)
+    ⊎ IsUnread status old new
 
 -- ---- where nothing is done
 
@@ -64,3 +96,12 @@ IsRefused kinds status = (status ≡ 4) ⊎ ((k : ErrorKind) × IsAmong k kinds 
 abbrev pub MatchNone : NoOrder → (Error → Type 0) → Type 0 → Type 0
 MatchNone (Words e) P Q = P e
 MatchNone (Lacks lack) P Q = Q
+
+-- the line for words that are accepted and ask for nothing, without its line feed
+abbrev pub lack_text : Lack → List ℕ
+lack_text Nid = codes "bad node id"
+lack_text Nothing = codes "nothing is asked for"
+
+-- words that lack something say so, with status 2; or memory was refused
+abbrev pub IsLacking : Lack → ℕ → Option (List ℕ) → Option (List ℕ) → Type 0
+IsLacking lack status old new = ((status ≡ 2) × SaysLine (lack_text lack) old new) ⊎ ((status ≡ 4) × Says refusal.Memory old new)

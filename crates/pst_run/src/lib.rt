@@ -1,7 +1,8 @@
 //! One run of the program, over a reader and two writers: the answer to what is asked, and the status that it ends with.
 //!
-//! Begin with `run`: it reads what the words after the program's name ask for, and does it. `carry_out` does what was read
-//! already, `load` takes the bytes of a reader, within limits, and `answer` makes the text of a command's answer:
+//! Begin with `answer_out`: it shows what a command answers to the bytes of a file, or says why not. `load` takes the bytes of
+//! a reader, within limits; `carry_out` does one and then the other, and `run` first reads what the words after the program's
+//! name ask for:
 //!
 //! ```text
 //! let status = run(alloc, &words, &mut input, &mut out, &mut err);
@@ -19,5 +20,5 @@ mod source;
 pub use answers::{Shown, answer};
 pub use input::{LoadFault, MOST_BYTES, MOST_READS, Reads, load, load_counted};
 pub use refusal::Refusal;
-pub use running::{carry_out, decline, refuse, run};
+pub use running::{answer_out, carry_out, decline, refuse, run};
 pub use source::{Source, Watched, explain};

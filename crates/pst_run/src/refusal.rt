@@ -1,36 +1,46 @@
 //! Why a run shows nothing.
 
-ghost use Rattle.std.specs.Prelude.{◌≡◌};
+ghost use Rattle.std.specs.Prelude.{◌≡◌, Some};
 ghost use Rattle.pst_run.specs.declared.refusal.Refusal.TheVariants as refusal;
-ghost use Rattle.pst_run.specs.Refusal.{IsOfInput, refusal_of, refusal_for, status_of};
+ghost use Rattle.pst_run.specs.Refusal.{IsOfInput, refusal_of, refusal_for, refusal_text, status_of};
 
 use crate::input::LoadFault;
 use pst_fault::{Fault, Kind};
 use pst_json::{DocFault, EmitFault};
 use std::alloc::AllocError;
-use thiserror::Error;
+use std::fmt;
 
-/// Why a run shows nothing. Its text is the line on the standard error, without a line feed.
-#[derive(Clone, Copy, Debug, PartialEq, Eq, Error)]
+/// Why a run shows nothing.
+#[derive(Clone, Copy, Debug, PartialEq, Eq)]
 pub enum Refusal {
     /// The file is not what it has to be. The kind is not NoMemory.
-    #[error("{0}")]
     Fault(Fault),
     /// The store has no folder with this identifier.
-    #[error("no folder 0x{0:x}")]
     NoFolder(u32),
     /// The store has no node with this identifier.
-    #[error("no node 0x{0:x}")]
     NoNode(u32),
     /// The file cannot be read, or is too long.
-    #[error("cannot read the file")]
     Input,
     /// The output cannot be written. Where it is closed no line is written.
-    #[error("{0}")]
     Output(EmitFault),
     /// Memory was refused.
-    #[error("out of memory")]
     Memory,
+}
+
+/// The line on the standard error, without a line feed.
+impl fmt::Display for Refusal {
+    ghost output = { λ r. Some (refusal_text r) };
+
+    fn fmt<W: fmt::Write>(&self, f: &mut fmt::Formatter<W>) -> fmt::Result {
+        match self {
+            Refusal::Fault(fault) => write!(f, "{fault}"),
+            Refusal::NoFolder(nid) => write!(f, "no folder 0x{nid:x}"),
+            Refusal::NoNode(nid) => write!(f, "no node 0x{nid:x}"),
+            Refusal::Input => write!(f, "cannot read the file"),
+            Refusal::Output(fault) => write!(f, "{fault}"),
+            Refusal::Memory => write!(f, "out of memory"),
+        }
+    }
 }
 
 impl Refusal {

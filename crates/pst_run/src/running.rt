@@ -4,32 +4,41 @@ ghost use Rattle.std.specs.Prelude.{◌≡◌, ◌≢◌, ◌⊎◌, [], Err, If
 ghost use Rattle.pst_ask.specs.Ask.{Asked};
 ghost use Rattle.pst_ask.specs.Words.{IsAsked, asked, show_app, texts};
 ghost use Rattle.pst_ask.specs.clap.Words.{fault_of, kind_of};
+ghost use Rattle.pst_ask.specs.declared.words.NoOrder.TheVariants.{Lacks};
 ghost use Rattle.pst_run.specs.Answer.{answer_to};
 ghost use Rattle.pst_run.specs.declared.refusal.Refusal.TheVariants as refused;
 ghost use Rattle.pst_run.specs.Refusal.{status_of};
-ghost use Rattle.pst_run.specs.Run.{Answers, Ends, IsRefused, IsStatusOf, MatchNone};
+ghost use Rattle.pst_run.specs.Run.{Answers, CarriesOut, Ends, IsLacking, IsRefused, IsStatusOf, MatchNone, Says, SaysLine, lack_text, outputs};
 
 use crate::answers::answer;
-use crate::input::load;
+use crate::input::load_counted;
 use crate::refusal::Refusal;
+use arrayvec::ArrayString;
 use pst_ask::{Ask, ErrorKind, Lack, NoOrder, parse};
 use pst_json::{EmitFault, emit};
 use std::alloc::Global;
+use std::fmt::{Display, Write as _};
 use std::io::{Read, Write};
 
-// Shows what is asked for of what the reader gives, and tells whether that fails.
-fn show<R: Read, W: Write>(
-    alloc: Global,
-    ask: Ask,
-    input: &mut R,
-    expected: usize,
-    out: &mut W,
-) -> Result<bool, Refusal>
-    ensures { IfSome (R.remaining input.old) (λ bytes.
-        Ends result (answer_to ask bytes) (W.contents out.old) (W.contents out.new)) }
+// Room for a line on the error output: the longest is a fault's, of at most 92 bytes.
+const LINE: usize = 128;
+
+// Says a line on the error output. It is made first, so that what a writer that fails has taken is a front of it.
+fn say<D: Display + Drop, E: Write>(text: D, err: &mut E)
+    ensures said { IfSome (D.output text) (λ line.
+        SaysLine line (E.contents err.old) (E.contents err.new)) }
 {
-    let bytes = load(alloc, input, expected)?;
-    let shown = answer(alloc, ask, &bytes)?;
+    let mut line = ArrayString::<LINE>::new();
+    if writeln!(line, "{text}").is_ok() {
+        let _ = emit(line.as_str().as_bytes(), err);
+    }
+}
+
+// Shows what is asked for of these bytes, and tells whether that fails.
+fn show<W: Write>(alloc: Global, ask: Ask, bytes: &[u8], out: &mut W) -> Result<bool, Refusal>
+    ensures { Ends result (answer_to ask bytes.now) (W.contents out.old) (W.contents out.new) }
+{
+    let shown = answer(alloc, ask, bytes)?;
     emit(&shown.text, out)?;
     Ok(shown.fails)
 }
@@ -38,10 +47,11 @@ fn show<R: Read, W: Write>(
 /// nothing. Of an output that is closed nothing is said.
 pub fn refuse<E: Write>(refusal: Refusal, err: &mut E) -> u8
     ensures status { result ≡ status_of refusal }
+    ensures said { Says refusal (E.contents err.old) (E.contents err.new) }
     ensures closed { refusal ≡ refused.Output EmitFault.Closed → err.new ≡ err.old }
 {
     if refusal != Refusal::Output(EmitFault::Closed) {
-        let _ = writeln!(err, "{refusal}");
+        say(refusal, err);
     }
     refusal.status()
 }
@@ -49,7 +59,10 @@ pub fn refuse<E: Write>(refusal: Refusal, err: &mut E) -> u8
 /// Says why nothing is done, and gives the status for it: help and the version on the output, all else on the error output.
 pub fn decline<W: Write, E: Write>(none: NoOrder, out: &mut W, err: &mut E) -> u8
     ensures status { MatchNone none (λ e. IsStatusOf (kind_of e) result) (result ≡ 2) }
+    ensures lacking { (lack : Lack) → none ≡ Lacks lack →
+        SaysLine (lack_text lack) (E.contents err.old) (E.contents err.new) }
     ensures quiet { (result ≡ 2) ⊎ (result ≡ 4) → out.new ≡ out.old }
+    ensures memory { result ≡ 4 → Says refused.Memory (E.contents err.old) (E.contents err.new) }
 {
     match none {
         NoOrder::Words(error) => {
@@ -66,13 +79,39 @@ pub fn decline<W: Write, E: Write>(none: NoOrder, out: &mut W, err: &mut E) -> u
             }
         }
         NoOrder::Lacks(Lack::Nid) => {
-            let _ = writeln!(err, "bad node id");
+            say("bad node id", err);
             2
         }
         NoOrder::Lacks(Lack::Nothing) => {
-            let _ = writeln!(err, "nothing is asked for");
+            say("nothing is asked for", err);
             2
         }
+    }
+}
+
+/// Shows what is asked for of the bytes of a file, and gives the status with which the program ends: 0 where it is shown, 1
+/// where the file is refused, or has no such folder or node, or has lost space and the check is strict, 3 where the output
+/// cannot be written, 4 where memory is refused. Each other status than 0 comes with a line on `err`, but for lost space and an
+/// output that is closed; a fault of `err` changes nothing.
+pub fn answer_out<W: Write, E: Write>(
+    alloc: Global,
+    ask: Ask,
+    bytes: &[u8],
+    out: &mut W,
+    err: &mut E,
+) -> u8
+    // The status, what is written and what is said are the answer to the bytes.
+    ensures answered { Answers (answer_to ask bytes.now) result
+        (outputs (W.contents out.old) (E.contents err.old))
+        (outputs (W.contents out.new) (E.contents err.new)) }
+
+    // It is not that of words that are refused.
+    ensures accepted { result ≢ 2 }
+{
+    match show(alloc, ask, bytes, out) {
+        Ok(false) => 0,
+        Ok(true) => 1,
+        Err(refusal) => refuse(refusal, err),
     }
 }
 
@@ -86,17 +125,17 @@ pub fn carry_out<R: Read, W: Write, E: Write>(
     out: &mut W,
     err: &mut E,
 ) -> u8
-    // The status and what is written are the answer to the bytes of the file.
-    ensures answered { IfSome (R.remaining input.old) (λ bytes.
-        Answers (answer_to ask bytes) result (W.contents out.old) (W.contents out.new)) }
+    // The status, what is written and what is said are the answer to the bytes that came.
+    ensures answered { CarriesOut ask (R.remaining input.old) result
+        (outputs (W.contents out.old) (E.contents err.old))
+        (outputs (W.contents out.new) (E.contents err.new)) }
 
     // It is not that of words that are refused.
     ensures accepted { result ≢ 2 }
 {
-    match show(alloc, ask, input, expected, out) {
-        Ok(false) => 0,
-        Ok(true) => 1,
-        Err(refusal) => refuse(refusal, err),
+    match load_counted(alloc, input, expected).0 {
+        Ok(bytes) => answer_out(alloc, ask, &bytes, out, err),
+        Err(fault) => refuse(Refusal::from(fault), err),
     }
 }
 
@@ -112,11 +151,12 @@ pub fn run<R: Read, W: Write, E: Write>(
     out: &mut W,
     err: &mut E,
 ) -> u8
-    // Where the words are accepted and ask for something, the status and what is written are the answer to the
-    // bytes of the file.
+    // Where the words are accepted and ask for something, the status, what is written and what is said are the
+    // answer to the bytes of the file.
     ensures answered { (a : Asked) → IsAsked (texts words.entry.now) a →
-        IfSome (R.remaining input.old) (λ bytes.
-        Answers (answer_to a.ask bytes) result (W.contents out.old) (W.contents out.new)) }
+        CarriesOut a.ask (R.remaining input.old) result
+        (outputs (W.contents out.old) (E.contents err.old))
+        (outputs (W.contents out.new) (E.contents err.new)) }
 
     // Where the words are refused, or ask for help or the version, nothing is read.
     ensures refused { fault_of show_app (texts words.entry.now) ≢ [] →
@@ -126,10 +166,13 @@ pub fn run<R: Read, W: Write, E: Write>(
     // The same where they are accepted and ask for nothing that can be done, as for a node that no word names.
     ensures lacks { (lack : Lack) → fault_of show_app (texts words.entry.now) ≡ [] →
         asked (texts words.entry.now) ≡ Err lack
-        → ((result ≡ 2) ⊎ (result ≡ 4)) × (input.new ≡ input.old) }
+        → IsLacking lack result (E.contents err.old) (E.contents err.new)
+        × (input.new ≡ input.old) × (out.new ≡ out.old) }
 
     // Nothing is written to the output where the words are refused.
     ensures quiet { result ≡ 2 → out.new ≡ out.old }
+    ensures still { fault_of show_app (texts words.entry.now) ≢ [] →
+        (result ≡ 2) ⊎ (result ≡ 4) → out.new ≡ out.old }
 {
     match parse(alloc, words) {
         Ok(order) => carry_out(alloc, order.ask, input, 0, out, err),
