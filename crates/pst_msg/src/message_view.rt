@@ -67,6 +67,8 @@ impl<'a> Message<'a> {
         ensures nid { nid_of (node_of_message result) ≡ nid_of (node_of_message self.entry) }
         ensures roots { roots_of (node_of_message result)
             ≡ roots_of (node_of_message self.entry) }
+        ensures image { image_of_node (node_of_message result)
+            ≡ image_of_node (node_of_message self.entry) }
         ensures table { table_of_node (node_of_message result)
             ≡ table_of_node (node_of_message self.entry) }
     {

@@ -1,7 +1,8 @@
 -- What a contract sees of a store, and of an iterator over its folders or messages.
 use Rattle.std.specs.Prelude.{◌≡◌, ℕ, Option, IfSome, List}
+use Rattle.std.specs.Borrow.{Bor}
 use Rattle.std.specs.Iterator.{YieldsFirstBy}
-use Rattle.pst_bytes.specs.Image.{bytes_of}
+use Rattle.pst_bytes.specs.Image.{memory_of, bytes_of}
 use Rattle.pst_ndb.specs.declared.ndb.Ndb.{Ndb}
 use Rattle.pst_ndb.specs.Roots.{Roots}
 use Rattle.pst_ndb.specs.Views.{image_of_ndb, table_of_ndb, image_of_node, table_of_node, nid_of, top_of, roots_left}
@@ -14,9 +15,12 @@ use Rattle.pst_store.specs.declared.folders.Folders.{Folders}
 use Rattle.pst_store.specs.declared.messages.Messages.{Messages}
 use Rattle.pst_store.specs.Kind.{of_kind}
 
--- its node database, and its bytes
+-- its node database, and its bytes, in which memory they are too
 abbrev pub ndb_of_store : Store → Ndb
 ndb_of_store s = s.ndb
+
+abbrev pub memory_of_store : Store → Bor (List ℕ)
+memory_of_store s = memory_of (image_of_ndb s.ndb)
 
 abbrev pub bytes_of_store : Store → List ℕ
 bytes_of_store s = bytes_of (image_of_ndb s.ndb)

@@ -1,6 +1,7 @@
 -- What an answer of the check of a whole file says.
 use Rattle.std.proofs.Common.{◌≡◌, ℕ, List, length, Option, None, Result, Ok, Err, refl, sym, ap, ◌∙◌}
 use Rattle.std.specs.Prelude.{IfOk, IfErr, OnOk}
+use Rattle.std.specs.Borrow.{Bor}
 use Rattle.pst_fault.specs.declared.fault.Fault.{Fault}
 use Rattle.pst_fault.specs.Fault.{no_memory}
 use Rattle.pst_fault.specs.First.{IsFirst, TellsFirst}
@@ -25,7 +26,7 @@ use Rattle.pst_store.specs.Fault.{store_fault}
 use Rattle.pst_store.specs.Grammar.{IsStore}
 use Rattle.pst_store.specs.Parts.{StoreParts, table_in, entries_in}
 use Rattle.pst_store.specs.Values.{store_in}
-use Rattle.pst_store.specs.View.{bytes_of_store}
+use Rattle.pst_store.specs.View.{memory_of_store}
 use Rattle.pst_store.proofs.StoreLaws.{store_law, sound_store, table_is, entries_are}
 use Rattle.pst_verify.specs.declared.counts.Counts.{Counts}
 use Rattle.pst_verify.specs.declared.check.Verified.{Verified}
@@ -99,9 +100,9 @@ tells first (Ok v) refused none = none
 tells first (Err f) refused none = refused
 
 -- a yes is one
-pub answered : (I : List ℕ) (result : Result Verified Fault) → OnOk result (store_fault I ≡ None) → IfOk result (λ v. bytes_of_store v.store ≡ I) → IfOk result (λ v. IsReportOf I (store_in I) v.report) → IfOk result (IsVerified I)
-answered I (Ok v) none view report = record { store = sound_store I none; view = view; report = report }
-answered I (Err f) none view report = tt
+pub answered : (bytes : Bor (List ℕ)) (result : Result Verified Fault) → OnOk result (store_fault bytes.now ≡ None) → IfOk result (λ v. memory_of_store v.store ≡ bytes) → IfOk result (λ v. IsReportOf bytes.now (store_in bytes.now) v.report) → IfOk result (IsVerified bytes)
+answered bytes (Ok v) none view report = record { store = sound_store bytes.now none; view = view; report = report }
+answered bytes (Err f) none view report = tt
 
 -- a store is refused for want of memory alone
 pub not_refused : (I : List ℕ) (s : StoreParts) (result : Result Verified Fault) → IfErr result (IsFirst (store_fault I)) → IsStore I s → IfErr result (λ f. f ≡ no_memory)

@@ -16,7 +16,7 @@ ghost use Rattle.pst_store.specs.Fault.{store_fault};
 ghost use Rattle.pst_store.specs.Grammar.{IsStore};
 ghost use Rattle.pst_store.specs.Parts.{StoreParts};
 ghost use Rattle.pst_store.specs.Values.{store_in};
-ghost use Rattle.pst_store.specs.View.{bytes_of_store};
+ghost use Rattle.pst_store.specs.View.{memory_of_store};
 ghost use Rattle.pst_verify.specs.Report.{IsReportOf};
 ghost use Rattle.pst_verify.specs.Verified.{IsVerified};
 
@@ -69,7 +69,7 @@ fn report_of(ndb: &Ndb, map: MapReport, work: Work) -> Report
 fn check_exactly<'a>(alloc: Global, bytes: &'a [u8]) -> Result<Verified<'a>, Fault>
     ensures exact { IfErr result (IsFirst (store_fault bytes.now)) }
     ensures none { OnOk result (store_fault bytes.now ≡ None) }
-    ensures view { IfOk result (λ v. bytes_of_store v.store ≡ bytes.now) }
+    ensures view { IfOk result (λ v. memory_of_store v.store ≡ bytes.entry) }
     ensures report { IfOk result (λ v. IsReportOf bytes.now (store_in bytes.now) v.report) }
 {
     let checked = check_ndb(alloc, Image::new(bytes))?;
@@ -96,8 +96,8 @@ fn check_exactly<'a>(alloc: Global, bytes: &'a [u8]) -> Result<Verified<'a>, Fau
 /// In each phase it is that of the call that checks it: `check_ndb` has 1 to 6, `check_messaging` the seventh. What is shared is looked
 /// at once. NoMemory where memory is refused.
 pub fn verify<'a>(alloc: Global, bytes: &'a [u8]) -> Result<Verified<'a>, Fault>
-    // Whenever the answer is yes, of any bytes, they are a store: that which is given, and of which is reported.
-    ensures yes { IfOk result (IsVerified bytes.now) }
+    // Whenever the answer is yes, of any bytes, they are a store: that which is given, of their own memory, and of which is reported.
+    ensures yes { IfOk result (IsVerified bytes.entry) }
 
     // Of bytes that are a store the answer is yes, unless memory ran out.
     ensures no { (s : StoreParts) → IsStore bytes.now s → IfErr result (λ f. f ≡ no_memory) }
