@@ -13,4 +13,6 @@ pub mod NodeLaw
 pub mod Shown
 pub mod Left
 pub mod View
+pub mod Steps
+pub mod Frames
 pub use Rattle.pst_pc.specs as pst_pc

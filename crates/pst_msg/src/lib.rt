@@ -22,6 +22,7 @@ mod check;
 mod context;
 mod folder;
 mod folder_view;
+mod frame;
 mod items;
 mod keys;
 mod kinds;
@@ -32,7 +33,9 @@ mod message;
 mod message_view;
 mod nid;
 mod object;
+mod open;
 mod recipients;
+mod remember;
 mod role;
 mod views;
 

@@ -1,0 +1,8 @@
+use Rattle.std.proofs.Common.{refl}
+use Rattle.pst_subnode.specs.declared.check.TheConstants.{LISTS}
+use Rattle.pst_ndb.specs.Views.{table_of_node}
+use Rattle.pst_msg.proofs.KnownLemmas.{list_remembered}
+use Rattle.pst_msg.proofs.remember.remember_list.Goals as goal
+
+pub returns-clause-known : goal.returns-clause-known
+returns-clause-known c = list_remembered (table_of_node c.args.node) c.args.known.now c.put.new.self LISTS c.args.node refl c.requires.known c.args.node.subs c.requires.none c.requires.inside (rw (← c.key_of_list.ensures) c.put.ensures.only) c.put.ensures.grows

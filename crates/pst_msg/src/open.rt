@@ -1,0 +1,216 @@
+//! What is found in a message, up to one that it embeds and that has to be gone through first.
+
+ghost use Rattle.std.specs.Prelude.{◌≡◌, None, Some, IfOk, IfErr, IfSome, IfNone};
+ghost use Rattle.pst_fault.specs.First.{IsFirst};
+ghost use Rattle.pst_subnode.specs.Tree.{sub_fault};
+ghost use Rattle.pst_ndb.specs.Views.{table_of_node, sub_bid_of, roots_of, IsIndexedBy};
+ghost use Rattle.pst_tc.specs.View.{row_parts};
+ghost use Rattle.pst_msg.specs.declared.role.Role.TheVariants.{Properties};
+ghost use Rattle.pst_msg.specs.Counts.{HasMessage, HasAttachment};
+ghost use Rattle.pst_msg.specs.Fault.{attachment_row_fault, held_fault, message_at, embedded_fault, attachment_at, below_message, below_attachment};
+ghost use Rattle.pst_msg.specs.Frames.{IsOpened, EmbedsKnown, IsObjectOpened, AttachmentKnown, IsAttachmentOpened, IsRowKnown, IsRowOpened};
+ghost use Rattle.pst_msg.specs.Grammar.{IsAttachmentRow};
+ghost use Rattle.pst_msg.specs.Growth.{Grows};
+ghost use Rattle.pst_msg.specs.Known.{ContextIn, WholeIn, NamedIn, IsTrueOf};
+ghost use Rattle.pst_msg.specs.Values.{embedded_of};
+
+use crate::context::once;
+use crate::frame::Frame;
+use crate::keys::{key_of, key_of_list};
+use crate::known::Known;
+use crate::nid::{ATTACHMENT, ATTACHMENTS, is_type, named};
+use crate::object::{Object, embedded};
+use crate::recipients::check_recipients;
+use crate::remember::{remember_attachment, remember_held, remember_message};
+use crate::role::Role;
+use pst_fault::{Fault, Kind};
+use pst_ndb::Node;
+use pst_pc::known_pc;
+use pst_subnode::SubIndex;
+use pst_tc::{Row, known_tc};
+
+// What a message holds in its list of subnodes, up to the rows of its attachment table; where it has none, the message is
+// remembered.
+fn open_held<'a>(
+    node: Node<'a>,
+    limit: u32,
+    holder: Option<Node<'a>>,
+    known: &mut Known,
+) -> Result<Option<Frame<'a>>, Fault>
+    requires sound { sub_fault (table_of_node node) limit (sub_bid_of node) ≡ None }
+    requires known { IsTrueOf (table_of_node node) known.old }
+    requires properties { ContextIn known.old Properties (roots_of node) }
+    ensures known { IsTrueOf (table_of_node node.entry) known.new }
+    ensures grows { let t = table_of_node node.entry in
+        Grows t (λ nodes. HasMessage t nodes (roots_of node.entry)) known.old known.new }
+    ensures refused { let t = table_of_node node.entry in
+        IfErr result (IsFirst (held_fault t (below_message t limit) (roots_of node.entry))) }
+    ensures done { IfOk result (λ o. IfNone o (WholeIn known.new.messages (roots_of node.entry))) }
+    ensures open { let t = table_of_node node.entry in
+        IfOk result (λ o. IfSome o (IsOpened t known.new (roots_of node.entry) limit holder.entry)) }
+{
+    let index = node.index(known.alloc)?;
+    check_recipients(node, &index, known)?;
+    match node.sub_by(&index, ATTACHMENTS) {
+        Some(table) => {
+            once(known, Role::Attachments, table)?;
+            Ok(Some(Frame {
+                holder,
+                node,
+                index,
+                bid: table.bid_data(),
+                rest: known_tc(table).rows(),
+                limit,
+            }))
+        }
+        None => {
+            remember_held(node, known)?;
+            Ok(None)
+        }
+    }
+}
+
+/// A message, which this attachment embeds if one does, unless it is remembered: up to the rows of its attachment table.
+pub(crate) fn open_message<'a>(
+    node: Node<'a>,
+    limit: u32,
+    holder: Option<Node<'a>>,
+    known: &mut Known,
+) -> Result<Option<Frame<'a>>, Fault>
+    requires sound { sub_fault (table_of_node node) limit (sub_bid_of node) ≡ None }
+    requires known { IsTrueOf (table_of_node node) known.old }
+    ensures known { IsTrueOf (table_of_node node.entry) known.new }
+    ensures grows { let t = table_of_node node.entry in
+        Grows t (λ nodes. HasMessage t nodes (roots_of node.entry)) known.old known.new }
+    ensures refused { let t = table_of_node node.entry in
+        IfErr result (IsFirst (message_at t limit (roots_of node.entry))) }
+    ensures done { IfOk result (λ o. IfNone o (WholeIn known.new.messages (roots_of node.entry))) }
+    ensures open { let t = table_of_node node.entry in
+        IfOk result (λ o. IfSome o (IsOpened t known.new (roots_of node.entry) limit holder.entry)) }
+{
+    if known.messages.has(key_of(0, node)) {
+        return Ok(None);
+    }
+    once(known, Role::Properties, node)?;
+    if known.lists.has(key_of_list(node)) {
+        remember_message(node, known)?;
+        return Ok(None);
+    }
+    open_held(node, limit, holder, known)
+}
+
+// The message that an attachment embeds.
+fn open_embedded<'a>(
+    node: Node<'a>,
+    object: Object,
+    limit: u32,
+    known: &mut Known,
+) -> Result<Option<Frame<'a>>, Fault>
+    requires sound { sub_fault (table_of_node node) limit (sub_bid_of node) ≡ None }
+    requires known { IsTrueOf (table_of_node node) known.old }
+    ensures known { IsTrueOf (table_of_node node.entry) known.new }
+    ensures grows { let t = table_of_node node.entry in let r = roots_of node.entry in
+        Grows t (λ nodes. HasAttachment t nodes r × (embedded_of t r ≡ Some object))
+        known.old known.new }
+    ensures refused { let t = table_of_node node.entry in let below = below_attachment t limit in
+        IfErr result (IsFirst (embedded_fault t below (roots_of node.entry) object)) }
+    ensures done { let t = table_of_node node.entry in
+        IfOk result (λ o. IfNone o (EmbedsKnown t known.new (roots_of node.entry) object)) }
+    ensures open { let t = table_of_node node.entry in
+        IfOk result (λ o. IfSome o (IsObjectOpened t known.new node.entry limit object)) }
+{
+    match known.index.subnode(node, object.nid) {
+        Some(sub) => open_message(sub, limit - 1, Some(node), known),
+        None => Err(named(Kind::NodeMissing, object.at, node.bid_data(), object.nid)),
+    }
+}
+
+// An attachment that is not remembered.
+fn open_part<'a>(
+    node: Node<'a>,
+    limit: u32,
+    known: &mut Known,
+) -> Result<Option<Frame<'a>>, Fault>
+    requires sound { sub_fault (table_of_node node) limit (sub_bid_of node) ≡ None }
+    requires known { IsTrueOf (table_of_node node) known.old }
+    ensures known { IsTrueOf (table_of_node node.entry) known.new }
+    ensures grows { let t = table_of_node node.entry in
+        Grows t (λ nodes. HasAttachment t nodes (roots_of node.entry)) known.old known.new }
+    ensures refused { let t = table_of_node node.entry in
+        IfErr result (IsFirst (attachment_at t limit (roots_of node.entry))) }
+    ensures done { IfOk result (λ o.
+        IfNone o (AttachmentKnown (table_of_node node.entry) known.new (roots_of node.entry))) }
+    ensures open { let t = table_of_node node.entry in
+        IfOk result (λ o. IfSome o (IsAttachmentOpened t known.new node.entry limit)) }
+{
+    once(known, Role::Properties, node)?;
+    match embedded(&known_pc(node)) {
+        Some(object) => open_embedded(node, object, limit, known),
+        None => Ok(None),
+    }
+}
+
+// An attachment, unless it is remembered: up to a message that it embeds.
+fn open_attachment<'a>(
+    node: Node<'a>,
+    limit: u32,
+    known: &mut Known,
+) -> Result<Option<Frame<'a>>, Fault>
+    requires sound { sub_fault (table_of_node node) limit (sub_bid_of node) ≡ None }
+    requires known { IsTrueOf (table_of_node node) known.old }
+    ensures known { IsTrueOf (table_of_node node.entry) known.new }
+    ensures grows { let t = table_of_node node.entry in
+        Grows t (λ nodes. HasAttachment t nodes (roots_of node.entry)) known.old known.new }
+    ensures refused { let t = table_of_node node.entry in
+        IfErr result (IsFirst (attachment_at t limit (roots_of node.entry))) }
+    ensures done { IfOk result (λ o. IfNone o (WholeIn known.new.attachments (roots_of node.entry))) }
+    ensures open { let t = table_of_node node.entry in
+        IfOk result (λ o. IfSome o (IsAttachmentOpened t known.new node.entry limit)) }
+{
+    if known.attachments.has(key_of(0, node)) {
+        return Ok(None);
+    }
+    if let Some(frame) = open_part(node, limit, known)? {
+        return Ok(Some(frame));
+    }
+    remember_attachment(node, known)?;
+    Ok(None)
+}
+
+/// A row of the attachment table of a message: the attachment that it names, up to a message that this embeds.
+pub(crate) fn open_row<'a>(
+    node: Node<'a>,
+    index: &SubIndex,
+    bid: u64,
+    row: Row,
+    limit: u32,
+    known: &mut Known,
+) -> Result<Option<Frame<'a>>, Fault>
+    requires index { IsIndexedBy node index.now }
+    requires sound { sub_fault (table_of_node node) limit (sub_bid_of node) ≡ None }
+    requires known { IsTrueOf (table_of_node node) known.old }
+    ensures known { IsTrueOf (table_of_node node.entry) known.new }
+    ensures grows { let t = table_of_node node.entry in let r = roots_of node.entry in
+        let x = row_parts row.entry in
+        Grows t (λ nodes. HasMessage t nodes r × IsAttachmentRow t r x) known.old known.new }
+    ensures refused { let t = table_of_node node.entry in let r = roots_of node.entry in
+        let x = row_parts row.entry in
+        IfErr result (IsFirst (attachment_row_fault t (below_message t limit) r bid x)) }
+    ensures done { let t = table_of_node node.entry in let r = roots_of node.entry in
+        let x = row_parts row.entry in
+        IfOk result (λ o. IfNone o (IsRowKnown t known.new r limit bid x)) }
+    ensures open { let t = table_of_node node.entry in let r = roots_of node.entry in
+        let x = row_parts row.entry in
+        IfOk result (λ o. IfSome o (IsRowOpened t known.new r limit bid x)) }
+{
+    let id = row.id();
+    match node.sub_by(index, id) {
+        Some(sub) => {
+            if !is_type(ATTACHMENT, id) {
+                return Err(named(Kind::NodeKind, row.at(), bid, id));
+            }
+            open_attachment(sub, limit - 1, known)
+        }
+        None => Err(named(Kind::NodeMissing, row.at(), bid, id)),
+    }
+}

@@ -1,0 +1,72 @@
+//! What is found without fault is remembered.
+
+ghost use Rattle.std.specs.Prelude.{◌≡◌, None, OnOk, IfErr};
+ghost use Rattle.pst_fault.specs.Fault.{no_memory};
+ghost use Rattle.pst_subnode.specs.declared.check.TheConstants.{LISTS};
+ghost use Rattle.pst_ndb.specs.Views.{table_of_node, roots_of};
+ghost use Rattle.pst_msg.specs.declared.role.Role.TheVariants.{Properties};
+ghost use Rattle.pst_msg.specs.Fault.{held_fault, below_message, attachment_fault};
+ghost use Rattle.pst_msg.specs.Growth.{Grows};
+ghost use Rattle.pst_msg.specs.Known.{ContextIn, WholeIn, HeldIn, AttachmentIn, IsTrueOf};
+
+use crate::keys::{key_of, key_of_list};
+use crate::known::Known;
+use pst_fault::Fault;
+use pst_ndb::Node;
+
+// What a message holds in its list of subnodes, by that list.
+fn remember_list(node: Node, known: &mut Known) -> Result<(), Fault>
+    requires known { IsTrueOf (table_of_node node) known.old }
+    requires none { let t = table_of_node node in
+        held_fault t (below_message t LISTS) (roots_of node) ≡ None }
+    requires inside { HeldIn (table_of_node node) known.old (roots_of node) }
+    ensures known { IsTrueOf (table_of_node node.entry) known.new }
+    ensures grows { Grows (table_of_node node.entry) (λ nodes. Unit {0}) known.old known.new }
+    ensures memory { IfErr result (λ f. f ≡ no_memory) }
+{
+    known.lists.put(key_of_list(node))
+}
+
+/// A message, whole: its properties are known, and what it holds has no fault.
+pub(crate) fn remember_message(node: Node, known: &mut Known) -> Result<(), Fault>
+    requires known { IsTrueOf (table_of_node node) known.old }
+    requires none { let t = table_of_node node in
+        held_fault t (below_message t LISTS) (roots_of node) ≡ None }
+    requires properties { ContextIn known.old Properties (roots_of node) }
+    requires inside { HeldIn (table_of_node node) known.old (roots_of node) }
+    ensures known { IsTrueOf (table_of_node node.entry) known.new }
+    ensures grows { Grows (table_of_node node.entry) (λ nodes. Unit {0}) known.old known.new }
+    ensures there { OnOk result (WholeIn known.new.messages (roots_of node.entry)) }
+    ensures memory { IfErr result (λ f. f ≡ no_memory) }
+{
+    known.messages.put(key_of(0, node))
+}
+
+/// What a message holds, and the message.
+pub(crate) fn remember_held(node: Node, known: &mut Known) -> Result<(), Fault>
+    requires known { IsTrueOf (table_of_node node) known.old }
+    requires none { let t = table_of_node node in
+        held_fault t (below_message t LISTS) (roots_of node) ≡ None }
+    requires properties { ContextIn known.old Properties (roots_of node) }
+    requires inside { HeldIn (table_of_node node) known.old (roots_of node) }
+    ensures known { IsTrueOf (table_of_node node.entry) known.new }
+    ensures grows { Grows (table_of_node node.entry) (λ nodes. Unit {0}) known.old known.new }
+    ensures there { OnOk result (WholeIn known.new.messages (roots_of node.entry)) }
+    ensures memory { IfErr result (λ f. f ≡ no_memory) }
+{
+    remember_list(node, known)?;
+    remember_message(node, known)
+}
+
+/// An attachment, whole.
+pub(crate) fn remember_attachment(node: Node, known: &mut Known) -> Result<(), Fault>
+    requires known { IsTrueOf (table_of_node node) known.old }
+    requires none { attachment_fault (table_of_node node) (roots_of node) ≡ None }
+    requires inside { AttachmentIn (table_of_node node) known.old (roots_of node) }
+    ensures known { IsTrueOf (table_of_node node.entry) known.new }
+    ensures grows { Grows (table_of_node node.entry) (λ nodes. Unit {0}) known.old known.new }
+    ensures there { OnOk result (WholeIn known.new.attachments (roots_of node.entry)) }
+    ensures memory { IfErr result (λ f. f ≡ no_memory) }
+{
+    known.attachments.put(key_of(0, node))
+}
