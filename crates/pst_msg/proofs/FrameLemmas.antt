@@ -1,10 +1,13 @@
 -- The messages on the stack.
-use Rattle.std.proofs.Common.{◌≡◌, ℕ, zero, suc, ◌+◌, ◌-◌, ◌<◌, ◌≤◌, true, List, [], ◌∷◌, ◌++◌, reverse, length, Option, Some, None, refl, sym, ap, ◌∙◌, ◌⊎◌, inl, inr, arith}
-use Rattle.std.specs.Prelude.{option_map, IfSome, sum_by}
+use Rattle.std.proofs.Common.{◌≡◌, ℕ, zero, suc, ◌+◌, ◌-◌, ◌<◌, ◌≤◌, true, List, [], ◌∷◌, ◌++◌, reverse, length, Option, Some, None, Result, Ok, Err, refl, sym, ap, ◌∙◌, ◌⊎◌, inl, inr, arith}
+use Rattle.std.specs.Prelude.{option_map, IfSome, IfNone, IfOk, IfErr, sum_by}
 use Rattle.std.specs.List.{Contains}
+use Rattle.std.proofs.lemmas.List.{reverse-append}
 use Rattle.pst_fault.specs.declared.fault.Fault.{Fault}
+use Rattle.pst_fault.specs.declared.kind.Kind.TheVariants.{NodeMissing, NodeKind}
 use Rattle.pst_fault.specs.Each.{first_of, if_there, there_or}
 use Rattle.pst_fault.specs.First.{◌then◌, holds_or, IsFirst}
+use Rattle.pst_fault.proofs.EachLemmas.{contains_here, contains_later}
 use Rattle.pst_fault.proofs.FirstLemmas.{then_none, both_none, is_first_then, is_first_after}
 use Rattle.pst_page.specs.declared.entry.NodeEntry.{NodeEntry}
 use Rattle.pst_block.specs.Table.{Table}
@@ -12,7 +15,7 @@ use Rattle.pst_subnode.specs.declared.check.TheConstants.{LISTS}
 use Rattle.pst_subnode.specs.Tree.{sub_fault}
 use Rattle.pst_ndb.specs.declared.node.Node.{Node}
 use Rattle.pst_ndb.specs.Roots.{Roots, subnode_of}
-use Rattle.pst_ndb.specs.Views.{table_of_node, sub_bid_of, roots_of}
+use Rattle.pst_ndb.specs.Views.{table_of_node, sub_bid_of, roots_of, IsIndexedBy}
 use Rattle.pst_pc.specs.Fault.{pc_fault}
 use Rattle.pst_tc.specs.Fault.{tc_fault}
 use Rattle.pst_tc.specs.declared.rows.Rows.{Rows}
@@ -24,19 +27,22 @@ use Rattle.pst_msg.specs.declared.nid.TheConstants.{ATTACHMENT, ATTACHMENTS, REC
 use Rattle.pst_msg.specs.declared.object.Object.{Object}
 use Rattle.pst_msg.specs.declared.role.Role.TheVariants.{Properties, Recipients, Attachments}
 use Rattle.pst_msg.specs.Nid.{is_type, named}
-use Rattle.pst_msg.specs.Counts.{HasMessage, HasAttachment}
+use Rattle.pst_msg.specs.Counts.{HasMessage, HasAttachment, embedded, attached}
 use Rattle.pst_msg.specs.Fault.{attachment_row_fault, attachments_fault, held_fault, message_part, embedded_fault, attachment_part, message_at, attachment_at, below_message, below_attachment, message_fault, attachment_fault}
 use Rattle.pst_msg.specs.Grammar.{IsAttachmentRow}
 use Rattle.pst_msg.specs.Growth.{Grows}
 use Rattle.pst_msg.specs.Known.{ContextIn, WholeIn, NamedIn, HeldIn, MessageIn, AttachmentIn, IsTrueOf}
 use Rattle.pst_msg.specs.Values.{embedded_of}
-use Rattle.pst_msg.specs.Steps.{frame_steps}
+use Rattle.pst_msg.specs.Steps.{frame_steps, message_steps}
 use Rattle.pst_msg.specs.Frames.{left_of, holder_of, IsWaited, IsFrame, IsHolder, HasHolder, HolderIn, Reaches, IsBelow, IsStack, IsOpened, EmbedsKnown, IsObjectOpened, AttachmentKnown, IsAttachmentOpened, IsRowKnown, IsRowOpened, with_rest, IsWentOn}
 use Rattle.pst_msg.proofs.CountLemmas.{grows_of, grows_then}
-use Rattle.pst_msg.proofs.KnownLemmas.{known_message}
+use Rattle.pst_msg.proofs.GrowLemmas.{by_first}
+use Rattle.pst_msg.proofs.KnownLemmas.{known_message, known_attachment}
 use Rattle.pst_msg.proofs.LimitLemmas.{message_limit, held_limit}
-use Rattle.pst_msg.proofs.MessageLemmas.{message_is, attachment_is, below_attachment_is}
+use Rattle.pst_msg.proofs.MessageLemmas.{message_is, attachment_is, below_message_is, below_attachment_is}
 use Rattle.pst_msg.proofs.SubnodeLemmas.{subnode_below}
+use Rattle.pst_msg.proofs.StepLemmas.{opened_steps, embedded_steps, row_steps_is, fewer_steps}
+use Rattle.pst_msg.proofs.ViewLemmas.{subnode_sound}
 
 -- ---- under the limit of a file
 
@@ -59,3 +65,332 @@ whole_message t r properties none = message_held t LISTS r properties ∙ none
 -- what adds no context adds only what is named, whatever holds
 pub grows_any : (t : Table) (H : List NodeEntry → Type 0) (a b : Known) → Grows t (λ nodes. Unit {0}) a b → Grows t H a b
 grows_any t H a b g = grows_of t (λ nodes. Unit {0}) H a b (λ nodes held. tt) g
+
+-- ---- answers that give a message for the stack
+
+pub err_map : (result : Result (Option Frame) Fault) (P Q : Fault → Type 0) → ((e : Fault) → P e → Q e) → IfErr result P → IfErr result Q
+err_map (Ok o) P Q h is = tt
+err_map (Err e) P Q h is = h e is
+
+pub none_map : (result : Result (Option Frame) Fault) (P Q : Type 0) → (P → Q) → IfOk result (λ o. IfNone o P) → IfOk result (λ o. IfNone o Q)
+none_map (Ok None) P Q h is = h is
+none_map (Ok (Some f)) P Q h is = tt
+none_map (Err e) P Q h is = tt
+
+pub some_map : (result : Result (Option Frame) Fault) (P Q : Frame → Type 0) → ((f : Frame) → P f → Q f) → IfOk result (λ o. IfSome o P) → IfOk result (λ o. IfSome o Q)
+some_map (Ok None) P Q h is = tt
+some_map (Ok (Some f)) P Q h is = h f is
+some_map (Err e) P Q h is = tt
+
+-- ---- a message whose rows are all left
+
+held_is : (t : Table) (below : Roots → Option Fault) (r table : Roots) → if_there (tc_fault t) (subnode_of t r RECIPIENTS) ≡ None → subnode_of t r ATTACHMENTS ≡ Some table → tc_fault t table ≡ None → held_fault t below r ≡ first_of (attachment_row_fault t below r table.bid_data) (tc_rows t table)
+unfolding held_fault attachments_fault
+held_is t below r table recipients is none =
+    then_none (if_there (tc_fault t) (subnode_of t r RECIPIENTS)) (if_there (attachments_fault t below r) (subnode_of t r ATTACHMENTS)) recipients
+    ∙ ap (λ o. if_there (attachments_fault t below r) o) is
+    ∙ then_none (tc_fault t table) (first_of (attachment_row_fault t below r table.bid_data) (tc_rows t table)) none
+
+-- a message without an attachment table
+pub held_without : (t : Table) (below : Roots → Option Fault) (r : Roots) → if_there (tc_fault t) (subnode_of t r RECIPIENTS) ≡ None → None ≡ subnode_of t r ATTACHMENTS → held_fault t below r ≡ None
+unfolding held_fault
+held_without t below r recipients is =
+    then_none (if_there (tc_fault t) (subnode_of t r RECIPIENTS)) (if_there (attachments_fault t below r) (subnode_of t r ATTACHMENTS)) recipients
+    ∙ ap (λ o. if_there (attachments_fault t below r) o) (sym is)
+
+pub opened : (t : Table) (k : Known) (f : Frame) (table : Roots) → table_of_node f.node ≡ t → sub_fault t f.limit (sub_bid_of f.node) ≡ None → IsIndexedBy f.node f.index → if_there (tc_fault t) (subnode_of t (roots_of f.node) RECIPIENTS) ≡ None → subnode_of t (roots_of f.node) ATTACHMENTS ≡ Some table → tc_fault t table ≡ None → f.bid ≡ table.bid_data → tc_rows_left f.rest ≡ tc_rows t table → ContextIn k Properties (roots_of f.node) → ((s : Roots) → subnode_of t (roots_of f.node) RECIPIENTS ≡ Some s → ContextIn k Recipients s) → ContextIn k Attachments table → IsOpened t k (roots_of f.node) f.limit f.holder f
+opened t k f table same sound index recipients is none bid rows properties recipients_in there =
+    let part = λ (b : ℕ). attachment_row_fault t (below_message t f.limit) (roots_of f.node) b in
+    record {
+      roots = refl;
+      nests = refl;
+      in_holder = refl;
+      frame = record {
+        table = same;
+        sound = sound;
+        index = index;
+        first = held_is t (below_message t f.limit) (roots_of f.node) table recipients is none ∙ ap (λ b. first_of (part b) (tc_rows t table)) (sym bid) ∙ ap (λ xs. first_of (part f.bid) xs) (sym rows);
+        within = λ x w. (table, is, rw (← rows) w);
+        properties = properties;
+        recipients = recipients_in;
+        tables = λ s e. let one : table ≡ s = cc in rw (← one) there;
+        attachments = λ x row. let one : row.0 ≡ table = cc in let w : Contains (tc_rows t table) x = (rw one at row.2) in inr (inr (rw rows w));
+      };
+      steps = opened_steps t f table is rows;
+    }
+
+-- ---- an attachment
+
+-- one whose properties are remembered, and the message that it embeds, has no fault
+pub attachment_known : (t : Table) (k : Known) (node : Node) → table_of_node node ≡ t → IsTrueOf t k → AttachmentKnown t k (roots_of node) → attachment_fault t (roots_of node) ≡ None
+unfolding attachment_part embedded_fault
+attachment_known t k node same known is =
+    let a : Roots = roots_of node in
+    let all : sub_fault t LISTS a.bid_sub ≡ None = rw (← same) node.subs in
+    attachment_is t LISTS a ∙ then_none (pc_fault t a) (if_there (embedded_fault t (below_attachment t LISTS) a) (embedded_of t a)) (known.contexts Properties a is.properties)
+    ∙ by_object (embedded_of t a) refl all
+  where
+    by_object : (o : Option Object) → embedded_of t (roots_of node) ≡ o → sub_fault t LISTS (roots_of node).bid_sub ≡ None → if_there (embedded_fault t (below_attachment t LISTS) (roots_of node)) o ≡ None
+    by_object None e all = refl
+    by_object (Some o) e all =
+        let m = is.messages o e in
+        let below = subnode_below t LISTS o.nid (roots_of node) m.0 all m.1 in
+        ap (λ found. there_or (named NodeMissing o.at (roots_of node).bid_data o.nid) (below_attachment t LISTS) found) m.1
+        ∙ below_attachment_is t LISTS m.0 below.some
+        ∙ message_limit t (LISTS - 1) LISTS m.0 below.sound (subnode_sound t LISTS o.nid (roots_of node) m.0 all m.1)
+        ∙ known.messages m.0 m.2 (subnode_sound t LISTS o.nid (roots_of node) m.0 all m.1)
+
+-- the message that an object names is put on the stack
+pub object_opened : (t u : Table) (k : Known) (a sub : Node) (limit : ℕ) (o : Object) (f : Frame) → u ≡ t → 0 < limit → Some (roots_of sub) ≡ subnode_of t (roots_of a) o.nid → IsOpened u k (roots_of sub) (limit - 1) (Some a) f → IsObjectOpened t k a limit o f
+object_opened t u k a sub limit o f same some found of_u =
+    let is : IsOpened t k (roots_of sub) (limit - 1) (Some a) f = rw (← same) of_u in
+    let steps : message_steps t f.limit (roots_of f.node) ≡ message_steps t (limit - 1) (roots_of sub) = rw (is.nests, is.roots) refl in
+    record {
+      found = sym found ∙ ap (λ r. Some r) (sym is.roots);
+      nests = omega (arith, is.nests);
+      holder = is.in_holder;
+      frame = is.frame;
+      steps = omega (arith, is.steps, steps);
+    }
+
+attachment_first : (t : Table) (limit : ℕ) (a s : Roots) (o : Object) → pc_fault t a ≡ None → 0 < limit → embedded_of t a ≡ Some o → subnode_of t a o.nid ≡ Some s → attachment_at t limit a ≡ message_at t (limit - 1) s
+unfolding attachment_part embedded_fault
+attachment_first t limit a s o properties some embeds found =
+    attachment_is t limit a ∙ then_none (pc_fault t a) (if_there (embedded_fault t (below_attachment t limit) a) (embedded_of t a)) properties
+    ∙ ap (λ e. if_there (embedded_fault t (below_attachment t limit) a) e) embeds
+    ∙ ap (λ e. there_or (named NodeMissing o.at a.bid_data o.nid) (below_attachment t limit) e) found
+    ∙ below_attachment_is t limit s some
+
+pub attachment_opened : (t : Table) (k : Known) (a : Node) (limit : ℕ) (o : Object) (f : Frame) → table_of_node a ≡ t → IsTrueOf t k → ContextIn k Properties (roots_of a) → embedded_of t (roots_of a) ≡ Some o → IsObjectOpened t k a limit o f → IsAttachmentOpened t k a limit f
+attachment_opened t k a limit o f same known properties embeds is =
+    let less : limit - 1 ≡ f.limit = omega (arith, is.nests) in
+    let some : 0 < limit = omega (arith, is.nests) in
+    record {
+      first = attachment_first t limit (roots_of a) (roots_of f.node) o (known.contexts Properties (roots_of a) properties) some embeds is.found ∙ ap (λ n. message_at t n (roots_of f.node)) less;
+      holder = is.holder;
+      held = record { table = same; properties = properties; object = o; embeds = embeds; found = is.found };
+      frame = is.frame;
+      steps = rw (embedded_steps t limit (roots_of a) (roots_of f.node) o some embeds is.found, less) is.steps;
+      reached = λ nodes h. embedded (roots_of a) (roots_of f.node) o h embeds is.found;
+    }
+
+-- ---- a row
+
+row_is : (t : Table) (limit bid : ℕ) (r : Roots) (x : RowParts) (s : Roots) → 0 < limit → Some s ≡ subnode_of t r x.id → is_type ATTACHMENT x.id ≡ true → attachment_row_fault t (below_message t limit) r bid x ≡ attachment_at t (limit - 1) s
+unfolding attachment_row_fault
+row_is t limit bid r x s some found kind = rw (← found, kind) (below_message_is t limit s some)
+
+pub row_refused : (t u : Table) (limit bid : ℕ) (r : Roots) (x : RowParts) (s : Roots) (e : Fault) → u ≡ t → 0 < limit → Some s ≡ subnode_of t r x.id → is_type ATTACHMENT x.id ≡ true → IsFirst (attachment_at u (limit - 1) s) e → IsFirst (attachment_row_fault t (below_message t limit) r bid x) e
+row_refused t u limit bid r x s e same some found kind is = rw (row_is t limit bid r x s some found kind, ← same) is
+
+pub row_known : (t u : Table) (k : Known) (limit bid : ℕ) (r : Roots) (x : RowParts) (s : Node) → u ≡ t → table_of_node s ≡ t → IsTrueOf u k → 0 < limit → sub_fault t (limit - 1) (sub_bid_of s) ≡ None → Some (roots_of s) ≡ subnode_of t r x.id → is_type ATTACHMENT x.id ≡ true → WholeIn k.attachments (roots_of s) → IsRowKnown t k r limit bid x
+row_known t u k limit bid r x s same table known some sound found kind is =
+    record {
+      first = row_is t limit bid r x (roots_of s) some found kind ∙ known_attachment t k.attachments (limit - 1) s table (rw same at known).attachments is sound;
+      there = λ y e. let one : roots_of s ≡ y = cc in rw (← one) is;
+    }
+
+pub row_opened : (t u : Table) (k : Known) (limit bid : ℕ) (r : Roots) (x : RowParts) (s : Node) (f : Frame) → u ≡ t → 0 < limit → Some (roots_of s) ≡ subnode_of t r x.id → is_type ATTACHMENT x.id ≡ true → IsAttachmentOpened u k s (limit - 1) f → IsRowOpened t k r limit bid x f
+row_opened t u k limit bid r x s f same some found kind of_u =
+    let is : IsAttachmentOpened t k s (limit - 1) f = rw (← same) of_u in
+    record {
+      first = row_is t limit bid r x (roots_of s) some found kind ∙ is.first;
+      attachment = roots_of s;
+      found = sym found;
+      holder = ap (λ o. option_map roots_of o) is.holder;
+      held = rw is.holder is.held;
+      frame = is.frame;
+      steps = omega (arith, is.steps, row_steps_is t limit r x (roots_of s) some (sym found));
+      reached = λ nodes h row. is.reached nodes (attached r (roots_of s) x h row (sym found));
+    }
+
+-- ---- later
+
+pub frame_later : (t : Table) (H : List NodeEntry → Type 0) (a b : Known) (now : Option Fault) (waits : Option Roots) (f : Frame) → Grows t H a b → IsFrame t a now waits f → IsFrame t b now waits f
+frame_later t H a b now waits f g is = record {
+  table = is.table;
+  sound = is.sound;
+  index = is.index;
+  first = is.first;
+  within = is.within;
+  properties = g.contexts _ is.properties;
+  recipients = λ s e. g.contexts _ (is.recipients s e);
+  tables = λ s e. g.contexts _ (is.tables s e);
+  attachments = λ x row. elim (is.attachments x row) [ inl there ↦ inl (λ s e. g.attachments _ (there s e)) | inr left ↦ inr left ];
+}
+
+some_later : (t : Table) (H : List NodeEntry → Type 0) (a b : Known) (r : Roots) (o : Option Node) → Grows t H a b → IfSome o (IsHolder t a r) → IfSome o (IsHolder t b r)
+some_later t H a b r None g is = tt
+some_later t H a b r (Some node) g is = record { table = is.table; properties = g.contexts _ is.properties; object = is.object; embeds = is.embeds; found = is.found }
+
+pub holder_later : (t : Table) (H : List NodeEntry → Type 0) (a b : Known) (f : Frame) → Grows t H a b → HasHolder t a f → HasHolder t b f
+holder_later t H a b f g is = some_later t H a b (roots_of f.node) f.holder g is
+
+pub below_later : (t : Table) (H : List NodeEntry → Type 0) (root : Roots) (a b : Known) (r : Roots) (limit : ℕ) (waits : Option Roots) (below : List Frame) → Grows t H a b → IsBelow t root a r limit waits below → IsBelow t root b r limit waits below
+unfolding IsBelow
+below_later t H root a b r limit waits [] g is = is
+below_later t H root a b r limit waits (f ∷ below) g is = (frame_later t H a b (message_at t limit r) waits f g is.0, holder_later t H a b f g is.1, is.2, below_later t H root a b (roots_of f.node) f.limit (holder_of f) below g is.3)
+
+-- ---- a fault
+
+pub below_refused : (t : Table) (root : Roots) (k : Known) (r : Roots) (limit : ℕ) (waits : Option Roots) (below : List Frame) (e : Fault) → IsTrueOf t k → IsFirst (message_at t limit r) e → IsBelow t root k r limit waits below → IsFirst (message_fault t root) e
+unfolding IsBelow
+below_refused t root k r limit waits [] e known refused is = let same : message_at t limit r ≡ message_fault t root = rw (is.0, is.1) refl in rw (← same) refused
+below_refused t root k r limit waits (f ∷ below) e known refused is =
+    let frame = is.0 in
+    let held : IsFirst (held_fault t (below_message t f.limit) (roots_of f.node)) e = rw frame.first (is_first_then (message_at t limit r) (left_of t f) e refused) in
+    let message : IsFirst (message_at t f.limit (roots_of f.node)) e = rw (message_held t f.limit (roots_of f.node) (known.contexts Properties (roots_of f.node) frame.properties)) held in
+    below_refused t root k (roots_of f.node) f.limit (holder_of f) below e known message is.3
+
+-- ---- a message is done
+
+waited_there : (waits : Option Roots) (t : Table) (k : Known) (r : Roots) (x : RowParts) → ((a : Roots) → waits ≡ Some a → WholeIn k.attachments a) → IsWaited waits t r x → NamedIn t k.attachments r x
+waited_there None t k r x whole is = absurd is
+waited_there (Some a) t k r x whole is = λ s e. let one : a ≡ s = cc in rw (← one) (whole a refl)
+
+frame_done : (t : Table) (k : Known) (now : Option Fault) (waits : Option Roots) (f : Frame) → now ≡ None → ((a : Roots) → waits ≡ Some a → WholeIn k.attachments a) → IsFrame t k now waits f → IsFrame t k None None f
+frame_done t k now waits f none whole is = record {
+  table = is.table;
+  sound = is.sound;
+  index = is.index;
+  first = is.first ∙ then_none now (left_of t f) none;
+  within = is.within;
+  properties = is.properties;
+  recipients = is.recipients;
+  tables = is.tables;
+  attachments = λ x row. elim (is.attachments x row) [
+    | inl there ↦ inl there
+    | inr (inl waited) ↦ inl (waited_there waits t k (roots_of f.node) x whole waited)
+    | inr (inr left) ↦ inr (inr left)
+  ];
+}
+
+below_done : (t : Table) (root : Roots) (k : Known) (r : Roots) (limit : ℕ) (waits : Option Roots) (below : List Frame) → message_at t limit r ≡ None → WholeIn k.messages r → ((a : Roots) → waits ≡ Some a → WholeIn k.attachments a) → IsBelow t root k r limit waits below → IsStack t root k below
+unfolding IsBelow IsStack
+below_done t root k r limit waits [] none there whole is = rw (← is.0) there
+below_done t root k r limit waits (f ∷ below) none there whole is = (frame_done t k (message_at t limit r) waits f none whole is.0, is.1, is.2, is.3)
+
+holder_whole : (k : Known) (o : Option Node) → IfSome o (λ a. WholeIn k.attachments (roots_of a)) → (a : Roots) → option_map roots_of o ≡ Some a → WholeIn k.attachments a
+holder_whole k None is a e = cc
+holder_whole k (Some node) is a e = let one : roots_of node ≡ a = cc in rw (← one) is
+
+pub stack_popped : (t : Table) (H : List NodeEntry → Type 0) (root : Roots) (old k : Known) (f : Frame) (below : List Frame) → IsStack t root old (f ∷ below) → Grows t H old k → IsTrueOf t k → WholeIn k.messages (roots_of f.node) → HolderIn k f → IsStack t root k below
+unfolding IsStack
+stack_popped t H root old k f below is g known there whole =
+    below_done t root k (roots_of f.node) f.limit (holder_of f) below (known_message t k.messages f.limit f.node is.0.table known.messages there is.0.sound) there (holder_whole k f.holder whole) (below_later t H root old k (roots_of f.node) f.limit (holder_of f) below g is.3)
+
+-- ---- a message is put above another
+
+pub stack_pushed : (t : Table) (H : List NodeEntry → Type 0) (root : Roots) (old k : Known) (f new above : Frame) (below : List Frame) → IsStack t root old (f ∷ below) → Grows t H old k → IsWentOn t k f new above → IsStack t root k (above ∷ new ∷ below)
+unfolding IsStack IsBelow
+stack_pushed t H root old k f new above below is g on =
+    let later : IsBelow t root k (roots_of f.node) f.limit (holder_of f) below = below_later t H root old k (roots_of f.node) f.limit (holder_of f) below g is.3 in
+    let held : HasHolder t k f = holder_later t H old k f g is.1 in
+    (on.upper, on.held, λ nodes h. on.reached nodes (is.2 nodes h), (on.frame, rw (on.holder, on.roots) held, rw on.roots is.2, rw (on.roots, on.limit, on.holder) later))
+
+pub stack_refused : (t : Table) (root : Roots) (k : Known) (f : Frame) (below : List Frame) (e : Fault) → IsTrueOf t k → IsFirst (message_at t f.limit (roots_of f.node)) e → IsStack t root k (f ∷ below) → IsFirst (message_fault t root) e
+unfolding IsStack
+stack_refused t root k f below e known refused is = below_refused t root k (roots_of f.node) f.limit (holder_of f) below e known refused is.3
+
+-- ---- a row is gone through
+
+row_contains : (x : RowParts) (xs rest : List RowParts) → xs ≡ x ∷ rest → Contains xs x
+row_contains x xs rest is = rw is (contains_here x rest)
+
+pub row_of_frame : (t : Table) (k : Known) (f : Frame) (rest : Rows) (x : RowParts) → tc_rows_left f.rest ≡ x ∷ tc_rows_left rest → IsFrame t k None None f → IsAttachmentRow t (roots_of f.node) x
+row_of_frame t k f rest x rows is = is.within x (row_contains x (tc_rows_left f.rest) (tc_rows_left rest) rows)
+
+-- what is left is that of the row, and then of the rows after it
+row_left : (t : Table) (f : Frame) (rest : Rows) (x : RowParts) → tc_rows_left f.rest ≡ x ∷ tc_rows_left rest → left_of t f ≡ (attachment_row_fault t (below_message t f.limit) (roots_of f.node) f.bid x then left_of t (with_rest f rest))
+unfolding first_of
+row_left t f rest x rows = ap (λ xs. first_of (attachment_row_fault t (below_message t f.limit) (roots_of f.node) f.bid) xs) rows
+
+-- a row is left, or named, or the one that is gone through
+rows_step : (t : Table) (k : Known) (waits : Option Roots) (f : Frame) (rest : Rows) (x : RowParts) → tc_rows_left f.rest ≡ x ∷ tc_rows_left rest → IsFrame t k None None f → NamedIn t k.attachments (roots_of f.node) x ⊎ IsWaited waits t (roots_of f.node) x → (y : RowParts) → IsAttachmentRow t (roots_of f.node) y → NamedIn t k.attachments (roots_of f.node) y ⊎ (IsWaited waits t (roots_of f.node) y ⊎ Contains (tc_rows_left rest) y)
+rows_step t k waits f rest x rows is here y row =
+    elim (is.attachments y row) [
+      | inl there ↦ inl there
+      | inr (inl never) ↦ absurd never
+      | inr (inr left) ↦ elim (by_first (λ z. x ≡ z) x y (tc_rows_left rest) refl (rw rows at left)) [
+        | inl one ↦ elim here [ inl there ↦ inl (rw (← one) there) | inr waited ↦ inr (inl (rw (← one) waited)) ]
+        | inr later ↦ inr (inr later)
+      ]
+    ]
+
+with_row : (t : Table) (k : Known) (now : Option Fault) (waits : Option Roots) (f : Frame) (rest : Rows) (x : RowParts) → tc_rows_left f.rest ≡ x ∷ tc_rows_left rest → IsFrame t k None None f → attachment_row_fault t (below_message t f.limit) (roots_of f.node) f.bid x ≡ now → NamedIn t k.attachments (roots_of f.node) x ⊎ IsWaited waits t (roots_of f.node) x → IsFrame t k now waits (with_rest f rest)
+with_row t k now waits f rest x rows is first here = record {
+  table = is.table;
+  sound = is.sound;
+  index = is.index;
+  first = is.first ∙ row_left t f rest x rows ∙ ap (λ o. o then left_of t (with_rest f rest)) first;
+  within = λ y w. is.within y (rw rows (contains_later x y (tc_rows_left rest) w));
+  properties = is.properties;
+  recipients = is.recipients;
+  tables = is.tables;
+  attachments = rows_step t k waits f rest x rows is here;
+}
+
+-- one that is remembered
+pub frame_step : (t : Table) (H : List NodeEntry → Type 0) (a b : Known) (f : Frame) (rest : Rows) (x : RowParts) → Grows t H a b → IsFrame t a None None f → tc_rows_left f.rest ≡ x ∷ tc_rows_left rest → IsRowKnown t b (roots_of f.node) f.limit f.bid x → IsFrame t b None None (with_rest f rest)
+frame_step t H a b f rest x g is rows known = with_row t b None None f rest x rows (frame_later t H a b None None f g is) known.first (inl known.there)
+
+pub fewer_left : (t : Table) (f : Frame) (rest : Rows) (x : RowParts) (most : ℕ) → tc_rows_left f.rest ≡ x ∷ tc_rows_left rest → frame_steps t f ≤ most → frame_steps t (with_rest f rest) ≤ most
+fewer_left t f rest x most rows h = omega (arith, h, fewer_steps t f rest x rows)
+
+-- one with a fault
+pub frame_refused : (t : Table) (k : Known) (f : Frame) (rest : Rows) (x : RowParts) (e : Fault) → IsTrueOf t k → IsFrame t k None None f → tc_rows_left f.rest ≡ x ∷ tc_rows_left rest → IsFirst (attachment_row_fault t (below_message t f.limit) (roots_of f.node) f.bid x) e → IsFirst (message_at t f.limit (roots_of f.node)) e
+frame_refused t k f rest x e known is rows refused =
+    rw (message_held t f.limit (roots_of f.node) (known.contexts Properties (roots_of f.node) is.properties), is.first, row_left t f rest x rows)
+    (is_first_then (attachment_row_fault t (below_message t f.limit) (roots_of f.node) f.bid x) (left_of t (with_rest f rest)) e refused)
+
+-- one in whose attachment there is a message to be gone through first
+pub frame_opened : (t : Table) (H : List NodeEntry → Type 0) (a b : Known) (old f : Frame) (rest : Rows) (x : RowParts) (above : Frame) → Grows t H a b → IsFrame t a None None f → tc_rows_left f.rest ≡ x ∷ tc_rows_left rest → IsRowOpened t b (roots_of f.node) f.limit f.bid x above → roots_of f.node ≡ roots_of old.node → f.limit ≡ old.limit → f.holder ≡ old.holder → frame_steps t f ≤ frame_steps t old → IsWentOn t b old (with_rest f rest) above
+frame_opened t H a b old f rest x above g is rows one roots limit holder steps =
+    let waited : IsWaited (holder_of above) t (roots_of f.node) x = rw one.holder one.found in
+    let row : IsAttachmentRow t (roots_of f.node) x = row_of_frame t a f rest x rows is in
+    record {
+      roots = roots;
+      limit = limit;
+      holder = holder;
+      frame = with_row t b (message_at t above.limit (roots_of above.node)) (holder_of above) f rest x rows (frame_later t H a b None None f g is) one.first (inr waited);
+      upper = one.frame;
+      held = one.held;
+      reached = λ nodes h. one.reached nodes (rw roots h) row;
+      steps = omega (arith, one.steps, steps, fewer_steps t f rest x rows);
+    }
+
+-- a message of which no row is left
+pub held_done : (t : Table) (k : Known) (f : Frame) → IsFrame t k None None f → tc_rows_left f.rest ≡ [] → held_fault t (below_message t f.limit) (roots_of f.node) ≡ None
+unfolding first_of
+held_done t k f is rows = is.first ∙ ap (λ xs. first_of (attachment_row_fault t (below_message t f.limit) (roots_of f.node) f.bid) xs) rows
+
+pub held_in : (t : Table) (k : Known) (f : Frame) → IsFrame t k None None f → tc_rows_left f.rest ≡ [] → HeldIn t k (roots_of f.node)
+held_in t k f is rows = record {
+  recipients = is.recipients;
+  tables = is.tables;
+  attachments = λ x row. elim (is.attachments x row) [
+    | inl there ↦ there
+    | inr (inl never) ↦ absurd never
+    | inr (inr left) ↦ let none : Contains [] x = (rw rows at left) in absurd (omega (arith, none.1))
+  ];
+}
+
+-- the attachment that embeds it
+pub holder_done : (t : Table) (k : Known) (r : Roots) (a : Node) → IsHolder t k r a → WholeIn k.messages r → AttachmentKnown t k (roots_of a)
+holder_done t k r a is whole = record {
+  properties = is.properties;
+  messages = λ o e. let one : is.object ≡ o = cc in (r, rw (← one) is.found, whole);
+}
+
+-- ---- the stack in memory, whose last message stands at the end
+
+pub last_first : (all rest : List Frame) (f : Frame) → all ≡ rest ++ (f ∷ []) → reverse all ≡ f ∷ reverse rest
+last_first all rest f is = ap (λ (xs : List Frame). reverse xs) is ∙ reverse-append rest (f ∷ [])
+
+none_held : (t : Table) (k : Known) (r : Roots) (o : Option Node) → o ≡ None → IfSome o (IsHolder t k r)
+none_held t k r None e = tt
+none_held t k r (Some a) e = cc
+
+pub stack_begins : (t : Table) (k : Known) (root : Roots) (f : Frame) → IsOpened t k root LISTS None f → IsStack t root k (f ∷ [])
+unfolding IsStack IsBelow
+stack_begins t k root f is = (is.frame, none_held t k (roots_of f.node) f.holder is.in_holder, rw is.roots (λ nodes h. h), (is.roots, is.nests))

@@ -106,7 +106,7 @@ within_later all xs rest x is within y w = within y (rw is (contains_later x y r
 pub within_here : {X : Type 0} (all xs rest : List X) (x : X) → xs ≡ x ∷ rest → ((y : X) → Contains xs y → Contains all y) → Contains all x
 within_here all xs rest x is within = within x (rw is (contains_here x rest))
 
-by_first : {X : Type 0} (P : X → Type 0) (x y : X) (rest : List X) → P x → Contains (x ∷ rest) y → P y ⊎ Contains rest y
+pub by_first : {X : Type 0} (P : X → Type 0) (x y : X) (rest : List X) → P x → Contains (x ∷ rest) y → P y ⊎ Contains rest y
 by_first P x y rest one w = by_place w.0 w.1 w.2
   where
     by_place : (k : ℕ) → k < length (x ∷ rest) → slice_index_or (x ∷ rest) k y ≡ y → P y ⊎ Contains rest y

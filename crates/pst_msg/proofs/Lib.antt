@@ -13,6 +13,7 @@ pub mod KnownLemmas
 pub mod ListingLemmas
 pub mod CountLemmas
 pub mod GrowLemmas
+pub mod StepLemmas
 pub mod FrameLemmas
 pub mod NamedLemmas
 pub mod MessagingLemmas

@@ -39,7 +39,7 @@ mapped_sound : (t : Table) (limit nid : ℕ) (r s : Roots) (found : Option Sub) 
 mapped_sound t limit nid r s None h is e = cc
 mapped_sound t limit nid r s (Some x) h is e = let same : sub_roots r x ≡ s = cc in rw (← same) (found_subs t limit r.bid_sub nid x h is)
 
-subnode_sound : (t : Table) (limit nid : ℕ) (r s : Roots) → sub_fault t limit r.bid_sub ≡ None → subnode_of t r nid ≡ Some s → sub_fault t limit s.bid_sub ≡ None
+pub subnode_sound : (t : Table) (limit nid : ℕ) (r s : Roots) → sub_fault t limit r.bid_sub ≡ None → subnode_of t r nid ≡ Some s → sub_fault t limit s.bid_sub ≡ None
 unfolding subnode_of
 subnode_sound t limit nid r s h e = mapped_sound t limit nid r s (first_with sub_nid nid (subs_of t r.bid_sub)) h refl e
 

@@ -86,9 +86,9 @@ pub(crate) fn check_message(node: Node, known: &mut Known) -> Result<(), Fault>
     };
     let mut stack = Vec::new(known.alloc);
     stack.push(first)?;
-    while let Some(frame) = stack.pop() {
-        if let Some((frame, above)) = go_on(frame, known)? {
-            stack.push(frame)?;
+    while let Some(last) = stack.pop() {
+        if let Some((below, above)) = go_on(last, known)? {
+            stack.push(below)?;
             stack.push(above)?;
         }
     }

@@ -31,6 +31,7 @@ use pst_tc::{Row, known_tc};
 
 // What a message holds in its list of subnodes, up to the rows of its attachment table; where it has none, the message is
 // remembered.
+#[tactic(auto, unfolding(crate::specs::Fault::held_fault, crate::specs::Fault::attachments_fault))]
 fn open_held<'a>(
     node: Node<'a>,
     limit: u32,
@@ -71,6 +72,7 @@ fn open_held<'a>(
 }
 
 /// A message, which this attachment embeds if one does, unless it is remembered: up to the rows of its attachment table.
+#[tactic(auto, unfolding(crate::specs::Fault::message_part), using(crate::proofs::MessageLemmas::message_is))]
 pub(crate) fn open_message<'a>(
     node: Node<'a>,
     limit: u32,
@@ -100,6 +102,7 @@ pub(crate) fn open_message<'a>(
 }
 
 // The message that an attachment embeds.
+#[tactic(auto, unfolding(crate::specs::Fault::embedded_fault), using(crate::proofs::SubnodeLemmas::found_limit, crate::proofs::SubnodeLemmas::found_sound, crate::proofs::MessageLemmas::below_attachment_is))]
 fn open_embedded<'a>(
     node: Node<'a>,
     object: Object,
@@ -126,6 +129,7 @@ fn open_embedded<'a>(
 }
 
 // An attachment that is not remembered.
+#[tactic(auto, unfolding(crate::specs::Fault::attachment_part), using(crate::proofs::MessageLemmas::attachment_is))]
 fn open_part<'a>(
     node: Node<'a>,
     limit: u32,
@@ -178,6 +182,7 @@ fn open_attachment<'a>(
 }
 
 /// A row of the attachment table of a message: the attachment that it names, up to a message that this embeds.
+#[tactic(auto, unfolding(crate::specs::Fault::attachment_row_fault), using(crate::proofs::SubnodeLemmas::found_limit, crate::proofs::SubnodeLemmas::found_sound, crate::proofs::MessageLemmas::below_message_is))]
 pub(crate) fn open_row<'a>(
     node: Node<'a>,
     index: &SubIndex,

@@ -1,0 +1,21 @@
+use Rattle.std.proofs.Common.{refl, sym, ap, ◌∙◌, ◌-◌, Some, arith}
+use Rattle.pst_ndb.specs.Views.{table_of_node, roots_of}
+use Rattle.pst_msg.specs.Frames.{IsOpened, IsObjectOpened}
+use Rattle.pst_msg.proofs.FrameLemmas.{some_map, object_opened}
+use Rattle.pst_msg.proofs.GrowLemmas.{object_grows}
+use Rattle.pst_msg.proofs.SubnodeLemmas.{found_limit, found_sound}
+use Rattle.pst_msg.proofs.open.open_embedded.Goals as goal
+
+pub returns-in-Some-clause-grows : goal.returns-in-Some-clause-grows
+returns-in-Some-clause-grows c = object_grows (table_of_node c.args.node) (table_of_node c.in-Some.sub) (roots_of c.args.node) c.args.object c.in-Some.sub c.args.known.now c.open_message.new.known c.in-Some.ensures.table c.in-Some.ensures.roots c.open_message.ensures.grows
+
+pub returns-in-Some-clause-open : goal.returns-in-Some-clause-open
+returns-in-Some-clause-open c =
+    let t = table_of_node c.args.node in
+    let u = table_of_node c.in-Some.sub in
+    let some = found_limit t c.args.limit c.args.object.nid (roots_of c.args.node) c.in-Some.sub c.requires.sound c.in-Some.ensures.roots in
+    some_map c.open_message.result (IsOpened u c.open_message.new.known (roots_of c.in-Some.sub) (c.args.limit - 1) (Some c.args.node)) (IsObjectOpened t c.open_message.new.known c.args.node c.args.limit c.args.object)
+    (λ f is. object_opened t u c.open_message.new.known c.args.node c.in-Some.sub c.args.limit c.args.object f c.in-Some.ensures.table (omega (arith, some)) c.in-Some.ensures.roots is) c.open_message.ensures.open
+
+pub open_message-requires-clause-sound : goal.open_message-requires-clause-sound
+open_message-requires-clause-sound c = found_sound (table_of_node c.args.node) (table_of_node c.in-Some.sub) c.args.limit c.args.object.nid (roots_of c.args.node) c.in-Some.sub c.in-Some.ensures.table c.requires.sound c.in-Some.ensures.roots

@@ -1,0 +1,33 @@
+use Rattle.std.proofs.Common.{refl, sym, ap, ◌∙◌}
+use Rattle.pst_ndb.specs.Views.{table_of_node, roots_of}
+use Rattle.pst_tc.specs.Values.{tc_rows}
+use Rattle.pst_msg.specs.Fault.{below_message}
+use Rattle.pst_msg.specs.declared.frame.Frame.{Frame}
+use Rattle.pst_msg.proofs.CountLemmas.{grows_then}
+use Rattle.pst_msg.proofs.FrameLemmas.{opened, held_without, whole_held, grows_any}
+use Rattle.pst_msg.proofs.GrowLemmas.{attachments_grow}
+use Rattle.pst_msg.proofs.open.open_held.Goals as goal
+
+pub returns-in_err-once-in-Some-clause-grows : goal.returns-in_err-once-in-Some-clause-grows
+returns-in_err-once-in-Some-clause-grows c = grows_then _ _ _ _ _ c.check_recipients.ensures.grows (attachments_grow (table_of_node c.args.node) (table_of_node c.in-Some.table) (roots_of c.args.node) c.in-Some.table c.check_recipients.new.known c.once.new.known c.in-Some.ensures.table c.in-Some.ensures.roots c.once.ensures.grows)
+
+pub returns-in-Some-clause-grows : goal.returns-in-Some-clause-grows
+returns-in-Some-clause-grows c = grows_then _ _ _ _ _ c.check_recipients.ensures.grows (attachments_grow (table_of_node c.args.node) (table_of_node c.in-Some.table) (roots_of c.args.node) c.in-Some.table c.check_recipients.new.known c.once.new.known c.in-Some.ensures.table c.in-Some.ensures.roots c.once.ensures.grows)
+
+pub returns-in-Some-clause-open : goal.returns-in-Some-clause-open
+returns-in-Some-clause-open c =
+    let t = table_of_node c.args.node in
+    let table = roots_of c.in-Some.table in
+    let f : Frame = record { holder = c.args.holder; node = c.args.node; index = c.in_ok-index.index; bid = c.bid_data.result; rest = c.rows.result; limit = c.args.limit } in
+    opened t c.once.new.known f table refl c.requires.sound c.in_ok-index.ensures.index c.in_ok-check_recipients.ensures.exact.0 (sym c.in-Some.ensures.roots)
+    (rw (← c.in-Some.ensures.table) c.in_ok-once-in-Some.ensures.exact.0)
+    c.bid_data.ensures
+    (c.rows.ensures.left ∙ ap (λ n. tc_rows (table_of_node n) (roots_of n)) c.known_tc.ensures ∙ ap (λ u. tc_rows u table) c.in-Some.ensures.table)
+    (c.once.ensures.grows.contexts _ (c.check_recipients.ensures.grows.contexts _ c.requires.properties))
+    (λ s e. c.once.ensures.grows.contexts _ (c.in_ok-check_recipients.ensures.there s e))
+    c.in_ok-once-in-Some.ensures.there
+
+pub remember_held-requires-clause-none : goal.remember_held-requires-clause-none
+remember_held-requires-clause-none c =
+    let t = table_of_node c.args.node in
+    whole_held t c.args.limit c.args.node refl c.requires.sound (held_without t (below_message t c.args.limit) (roots_of c.args.node) c.in_ok-check_recipients.ensures.exact.0 c.in-None.ensures.roots)
