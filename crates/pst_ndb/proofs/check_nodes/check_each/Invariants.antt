@@ -4,8 +4,7 @@ use Rattle.pst_btree.specs.Trees.{node_entries}
 use Rattle.pst_btree.specs.Nodes.{nodes_left}
 use Rattle.pst_block.specs.Blocks.{table_of}
 use Rattle.pst_subnode.specs.declared.sub.Sub.{Sub}
-use Rattle.pst_subnode.specs.Known.{AreLedEach}
-use Rattle.pst_subnode.proofs.PartLemmas.{AreKnownOr}
+use Rattle.pst_subnode.specs.Known.{AreLedEach, AreKnownOr}
 use Rattle.pst_ndb.specs.Fault.{nodes_fault}
 use Rattle.pst_ndb.specs.Known.{IsKnownTrue, IsCounted, AddsKnown, entry_of_node}
 use Rattle.pst_ndb.proofs.check_nodes.check_each.Given as goal
