@@ -3,6 +3,7 @@ use Rattle.std.proofs.Common.{◌≡◌, ℕ, zero, suc, ◌+◌, ◌-◌, ◌<�
 use Rattle.std.specs.Prelude.{option_map, IfSome, IfNone, IfOk, IfErr, sum_by}
 use Rattle.std.specs.List.{Contains}
 use Rattle.std.proofs.lemmas.List.{reverse-append}
+use Rattle.std.proofs.lemmas.List.Sums.{sum_by_push}
 use Rattle.pst_fault.specs.declared.fault.Fault.{Fault}
 use Rattle.pst_fault.specs.declared.kind.Kind.TheVariants.{NodeMissing, NodeKind}
 use Rattle.pst_fault.specs.Each.{first_of, if_there, there_or}
@@ -15,7 +16,7 @@ use Rattle.pst_subnode.specs.declared.check.TheConstants.{LISTS}
 use Rattle.pst_subnode.specs.Tree.{sub_fault}
 use Rattle.pst_ndb.specs.declared.node.Node.{Node}
 use Rattle.pst_ndb.specs.Roots.{Roots, subnode_of}
-use Rattle.pst_ndb.specs.Views.{table_of_node, sub_bid_of, roots_of, IsIndexedBy}
+use Rattle.pst_ndb.specs.Views.{table_of_node, sub_bid_of, roots_of}
 use Rattle.pst_pc.specs.Fault.{pc_fault}
 use Rattle.pst_tc.specs.Fault.{tc_fault}
 use Rattle.pst_tc.specs.declared.rows.Rows.{Rows}
@@ -98,8 +99,8 @@ held_without t below r recipients is =
     then_none (if_there (tc_fault t) (subnode_of t r RECIPIENTS)) (if_there (attachments_fault t below r) (subnode_of t r ATTACHMENTS)) recipients
     ∙ ap (λ o. if_there (attachments_fault t below r) o) (sym is)
 
-pub opened : (t : Table) (k : Known) (f : Frame) (table : Roots) → table_of_node f.node ≡ t → sub_fault t f.limit (sub_bid_of f.node) ≡ None → IsIndexedBy f.node f.index → if_there (tc_fault t) (subnode_of t (roots_of f.node) RECIPIENTS) ≡ None → subnode_of t (roots_of f.node) ATTACHMENTS ≡ Some table → tc_fault t table ≡ None → f.bid ≡ table.bid_data → tc_rows_left f.rest ≡ tc_rows t table → ContextIn k Properties (roots_of f.node) → ((s : Roots) → subnode_of t (roots_of f.node) RECIPIENTS ≡ Some s → ContextIn k Recipients s) → ContextIn k Attachments table → IsOpened t k (roots_of f.node) f.limit f.holder f
-opened t k f table same sound index recipients is none bid rows properties recipients_in there =
+pub opened : (t : Table) (k : Known) (f : Frame) (table : Roots) → table_of_node f.node ≡ t → sub_fault t f.limit (sub_bid_of f.node) ≡ None → if_there (tc_fault t) (subnode_of t (roots_of f.node) RECIPIENTS) ≡ None → subnode_of t (roots_of f.node) ATTACHMENTS ≡ Some table → tc_fault t table ≡ None → f.bid ≡ table.bid_data → tc_rows_left f.rest ≡ tc_rows t table → ContextIn k Properties (roots_of f.node) → ((s : Roots) → subnode_of t (roots_of f.node) RECIPIENTS ≡ Some s → ContextIn k Recipients s) → ContextIn k Attachments table → IsOpened t k (roots_of f.node) f.limit f.holder f
+opened t k f table same sound recipients is none bid rows properties recipients_in there =
     let part = λ (b : ℕ). attachment_row_fault t (below_message t f.limit) (roots_of f.node) b in
     record {
       roots = refl;
@@ -108,7 +109,6 @@ opened t k f table same sound index recipients is none bid rows properties recip
       frame = record {
         table = same;
         sound = sound;
-        index = index;
         first = held_is t (below_message t f.limit) (roots_of f.node) table recipients is none ∙ ap (λ b. first_of (part b) (tc_rows t table)) (sym bid) ∙ ap (λ xs. first_of (part f.bid) xs) (sym rows);
         within = λ x w. (table, is, rw (← rows) w);
         properties = properties;
@@ -210,7 +210,6 @@ pub frame_later : (t : Table) (H : List NodeEntry → Type 0) (a b : Known) (now
 frame_later t H a b now waits f g is = record {
   table = is.table;
   sound = is.sound;
-  index = is.index;
   first = is.first;
   within = is.within;
   properties = g.contexts _ is.properties;
@@ -252,7 +251,6 @@ frame_done : (t : Table) (k : Known) (now : Option Fault) (waits : Option Roots)
 frame_done t k now waits f none whole is = record {
   table = is.table;
   sound = is.sound;
-  index = is.index;
   first = is.first ∙ then_none now (left_of t f) none;
   within = is.within;
   properties = is.properties;
@@ -321,7 +319,6 @@ with_row : (t : Table) (k : Known) (now : Option Fault) (waits : Option Roots) (
 with_row t k now waits f rest x rows is first here = record {
   table = is.table;
   sound = is.sound;
-  index = is.index;
   first = is.first ∙ row_left t f rest x rows ∙ ap (λ o. o then left_of t (with_rest f rest)) first;
   within = λ y w. is.within y (rw rows (contains_later x y (tc_rows_left rest) w));
   properties = is.properties;
@@ -394,3 +391,77 @@ none_held t k r (Some a) e = cc
 pub stack_begins : (t : Table) (k : Known) (root : Roots) (f : Frame) → IsOpened t k root LISTS None f → IsStack t root k (f ∷ [])
 unfolding IsStack IsBelow
 stack_begins t k root f is = (is.frame, none_held t k (roots_of f.node) f.holder is.in_holder, rw is.roots (λ nodes h. h), (is.roots, is.nests))
+
+-- ---- what the calls need
+
+-- the attachment that waits for a message which is remembered now has no fault
+pub holder_whole_now : (t : Table) (H : List NodeEntry → Type 0) (a b : Known) (r : Roots) (node : Node) → IsHolder t a r node → Grows t H a b → IsTrueOf t b → WholeIn b.messages r → attachment_fault (table_of_node node) (roots_of node) ≡ None
+holder_whole_now t H a b r node is g known whole =
+    let later : IsHolder t b r node = some_later t H a b r (Some node) g is in
+    rw is.table (attachment_known t b node is.table known (holder_done t b r node later whole))
+
+pub row_of_message : (t : Table) (r : Roots) (x : RowParts) (a b c : Known) → IsAttachmentRow t r x → Grows t (λ nodes. HasMessage t nodes r) a b → Grows t (λ nodes. HasMessage t nodes r × IsAttachmentRow t r x) b c → Grows t (λ nodes. HasMessage t nodes r) a c
+row_of_message t r x a b c row g h = grows_then t (λ nodes. HasMessage t nodes r) a b c g (grows_of t (λ nodes. HasMessage t nodes r × IsAttachmentRow t r x) (λ nodes. HasMessage t nodes r) b c (λ nodes held. (held, row)) h)
+
+-- the rows that are left, told by another iterator
+pub frame_same : (t : Table) (k : Known) (f : Frame) (rest : Rows) → tc_rows_left rest ≡ tc_rows_left f.rest → IsFrame t k None None f → IsFrame t k None None (with_rest f rest)
+frame_same t k f rest same is = record {
+  table = is.table;
+  sound = is.sound;
+  first = is.first ∙ ap (λ xs. first_of (attachment_row_fault t (below_message t f.limit) (roots_of f.node) f.bid) xs) (sym same);
+  within = λ y w. is.within y (rw same at w);
+  properties = is.properties;
+  recipients = is.recipients;
+  tables = is.tables;
+  attachments = λ x row. elim (is.attachments x row) [
+    | inl there ↦ inl there
+    | inr (inl never) ↦ inr (inl never)
+    | inr (inr left) ↦ inr (inr (rw same left))
+  ];
+}
+
+-- the last message of a stack
+pub record IsTop (t : Table) (root : Roots) (k : Known) (f : Frame) : Type 0 where
+  pub frame : IsFrame t k None None f
+  pub holder : HasHolder t k f
+  pub reached : Reaches t root (roots_of f.node)
+
+pub stack_top : (t : Table) (root : Roots) (k : Known) (f : Frame) (below : List Frame) → IsStack t root k (f ∷ below) → IsTop t root k f
+unfolding IsStack
+stack_top t root k f below is = record { frame = is.0; holder = is.1; reached = is.2 }
+
+pub turn_grows : (t : Table) (root r : Roots) (a b c : Known) → Reaches t root r → Grows t (λ nodes. HasMessage t nodes root) a b → Grows t (λ nodes. HasMessage t nodes r) b c → Grows t (λ nodes. HasMessage t nodes root) a c
+turn_grows t root r a b c reached g h = grows_then t (λ nodes. HasMessage t nodes root) a b c g (grows_of t (λ nodes. HasMessage t nodes r) (λ nodes. HasMessage t nodes root) b c reached h)
+
+pub stack_ends : (t : Table) (root : Roots) (k : Known) → IsStack t root k [] → WholeIn k.messages root
+unfolding IsStack
+stack_ends t root k is = is
+
+pub two_steps : (t : Table) (all rest : List Frame) (last below above : Frame) → all ≡ rest ++ (last ∷ []) → frame_steps t below + frame_steps t above < frame_steps t last → sum_by (frame_steps t) ((rest ++ (below ∷ [])) ++ (above ∷ [])) < sum_by (frame_steps t) all
+two_steps t all rest last below above is less =
+    let before : sum_by (frame_steps t) all ≡ sum_by (frame_steps t) rest + frame_steps t last = ap (λ xs. sum_by (frame_steps t) xs) is ∙ sum_by_push (frame_steps t) rest last in
+    let after : sum_by (frame_steps t) ((rest ++ (below ∷ [])) ++ (above ∷ [])) ≡ sum_by (frame_steps t) rest + frame_steps t below + frame_steps t above =
+        sum_by_push (frame_steps t) (rest ++ (below ∷ [])) above ∙ ap (λ n. n + frame_steps t above) (sum_by_push (frame_steps t) rest below) in
+    omega (arith, before, after, less)
+
+pub two_first : (all rest : List Frame) (below above : Frame) → all ≡ (rest ++ (below ∷ [])) ++ (above ∷ []) → reverse all ≡ above ∷ below ∷ reverse rest
+two_first all rest below above is = last_first all (rest ++ (below ∷ [])) above is ∙ ap (λ xs. above ∷ xs) (last_first (rest ++ (below ∷ [])) rest below refl)
+
+-- the last one of the stack in memory
+pub on_top : (t : Table) (root : Roots) (k : Known) (all rest : List Frame) (f : Frame) → all ≡ rest ++ (f ∷ []) → IsStack t root k (reverse all) → IsTop t root k f
+on_top t root k all rest f is stack = stack_top t root k f (reverse rest) (rw (last_first all rest f is) at stack)
+
+pub top_refused : (t : Table) (root : Roots) (k : Known) (all rest : List Frame) (f : Frame) (e : Fault) → all ≡ rest ++ (f ∷ []) → IsTrueOf t k → IsStack t root k (reverse all) → IsFirst (message_at (table_of_node f.node) f.limit (roots_of f.node)) e → IsFirst (message_fault t root) e
+top_refused t root k all rest f e is known stack refused =
+    let top : IsTop t root k f = on_top t root k all rest f is stack in
+    stack_refused t root k f (reverse rest) e known (rw top.frame.table at refused) (rw (last_first all rest f is) at stack)
+
+pub top_popped : (t : Table) (H : List NodeEntry → Type 0) (root : Roots) (old k : Known) (all rest : List Frame) (f : Frame) → all ≡ rest ++ (f ∷ []) → IsStack t root old (reverse all) → Grows t H old k → IsTrueOf t k → WholeIn k.messages (roots_of f.node) → HolderIn k f → IsStack t root k (reverse rest)
+top_popped t H root old k all rest f is stack g known there whole = stack_popped t H root old k f (reverse rest) (rw (last_first all rest f is) at stack) g known there whole
+
+pub top_pushed : (t : Table) (H : List NodeEntry → Type 0) (root : Roots) (old k : Known) (all rest new : List Frame) (f below above : Frame) → all ≡ rest ++ (f ∷ []) → new ≡ (rest ++ (below ∷ [])) ++ (above ∷ []) → IsStack t root old (reverse all) → Grows t H old k → IsWentOn t k f below above → IsStack t root k (reverse new)
+top_pushed t H root old k all rest new f below above is pushed stack g on =
+    rw (two_first new rest below above pushed) (stack_pushed t H root old k f below above (reverse rest) (rw (last_first all rest f is) at stack) g on)
+
+pub two_fewer : (t : Table) (all rest new : List Frame) (last below above : Frame) → all ≡ rest ++ (last ∷ []) → new ≡ (rest ++ (below ∷ [])) ++ (above ∷ []) → frame_steps t below + frame_steps t above < frame_steps t last → sum_by (frame_steps t) new < sum_by (frame_steps t) all
+two_fewer t all rest new last below above is pushed less = rw pushed (two_steps t all rest last below above is less)

@@ -1,5 +1,6 @@
 -- What is remembered is true, and closed.
-use Rattle.std.proofs.Common.{◌≡◌, ℕ, zero, suc, true, None, refl, sym, ap, ◌∙◌, ◌⊎◌, inl, inr}
+use Rattle.std.proofs.Common.{◌≡◌, ℕ, zero, suc, true, false, None, refl, sym, ap, ◌∙◌, ◌⊎◌, inl, inr}
+use Rattle.std.proofs.lemmas.Bool.{false≢true}
 use Rattle.pst_block.specs.Table.{Table}
 use Rattle.pst_subnode.specs.declared.check.TheConstants.{LISTS}
 use Rattle.pst_subnode.specs.Tree.{sub_fault}
@@ -12,6 +13,8 @@ use Rattle.pst_msg.specs.declared.items.Items.TheVariants.{Subfolders, Messages,
 use Rattle.pst_msg.specs.declared.keys.Keys.{Keys}
 use Rattle.pst_msg.specs.declared.known.Known.{Known}
 use Rattle.pst_msg.specs.declared.list_index.ListIndex.{ListIndex}
+use Rattle.pst_msg.specs.declared.indexes.Indexes.{Indexes}
+use Rattle.pst_msg.specs.Indexes.{AreIndexes}
 use Rattle.pst_msg.specs.ListIndex.{IsIndexIn}
 use Rattle.pst_msg.specs.declared.nid.TheConstants.{ATTACHMENTS, RECIPIENTS}
 use Rattle.pst_msg.specs.declared.role.Role.{Role}
@@ -112,7 +115,27 @@ known_list t keys limit node same holds is sound =
     let all : sub_fault t LISTS (roots_of node).bid_sub ≡ None = rw (← same) node.subs in
     held_limit t limit LISTS (roots_of node) sound all ∙ holds (roots_of node) is all
 
--- ---- another index, and more page maps
+-- ---- nothing yet
+
+-- what a set that has nothing holds
+from_none : (keys : Keys) (P : Type 0) (q : Key) → ((k : Key) → holds keys k ≡ false) → holds keys q ≡ true → P
+from_none keys P q none there = absurd (false≢true (sym (none q) ∙ there))
+
+pub nothing_known : (t : Table) (k : Known) → ((q : Key) → holds k.contexts q ≡ false) → ((q : Key) → holds k.messages q ≡ false) → ((q : Key) → holds k.attachments q ≡ false) → ((q : Key) → holds k.lists q ≡ false) → IsIndexIn t k.index → AreIndexes t k.indexes → AreMapsTrue t k.maps → IsTrueOf t k
+nothing_known t k contexts messages attachments lists index indexes maps = record {
+  contexts = λ role s there. from_none k.contexts _ _ contexts there;
+  messages = λ s there. from_none k.messages _ _ messages there;
+  attachments = λ s there. from_none k.attachments _ _ attachments there;
+  lists = λ s there. from_none k.lists _ _ lists there;
+  index = index;
+  indexes = indexes;
+  maps = maps;
+  messages_in = λ s there. from_none k.messages _ _ messages there;
+  attachments_in = λ s there. from_none k.attachments _ _ attachments there;
+  lists_in = λ s there. from_none k.lists _ _ lists there;
+}
+
+-- ---- other indexes, and more page maps
 
 pub aids_turned : (t : Table) (k : Known) (index : ListIndex) (maps : Maps) → IsTrueOf t k → IsIndexIn t index → AreMapsTrue t maps → IsTrueOf t (record k { index = index; maps = maps })
 aids_turned t k index maps is turned more = record {
@@ -121,7 +144,22 @@ aids_turned t k index maps is turned more = record {
   attachments = is.attachments;
   lists = is.lists;
   index = turned;
+  indexes = is.indexes;
   maps = more;
+  messages_in = λ s there. message_later t k _ s (λ q h. h) (λ q h. h) (is.messages_in s there);
+  attachments_in = λ s there. attachment_later t k _ s (λ q h. h) (λ q h. h) (is.attachments_in s there);
+  lists_in = λ s there. held_later t k _ s (λ q h. h) (λ q h. h) (is.lists_in s there);
+}
+
+pub indexes_turned : (t : Table) (k : Known) (indexes : Indexes) → IsTrueOf t k → AreIndexes t indexes → IsTrueOf t (record k { indexes = indexes })
+indexes_turned t k indexes is turned = record {
+  contexts = is.contexts;
+  messages = is.messages;
+  attachments = is.attachments;
+  lists = is.lists;
+  index = is.index;
+  indexes = turned;
+  maps = is.maps;
   messages_in = λ s there. message_later t k _ s (λ q h. h) (λ q h. h) (is.messages_in s there);
   attachments_in = λ s there. attachment_later t k _ s (λ q h. h) (λ q h. h) (is.attachments_in s there);
   lists_in = λ s there. held_later t k _ s (λ q h. h) (λ q h. h) (is.lists_in s there);
@@ -142,6 +180,7 @@ context_remembered t role r k new count is none more kept = record {
   attachments = is.attachments;
   lists = is.lists;
   index = is.index;
+  indexes = is.indexes;
   maps = is.maps;
   messages_in = λ s there. message_later t k _ s kept (λ q h. h) (is.messages_in s there);
   attachments_in = λ s there. attachment_later t k _ s kept (λ q h. h) (is.attachments_in s there);
@@ -159,6 +198,7 @@ message_remembered t known new limit node same is sound none inside more kept =
       attachments = is.attachments;
       lists = is.lists;
       index = is.index;
+      indexes = is.indexes;
       maps = is.maps;
       messages_in = λ s in_new. message_later t known _ s (λ q h. h) (λ q h. h) (elim (more (key 0 s) in_new) [ inl was ↦ is.messages_in s was | inr e ↦ message_in_alike t known r s (alike_of_key 0 0 r s e).1 inside ]);
       attachments_in = λ s there. attachment_later t known _ s (λ q h. h) kept (is.attachments_in s there);
@@ -176,6 +216,7 @@ attachment_remembered t known new limit node same is sound none inside more kept
       attachments = λ s in_new subs. elim (more (key 0 s) in_new) [ inl was ↦ is.attachments s was subs | inr e ↦ (alike_law t r s (alike_of_key 0 0 r s e).1 all subs).1 whole ];
       lists = is.lists;
       index = is.index;
+      indexes = is.indexes;
       maps = is.maps;
       messages_in = λ s there. message_later t known _ s (λ q h. h) kept (is.messages_in s there);
       attachments_in = λ s in_new. attachment_later t known _ s (λ q h. h) (λ q h. h) (elim (more (key 0 s) in_new) [ inl was ↦ is.attachments_in s was | inr e ↦ attachment_in_alike t known r s (alike_of_key 0 0 r s e).1 inside ]);
@@ -193,6 +234,7 @@ list_remembered t known new limit node same is sound none inside more kept =
       attachments = is.attachments;
       lists = λ s in_new subs. elim (more (list_key s) in_new) [ inl was ↦ is.lists s was subs | inr e ↦ held_alike t r s (same_list r s e) all subs whole ];
       index = is.index;
+      indexes = is.indexes;
       maps = is.maps;
       messages_in = λ s there. message_later t known _ s (λ q h. h) (λ q h. h) (is.messages_in s there);
       attachments_in = λ s there. attachment_later t known _ s (λ q h. h) (λ q h. h) (is.attachments_in s there);

@@ -9,6 +9,7 @@ pub mod KeyOrderLemmas
 pub mod AloneLemmas
 pub mod KeyLemmas
 pub mod IndexLemmas
+pub mod HeldLemmas
 pub mod KnownLemmas
 pub mod ListingLemmas
 pub mod CountLemmas

@@ -10,7 +10,7 @@ use Rattle.pst_subnode.specs.declared.check.TheConstants.{LISTS}
 use Rattle.pst_subnode.specs.Tree.{sub_fault}
 use Rattle.pst_ndb.specs.declared.node.Node.{Node}
 use Rattle.pst_ndb.specs.Roots.{Roots, subnode_of}
-use Rattle.pst_ndb.specs.Views.{table_of_node, sub_bid_of, roots_of, IsIndexedBy}
+use Rattle.pst_ndb.specs.Views.{table_of_node, sub_bid_of, roots_of}
 use Rattle.pst_tc.specs.declared.rows.Rows.{Rows}
 use Rattle.pst_tc.specs.Left.{tc_rows_left}
 use Rattle.pst_tc.specs.Values.{RowParts}
@@ -46,7 +46,6 @@ IsWaited (Some a) t r x = subnode_of t r x.id ≡ Some a
 pub record IsFrame (t : Table) (k : Known) (now : Option Fault) (waits : Option Roots) (f : Frame) : Type 0 where
   pub table : table_of_node f.node ≡ t
   pub sound : sub_fault t f.limit (sub_bid_of f.node) ≡ None
-  pub index : IsIndexedBy f.node f.index
   -- the first fault of what it holds is that of what is above it, and else of its rows that are left
   pub first : held_fault t (below_message t f.limit) (roots_of f.node) ≡ (now then left_of t f)
   pub within : (x : RowParts) → Contains (tc_rows_left f.rest) x → IsAttachmentRow t (roots_of f.node) x

@@ -19,6 +19,7 @@ use Rattle.pst_msg.specs.declared.role.Role.{Role}
 use Rattle.pst_msg.specs.declared.role.Role.TheVariants.{Properties, Listed, Recipients, Attachments}
 use Rattle.pst_msg.specs.Keys.{holds, has, list_key}
 use Rattle.pst_msg.specs.ListIndex.{IsIndexIn}
+use Rattle.pst_msg.specs.Indexes.{AreIndexes}
 use Rattle.pst_msg.specs.Roles.{role_number, role_fault}
 use Rattle.pst_msg.specs.Values.{embedded_of}
 use Rattle.pst_msg.specs.Fault.{held_fault, below_message, message_fault, attachment_fault, listed_item_fault}
@@ -82,6 +83,7 @@ pub record IsTrueOf (t : Table) (k : Known) : Type 0 where
   pub attachments : AttachmentsAreTrue t k.attachments
   pub lists : ListsAreTrue t k.lists
   pub index : IsIndexIn t k.index
+  pub indexes : AreIndexes t k.indexes
   pub maps : AreMapsTrue t k.maps
   -- it is closed
   pub messages_in : (r : Roots) → WholeIn k.messages r → MessageIn t k r

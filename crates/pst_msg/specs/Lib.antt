@@ -6,6 +6,7 @@ pub mod Laws
 pub mod Keys
 pub mod Roles
 pub mod ListIndex
+pub mod Indexes
 pub mod Known
 pub mod Counts
 pub mod Growth

@@ -1,7 +1,6 @@
 //! A message that is being gone through.
 
 use pst_ndb::Node;
-use pst_subnode::SubIndex;
 use pst_tc::Rows;
 
 /// A message whose properties, recipients and attachment table have no fault, and of whose rows some are left.
@@ -10,8 +9,6 @@ pub(crate) struct Frame<'a> {
     /// The attachment that embeds it, where one does: it waits for the message, only to be remembered.
     pub(crate) holder: Option<Node<'a>>,
     pub(crate) node: Node<'a>,
-    /// An index of its subnodes.
-    pub(crate) index: SubIndex,
     /// The identifier of the block of its attachment table's data.
     pub(crate) bid: u64,
     /// The rows of its attachment table that are left.

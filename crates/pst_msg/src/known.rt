@@ -1,5 +1,6 @@
 //! What is known of the parts of messages.
 
+use crate::indexes::Indexes;
 use crate::keys::Keys;
 use crate::list_index::ListIndex;
 use pst_pc::Maps;
@@ -16,8 +17,10 @@ pub(crate) struct Known {
     pub(crate) attachments: Keys,
     /// Lists of subnodes: what a message holds in one is without fault.
     pub(crate) lists: Keys,
-    /// The index of the list of subnodes that was asked about last.
+    /// The index of the list of subnodes that was asked about last for a context.
     pub(crate) index: ListIndex,
+    /// Indexes of the lists of messages whose rows are being gone through.
+    pub(crate) indexes: Indexes,
     /// The page maps of the data that contexts share.
     pub(crate) maps: Maps,
     /// How many contexts were checked, from the first on. It stays at its greatest value once it is there.
@@ -45,6 +48,7 @@ impl Known {
             attachments: Keys::new(alloc),
             lists: Keys::new(alloc),
             index: ListIndex::none(),
+            indexes: Indexes::new(alloc),
             maps: Maps::new(alloc),
             count,
         }

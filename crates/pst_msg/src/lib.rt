@@ -23,6 +23,7 @@ mod context;
 mod folder;
 mod folder_view;
 mod frame;
+mod indexes;
 mod items;
 mod keys;
 mod kinds;

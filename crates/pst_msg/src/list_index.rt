@@ -19,7 +19,7 @@ pub(crate) struct ListIndex {
 }
 
 impl ListIndex {
-    ghost use Rattle.std.specs.Prelude.{◌≡◌, true, IfErr, IfSome, option_map};
+    ghost use Rattle.std.specs.Prelude.{◌≡◌, true, IfOk, IfErr, IfSome, option_map};
     ghost use Rattle.pst_block.specs.Table.{Table};
     ghost use Rattle.pst_fault.specs.Fault.{no_memory};
     ghost use Rattle.pst_fault.specs.First.{Tells};
@@ -40,7 +40,20 @@ impl ListIndex {
         }
     }
 
-    // Whether it is of the list of a node.
+    /// That of a node's list.
+    #[tactic(auto, using(crate::proofs::IndexLemmas::index_of_list))]
+    pub(crate) fn of(alloc: Global, node: Node) -> Result<ListIndex, Fault>
+        ensures index { IfOk result (IsIndexIn (table_of_node node.entry)) }
+        ensures memory { IfErr result (λ f. f ≡ no_memory) }
+    {
+        let index = node.index(alloc)?;
+        Ok(ListIndex {
+            list: cleared(node.bid_sub()),
+            index,
+        })
+    }
+
+    /// Whether it is of the list of a node.
     #[tactic(auto, using(crate::proofs::IndexLemmas::indexed_by))]
     pub(crate) fn is_of(&self, node: Node) -> bool
         requires { IsIndexIn (table_of_node node) self.now }
@@ -60,9 +73,7 @@ impl ListIndex {
         if list == 0 || self.is_of(node) || node.spans().size() <= FEW {
             return Ok(());
         }
-        let index = node.index(alloc)?;
-        self.list = list;
-        self.index = index;
+        *self = ListIndex::of(alloc, node)?;
         Ok(())
     }
 

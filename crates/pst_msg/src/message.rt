@@ -39,6 +39,20 @@ fn finish(frame: &Frame, known: &mut Known) -> Result<(), Fault>
     }
 }
 
+// The index of a message's list is made, where rows are left.
+fn turn_to(frame: &Frame, known: &mut Known) -> Result<(), Fault>
+    requires { IsTrueOf (table_of_node frame.now.node) known.old }
+    ensures known { IsTrueOf (table_of_node frame.now.node) known.new }
+    ensures grows { Grows (table_of_node frame.now.node) (λ nodes. Unit {0}) known.old known.new }
+    ensures memory { IfErr result (λ f. f ≡ no_memory) }
+{
+    let mut left = frame.rest;
+    match left.next() {
+        Some(_) => known.indexes.turn(known.alloc, frame.node),
+        None => Ok(()),
+    }
+}
+
 // Goes on with a message: through its rows, up to one whose attachment embeds a message that has to be gone through first, which
 // is given beside it; and after the last of them the message is remembered.
 fn go_on<'a>(
@@ -58,11 +72,10 @@ fn go_on<'a>(
     ensures open { let t = table_of_node frame.entry.node in
         IfOk result (λ o. IfSome o (λ p. IsWentOn t known.new frame.entry p.0 p.1)) }
 {
+    turn_to(&frame, known)?;
     let mut rest = frame.rest;
     while let Some(row) = rest.next() {
-        if let Some(above) = open_row(
-            frame.node, &frame.index, frame.bid, row, frame.limit, known,
-        )? {
+        if let Some(above) = open_row(frame.node, frame.bid, row, frame.limit, known)? {
             return Ok(Some((frame.with_rest(rest), above)));
         }
     }

@@ -3,7 +3,7 @@
 ghost use Rattle.std.specs.Prelude.{◌≡◌, None, Some, IfOk, IfErr, IfSome, IfNone};
 ghost use Rattle.pst_fault.specs.First.{IsFirst};
 ghost use Rattle.pst_subnode.specs.Tree.{sub_fault};
-ghost use Rattle.pst_ndb.specs.Views.{table_of_node, sub_bid_of, roots_of, IsIndexedBy};
+ghost use Rattle.pst_ndb.specs.Views.{table_of_node, sub_bid_of, roots_of};
 ghost use Rattle.pst_tc.specs.View.{row_parts};
 ghost use Rattle.pst_msg.specs.declared.role.Role.TheVariants.{Properties};
 ghost use Rattle.pst_msg.specs.Counts.{HasMessage, HasAttachment};
@@ -26,7 +26,6 @@ use crate::role::Role;
 use pst_fault::{Fault, Kind};
 use pst_ndb::Node;
 use pst_pc::known_pc;
-use pst_subnode::SubIndex;
 use pst_tc::{Row, known_tc};
 
 // What a message holds in its list of subnodes, up to the rows of its attachment table; where it has none, the message is
@@ -50,15 +49,13 @@ fn open_held<'a>(
     ensures open { let t = table_of_node node.entry in
         IfOk result (λ o. IfSome o (IsOpened t known.new (roots_of node.entry) limit holder.entry)) }
 {
-    let index = node.index(known.alloc)?;
-    check_recipients(node, &index, known)?;
-    match node.sub_by(&index, ATTACHMENTS) {
+    check_recipients(node, known)?;
+    match known.index.subnode(node, ATTACHMENTS) {
         Some(table) => {
             once(known, Role::Attachments, table)?;
             Ok(Some(Frame {
                 holder,
                 node,
-                index,
                 bid: table.bid_data(),
                 rest: known_tc(table).rows(),
                 limit,
@@ -185,13 +182,11 @@ fn open_attachment<'a>(
 #[tactic(auto, unfolding(crate::specs::Fault::attachment_row_fault), using(crate::proofs::SubnodeLemmas::found_limit, crate::proofs::SubnodeLemmas::found_sound, crate::proofs::MessageLemmas::below_message_is))]
 pub(crate) fn open_row<'a>(
     node: Node<'a>,
-    index: &SubIndex,
     bid: u64,
     row: Row,
     limit: u32,
     known: &mut Known,
 ) -> Result<Option<Frame<'a>>, Fault>
-    requires index { IsIndexedBy node index.now }
     requires sound { sub_fault (table_of_node node) limit (sub_bid_of node) ≡ None }
     requires known { IsTrueOf (table_of_node node) known.old }
     ensures known { IsTrueOf (table_of_node node.entry) known.new }
@@ -209,7 +204,7 @@ pub(crate) fn open_row<'a>(
         IfOk result (λ o. IfSome o (IsRowOpened t known.new r limit bid x)) }
 {
     let id = row.id();
-    match node.sub_by(index, id) {
+    match known.indexes.subnode(node, id) {
         Some(sub) => {
             if !is_type(ATTACHMENT, id) {
                 return Err(named(Kind::NodeKind, row.at(), bid, id));

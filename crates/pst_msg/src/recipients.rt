@@ -4,7 +4,7 @@ ghost use Rattle.std.specs.Prelude.{◌≡◌, Some, OnOk};
 ghost use Rattle.pst_fault.specs.Each.{if_there};
 ghost use Rattle.pst_fault.specs.First.{Tells};
 ghost use Rattle.pst_ndb.specs.Roots.{Roots, subnode_of};
-ghost use Rattle.pst_ndb.specs.Views.{table_of_node, roots_of, IsIndexedBy};
+ghost use Rattle.pst_ndb.specs.Views.{table_of_node, roots_of};
 ghost use Rattle.pst_tc.specs.Fault.{tc_fault};
 ghost use Rattle.pst_msg.specs.declared.nid.TheConstants.{RECIPIENTS};
 ghost use Rattle.pst_msg.specs.declared.role.Role.TheVariants.{Recipients};
@@ -18,12 +18,10 @@ use crate::nid::RECIPIENTS;
 use crate::role::Role;
 use pst_fault::Fault;
 use pst_ndb::Node;
-use pst_subnode::SubIndex;
 
 /// Checks the recipient table of a message, where it is there.
-pub(crate) fn check_recipients(node: Node, index: &SubIndex, known: &mut Known) -> Result<(), Fault>
-    requires index { IsIndexedBy node index.now }
-    requires known { IsTrueOf (table_of_node node) known.old }
+pub(crate) fn check_recipients(node: Node, known: &mut Known) -> Result<(), Fault>
+    requires { IsTrueOf (table_of_node node) known.old }
     ensures known { IsTrueOf (table_of_node node.entry) known.new }
     ensures grows { let t = table_of_node node.entry in
         Grows t (λ nodes. HasMessage t nodes (roots_of node.entry)) known.old known.new }
@@ -33,7 +31,7 @@ pub(crate) fn check_recipients(node: Node, index: &SubIndex, known: &mut Known) 
     ensures exact { let t = table_of_node node.entry in
         Tells result (if_there (tc_fault t) (subnode_of t (roots_of node.entry) RECIPIENTS)) tt }
 {
-    match node.sub_by(index, RECIPIENTS) {
+    match known.index.subnode(node, RECIPIENTS) {
         Some(table) => {
             once(known, Role::Recipients, table)?;
             Ok(())

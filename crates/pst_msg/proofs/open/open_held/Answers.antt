@@ -11,15 +11,15 @@ use Rattle.pst_msg.proofs.open.open_held.Goals as goal
 pub returns-in_err-once-in-Some-clause-grows : goal.returns-in_err-once-in-Some-clause-grows
 returns-in_err-once-in-Some-clause-grows c = grows_then _ _ _ _ _ c.check_recipients.ensures.grows (attachments_grow (table_of_node c.args.node) (table_of_node c.in-Some.table) (roots_of c.args.node) c.in-Some.table c.check_recipients.new.known c.once.new.known c.in-Some.ensures.table c.in-Some.ensures.roots c.once.ensures.grows)
 
-pub returns-in-Some-clause-grows : goal.returns-in-Some-clause-grows
-returns-in-Some-clause-grows c = grows_then _ _ _ _ _ c.check_recipients.ensures.grows (attachments_grow (table_of_node c.args.node) (table_of_node c.in-Some.table) (roots_of c.args.node) c.in-Some.table c.check_recipients.new.known c.once.new.known c.in-Some.ensures.table c.in-Some.ensures.roots c.once.ensures.grows)
+pub returns-in_ok-once-in-Some-clause-grows : goal.returns-in_ok-once-in-Some-clause-grows
+returns-in_ok-once-in-Some-clause-grows c = grows_then _ _ _ _ _ c.check_recipients.ensures.grows (attachments_grow (table_of_node c.args.node) (table_of_node c.in-Some.table) (roots_of c.args.node) c.in-Some.table c.check_recipients.new.known c.once.new.known c.in-Some.ensures.table c.in-Some.ensures.roots c.once.ensures.grows)
 
-pub returns-in-Some-clause-open : goal.returns-in-Some-clause-open
-returns-in-Some-clause-open c =
+pub returns-in_ok-once-in-Some-clause-open : goal.returns-in_ok-once-in-Some-clause-open
+returns-in_ok-once-in-Some-clause-open c =
     let t = table_of_node c.args.node in
     let table = roots_of c.in-Some.table in
-    let f : Frame = record { holder = c.args.holder; node = c.args.node; index = c.in_ok-index.index; bid = c.bid_data.result; rest = c.rows.result; limit = c.args.limit } in
-    opened t c.once.new.known f table refl c.requires.sound c.in_ok-index.ensures.index c.in_ok-check_recipients.ensures.exact.0 (sym c.in-Some.ensures.roots)
+    let f : Frame = record { holder = c.args.holder; node = c.args.node; bid = c.bid_data.result; rest = c.rows.result; limit = c.args.limit } in
+    opened t c.once.new.known f table refl c.requires.sound c.in_ok-check_recipients.ensures.exact.0 (sym c.in-Some.ensures.roots)
     (rw (← c.in-Some.ensures.table) c.in_ok-once-in-Some.ensures.exact.0)
     c.bid_data.ensures
     (c.rows.ensures.left ∙ ap (λ n. tc_rows (table_of_node n) (roots_of n)) c.known_tc.ensures ∙ ap (λ u. tc_rows u table) c.in-Some.ensures.table)
