@@ -13,8 +13,7 @@ use Rattle.pst_subnode.specs.Body.{leaf_bid_in}
 use Rattle.pst_subnode.specs.List.{subs_of}
 use Rattle.pst_subnode.specs.Marks.{IsList, IsSiList, rank_of}
 use Rattle.pst_subnode.specs.Reach.{NamesNext, Leads, goes_on}
-use Rattle.pst_subnode.specs.Known.{IsKnownBlock, Adds, IsKnownList, IsKnownEntry, AreLedTo, AreLedEach, AreKnownEach}
-pub use Rattle.pst_subnode.specs.Known.{AreKnownOr}
+use Rattle.pst_subnode.specs.Known.{IsKnownBlock, Adds, IsKnownList, IsKnownEntry, AreLedTo, AreLedEach, AreKnownEach, AreKnownOr}
 use Rattle.pst_subnode.proofs.ReachLemmas.{slblock_names, siblock_names, slblock_only, siblock_only}
 use Rattle.pst_subnode.proofs.AddLemmas.{contains_cases, adds_then, adds_of, high_later, entry_later}
 
