@@ -18,7 +18,7 @@ use Rattle.pst_amap.specs.Exact.{MarkExactly, ExactLaw}
 
 -- ---- old map pages
 
-all_marked : (order : BitOrder) (I : List ℕ) (unit n k : ℕ) → are_marked order I unit n ≡ true → unit ≤ k → k < unit + n → is_marked order I k ≡ true
+pub all_marked : (order : BitOrder) (I : List ℕ) (unit n k : ℕ) → are_marked order I unit n ≡ true → unit ≤ k → k < unit + n → is_marked order I k ≡ true
 all_marked order I unit zero k e le lt = absurd (omega arith)
 all_marked order I unit (suc n) k e le lt =
     let both = and_parts (is_marked order I unit) (are_marked order I (unit + 1) n) e in

@@ -1,10 +1,16 @@
 pub mod AnswerLemmas
+pub mod BesideLaws
+pub mod CoverLemmas
 pub mod EightLemmas
+pub mod ExactlyLemmas
 pub mod ExactLaws
 pub mod LostLemmas
 pub mod MapLemmas
 pub mod MapsLaws
+pub mod OldClaimLaws
 pub mod OldLemmas
+pub mod OldPageLaws
 pub mod OrderLemmas
 pub mod ReportLemmas
 pub mod RunLaws
+pub mod RunLemmas

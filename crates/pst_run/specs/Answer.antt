@@ -3,7 +3,6 @@ use Rattle.std.specs.Prelude.{◌≡◌, ℕ, ◌+◌, Bool, false, ◌&&◌, �
 use Rattle.pst_fault.specs.declared.fault.Fault.{Fault}
 use Rattle.pst_fault.specs.First.{answer}
 use Rattle.pst_header.specs.Header.{header_fault, fields}
-use Rattle.pst_amap.specs.Lost.{lost_runs}
 use Rattle.pst_btree.specs.Tree.{pages_of}
 use Rattle.pst_page.specs.declared.entry.NodeEntry.{NodeEntry}
 use Rattle.pst_block.specs.Table.{Table}
@@ -15,7 +14,6 @@ use Rattle.pst_json.specs.pst_store.Fault.{store_fault}
 use Rattle.pst_json.specs.pst_store.Parts.{table_in, entries_in}
 use Rattle.pst_json.specs.pst_store.Values.{store_in}
 use Rattle.pst_json.specs.pst_verify.Counts.{count_of}
-use Rattle.pst_json.specs.pst_verify.Report.{claimed_in}
 use Rattle.pst_json.specs.declared.fault.DocFault.{DocFault}
 use Rattle.pst_json.specs.Check.{ReportParts, check_line}
 use Rattle.pst_json.specs.Contents.{contents_line}
@@ -65,7 +63,7 @@ report_in I = let s = store_in I in record {
   folders = count_of is_folder (all_roots (entries_in I s));
   messages = count_of is_message (all_roots (entries_in I s));
   order = s.order;
-  lost = lost_runs s.order I (claimed_in I s);
+  lost = s.lost;
 }
 
 -- a strict check fails where there are lost runs

@@ -13,13 +13,13 @@ use Rattle.pst_space.proofs.MarkLemmas.{filled_in, filled_out, clear_filled, ove
 
 -- ---- spans and their units
 
-units_before : (m : Claimed) (s t : Span) → IsUnits m s → IsUnits m t → end_of_span s ≤ t.at → first_unit s + unit_count s ≤ first_unit t
+pub units_before : (m : Claimed) (s t : Span) → IsUnits m s → IsUnits m t → end_of_span s ≤ t.at → first_unit s + unit_count s ≤ first_unit t
 units_before m s t u v le = omega (arith, u.mapped, u.whole, u.whole_len, v.mapped, v.whole, v.whole_len)
 
-units_reach : (m : Claimed) (s t : Span) → IsUnits m s → IsUnits m t → s.at < end_of_span t → first_unit s < first_unit t + unit_count t
+pub units_reach : (m : Claimed) (s t : Span) → IsUnits m s → IsUnits m t → s.at < end_of_span t → first_unit s < first_unit t + unit_count t
 units_reach m s t u v lt = omega (arith, u.mapped, u.whole, u.whole_len, v.mapped, v.whole, v.whole_len)
 
-units_some : (m : Claimed) (s : Span) → IsUnits m s → 0 < unit_count s
+pub units_some : (m : Claimed) (s : Span) → IsUnits m s → 0 < unit_count s
 units_some m s u = omega (arith, u.some, u.whole_len)
 
 units_kept : (m : Claimed) (s t : Span) → IsUnits m s → IsUnits (with_span m t) s
@@ -119,7 +119,7 @@ apart_law units spans us = (
 
 -- ---- free of what is claimed
 
-clear_free : (m : Claimed) (a n unit : ℕ) → is_clear m a n ≡ true → a ≤ unit → unit < a + n → flag_of m unit ≡ false
+pub clear_free : (m : Claimed) (a n unit : ℕ) → is_clear m a n ≡ true → a ≤ unit → unit < a + n → flag_of m unit ≡ false
 clear_free m a zero unit e le lt = absurd (omega arith)
 clear_free m a (suc n) unit e le lt =
     let both = clear_and (flag_of m a) (is_clear m (a + 1) n) e in
@@ -128,7 +128,7 @@ clear_free m a (suc n) unit e le lt =
       | inr same ↦ let here : unit ≡ a = omega arith in ap (flag_of m) here ∙ both.0
     ]
 
-free_clear : (m : Claimed) (a n : ℕ) → ((unit : ℕ) → a ≤ unit → unit < a + n → flag_of m unit ≡ false) → is_clear m a n ≡ true
+pub free_clear : (m : Claimed) (a n : ℕ) → ((unit : ℕ) → a ≤ unit → unit < a + n → flag_of m unit ≡ false) → is_clear m a n ≡ true
 free_clear m a zero free = refl
 free_clear m a (suc n) free = rw (free a (omega arith) (omega arith), free_clear m (a + 1) n (λ unit le lt. free unit (omega arith) (omega arith))) refl
 
@@ -171,7 +171,7 @@ flag_with_span m s u inside =
           ]
     ]
 
-flag_with_spans : (m : Claimed) (ss : List Span) (u : ℕ) → u < length m → flag_of (with_spans m ss) u ≡ (is_covered ss u || flag_of m u)
+pub flag_with_spans : (m : Claimed) (ss : List Span) (u : ℕ) → u < length m → flag_of (with_spans m ss) u ≡ (is_covered ss u || flag_of m u)
 flag_with_spans m [] u inside = refl
 flag_with_spans m (s ∷ ss) u inside =
     flag_with_spans (with_span m s) ss u (omega (arith, length_with_span m s))

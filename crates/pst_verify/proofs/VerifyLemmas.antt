@@ -16,7 +16,6 @@ use Rattle.pst_ndb.specs.declared.check.Work.{Work}
 use Rattle.pst_ndb.specs.Counts.{AreExpanded}
 use Rattle.pst_ndb.specs.Entries.{page_total, block_table, block_list, node_list}
 use Rattle.pst_ndb.specs.Fault.{ndb_fault}
-use Rattle.pst_ndb.specs.Marks.{MapsMark}
 use Rattle.pst_ndb.specs.Roots.{all_roots}
 use Rattle.pst_ndb.specs.Space.{space_claimed}
 use Rattle.pst_store.specs.pst_msg.Counts.{IsRaised}
@@ -27,7 +26,7 @@ use Rattle.pst_store.specs.Grammar.{IsStore}
 use Rattle.pst_store.specs.Parts.{StoreParts, table_in, entries_in}
 use Rattle.pst_store.specs.Values.{store_in}
 use Rattle.pst_store.specs.View.{memory_of_store}
-use Rattle.pst_store.proofs.StoreLaws.{store_law, sound_store, table_is, entries_are}
+use Rattle.pst_store.proofs.StoreLaws.{store_law, sound_store, table_is, entries_are, lost_is}
 use Rattle.pst_verify.specs.declared.counts.Counts.{Counts}
 use Rattle.pst_verify.specs.declared.check.Verified.{Verified}
 use Rattle.pst_verify.specs.Counts.{count_of}
@@ -56,7 +55,7 @@ messaging_fails I J t nodes f same none table entries h = rw same at (messaging_
 
 -- what was found, in the words of the store that the file spells
 spelt_report : (I : List ℕ) (map : MapReport) (work : Work) (counts : Counts) →
-    IsReport I (fields I) (space_claimed I (fields I)) map → MapsMark I (fields I) map → work.pages ≡ page_total I (fields I) →
+    IsReport I (fields I) (space_claimed I (fields I)) map → map.lost.items ≡ (store_in I).lost → work.pages ≡ page_total I (fields I) →
     work.sums ≡ length (block_list I (fields I)) → AreExpanded (table_in I (store_in I)) (entries_in I (store_in I)) work.expansions →
     IsRaised (table_in I (store_in I)) (entries_in I (store_in I)) 0 work.contexts → counts.nodes ≡ length (entries_in I (store_in I)) →
     counts.folders ≡ count_of is_folder (all_roots (entries_in I (store_in I))) →
@@ -64,15 +63,14 @@ spelt_report : (I : List ℕ) (map : MapReport) (work : Work) (counts : Counts) 
     IsReportOf I (store_in I)
     (record { pages = work.pages; blocks = work.sums; nodes = counts.nodes; folders = counts.folders; messages = counts.messages; order = map.order; lost = map.lost; work = work })
 unfolding store_in page_total block_list
-spelt_report I map work counts is marks pages sums expanded contexts nodes folders messages = record {
+spelt_report I map work counts is lost pages sums expanded contexts nodes folders messages = record {
   pages = pages;
   blocks = sums;
   nodes = nodes;
   folders = folders;
   messages = messages;
   order = is.order;
-  lost = is.lost;
-  marks = marks;
+  lost = lost;
   decoded = refl;
   summed = refl;
   expanded = expanded;
@@ -81,16 +79,16 @@ spelt_report I map work counts is marks pages sums expanded contexts nodes folde
 
 pub report_is : (I : List ℕ) (h : Header) (t : Table) (entries : List NodeEntry) (map : MapReport) (work : Work) (counts : Counts) →
     h ≡ fields I → t ≡ block_table I h → entries ≡ node_list I h →
-    IsReport I (fields I) (space_claimed I (fields I)) map → MapsMark I (fields I) map → work.pages ≡ page_total I (fields I) →
+    IsReport I (fields I) (space_claimed I (fields I)) map → ndb_fault I ≡ None → work.pages ≡ page_total I (fields I) →
     work.sums ≡ length (block_list I (fields I)) → AreExpanded t entries work.expansions → IsRaised t entries 0 work.contexts →
     counts.nodes ≡ length entries → counts.folders ≡ count_of is_folder (all_roots entries) →
     counts.messages ≡ count_of is_message (all_roots entries) →
     IsReportOf I (store_in I)
     (record { pages = work.pages; blocks = work.sums; nodes = counts.nodes; folders = counts.folders; messages = counts.messages; order = map.order; lost = map.lost; work = work })
-report_is I h t entries map work counts is table nodes_are report marks pages sums expanded contexts nodes folders messages =
+report_is I h t entries map work counts is table nodes_are report sound pages sums expanded contexts nodes folders messages =
     let a : t ≡ table_in I (store_in I) = table ∙ ap (block_table I) is ∙ sym (table_is I) in
     let b : entries ≡ entries_in I (store_in I) = nodes_are ∙ ap (node_list I) is ∙ sym (entries_are I) in
-    spelt_report I map work counts report marks pages sums (rw (a, b) at expanded) (rw (a, b) at contexts) (rw b at nodes) (rw b at folders) (rw b at messages)
+    spelt_report I map work counts report (report.lost ∙ lost_is I sound) pages sums (rw (a, b) at expanded) (rw (a, b) at contexts) (rw b at nodes) (rw b at folders) (rw b at messages)
 
 -- ---- the answer
 

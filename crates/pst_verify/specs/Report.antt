@@ -1,23 +1,14 @@
 -- What is reported of a store.
 use Rattle.std.specs.Prelude.{◌≡◌, ℕ, ◌+◌, List, length}
-use Rattle.pst_amap.specs.Exact.{MarkExactly}
-use Rattle.pst_amap.specs.Lost.{lost_runs}
-use Rattle.pst_amap.specs.Report.{old_maps}
 use Rattle.pst_btree.specs.Tree.{pages_of}
 use Rattle.pst_store.specs.pst_msg.Counts.{IsRaised}
 use Rattle.pst_store.specs.pst_msg.Values.{is_folder, is_message}
 use Rattle.pst_ndb.specs.Counts.{AreExpanded}
 use Rattle.pst_ndb.specs.Database.{blocks_in}
 use Rattle.pst_ndb.specs.Roots.{all_roots}
-use Rattle.pst_ndb.specs.Space.{space_claimed}
-use Rattle.pst_space.specs.Claimed.{Claimed}
 use Rattle.pst_store.specs.Parts.{StoreParts, table_in, entries_in}
 use Rattle.pst_verify.specs.declared.report.Report.{Report}
 use Rattle.pst_verify.specs.Counts.{count_of}
-
--- what is claimed in the end: the map pages, the pages of both trees, the blocks, and the old map pages
-abbrev pub claimed_in : List ℕ → StoreParts → Claimed
-claimed_in I s = (old_maps I s.header (space_claimed I s.header)).claimed
 
 pub record IsReportOf (I : List ℕ) (s : StoreParts) (report : Report) : Type 0 where
   -- how many pages both trees have, how many blocks and nodes there are, how many of these are folders and how many messages
@@ -26,10 +17,9 @@ pub record IsReportOf (I : List ℕ) (s : StoreParts) (report : Report) : Type 0
   pub nodes : report.nodes ≡ length (entries_in I s)
   pub folders : report.folders ≡ count_of is_folder (all_roots (entries_in I s))
   pub messages : report.messages ≡ count_of is_message (all_roots (entries_in I s))
-  -- The order of bits of the maps, and the lost runs; the maps mark exactly these and what is claimed.
+  -- The order of bits of the maps, and the lost runs.
   pub order : report.order ≡ s.order
-  pub lost : report.lost.items ≡ lost_runs s.order I (claimed_in I s)
-  pub marks : MarkExactly report.order I (claimed_in I s) report.lost.items
+  pub lost : report.lost.items ≡ s.lost
   -- The work: each page and each block once; each internal block once to which chains of identifiers lead from the nodes; each
   -- context once that the contents name.
   pub decoded : report.work.pages ≡ report.pages

@@ -8,7 +8,6 @@ ghost use Rattle.pst_header.specs.Header.{fields};
 ghost use Rattle.pst_amap.specs.Report.{IsReport};
 ghost use Rattle.pst_ndb.specs.Counts.{AreExpanded};
 ghost use Rattle.pst_ndb.specs.Entries.{page_total, block_list};
-ghost use Rattle.pst_ndb.specs.Marks.{MapsMark};
 ghost use Rattle.pst_ndb.specs.Space.{space_claimed};
 ghost use Rattle.pst_ndb.specs.Views.{image_of_ndb, table_of_ndb, nodes_of};
 ghost use Rattle.pst_store.specs.pst_msg.Counts.{IsRaised};
@@ -42,7 +41,6 @@ pub struct Verified<'a> {
 fn report_of(ndb: &Ndb, map: MapReport, work: Work) -> Report
     requires map { let I = bytes_of (image_of_ndb ndb.now) in
         IsReport I (fields I) (space_claimed I (fields I)) map }
-    requires marks { let I = bytes_of (image_of_ndb ndb.now) in MapsMark I (fields I) map }
     requires pages { let I = bytes_of (image_of_ndb ndb.now) in
         work.pages ≡ page_total I (fields I) }
     requires sums { let I = bytes_of (image_of_ndb ndb.now) in
