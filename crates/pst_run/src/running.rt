@@ -7,7 +7,7 @@ ghost use Rattle.pst_ask.specs.clap.Words.{fault_of, kind_of};
 ghost use Rattle.pst_ask.specs.declared.words.NoOrder.TheVariants.{Lacks};
 ghost use Rattle.pst_run.specs.Answer.{answer_to};
 ghost use Rattle.pst_run.specs.declared.refusal.Refusal.TheVariants as refused;
-ghost use Rattle.pst_run.specs.Refusal.{status_of};
+ghost use Rattle.pst_run.specs.Refusal.{line_of_text, status_of};
 ghost use Rattle.pst_run.specs.Run.{Answers, CarriesOut, Ends, IsLacking, IsRefused, IsStatusOf, MatchNone, Says, SaysLine, lack_text, outputs};
 
 use crate::answers::answer;
@@ -23,13 +23,25 @@ use std::io::{Read, Write};
 // Room for a line on the error output: the longest is a fault's, of at most 92 bytes.
 const LINE: usize = 128;
 
+// A text as a line, where there is room for it.
+fn line_of<D: Display + Drop>(text: D) -> Option<ArrayString<LINE>>
+    ensures { IfSome result (λ made. IfSome (D.output text) (λ line.
+        made.bytes ≡ line_of_text line)) }
+{
+    let mut line = ArrayString::<LINE>::new();
+    match writeln!(line, "{text}") {
+        Ok(()) => Some(line),
+        Err(_) => None,
+    }
+}
+
 // Says a line on the error output. It is made first, so that what a writer that fails has taken is a front of it.
+#[tactic(auto, using(crate::proofs::RunLemmas::front_is))]
 fn say<D: Display + Drop, E: Write>(text: D, err: &mut E)
     ensures said { IfSome (D.output text) (λ line.
         SaysLine line (E.contents err.old) (E.contents err.new)) }
 {
-    let mut line = ArrayString::<LINE>::new();
-    if writeln!(line, "{text}").is_ok() {
+    if let Some(line) = line_of(text) {
         let _ = emit(line.as_str().as_bytes(), err);
     }
 }
