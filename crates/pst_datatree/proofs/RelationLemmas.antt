@@ -1,10 +1,9 @@
 -- The grammar of data trees, and their first faults and spans, say the same.
-use Rattle.std.proofs.Common.{◌≡◌, ℕ, zero, suc, ◌<◌, Bool, true, false, List, ◌++◌, Option, Some, None, refl, sym, ap, ◌∙◌, arith, ◌⊎◌, inl, inr, ◌↔◌}
-use Rattle.std.specs.Prelude.{cond, nat_eq, if◌then◌else◌}
+use Rattle.std.proofs.Common.{◌≡◌, ℕ, true, false, List, Some, None, refl, sym, ap, ◌∙◌, arith, ◌⊎◌, inl, inr, ◌↔◌}
+use Rattle.std.specs.Prelude.{nat_eq, if◌then◌else◌}
 use Rattle.std.proofs.lemmas.Bool.Decides.{nat_tests}
 use Rattle.pst_bytes.specs.declared.span.Span.{Span}
-use Rattle.pst_fault.specs.declared.fault.Fault.{Fault}
-use Rattle.pst_fault.specs.First.{◌then◌, holds_or, first_below, join_below, AreJoined}
+use Rattle.pst_fault.specs.First.{◌then◌, holds_or, first_below, join_below}
 use Rattle.pst_fault.proofs.FirstLemmas.{none_then, then_none, holds_or_none, holds_or_true, guard_then}
 use Rattle.pst_fault.proofs.EachLemmas.{there_is}
 use Rattle.pst_fault.proofs.JoinLemmas.{joined_law}

@@ -1,5 +1,5 @@
 -- The line that shows the report of a check.
-use Rattle.std.proofs.Common.{◌≡◌, ℕ, false, List, [], ◌∷◌, ◌++◌, map, refl, sym, ap, ◌∙◌, true, codes, append_assoc}
+use Rattle.std.proofs.Common.{◌≡◌, false, [], ◌∷◌, ◌++◌, map, refl, sym, ap, ◌∙◌, true, codes, append_assoc}
 use Rattle.serde_json.specs.Data.{Data, Items, Members, array, object, member, no_members}
 use Rattle.serde_json.specs.View.{items_of}
 use Rattle.serde_json.specs.Written.{compact_text, items_text, members_text, has_float}

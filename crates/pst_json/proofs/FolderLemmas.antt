@@ -1,5 +1,5 @@
 -- The texts of folders and of their messages.
-use Rattle.std.proofs.Common.{◌≡◌, ℕ, false, List, [], ◌∷◌, ◌++◌, map, refl, sym, ap, codes, append_assoc}
+use Rattle.std.proofs.Common.{◌≡◌, ℕ, false, List, [], ◌∷◌, ◌++◌, map, refl, ap, codes, append_assoc}
 use Rattle.std.specs.Prelude.{Option, Some, None, option_map, nat_eq}
 use Rattle.serde_json.specs.Data.{Data, Items, null, array, object, member, no_members}
 use Rattle.serde_json.specs.View.{items_of}
@@ -11,7 +11,7 @@ use Rattle.pst_btree.specs.Entries.{first_with}
 use Rattle.pst_ndb.specs.Roots.{Roots, all_roots}
 use Rattle.pst_value_json.specs.pst_pc.Values.{Property, id_of, props_of}
 use Rattle.pst_value_json.specs.pst_tc.Values.{RowParts}
-use Rattle.pst_verify.specs.pst_msg.declared.items.Items.TheVariants.{Subfolders, Messages, Associated}
+use Rattle.pst_verify.specs.pst_msg.declared.items.Items.TheVariants.{Subfolders, Messages}
 use Rattle.pst_verify.specs.pst_msg.declared.object.Object.{Object}
 use Rattle.pst_verify.specs.pst_msg.Shown.{Shown, object_shown, rows_there, folder_table}
 use Rattle.pst_verify.specs.pst_msg.Values.{is_folder, is_message}

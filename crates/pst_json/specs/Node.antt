@@ -1,5 +1,5 @@
 -- The properties of a node as a document ([MS-PST] 2.3.3), and of a message also its attachments and recipients (2.4.5).
-use Rattle.std.specs.Prelude.{ℕ, Option, Some, None, option_map, option_and_then, List, [], ◌++◌, false, Result, Ok, Err, map, codes, if◌then◌else◌}
+use Rattle.std.specs.Prelude.{ℕ, Option, Some, None, option_map, List, [], ◌++◌, false, Result, Ok, Err, map, codes, if◌then◌else◌}
 use Rattle.serde_json.specs.Data.{Data, array, no_items, object, member, no_members}
 use Rattle.serde_json.specs.Written.{compact_text}
 use Rattle.pst_fault.specs.declared.fault.Fault.{Fault}
