@@ -1,18 +1,11 @@
 -- Nothing is forgotten, and what is counted is named.
-use Rattle.std.proofs.Common.{◌≡◌, ℕ, ◌+◌, ◌-◌, ◌^◌, ◌≤◌, List, length, inl, inr, arith}
+use Rattle.std.proofs.Common.{◌≡◌, ℕ, ◌+◌, ◌-◌, ◌^◌, List, arith}
 use Rattle.std.specs.Prelude.{min}
 use Rattle.pst_page.specs.declared.entry.NodeEntry.{NodeEntry}
 use Rattle.pst_block.specs.Table.{Table}
-use Rattle.pst_ndb.specs.Roots.{Roots}
-use Rattle.pst_msg.specs.declared.keys.Keys.{Keys}
 use Rattle.pst_msg.specs.declared.known.Known.{Known}
-use Rattle.pst_msg.specs.declared.role.Role.{Role}
-use Rattle.pst_msg.specs.Keys.{key, keys_in}
-use Rattle.pst_msg.specs.Roles.{role_number}
 use Rattle.pst_ndb.specs.Counts.{capped}
-use Rattle.pst_msg.specs.Counts.{Names}
-use Rattle.pst_msg.specs.Growth.{Grows, AreContextsCounted}
-use Rattle.pst_msg.proofs.KnownLemmas.{OneMore, Kept}
+use Rattle.pst_msg.specs.Growth.{Grows}
 
 -- ---- steps one after another
 

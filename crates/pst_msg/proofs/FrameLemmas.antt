@@ -1,15 +1,15 @@
 -- The messages on the stack.
-use Rattle.std.proofs.Common.{◌≡◌, ℕ, zero, suc, ◌+◌, ◌-◌, ◌<◌, ◌≤◌, true, List, [], ◌∷◌, ◌++◌, reverse, length, Option, Some, None, Result, Ok, Err, refl, sym, ap, ◌∙◌, ◌⊎◌, inl, inr, arith}
+use Rattle.std.proofs.Common.{◌≡◌, ℕ, ◌+◌, ◌-◌, ◌<◌, ◌≤◌, true, List, [], ◌∷◌, ◌++◌, reverse, Option, Some, None, Result, Ok, Err, refl, sym, ap, ◌∙◌, ◌⊎◌, inl, inr, arith}
 use Rattle.std.specs.Prelude.{option_map, IfSome, IfNone, IfOk, IfErr, sum_by}
 use Rattle.std.specs.List.{Contains}
 use Rattle.std.proofs.lemmas.List.{reverse-append}
 use Rattle.std.proofs.lemmas.List.Sums.{sum_by_push}
 use Rattle.pst_fault.specs.declared.fault.Fault.{Fault}
-use Rattle.pst_fault.specs.declared.kind.Kind.TheVariants.{NodeMissing, NodeKind}
+use Rattle.pst_fault.specs.declared.kind.Kind.TheVariants.{NodeMissing}
 use Rattle.pst_fault.specs.Each.{first_of, if_there, there_or}
-use Rattle.pst_fault.specs.First.{◌then◌, holds_or, IsFirst}
+use Rattle.pst_fault.specs.First.{◌then◌, IsFirst}
 use Rattle.pst_fault.proofs.EachLemmas.{contains_here, contains_later}
-use Rattle.pst_fault.proofs.FirstLemmas.{then_none, both_none, is_first_then, is_first_after}
+use Rattle.pst_fault.proofs.FirstLemmas.{then_none, is_first_then}
 use Rattle.pst_page.specs.declared.entry.NodeEntry.{NodeEntry}
 use Rattle.pst_block.specs.Table.{Table}
 use Rattle.pst_subnode.specs.declared.check.TheConstants.{LISTS}
@@ -28,14 +28,14 @@ use Rattle.pst_msg.specs.declared.nid.TheConstants.{ATTACHMENT, ATTACHMENTS, REC
 use Rattle.pst_msg.specs.declared.object.Object.{Object}
 use Rattle.pst_msg.specs.declared.role.Role.TheVariants.{Properties, Recipients, Attachments}
 use Rattle.pst_msg.specs.Nid.{is_type, named}
-use Rattle.pst_msg.specs.Counts.{HasMessage, HasAttachment, embedded, attached}
+use Rattle.pst_msg.specs.Counts.{HasMessage, embedded, attached}
 use Rattle.pst_msg.specs.Fault.{attachment_row_fault, attachments_fault, held_fault, message_part, embedded_fault, attachment_part, message_at, attachment_at, below_message, below_attachment, message_fault, attachment_fault}
 use Rattle.pst_msg.specs.Grammar.{IsAttachmentRow}
 use Rattle.pst_msg.specs.Growth.{Grows}
-use Rattle.pst_msg.specs.Known.{ContextIn, WholeIn, NamedIn, HeldIn, MessageIn, AttachmentIn, IsTrueOf}
+use Rattle.pst_msg.specs.Known.{ContextIn, WholeIn, NamedIn, HeldIn, IsTrueOf}
 use Rattle.pst_msg.specs.Values.{embedded_of}
 use Rattle.pst_msg.specs.Steps.{frame_steps, message_steps}
-use Rattle.pst_msg.specs.Frames.{left_of, holder_of, IsWaited, IsFrame, IsHolder, HasHolder, HolderIn, Reaches, IsBelow, IsStack, IsOpened, EmbedsKnown, IsObjectOpened, AttachmentKnown, IsAttachmentOpened, IsRowKnown, IsRowOpened, with_rest, IsWentOn}
+use Rattle.pst_msg.specs.Frames.{left_of, holder_of, IsWaited, IsFrame, IsHolder, HasHolder, HolderIn, Reaches, IsBelow, IsStack, IsOpened, IsObjectOpened, AttachmentKnown, IsAttachmentOpened, IsRowKnown, IsRowOpened, with_rest, IsWentOn}
 use Rattle.pst_msg.proofs.CountLemmas.{grows_of, grows_then}
 use Rattle.pst_msg.proofs.GrowLemmas.{by_first}
 use Rattle.pst_msg.proofs.KnownLemmas.{known_message, known_attachment}
@@ -441,7 +441,7 @@ pub two_steps : (t : Table) (all rest : List Frame) (last below above : Frame) �
 two_steps t all rest last below above is less =
     let before : sum_by (frame_steps t) all ≡ sum_by (frame_steps t) rest + frame_steps t last = ap (λ xs. sum_by (frame_steps t) xs) is ∙ sum_by_push (frame_steps t) rest last in
     let after : sum_by (frame_steps t) ((rest ++ (below ∷ [])) ++ (above ∷ [])) ≡ sum_by (frame_steps t) rest + frame_steps t below + frame_steps t above =
-        sum_by_push (frame_steps t) (rest ++ (below ∷ [])) above ∙ ap (λ n. n + frame_steps t above) (sum_by_push (frame_steps t) rest below) in
+    sum_by_push (frame_steps t) (rest ++ (below ∷ [])) above ∙ ap (λ n. n + frame_steps t above) (sum_by_push (frame_steps t) rest below) in
     omega (arith, before, after, less)
 
 pub two_first : (all rest : List Frame) (below above : Frame) → all ≡ (rest ++ (below ∷ [])) ++ (above ∷ []) → reverse all ≡ above ∷ below ∷ reverse rest

@@ -1,5 +1,5 @@
 -- How often the walk of a message can be gone on with.
-use Rattle.std.proofs.Common.{◌≡◌, ℕ, zero, suc, ◌+◌, ◌-◌, ◌<◌, ◌≤◌, List, ◌∷◌, Some, refl, sym, ap, ◌∙◌, arith}
+use Rattle.std.proofs.Common.{◌≡◌, ℕ, zero, suc, ◌+◌, ◌-◌, ◌<◌, ◌≤◌, ◌∷◌, Some, refl, sym, ap, ◌∙◌, arith}
 use Rattle.std.specs.Prelude.{sum_by}
 use Rattle.std.proofs.lemmas.List.Sums.{sum_by-cons}
 use Rattle.pst_block.specs.Table.{Table}
@@ -42,8 +42,8 @@ rows_of_part t below r table is = ap (λ o. 1 + sum_by (row_steps t below r) (ro
 pub opened_steps : (t : Table) (f : Frame) (table : Roots) → subnode_of t (roots_of f.node) ATTACHMENTS ≡ Some table → tc_rows_left f.rest ≡ tc_rows t table → frame_steps t f ≤ message_steps t f.limit (roots_of f.node)
 opened_steps t f table is rows =
     let same : frame_steps t f ≡ message_steps t f.limit (roots_of f.node) =
-        ap (λ xs. 1 + sum_by (row_steps t (steps_below_message t f.limit) (roots_of f.node)) xs) rows
-        ∙ sym (message_steps_is t f.limit (roots_of f.node) ∙ rows_of_part t (steps_below_message t f.limit) (roots_of f.node) table is) in
+    ap (λ xs. 1 + sum_by (row_steps t (steps_below_message t f.limit) (roots_of f.node)) xs) rows
+    ∙ sym (message_steps_is t f.limit (roots_of f.node) ∙ rows_of_part t (steps_below_message t f.limit) (roots_of f.node) table is) in
     omega (arith, same)
 
 -- an attachment that embeds a message

@@ -55,10 +55,7 @@ fn turn_to(frame: &Frame, known: &mut Known) -> Result<(), Fault>
 
 // Goes on with a message: through its rows, up to one whose attachment embeds a message that has to be gone through first, which
 // is given beside it; and after the last of them the message is remembered.
-fn go_on<'a>(
-    frame: Frame<'a>,
-    known: &mut Known,
-) -> Result<Option<(Frame<'a>, Frame<'a>)>, Fault>
+fn go_on<'a>(frame: Frame<'a>, known: &mut Known) -> Result<Option<(Frame<'a>, Frame<'a>)>, Fault>
     requires known { IsTrueOf (table_of_node frame.node) known.old }
     requires frame { IsFrame (table_of_node frame.node) known.old None None frame }
     requires holder { HasHolder (table_of_node frame.node) known.old frame }

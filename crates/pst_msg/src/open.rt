@@ -127,11 +127,7 @@ fn open_embedded<'a>(
 
 // An attachment that is not remembered.
 #[tactic(auto, unfolding(crate::specs::Fault::attachment_part), using(crate::proofs::MessageLemmas::attachment_is))]
-fn open_part<'a>(
-    node: Node<'a>,
-    limit: u32,
-    known: &mut Known,
-) -> Result<Option<Frame<'a>>, Fault>
+fn open_part<'a>(node: Node<'a>, limit: u32, known: &mut Known) -> Result<Option<Frame<'a>>, Fault>
     requires sound { sub_fault (table_of_node node) limit (sub_bid_of node) ≡ None }
     requires known { IsTrueOf (table_of_node node) known.old }
     ensures known { IsTrueOf (table_of_node node.entry) known.new }

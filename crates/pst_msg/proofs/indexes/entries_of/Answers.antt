@@ -1,5 +1,4 @@
-use Rattle.std.proofs.Common.{◌≡◌, ℕ, ◌+◌, length, ap, arith}
-use Rattle.pst_subnode.specs.Left.{subs_left}
+use Rattle.std.proofs.Common.{◌+◌, length, ap, arith}
 use Rattle.pst_msg.proofs.indexes.entries_of.Goals as goal
 
 pub loop-sub-preserved : goal.loop-sub-preserved

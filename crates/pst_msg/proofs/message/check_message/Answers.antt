@@ -1,14 +1,13 @@
-use Rattle.std.proofs.Common.{refl, List, [], ◌∷◌, ◌++◌, ◌∙◌, sym, ap, ◌≡◌, arith}
+use Rattle.std.proofs.Common.{refl, List, [], ◌∷◌, ◌++◌, ◌∙◌, ap, ◌≡◌, arith}
 use Rattle.std.proofs.lemmas.List.{nil_from_length}
 use Rattle.std.proofs.lemmas.Result.{err_from_is_err_and}
-use Rattle.pst_page.specs.declared.entry.NodeEntry.{NodeEntry}
 use Rattle.pst_ndb.specs.Views.{table_of_node, roots_of}
 use Rattle.pst_msg.specs.declared.frame.Frame.{Frame}
 use Rattle.pst_msg.specs.Counts.{HasMessage}
 use Rattle.pst_msg.specs.Frames.{IsWentOn}
 use Rattle.pst_msg.specs.Growth.{Grows}
 use Rattle.pst_msg.specs.Known.{IsTrueOf}
-use Rattle.pst_msg.proofs.FrameLemmas.{IsTop, stack_begins, stack_ends, on_top, top_refused, top_popped, top_pushed, turn_grows, two_fewer}
+use Rattle.pst_msg.proofs.FrameLemmas.{stack_begins, stack_ends, on_top, top_refused, top_popped, top_pushed, turn_grows, two_fewer}
 use Rattle.pst_msg.proofs.message.check_message.Goals as goal
 
 pub loop-last-init : goal.loop-last-init

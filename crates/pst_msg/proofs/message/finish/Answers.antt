@@ -1,5 +1,4 @@
-use Rattle.std.proofs.Common.{refl, List}
-use Rattle.pst_page.specs.declared.entry.NodeEntry.{NodeEntry}
+use Rattle.std.proofs.Common.{refl}
 use Rattle.pst_ndb.specs.Views.{table_of_node, roots_of}
 use Rattle.pst_msg.specs.Frames.{IsHolder}
 use Rattle.pst_msg.proofs.CountLemmas.{grows_then}

@@ -1,6 +1,5 @@
-use Rattle.std.proofs.Common.{refl, List, ◌∙◌, sym, arith}
+use Rattle.std.proofs.Common.{refl, ◌∙◌, sym, arith}
 use Rattle.std.proofs.lemmas.Result.{err_from_is_err_and}
-use Rattle.pst_page.specs.declared.entry.NodeEntry.{NodeEntry}
 use Rattle.pst_ndb.specs.Views.{table_of_node, roots_of}
 use Rattle.pst_tc.specs.View.{row_parts}
 use Rattle.pst_msg.specs.Frames.{with_rest}

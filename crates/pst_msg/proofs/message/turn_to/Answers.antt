@@ -1,4 +1,4 @@
-use Rattle.pst_ndb.specs.Views.{table_of_node, roots_of}
+use Rattle.pst_ndb.specs.Views.{table_of_node}
 use Rattle.pst_msg.proofs.KnownLemmas.{indexes_turned}
 use Rattle.pst_msg.proofs.message.turn_to.Goals as goal
 

@@ -1,5 +1,5 @@
-use Rattle.std.proofs.Common.{refl, sym, ap, ◌∙◌, Some, arith}
-use Rattle.pst_ndb.specs.Views.{table_of_node, roots_of}
+use Rattle.std.proofs.Common.{refl}
+use Rattle.pst_ndb.specs.Views.{table_of_node}
 use Rattle.pst_msg.proofs.FrameLemmas.{attachment_known}
 use Rattle.pst_msg.proofs.open.open_attachment.Goals as goal
 

@@ -1,4 +1,4 @@
-use Rattle.std.proofs.Common.{refl, sym, ap, ◌∙◌, ◌-◌, Some, arith}
+use Rattle.std.proofs.Common.{◌-◌, Some, arith}
 use Rattle.pst_ndb.specs.Views.{table_of_node, roots_of}
 use Rattle.pst_msg.specs.Frames.{IsOpened, IsObjectOpened}
 use Rattle.pst_msg.proofs.FrameLemmas.{some_map, object_opened}

@@ -1,5 +1,5 @@
-use Rattle.std.proofs.Common.{refl, sym, ap, ◌∙◌}
-use Rattle.pst_ndb.specs.Views.{table_of_node, roots_of}
+use Rattle.std.proofs.Common.{sym, ◌∙◌}
+use Rattle.pst_ndb.specs.Views.{roots_of}
 use Rattle.pst_msg.proofs.CountLemmas.{grows_then}
 use Rattle.pst_msg.proofs.FrameLemmas.{grows_any}
 use Rattle.pst_msg.proofs.GrowLemmas.{properties_grow}

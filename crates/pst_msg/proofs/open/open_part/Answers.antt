@@ -1,4 +1,4 @@
-use Rattle.std.proofs.Common.{refl, sym, ap, ◌∙◌, Some, arith}
+use Rattle.std.proofs.Common.{refl, sym}
 use Rattle.pst_ndb.specs.Views.{table_of_node, roots_of}
 use Rattle.pst_msg.specs.Frames.{IsObjectOpened, IsAttachmentOpened}
 use Rattle.pst_msg.proofs.CountLemmas.{grows_then}

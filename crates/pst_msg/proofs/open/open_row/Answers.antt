@@ -1,4 +1,4 @@
-use Rattle.std.proofs.Common.{refl, sym, ap, ◌∙◌, ◌-◌, ◌<◌, Some, arith}
+use Rattle.std.proofs.Common.{refl, ◌-◌, arith}
 use Rattle.pst_fault.specs.First.{IsFirst}
 use Rattle.pst_ndb.specs.Views.{table_of_node, roots_of}
 use Rattle.pst_tc.specs.View.{row_parts}
