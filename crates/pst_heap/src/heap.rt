@@ -136,7 +136,7 @@ impl<'a> Heap<'a> {
     }
 
     /// Where the item with an identifier lies (HID, [MS-PST] 2.3.1.1): in one span of the node's data. None exactly where no
-    /// item has it. Nothing is gone through but the path to that span. Whoever asks for many keeps their `Items`.
+    /// item has it. Spans are not gone through, but XBLOCKs in front of it are. Whoever asks for many keeps their `Items`.
     #[tactic(auto, using(crate::proofs::HeapLemmas::item_none))]
     pub fn item_span(&self, hid: u32) -> Option<Span>
         ensures value { result ≡ item_of (data_of self.now) hid }

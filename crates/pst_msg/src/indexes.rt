@@ -8,10 +8,14 @@ ghost use Rattle.pst_ndb.specs.Views.{table_of_node, sub_bid_of};
 use crate::list_index::ListIndex;
 use pst_fault::Fault;
 use pst_ndb::Node;
+use pst_tc::Rows;
 use std::alloc::Global;
 
 // So many entries stand in one SLBLOCK at most, and are looked through without an index.
 const FEW: u64 = 340;
+
+// So many rows are looked up without an index, since to make one takes about as long as to go through the list so often.
+const FEW_ROWS: u32 = 200;
 
 /// An index of a list of subnodes, and how many entries the list has.
 #[derive(Drop)]
@@ -38,6 +42,17 @@ fn entries_of(node: Node) -> u64
         count = count.saturating_add(1);
     }
     count
+}
+
+// Whether so many rows are left that an index is worth its making.
+fn are_many(rows: Rows) -> bool {
+    let mut rest = rows;
+    for _ in 0..FEW_ROWS {
+        if rest.next().is_none() {
+            return false;
+        }
+    }
+    true
 }
 
 impl Indexes {
@@ -84,9 +99,10 @@ impl Indexes {
         }
     }
 
-    /// Makes the index of a node's list, where it is long; unless it is there already. It is made at the expense of those of lists
-    /// with fewer than twice as many entries: to make them again takes no more than a few times what this one does.
-    pub(crate) fn turn(&mut self, alloc: Global, node: Node) -> Result<(), Fault>
+    /// Makes the index of a node's list, where that is long and many rows are left to be looked up there; unless it is there
+    /// already. It is made at the expense of those of lists with fewer than twice as many entries: to make them again takes no
+    /// more than a few times what this one does.
+    pub(crate) fn turn(&mut self, alloc: Global, node: Node, rows: Rows) -> Result<(), Fault>
         requires { AreIndexes (table_of_node node) self.old }
         ensures index { AreIndexes (table_of_node node.entry) self.new }
         ensures memory { IfErr result (λ f. f ≡ no_memory) }
@@ -95,7 +111,7 @@ impl Indexes {
             return Ok(());
         }
         let entries = entries_of(node);
-        if entries <= FEW {
+        if entries <= FEW || !are_many(rows) {
             return Ok(());
         }
         self.give_way(entries);

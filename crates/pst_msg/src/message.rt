@@ -39,7 +39,7 @@ fn finish(frame: &Frame, known: &mut Known) -> Result<(), Fault>
     }
 }
 
-// The index of a message's list is made, where rows are left.
+// The index of a message's list is made, where many rows are left.
 fn turn_to(frame: &Frame, known: &mut Known) -> Result<(), Fault>
     requires { IsTrueOf (table_of_node frame.now.node) known.old }
     ensures known { IsTrueOf (table_of_node frame.now.node) known.new }
@@ -48,7 +48,7 @@ fn turn_to(frame: &Frame, known: &mut Known) -> Result<(), Fault>
 {
     let mut left = frame.rest;
     match left.next() {
-        Some(_) => known.indexes.turn(known.alloc, frame.node),
+        Some(_) => known.indexes.turn(known.alloc, frame.node, frame.rest),
         None => Ok(()),
     }
 }

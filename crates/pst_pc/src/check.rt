@@ -96,8 +96,7 @@ pub fn known_pc(node: Node<'_>) -> Pc<'_>
 }
 
 /// Checks the property context of a node as `check_pc` does, values in subnodes found by an index of the node's subnodes, or of
-/// those of a node whose list is the same. So n properties are checked in about n log n steps, in whatever order the list has
-/// its subnodes.
+/// those of a node whose list is the same. So a subnode is found in about log n steps, in whatever order the list has them.
 #[tactic(auto, using(crate::proofs::PcLaws::none_pc, crate::proofs::PcLaws::pc_none))]
 pub fn check_pc_by<'a>(node: Node<'a>, index: &SubIndex) -> Result<Pc<'a>, Fault>
     requires { IsIndexedBy node index.now }

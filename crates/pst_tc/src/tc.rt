@@ -123,7 +123,8 @@ impl<'a> Tc<'a> {
         front.index().count()
     }
 
-    /// The row with an identifier; None exactly where there is none. It is found as a record of the row index is.
+    /// The row with an identifier; None exactly where there is none. It is found as a record of the row index is, and the matrix
+    /// is opened for it: where that is a subnode, it is looked up in the node's list.
     pub fn row(&self, id: u32) -> Option<Row<'a>>
         ensures value { let node = node_of_tc self.now in
             let rows = tc_rows (table_of_node node) (roots_of node) in

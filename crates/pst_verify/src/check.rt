@@ -91,8 +91,8 @@ fn check_exactly<'a>(alloc: Global, bytes: &'a [u8]) -> Result<Verified<'a>, Fau
 /// 7. of messaging: of the nodes of the message store and of the root folder, and then of each node that is a folder or a message, their
 ///    identifiers rising.
 ///
-/// In each phase it is that of the call that checks it: `check_ndb` has 1 to 6, `check_messaging` the seventh. What is shared is looked
-/// at once. NoMemory where memory is refused.
+/// In each phase it is that of the call that checks it: `check_ndb` has 1 to 6, `check_messaging` the seventh. What is shared and was
+/// found without fault is passed over where it is met again. NoMemory where memory is refused.
 pub fn verify<'a>(alloc: Global, bytes: &'a [u8]) -> Result<Verified<'a>, Fault>
     // Whenever the answer is yes, of any bytes, they are a store: that which is given, of their own memory, and of which is reported.
     ensures yes { IfOk result (IsVerified bytes.entry) }
