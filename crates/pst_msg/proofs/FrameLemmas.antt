@@ -1,208 +1,38 @@
 -- The messages on the stack.
-use Rattle.std.proofs.Common.{◌≡◌, ℕ, ◌+◌, ◌-◌, ◌<◌, ◌≤◌, true, List, [], ◌∷◌, ◌++◌, reverse, Option, Some, None, Result, Ok, Err, refl, sym, ap, ◌∙◌, ◌⊎◌, inl, inr, arith}
-use Rattle.std.specs.Prelude.{option_map, IfSome, IfNone, IfOk, IfErr, sum_by}
+use Rattle.std.proofs.Common.{◌≡◌, ℕ, ◌+◌, ◌<◌, ◌≤◌, List, [], ◌∷◌, ◌++◌, reverse, Option, Some, None, refl, sym, ap, ◌∙◌, ◌⊎◌, inl, inr, arith}
+use Rattle.std.specs.Prelude.{option_map, IfSome, sum_by}
 use Rattle.std.specs.List.{Contains}
 use Rattle.std.proofs.lemmas.List.{reverse-append}
 use Rattle.std.proofs.lemmas.List.Sums.{sum_by_push}
 use Rattle.pst_fault.specs.declared.fault.Fault.{Fault}
-use Rattle.pst_fault.specs.declared.kind.Kind.TheVariants.{NodeMissing}
-use Rattle.pst_fault.specs.Each.{first_of, if_there, there_or}
+use Rattle.pst_fault.specs.Each.{first_of}
 use Rattle.pst_fault.specs.First.{◌then◌, IsFirst}
 use Rattle.pst_fault.proofs.EachLemmas.{contains_here, contains_later}
 use Rattle.pst_fault.proofs.FirstLemmas.{then_none, is_first_then}
 use Rattle.pst_page.specs.declared.entry.NodeEntry.{NodeEntry}
 use Rattle.pst_block.specs.Table.{Table}
 use Rattle.pst_subnode.specs.declared.check.TheConstants.{LISTS}
-use Rattle.pst_subnode.specs.Tree.{sub_fault}
 use Rattle.pst_ndb.specs.declared.node.Node.{Node}
-use Rattle.pst_ndb.specs.Roots.{Roots, subnode_of}
-use Rattle.pst_ndb.specs.Views.{table_of_node, sub_bid_of, roots_of}
-use Rattle.pst_pc.specs.Fault.{pc_fault}
-use Rattle.pst_tc.specs.Fault.{tc_fault}
+use Rattle.pst_ndb.specs.Roots.{Roots}
+use Rattle.pst_ndb.specs.Views.{table_of_node, roots_of}
 use Rattle.pst_tc.specs.declared.rows.Rows.{Rows}
 use Rattle.pst_tc.specs.Left.{tc_rows_left}
-use Rattle.pst_tc.specs.Values.{RowParts, tc_rows}
+use Rattle.pst_tc.specs.Values.{RowParts}
 use Rattle.pst_msg.specs.declared.frame.Frame.{Frame}
 use Rattle.pst_msg.specs.declared.known.Known.{Known}
-use Rattle.pst_msg.specs.declared.nid.TheConstants.{ATTACHMENT, ATTACHMENTS, RECIPIENTS}
-use Rattle.pst_msg.specs.declared.object.Object.{Object}
-use Rattle.pst_msg.specs.declared.role.Role.TheVariants.{Properties, Recipients, Attachments}
-use Rattle.pst_msg.specs.Nid.{is_type, named}
-use Rattle.pst_msg.specs.Counts.{HasMessage, embedded, attached}
-use Rattle.pst_msg.specs.Fault.{attachment_row_fault, attachments_fault, held_fault, message_part, embedded_fault, attachment_part, message_at, attachment_at, below_message, below_attachment, message_fault, attachment_fault}
+use Rattle.pst_msg.specs.declared.role.Role.TheVariants.{Properties}
+use Rattle.pst_msg.specs.Counts.{HasMessage}
+use Rattle.pst_msg.specs.Fault.{attachment_row_fault, held_fault, message_at, below_message, message_fault, attachment_fault}
 use Rattle.pst_msg.specs.Grammar.{IsAttachmentRow}
 use Rattle.pst_msg.specs.Growth.{Grows}
-use Rattle.pst_msg.specs.Known.{ContextIn, WholeIn, NamedIn, HeldIn, IsTrueOf}
-use Rattle.pst_msg.specs.Values.{embedded_of}
-use Rattle.pst_msg.specs.Steps.{frame_steps, message_steps}
-use Rattle.pst_msg.specs.Frames.{left_of, holder_of, IsWaited, IsFrame, IsHolder, HasHolder, HolderIn, Reaches, IsBelow, IsStack, IsOpened, IsObjectOpened, AttachmentKnown, IsAttachmentOpened, IsRowKnown, IsRowOpened, with_rest, IsWentOn}
+use Rattle.pst_msg.specs.Known.{WholeIn, NamedIn, HeldIn, IsTrueOf}
+use Rattle.pst_msg.specs.Steps.{frame_steps}
+use Rattle.pst_msg.specs.Frames.{left_of, holder_of, IsWaited, IsFrame, IsHolder, HasHolder, HolderIn, Reaches, IsBelow, IsStack, IsOpened, AttachmentKnown, IsRowKnown, IsRowOpened, with_rest, IsWentOn}
 use Rattle.pst_msg.proofs.CountLemmas.{grows_of, grows_then}
 use Rattle.pst_msg.proofs.GrowLemmas.{by_first}
-use Rattle.pst_msg.proofs.KnownLemmas.{known_message, known_attachment}
-use Rattle.pst_msg.proofs.LimitLemmas.{message_limit, held_limit}
-use Rattle.pst_msg.proofs.MessageLemmas.{message_is, attachment_is, below_message_is, below_attachment_is}
-use Rattle.pst_msg.proofs.SubnodeLemmas.{subnode_below}
-use Rattle.pst_msg.proofs.StepLemmas.{opened_steps, embedded_steps, row_steps_is, fewer_steps}
-use Rattle.pst_msg.proofs.ViewLemmas.{subnode_sound}
-
--- ---- under the limit of a file
-
--- what a message holds has no fault under any limit under which its subnodes have none
-pub whole_held : (t : Table) (limit : ℕ) (node : Node) → table_of_node node ≡ t → sub_fault t limit (roots_of node).bid_sub ≡ None → held_fault t (below_message t limit) (roots_of node) ≡ None → held_fault t (below_message t LISTS) (roots_of node) ≡ None
-whole_held t limit node same sound none =
-    let all : sub_fault t LISTS (roots_of node).bid_sub ≡ None = rw (← same) node.subs in
-    sym (held_limit t limit LISTS (roots_of node) sound all) ∙ none
-
--- where the properties of a message have no fault, its first fault is that of what it holds
-pub message_held : (t : Table) (limit : ℕ) (r : Roots) → pc_fault t r ≡ None → message_at t limit r ≡ held_fault t (below_message t limit) r
-unfolding message_part
-message_held t limit r none = message_is t limit r ∙ then_none (pc_fault t r) (held_fault t (below_message t limit) r) none
-
-pub whole_message : (t : Table) (r : Roots) → pc_fault t r ≡ None → held_fault t (below_message t LISTS) r ≡ None → message_fault t r ≡ None
-whole_message t r properties none = message_held t LISTS r properties ∙ none
-
--- ---- growth
-
--- what adds no context adds only what is named, whatever holds
-pub grows_any : (t : Table) (H : List NodeEntry → Type 0) (a b : Known) → Grows t (λ nodes. Unit {0}) a b → Grows t H a b
-grows_any t H a b g = grows_of t (λ nodes. Unit {0}) H a b (λ nodes held. tt) g
-
--- ---- answers that give a message for the stack
-
-pub err_map : (result : Result (Option Frame) Fault) (P Q : Fault → Type 0) → ((e : Fault) → P e → Q e) → IfErr result P → IfErr result Q
-err_map (Ok o) P Q h is = tt
-err_map (Err e) P Q h is = h e is
-
-pub none_map : (result : Result (Option Frame) Fault) (P Q : Type 0) → (P → Q) → IfOk result (λ o. IfNone o P) → IfOk result (λ o. IfNone o Q)
-none_map (Ok None) P Q h is = h is
-none_map (Ok (Some f)) P Q h is = tt
-none_map (Err e) P Q h is = tt
-
-pub some_map : (result : Result (Option Frame) Fault) (P Q : Frame → Type 0) → ((f : Frame) → P f → Q f) → IfOk result (λ o. IfSome o P) → IfOk result (λ o. IfSome o Q)
-some_map (Ok None) P Q h is = tt
-some_map (Ok (Some f)) P Q h is = h f is
-some_map (Err e) P Q h is = tt
-
--- ---- a message whose rows are all left
-
-held_is : (t : Table) (below : Roots → Option Fault) (r table : Roots) → if_there (tc_fault t) (subnode_of t r RECIPIENTS) ≡ None → subnode_of t r ATTACHMENTS ≡ Some table → tc_fault t table ≡ None → held_fault t below r ≡ first_of (attachment_row_fault t below r table.bid_data) (tc_rows t table)
-unfolding held_fault attachments_fault
-held_is t below r table recipients is none =
-    then_none (if_there (tc_fault t) (subnode_of t r RECIPIENTS)) (if_there (attachments_fault t below r) (subnode_of t r ATTACHMENTS)) recipients
-    ∙ ap (λ o. if_there (attachments_fault t below r) o) is
-    ∙ then_none (tc_fault t table) (first_of (attachment_row_fault t below r table.bid_data) (tc_rows t table)) none
-
--- a message without an attachment table
-pub held_without : (t : Table) (below : Roots → Option Fault) (r : Roots) → if_there (tc_fault t) (subnode_of t r RECIPIENTS) ≡ None → None ≡ subnode_of t r ATTACHMENTS → held_fault t below r ≡ None
-unfolding held_fault
-held_without t below r recipients is =
-    then_none (if_there (tc_fault t) (subnode_of t r RECIPIENTS)) (if_there (attachments_fault t below r) (subnode_of t r ATTACHMENTS)) recipients
-    ∙ ap (λ o. if_there (attachments_fault t below r) o) (sym is)
-
-pub opened : (t : Table) (k : Known) (f : Frame) (table : Roots) → table_of_node f.node ≡ t → sub_fault t f.limit (sub_bid_of f.node) ≡ None → if_there (tc_fault t) (subnode_of t (roots_of f.node) RECIPIENTS) ≡ None → subnode_of t (roots_of f.node) ATTACHMENTS ≡ Some table → tc_fault t table ≡ None → f.bid ≡ table.bid_data → tc_rows_left f.rest ≡ tc_rows t table → ContextIn k Properties (roots_of f.node) → ((s : Roots) → subnode_of t (roots_of f.node) RECIPIENTS ≡ Some s → ContextIn k Recipients s) → ContextIn k Attachments table → IsOpened t k (roots_of f.node) f.limit f.holder f
-opened t k f table same sound recipients is none bid rows properties recipients_in there =
-    let part = λ (b : ℕ). attachment_row_fault t (below_message t f.limit) (roots_of f.node) b in
-    record {
-      roots = refl;
-      nests = refl;
-      in_holder = refl;
-      frame = record {
-        table = same;
-        sound = sound;
-        first = held_is t (below_message t f.limit) (roots_of f.node) table recipients is none ∙ ap (λ b. first_of (part b) (tc_rows t table)) (sym bid) ∙ ap (λ xs. first_of (part f.bid) xs) (sym rows);
-        within = λ x w. (table, is, rw (← rows) w);
-        properties = properties;
-        recipients = recipients_in;
-        tables = λ s e. let one : table ≡ s = cc in rw (← one) there;
-        attachments = λ x row. let one : row.0 ≡ table = cc in let w : Contains (tc_rows t table) x = (rw one at row.2) in inr (inr (rw rows w));
-      };
-      steps = opened_steps t f table is rows;
-    }
-
--- ---- an attachment
-
--- one whose properties are remembered, and the message that it embeds, has no fault
-pub attachment_known : (t : Table) (k : Known) (node : Node) → table_of_node node ≡ t → IsTrueOf t k → AttachmentKnown t k (roots_of node) → attachment_fault t (roots_of node) ≡ None
-unfolding attachment_part embedded_fault
-attachment_known t k node same known is =
-    let a : Roots = roots_of node in
-    let all : sub_fault t LISTS a.bid_sub ≡ None = rw (← same) node.subs in
-    attachment_is t LISTS a ∙ then_none (pc_fault t a) (if_there (embedded_fault t (below_attachment t LISTS) a) (embedded_of t a)) (known.contexts Properties a is.properties)
-    ∙ by_object (embedded_of t a) refl all
-  where
-    by_object : (o : Option Object) → embedded_of t (roots_of node) ≡ o → sub_fault t LISTS (roots_of node).bid_sub ≡ None → if_there (embedded_fault t (below_attachment t LISTS) (roots_of node)) o ≡ None
-    by_object None e all = refl
-    by_object (Some o) e all =
-        let m = is.messages o e in
-        let below = subnode_below t LISTS o.nid (roots_of node) m.0 all m.1 in
-        ap (λ found. there_or (named NodeMissing o.at (roots_of node).bid_data o.nid) (below_attachment t LISTS) found) m.1
-        ∙ below_attachment_is t LISTS m.0 below.some
-        ∙ message_limit t (LISTS - 1) LISTS m.0 below.sound (subnode_sound t LISTS o.nid (roots_of node) m.0 all m.1)
-        ∙ known.messages m.0 m.2 (subnode_sound t LISTS o.nid (roots_of node) m.0 all m.1)
-
--- the message that an object names is put on the stack
-pub object_opened : (t u : Table) (k : Known) (a sub : Node) (limit : ℕ) (o : Object) (f : Frame) → u ≡ t → 0 < limit → Some (roots_of sub) ≡ subnode_of t (roots_of a) o.nid → IsOpened u k (roots_of sub) (limit - 1) (Some a) f → IsObjectOpened t k a limit o f
-object_opened t u k a sub limit o f same some found of_u =
-    let is : IsOpened t k (roots_of sub) (limit - 1) (Some a) f = rw (← same) of_u in
-    let steps : message_steps t f.limit (roots_of f.node) ≡ message_steps t (limit - 1) (roots_of sub) = rw (is.nests, is.roots) refl in
-    record {
-      found = sym found ∙ ap (λ r. Some r) (sym is.roots);
-      nests = omega (arith, is.nests);
-      holder = is.in_holder;
-      frame = is.frame;
-      steps = omega (arith, is.steps, steps);
-    }
-
-attachment_first : (t : Table) (limit : ℕ) (a s : Roots) (o : Object) → pc_fault t a ≡ None → 0 < limit → embedded_of t a ≡ Some o → subnode_of t a o.nid ≡ Some s → attachment_at t limit a ≡ message_at t (limit - 1) s
-unfolding attachment_part embedded_fault
-attachment_first t limit a s o properties some embeds found =
-    attachment_is t limit a ∙ then_none (pc_fault t a) (if_there (embedded_fault t (below_attachment t limit) a) (embedded_of t a)) properties
-    ∙ ap (λ e. if_there (embedded_fault t (below_attachment t limit) a) e) embeds
-    ∙ ap (λ e. there_or (named NodeMissing o.at a.bid_data o.nid) (below_attachment t limit) e) found
-    ∙ below_attachment_is t limit s some
-
-pub attachment_opened : (t : Table) (k : Known) (a : Node) (limit : ℕ) (o : Object) (f : Frame) → table_of_node a ≡ t → IsTrueOf t k → ContextIn k Properties (roots_of a) → embedded_of t (roots_of a) ≡ Some o → IsObjectOpened t k a limit o f → IsAttachmentOpened t k a limit f
-attachment_opened t k a limit o f same known properties embeds is =
-    let less : limit - 1 ≡ f.limit = omega (arith, is.nests) in
-    let some : 0 < limit = omega (arith, is.nests) in
-    record {
-      first = attachment_first t limit (roots_of a) (roots_of f.node) o (known.contexts Properties (roots_of a) properties) some embeds is.found ∙ ap (λ n. message_at t n (roots_of f.node)) less;
-      holder = is.holder;
-      held = record { table = same; properties = properties; object = o; embeds = embeds; found = is.found };
-      frame = is.frame;
-      steps = rw (embedded_steps t limit (roots_of a) (roots_of f.node) o some embeds is.found, less) is.steps;
-      reached = λ nodes h. embedded (roots_of a) (roots_of f.node) o h embeds is.found;
-    }
-
--- ---- a row
-
-row_is : (t : Table) (limit bid : ℕ) (r : Roots) (x : RowParts) (s : Roots) → 0 < limit → Some s ≡ subnode_of t r x.id → is_type ATTACHMENT x.id ≡ true → attachment_row_fault t (below_message t limit) r bid x ≡ attachment_at t (limit - 1) s
-unfolding attachment_row_fault
-row_is t limit bid r x s some found kind = rw (← found, kind) (below_message_is t limit s some)
-
-pub row_refused : (t u : Table) (limit bid : ℕ) (r : Roots) (x : RowParts) (s : Roots) (e : Fault) → u ≡ t → 0 < limit → Some s ≡ subnode_of t r x.id → is_type ATTACHMENT x.id ≡ true → IsFirst (attachment_at u (limit - 1) s) e → IsFirst (attachment_row_fault t (below_message t limit) r bid x) e
-row_refused t u limit bid r x s e same some found kind is = rw (row_is t limit bid r x s some found kind, ← same) is
-
-pub row_known : (t u : Table) (k : Known) (limit bid : ℕ) (r : Roots) (x : RowParts) (s : Node) → u ≡ t → table_of_node s ≡ t → IsTrueOf u k → 0 < limit → sub_fault t (limit - 1) (sub_bid_of s) ≡ None → Some (roots_of s) ≡ subnode_of t r x.id → is_type ATTACHMENT x.id ≡ true → WholeIn k.attachments (roots_of s) → IsRowKnown t k r limit bid x
-row_known t u k limit bid r x s same table known some sound found kind is =
-    record {
-      first = row_is t limit bid r x (roots_of s) some found kind ∙ known_attachment t k.attachments (limit - 1) s table (rw same at known).attachments is sound;
-      there = λ y e. let one : roots_of s ≡ y = cc in rw (← one) is;
-    }
-
-pub row_opened : (t u : Table) (k : Known) (limit bid : ℕ) (r : Roots) (x : RowParts) (s : Node) (f : Frame) → u ≡ t → 0 < limit → Some (roots_of s) ≡ subnode_of t r x.id → is_type ATTACHMENT x.id ≡ true → IsAttachmentOpened u k s (limit - 1) f → IsRowOpened t k r limit bid x f
-row_opened t u k limit bid r x s f same some found kind of_u =
-    let is : IsAttachmentOpened t k s (limit - 1) f = rw (← same) of_u in
-    record {
-      first = row_is t limit bid r x (roots_of s) some found kind ∙ is.first;
-      attachment = roots_of s;
-      found = sym found;
-      holder = ap (λ o. option_map roots_of o) is.holder;
-      held = rw is.holder is.held;
-      frame = is.frame;
-      steps = omega (arith, is.steps, row_steps_is t limit r x (roots_of s) some (sym found));
-      reached = λ nodes h row. is.reached nodes (attached r (roots_of s) x h row (sym found));
-    }
+use Rattle.pst_msg.proofs.KnownLemmas.{known_message}
+use Rattle.pst_msg.proofs.StepLemmas.{fewer_steps}
+use Rattle.pst_msg.proofs.OpenLemmas.{message_held, attachment_known}
 
 -- ---- later
 

@@ -16,6 +16,7 @@ pub mod CountLemmas
 pub mod GrowLemmas
 pub mod StepLemmas
 pub mod FrameLemmas
+pub mod OpenLemmas
 pub mod NamedLemmas
 pub mod MessagingLemmas
 pub mod NamesLaws

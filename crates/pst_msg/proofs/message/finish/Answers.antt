@@ -2,7 +2,8 @@ use Rattle.std.proofs.Common.{refl}
 use Rattle.pst_ndb.specs.Views.{table_of_node, roots_of}
 use Rattle.pst_msg.specs.Frames.{IsHolder}
 use Rattle.pst_msg.proofs.CountLemmas.{grows_then}
-use Rattle.pst_msg.proofs.FrameLemmas.{whole_held, held_done, held_in, holder_whole_now}
+use Rattle.pst_msg.proofs.OpenLemmas.{whole_held}
+use Rattle.pst_msg.proofs.FrameLemmas.{held_done, held_in, holder_whole_now}
 use Rattle.pst_msg.proofs.message.finish.Goals as goal
 
 pub remember_held-requires-clause-none : goal.remember_held-requires-clause-none

@@ -4,7 +4,8 @@ use Rattle.pst_ndb.specs.Views.{table_of_node, roots_of}
 use Rattle.pst_tc.specs.View.{row_parts}
 use Rattle.pst_msg.specs.Frames.{with_rest}
 use Rattle.pst_msg.proofs.CountLemmas.{grows_then}
-use Rattle.pst_msg.proofs.FrameLemmas.{row_of_frame, row_of_message, frame_refused, frame_opened, frame_step, frame_same, frame_later, fewer_left, holder_later, grows_any}
+use Rattle.pst_msg.proofs.OpenLemmas.{grows_any}
+use Rattle.pst_msg.proofs.FrameLemmas.{row_of_frame, row_of_message, frame_refused, frame_opened, frame_step, frame_same, frame_later, fewer_left, holder_later}
 use Rattle.pst_msg.proofs.message.go_on.Goals as goal
 
 pub returns-in_err-turn_to-clause-grows : goal.returns-in_err-turn_to-clause-grows

@@ -1,6 +1,6 @@
 use Rattle.std.proofs.Common.{refl}
 use Rattle.pst_ndb.specs.Views.{table_of_node}
-use Rattle.pst_msg.proofs.FrameLemmas.{attachment_known}
+use Rattle.pst_msg.proofs.OpenLemmas.{attachment_known}
 use Rattle.pst_msg.proofs.open.open_attachment.Goals as goal
 
 pub remember_attachment-requires-clause-none : goal.remember_attachment-requires-clause-none

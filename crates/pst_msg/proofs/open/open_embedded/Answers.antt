@@ -1,7 +1,7 @@
 use Rattle.std.proofs.Common.{◌-◌, Some, arith}
 use Rattle.pst_ndb.specs.Views.{table_of_node, roots_of}
 use Rattle.pst_msg.specs.Frames.{IsOpened, IsObjectOpened}
-use Rattle.pst_msg.proofs.FrameLemmas.{some_map, object_opened}
+use Rattle.pst_msg.proofs.OpenLemmas.{some_map, object_opened}
 use Rattle.pst_msg.proofs.GrowLemmas.{object_grows}
 use Rattle.pst_msg.proofs.SubnodeLemmas.{found_limit, found_sound}
 use Rattle.pst_msg.proofs.open.open_embedded.Goals as goal

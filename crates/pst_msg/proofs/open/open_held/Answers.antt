@@ -4,7 +4,7 @@ use Rattle.pst_tc.specs.Values.{tc_rows}
 use Rattle.pst_msg.specs.Fault.{below_message}
 use Rattle.pst_msg.specs.declared.frame.Frame.{Frame}
 use Rattle.pst_msg.proofs.CountLemmas.{grows_then}
-use Rattle.pst_msg.proofs.FrameLemmas.{opened, held_without, whole_held}
+use Rattle.pst_msg.proofs.OpenLemmas.{opened, held_without, whole_held}
 use Rattle.pst_msg.proofs.GrowLemmas.{attachments_grow}
 use Rattle.pst_msg.proofs.open.open_held.Goals as goal
 

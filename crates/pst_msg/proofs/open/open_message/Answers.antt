@@ -1,7 +1,7 @@
 use Rattle.std.proofs.Common.{sym, ◌∙◌}
 use Rattle.pst_ndb.specs.Views.{roots_of}
 use Rattle.pst_msg.proofs.CountLemmas.{grows_then}
-use Rattle.pst_msg.proofs.FrameLemmas.{grows_any}
+use Rattle.pst_msg.proofs.OpenLemmas.{grows_any}
 use Rattle.pst_msg.proofs.GrowLemmas.{properties_grow}
 use Rattle.pst_msg.proofs.open.open_message.Goals as goal
 

@@ -2,7 +2,7 @@ use Rattle.std.proofs.Common.{refl, sym}
 use Rattle.pst_ndb.specs.Views.{table_of_node, roots_of}
 use Rattle.pst_msg.specs.Frames.{IsObjectOpened, IsAttachmentOpened}
 use Rattle.pst_msg.proofs.CountLemmas.{grows_then}
-use Rattle.pst_msg.proofs.FrameLemmas.{some_map, attachment_opened}
+use Rattle.pst_msg.proofs.OpenLemmas.{some_map, attachment_opened}
 use Rattle.pst_msg.proofs.GrowLemmas.{attached_grow, embedded_grows}
 use Rattle.pst_msg.proofs.open.open_part.Goals as goal
 

@@ -2,7 +2,7 @@ use Rattle.std.proofs.Common.{refl}
 use Rattle.pst_subnode.specs.declared.check.TheConstants.{LISTS}
 use Rattle.pst_ndb.specs.Views.{table_of_node, roots_of}
 use Rattle.pst_msg.specs.declared.role.Role.TheVariants.{Properties}
-use Rattle.pst_msg.proofs.FrameLemmas.{whole_message}
+use Rattle.pst_msg.proofs.OpenLemmas.{whole_message}
 use Rattle.pst_msg.proofs.KnownLemmas.{message_remembered}
 use Rattle.pst_msg.proofs.remember.remember_message.Goals as goal
 
