@@ -79,16 +79,19 @@ def gate():
 def quick():
     start = time.monotonic()
     program = printed("--program")
-    counts = (0, 1) if program is None else try_program(program, [])
-    print(f"in {time.monotonic() - start:.0f} s; nothing was proved here: ./check proves all")
-    return counts
+    passed, failed = (0, 1) if program is None else try_program(program, [])
+    seconds = time.monotonic() - start
+    print(f"{passed} passed, {failed} failed in {seconds:.0f} s; nothing was proved here, ./check proves all")
+    return failed
 
 
 def main():
     if sys.argv[1:] not in ([], ["--quick"]):
         print("usage: ./check [--quick]", file=sys.stderr)
         return 2
-    passed, failed = quick() if sys.argv[1:] else gate()
+    if sys.argv[1:]:
+        return 1 if quick() else 0
+    passed, failed = gate()
     print(f"{passed} passed, {failed} failed")
     return 1 if failed else 0
 
