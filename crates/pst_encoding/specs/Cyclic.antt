@@ -1,0 +1,29 @@
+-- The cyclic algorithm ([MS-PST] 5.2), which is bCryptMethod 2: each byte goes through the three tables under a key of 16 bits,
+-- which is one more with each byte. It undoes itself.
+use Rattle.std.specs.Prelude.{◌≡◌, List, [], ◌∷◌, ℕ, ◌+◌, ◌-◌, ◌/◌, ◌%◌, ◌^◌, bit_xor}
+use Rattle.std.specs.List.{All}
+use Rattle.pst_encoding.specs.Tables.{r_of, s_of, i_of, IsByte}
+
+-- The key at a block's first byte: of the low 32 bits of its BID, the lower half exclusive or the upper one.
+abbrev pub cyclic_key : ℕ → ℕ
+cyclic_key bid = bit_xor (bid % 2 ^ 16) (bid / 2 ^ 16 % 2 ^ 16)
+
+-- A byte under a key: its low byte is added, the byte goes through mpbbR, the key's high byte is added, the byte goes through
+-- mpbbS, and then the same the other way round. Sums and differences are of bytes: modulo 256.
+unfoldable pub cycled_byte : ℕ → ℕ → ℕ
+cycled_byte key b =
+    let low = key % 256 in
+    let high = key / 256 % 256 in
+    let first = r_of ((b + low) % 256) in
+    let second = s_of ((first + high) % 256) in
+    let third = i_of ((second + (256 - high)) % 256) in
+    (third + (256 - low)) % 256
+
+-- the bytes under a key, which is the one at the first of them
+unfoldable pub cycled : ℕ → List ℕ → List ℕ
+cycled key [] = []
+cycled key (b ∷ rest) = cycled_byte key b ∷ cycled ((key + 1) % 2 ^ 16) rest
+
+-- It undoes itself, whatever the key.
+abbrev pub CyclicLaw : Type 0
+CyclicLaw = (key : ℕ) (bytes : List ℕ) → All IsByte bytes → cycled key (cycled key bytes) ≡ bytes

@@ -1,0 +1,4 @@
+pub mod Tables
+pub mod Permute
+pub mod Cyclic
+pub mod Method

@@ -1,0 +1,66 @@
+-- What the calls that change a file leave, as the definitions say it.
+use Rattle.std.proofs.Common.{◌≡◌, ℕ, ◌+◌, ◌-◌, ◌<◌, ◌≤◌, List, [], ◌∷◌, length, drop, get_or, refl, sym, ap, ◌∙◌, arith}
+use Rattle.std.specs.Prelude.{bit_xor}
+use Rattle.std.specs.List.{All}
+use Rattle.std.proofs.lemmas.List.{drop_more, drop_all, length-drop, length-take-le}
+use Rattle.byteorder.specs.Endian.{little_bytes}
+use Rattle.pst_bytes.specs.Image.{num, bytes_at}
+use Rattle.pst_bytes.specs.declared.span.Span.{Span}
+use Rattle.pst_crc.specs.Crc.{crc}
+use Rattle.pst_encoding.specs.declared.method.Method.{Method}
+use Rattle.pst_encoding.specs.Method.{decoded}
+use Rattle.pst_encoding.specs.Tables.{IsByte}
+use Rattle.pst_encoding.proofs.MethodLemmas.{method_law}
+use Rattle.pst_page.specs.declared.entry.BlockEntry.{BlockEntry}
+use Rattle.pst_block.specs.Block.{block_size, body_span, trailer_at}
+use Rattle.pst_block.proofs.BlockLemmas.{size_large}
+use Rattle.pst_plain.specs.Written.{written}
+use Rattle.pst_plain.specs.Carried.{with_carried}
+use Rattle.pst_plain.specs.Blocks.{EndsBy}
+use Rattle.pst_plain.specs.Twin.{with_method, full_span, with_body, all_decoded}
+use Rattle.pst_plain.proofs.WriteLemmas.{bytes_here, length_decoded}
+
+-- ---- the header
+
+pub head_made : (I K L : List ℕ) (number old new : ℕ) → old ≡ crc (bytes_at I full_span) → K ≡ written I 513 (number ∷ []) → new ≡ crc (bytes_at K full_span)
+    → L ≡ written K 524 (little_bytes 4 (bit_xor (num K 524 4) (bit_xor old new))) → L ≡ with_method number I
+unfolding with_method with_carried
+head_made I K L number old new first put second carries = rw (carries, first, second, put) refl
+
+-- ---- a block
+
+pub body_inside : (end : ℕ) (e : BlockEntry) → EndsBy end e → e.ib + e.cb ≤ end
+body_inside end e by_end = let k : e.ib + block_size e.cb ≤ end = by_end in omega (arith, k, size_large e.cb)
+
+pub body_length : (I : List ℕ) (e : BlockEntry) → e.ib + e.cb ≤ length I → length (bytes_at I (body_span e)) ≡ e.cb
+body_length I e inside = let d = length-drop e.ib I in length-take-le e.cb (drop e.ib I) (omega (arith, d, inside))
+
+pub body_made : (I K L : List ℕ) (method : Method) (e : BlockEntry) (span : Span) (at old new : ℕ) → EndsBy (length I) e → span ≡ body_span e → at ≡ e.ib + block_size e.cb - 12
+    → old ≡ crc (bytes_at I span) → K ≡ written I span.at (decoded method e.bid (bytes_at I span)) → new ≡ crc (bytes_at K span)
+    → L ≡ written K at (little_bytes 4 (bit_xor (num K at 4) (bit_xor old new))) → L ≡ with_body (decoded method e.bid) e I
+unfolding with_body with_carried
+body_made I K L method e span at old new by_end is place first put second carries =
+    let body = bytes_at I (body_span e) in
+    let large = size_large e.cb in
+    let there : at ≡ trailer_at e + 4 = omega (arith, large, place) in
+    let size : length body ≡ e.cb = body_length I e (body_inside (length I) e by_end) in
+    let long : length (decoded method e.bid body) ≡ e.cb = length_decoded method e.bid body ∙ size in
+    let stands : bytes_at (written I e.ib (decoded method e.bid body)) (body_span e) ≡ decoded method e.bid body =
+    bytes_here I e.ib (decoded method e.bid body) (body_span e) refl (sym long) (rw long (body_inside (length I) e by_end)) in
+    rw (carries, there, first, second, put, is, stands) refl
+
+pub decoded_bytes : (method : Method) (bid : ℕ) (body : List ℕ) → All IsByte body → All IsByte (decoded method bid body)
+decoded_bytes method bid body all = (method_law method bid body all).decoded_bytes
+
+-- ---- block by block
+
+pub decoded_next : (method : Method) (entries : List BlockEntry) (i : ℕ) (d : BlockEntry) (J K total : List ℕ) → i < length entries
+    → K ≡ with_body (decoded method (get_or entries i d).bid) (get_or entries i d) J → all_decoded method (drop i entries) J ≡ total → all_decoded method (drop (i + 1) entries) K ≡ total
+unfolding all_decoded
+decoded_next method entries i d J K total lt made so_far =
+    let one : all_decoded method (get_or entries i d ∷ drop (i + 1) entries) J ≡ total = sym (ap (λ l. all_decoded method l J) (drop_more entries i d lt)) ∙ so_far in
+    ap (all_decoded method (drop (i + 1) entries)) made ∙ one
+
+pub decoded_done : (method : Method) (entries : List BlockEntry) (i : ℕ) (J total : List ℕ) → length entries ≤ i → all_decoded method (drop i entries) J ≡ total → J ≡ total
+unfolding all_decoded
+decoded_done method entries i J total past so_far = sym (ap (λ l. all_decoded method l J) (drop_all i entries past)) ∙ so_far

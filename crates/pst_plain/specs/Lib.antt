@@ -1,0 +1,5 @@
+pub mod Written
+pub mod Carried
+pub mod Blocks
+pub mod Twin
+pub mod Laws

@@ -1,0 +1,21 @@
+//! The plain twin of an encoded file ([MS-PST] 2.2.2.6, 5.1, 5.2), made in the memory into which the file was read.
+//!
+//! Begin with `plain`, which makes it, and tells by which method it decoded how many blocks. A file that is not encoded is
+//! its own twin, and stays as it is:
+//!
+//! ```
+//! let told = plain(alloc, &mut bytes)?;
+//! let answer = verify(alloc, Image::new(&bytes));
+//! ```
+#![tactic(auto)]
+
+mod blocks;
+mod body;
+mod head;
+mod laws;
+mod twin;
+mod write;
+
+pub use laws::{check_value_is_linear, check_values_stay, no_place_moves};
+pub use pst_encoding::Method;
+pub use twin::{Decoding, plain};
