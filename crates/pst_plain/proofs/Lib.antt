@@ -4,3 +4,10 @@ pub mod StepLemmas
 pub mod HeadLemmas
 pub mod TwinLemmas
 pub mod LawLemmas
+pub mod BackLemmas
+pub mod SameLemmas
+pub mod PlacedLemmas
+pub mod AgainLemmas
+pub mod TrailerLemmas
+pub mod MapLemmas
+pub mod FaultLemmas

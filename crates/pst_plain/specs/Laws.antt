@@ -14,7 +14,7 @@ use Rattle.pst_block.specs.Block.{body_span, trailer_at}
 use Rattle.pst_block.specs.Fault.{has_block_trailer}
 use Rattle.pst_plain.specs.Carried.{carried}
 use Rattle.pst_plain.specs.Blocks.{data_blocks, EndsBy}
-use Rattle.pst_plain.specs.Twin.{method_of, with_method, full_span, with_body, twin_of}
+use Rattle.pst_plain.specs.Twin.{method_of, with_method, full_span, with_body, twin_of, encoded_of}
 
 -- ---- check values
 
@@ -72,3 +72,9 @@ changed_by (Some method) I = head_fields ++ fields_of (data_blocks (with_method 
 -- in the bodies and dwCRC of the blocks that are decoded.
 abbrev pub PlacesLaw : Type 0
 PlacesLaw = (I : List ℕ) → All IsByte I → SameElsewhere I (twin_of I) (changed_by (method_of I) I)
+
+-- ---- the other way round
+
+-- A twin that is encoded again is the file, byte for byte: so what is said of the twin is said of that very file.
+abbrev pub AgainLaw : Type 0
+AgainLaw = (I : List ℕ) (method : Method) → All IsByte I → method_of I ≡ Some method → encoded_of (twin_of I) method ≡ I

@@ -3,3 +3,4 @@ pub mod Carried
 pub mod Blocks
 pub mod Twin
 pub mod Laws
+pub mod Faults

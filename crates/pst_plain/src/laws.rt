@@ -1,6 +1,7 @@
 //! Laws of twins, each the contract of a function that does nothing.
 
-ghost use Rattle.pst_plain.specs.Laws.{LinearLaw, CarriedLaw, TrailerLaw, FullCheckLaw, PlacesLaw};
+ghost use Rattle.pst_plain.specs.Faults.{FrontLaw, LaterLaw};
+ghost use Rattle.pst_plain.specs.Laws.{LinearLaw, CarriedLaw, TrailerLaw, FullCheckLaw, PlacesLaw, AgainLaw};
 
 /// The check value ([MS-PST] 5.3) is linear: of bytes exclusive or as many others it is the check value of the ones exclusive
 /// or that of the others.
@@ -20,4 +21,16 @@ pub fn check_values_stay()
 /// values.
 pub fn no_place_moves()
     ensures { PlacesLaw }
+{}
+
+/// The twin of an encoded file, encoded again by the method of the file, is the file: nothing is lost.
+pub fn twin_is_the_file()
+    ensures { AgainLaw }
+{}
+
+/// Up to its allocation maps the twin of an encoded file has the first fault that the file would have with bCryptMethod 0, in
+/// kind and place, or none where that has none; what comes later is said of the decoded bytes.
+pub fn faults_stay()
+    ensures front { FrontLaw }
+    ensures later { LaterLaw }
 {}

@@ -16,6 +16,8 @@ mod laws;
 mod twin;
 mod write;
 
-pub use laws::{check_value_is_linear, check_values_stay, no_place_moves};
+pub use laws::{
+    check_value_is_linear, check_values_stay, faults_stay, no_place_moves, twin_is_the_file,
+};
 pub use pst_encoding::Method;
 pub use twin::{Decoding, plain};

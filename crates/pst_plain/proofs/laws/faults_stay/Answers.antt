@@ -1,0 +1,8 @@
+use Rattle.pst_plain.proofs.FaultLemmas.{front_law, later_law}
+use Rattle.pst_plain.proofs.laws.faults_stay.Goals as goal
+
+pub returns-clause-front : goal.returns-clause-front
+returns-clause-front c = front_law
+
+pub returns-clause-later : goal.returns-clause-later
+returns-clause-later c = later_law
