@@ -4,8 +4,8 @@ use Rattle.std.specs.List.{All}
 use Rattle.std.proofs.lemmas.List.{append_assoc, append-nil, take_more_set, drop_more, drop-set-lt, drop_all, take_all}
 use Rattle.std.proofs.lemmas.List.Elements.{All-head, All-tail, All-cons, All-nil}
 use Rattle.std.proofs.lemmas.Nat.{mod_below}
-use Rattle.pst_encoding.specs.Tables.{r_of, s_of, i_of, IsByte}
-use Rattle.pst_encoding.specs.Cyclic.{cycled_byte, cycled, CyclicLaw}
+use Rattle.pst_encoding.specs.Tables.{r_of, s_of, IsByte}
+use Rattle.pst_encoding.specs.Cyclic.{turned, cycled_byte, cycled, CyclicLaw}
 use Rattle.pst_encoding.proofs.TableLemmas.{tables_law}
 
 -- ---- the loop: what is done, and what is left under the next key, are all of it
@@ -35,6 +35,20 @@ under a h fits small = omega arith
 over : (a h : ℕ) → a < 256 → h < 256 → ((a + h) % 256 + (256 - h)) % 256 ≡ a
 over a h fits small = omega arith
 
+turned_again : (high b : ℕ) → high < 256 → IsByte b → IsByte (turned high b) × (turned high (turned high b) ≡ b)
+unfolding turned
+turned_again high b high_fits fits =
+    let r = tables_law b fits in
+    let c = (r_of b + high) % 256 in
+    let c_fits : c < 256 = omega arith in
+    let s = tables_law c c_fits in
+    let d = (s_of c + (256 - high)) % 256 in
+    let d_fits : d < 256 = omega arith in
+    let i = tables_law d d_fits in (
+      i.i_byte,
+      rw (i.r_undoes_i, under (s_of c) high s.s_byte high_fits, s.s_undoes_s, over (r_of b) high r.r_byte high_fits, r.i_undoes_r) refl,
+    )
+
 pub byte_again : (key b : ℕ) → IsByte b → cycled_byte key (cycled_byte key b) ≡ b
 unfolding cycled_byte
 byte_again key b fits =
@@ -44,22 +58,8 @@ byte_again key b fits =
     let high_fits : high < 256 = omega arith in
     let a = (b + low) % 256 in
     let a_fits : a < 256 = omega arith in
-    let r = tables_law a a_fits in
-    let c = (r_of a + high) % 256 in
-    let c_fits : c < 256 = omega arith in
-    let s = tables_law c c_fits in
-    let d = (s_of c + (256 - high)) % 256 in
-    let d_fits : d < 256 = omega arith in
-    let i = tables_law d d_fits in
-    rw (
-      under (i_of d) low i.i_byte low_fits,
-      i.r_undoes_i,
-      under (s_of c) high s.s_byte high_fits,
-      s.s_undoes_s,
-      over (r_of a) high r.r_byte high_fits,
-      r.i_undoes_r,
-      over b low fits low_fits,
-    ) refl
+    let t = turned_again high a high_fits a_fits in
+    rw (under (turned high a) low t.0 low_fits, t.1, over b low fits low_fits) refl
 
 pub byte_fits : (key b : ℕ) → IsByte (cycled_byte key b)
 unfolding cycled_byte

@@ -1,3 +1,4 @@
+pub mod TurnLemmas
 pub mod TableLemmas
 pub mod CyclicLemmas
 pub mod MethodLemmas

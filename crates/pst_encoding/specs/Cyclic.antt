@@ -1,23 +1,34 @@
 -- The cyclic algorithm ([MS-PST] 5.2), which is bCryptMethod 2: each byte goes through the three tables under a key of 16 bits,
 -- which is one more with each byte. It undoes itself.
-use Rattle.std.specs.Prelude.{◌≡◌, List, [], ◌∷◌, ℕ, ◌+◌, ◌-◌, ◌/◌, ◌%◌, ◌^◌, bit_xor}
-use Rattle.std.specs.List.{All}
+use Rattle.std.specs.Prelude.{◌≡◌, List, [], ◌∷◌, ℕ, ◌+◌, ◌-◌, ◌/◌, ◌%◌, ◌^◌, bit_xor, map}
+use Rattle.std.specs.List.{All, range_with_len}
 use Rattle.pst_encoding.specs.Tables.{r_of, s_of, i_of, IsByte}
 
 -- The key at a block's first byte: of the low 32 bits of its BID, the lower half exclusive or the upper one.
 abbrev pub cyclic_key : ℕ → ℕ
 cyclic_key bid = bit_xor (bid % 2 ^ 16) (bid / 2 ^ 16 % 2 ^ 16)
 
--- A byte under a key: its low byte is added, the byte goes through mpbbR, the key's high byte is added, the byte goes through
--- mpbbS, and then the same the other way round. Sums and differences are of bytes: modulo 256.
+-- What the inner steps make of a byte, under the high byte of a key: the byte goes through mpbbR, the high byte is added, the
+-- byte goes through mpbbS, the high byte is subtracted, and the byte goes through mpbbI. Sums and differences are of bytes:
+-- modulo 256.
+unfoldable pub turned : ℕ → ℕ → ℕ
+turned high b =
+    let first = r_of b in
+    let second = s_of ((first + high) % 256) in
+    i_of ((second + (256 - high)) % 256)
+
+-- A byte under a key: the low byte of the key is added before the inner steps, and subtracted behind them.
 unfoldable pub cycled_byte : ℕ → ℕ → ℕ
 cycled_byte key b =
     let low = key % 256 in
-    let high = key / 256 % 256 in
-    let first = r_of ((b + low) % 256) in
-    let second = s_of ((first + high) % 256) in
-    let third = i_of ((second + (256 - high)) % 256) in
-    (third + (256 - low)) % 256
+    (turned (key / 256 % 256) ((b + low) % 256) + (256 - low)) % 256
+
+-- the inner steps for the first n pairs of a high byte and a byte, in order
+abbrev pub turned_at : ℕ → ℕ
+turned_at n = turned (n / 256) (n % 256)
+
+unfoldable pub turns_of : ℕ → List ℕ
+turns_of n = map turned_at (range_with_len 0 n)
 
 -- the bytes under a key, which is the one at the first of them
 unfoldable pub cycled : ℕ → List ℕ → List ℕ

@@ -2,3 +2,4 @@ pub mod Tables
 pub mod Permute
 pub mod Cyclic
 pub mod Method
+pub mod Codec

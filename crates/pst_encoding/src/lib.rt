@@ -1,21 +1,25 @@
 //! The two encodings of the bodies of data blocks ([MS-PST] 5.1 and 5.2), in place.
 //!
-//! Begin with `Method::of`, which gives the method that bCryptMethod of a header says. Then `decode` decodes the body of a
-//! block, and `encode` encodes it. Neither can fail, changes how many bytes there are, or takes memory:
+//! Begin with `Method::of`, which gives the method that bCryptMethod of a header says, and make it ready by `Codec::new`. Then
+//! `decode` decodes the body of a block, and `encode` encodes it. Neither can fail, changes how many bytes there are, or takes
+//! memory:
 //!
 //! ```
 //! if let Some(method) = Method::of(image[513]) {
-//!     method.decode(bid, &mut image[at..end]);
+//!     let codec = Codec::new(alloc, method)?;
+//!     codec.decode(bid, &mut image[at..end]);
 //! }
 //! ```
 #![tactic(auto)]
 
+mod codec;
 mod cyclic;
 mod laws;
 mod method;
 mod permute;
 mod tables;
 
+pub use codec::{Codec, Turns};
 pub use laws::{
     cyclic_undoes_itself, decoding_undoes_encoding, permutation_is_undone, tables_undo,
 };

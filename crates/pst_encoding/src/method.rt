@@ -1,8 +1,5 @@
 //! The methods of encoding.
 
-use crate::cyclic::{cycle, cyclic_key};
-use crate::permute::{permute, unpermute};
-
 /// A method by which the bodies of a file's data blocks are encoded ([MS-PST] 2.2.2.6, bCryptMethod).
 #[derive(Clone, Copy, Debug, PartialEq, Eq)]
 pub enum Method {
@@ -14,7 +11,7 @@ pub enum Method {
 
 impl Method {
     ghost use Rattle.std.specs.Prelude.{◌≡◌};
-    ghost use Rattle.pst_encoding.specs.Method.{method_number, method_with, encoded, decoded};
+    ghost use Rattle.pst_encoding.specs.Method.{method_number, method_with};
 
     /// The method of a number, as bCryptMethod says it; of any other there is none.
     pub fn of(number: u8) -> Option<Method>
@@ -34,28 +31,6 @@ impl Method {
         match self {
             Method::Permute => 1,
             Method::Cyclic => 2,
-        }
-    }
-
-    /// Encodes the body of the block with an identifier.
-    #[tactic(auto, unfolding(crate::specs::Method::encoded))]
-    pub fn encode(self, bid: u64, body: &mut [u8])
-        ensures { body.new ≡ encoded self bid body.old }
-    {
-        match self {
-            Method::Permute => permute(body),
-            Method::Cyclic => cycle(cyclic_key(bid), body),
-        }
-    }
-
-    /// Decodes the body of the block with an identifier.
-    #[tactic(auto, unfolding(crate::specs::Method::decoded))]
-    pub fn decode(self, bid: u64, body: &mut [u8])
-        ensures { body.new ≡ decoded self bid body.old }
-    {
-        match self {
-            Method::Permute => unpermute(body),
-            Method::Cyclic => cycle(cyclic_key(bid), body),
         }
     }
 }

@@ -2,6 +2,7 @@
 
 ghost use Rattle.std.specs.Prelude.{◌≡◌, ◌≤◌, length, Some, IfOk, OnOk, OnErr};
 ghost use Rattle.std.specs.List.{All};
+ghost use Rattle.pst_encoding.specs.Codec.{method_of as codec_method};
 ghost use Rattle.pst_encoding.specs.Tables.{IsByte};
 ghost use Rattle.pst_plain.specs.Twin.{method_of as method_in, twin_of, decoded_blocks};
 
@@ -9,7 +10,7 @@ use crate::blocks::data_blocks;
 use crate::body::decode_each;
 use crate::head::{method_of, set_method};
 use pst_bytes::Image;
-use pst_encoding::Method;
+use pst_encoding::{Codec, Method};
 use std::alloc::{AllocError, Global};
 
 /// What was decoded to make the plain twin of a file.
@@ -27,7 +28,13 @@ fn are_bytes(file: &[u8])
 {}
 
 // Decodes a file that is encoded by this method, and tells how many blocks it decoded.
-fn decode_file(alloc: Global, method: Method, file: &mut [u8]) -> Result<u64, AllocError>
+fn decode_file(
+    alloc: Global,
+    method: Method,
+    codec: &Codec,
+    file: &mut [u8],
+) -> Result<u64, AllocError>
+    requires codec { codec_method codec.now ≡ method }
     requires long { 564 ≤ length file.old }
     requires method { method_in file.old ≡ Some method }
     ensures twin { OnOk result (file.new ≡ twin_of file.old) }
@@ -39,7 +46,7 @@ fn decode_file(alloc: Global, method: Method, file: &mut [u8]) -> Result<u64, Al
     set_method(0, file);
     match data_blocks(alloc, file) {
         Ok(entries) => {
-            decode_each(method, &entries, file);
+            decode_each(codec, &entries, file);
             Ok(entries.len() as u64)
         }
         Err(error) => {
@@ -64,7 +71,8 @@ pub fn plain(alloc: Global, file: &mut [u8]) -> Result<Decoding, AllocError>
 {
     match method_of(Image::new(file)) {
         Some(method) => {
-            let blocks = decode_file(alloc, method, file)?;
+            let codec = Codec::new(alloc, method)?;
+            let blocks = decode_file(alloc, method, &codec, file)?;
             Ok(Decoding {
                 method: Some(method),
                 blocks,

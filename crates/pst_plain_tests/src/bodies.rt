@@ -1,7 +1,7 @@
 //! Bodies, encoded and decoded, beside what another program made of them.
 
 use crate::told::{holds_at, is, is_at};
-use pst_plain::Method;
+use pst_plain::{Codec, Method};
 use sha2::{Digest, Sha256};
 use std::alloc::Global;
 use std::test::Fail;
@@ -61,7 +61,7 @@ fn bytes_of_another_program(rt: HostRuntime) -> Result<(), Fail> {
         ),
     ] {
         let mut body = rising(alloc, 256)?;
-        method.encode(bid, &mut body);
+        Codec::new(alloc, method)?.encode(bid, &mut body);
         let digest: [u8; 32] = Sha256::digest(&body);
         let told = hex::encode(alloc, digest.as_slice())?;
         is_at(&rt, bid, told.as_str(), want);
@@ -70,7 +70,8 @@ fn bytes_of_another_program(rt: HostRuntime) -> Result<(), Fail> {
 }
 
 #[test]
-fn a_text_of_another_program(rt: HostRuntime) {
+fn a_text_of_another_program(rt: HostRuntime) -> Result<(), Fail> {
+    let alloc = rt.alloc();
     for (method, bid, want) in [
         (
             Method::Permute,
@@ -89,11 +90,13 @@ fn a_text_of_another_program(rt: HostRuntime) {
         ),
     ] {
         let mut body = *b"Hello, world";
-        method.encode(bid, &mut body);
+        let codec = Codec::new(alloc, method)?;
+        codec.encode(bid, &mut body);
         holds_at(&rt, bid, body == want);
-        method.decode(bid, &mut body);
+        codec.decode(bid, &mut body);
         holds_at(&rt, bid, body == *b"Hello, world");
     }
+    Ok(())
 }
 
 // From no byte up to a full body; the key of a body that begins with 0xFFFF goes on with 0.
@@ -103,11 +106,12 @@ fn what_is_encoded_is_decoded(rt: HostRuntime) -> Result<(), Fail> {
     for len in [0, 1, 2, 255, 256, 257, 511, 8175, 8176] {
         let body = rising(alloc, len)?;
         for method in [Method::Permute, Method::Cyclic] {
+            let codec = Codec::new(alloc, method)?;
             for bid in [0, 4, 0xffff, 0xffff_0000, 0x1234_5678_9abc_def0] {
                 let mut changed = rising(alloc, len)?;
-                method.encode(bid, &mut changed);
+                codec.encode(bid, &mut changed);
                 holds_at(&rt, len, len == 0 || changed.as_slice() != body.as_slice());
-                method.decode(bid, &mut changed);
+                codec.decode(bid, &mut changed);
                 holds_at(&rt, len, changed.as_slice() == body.as_slice());
             }
         }

@@ -2,7 +2,7 @@
 
 use crate::told::{holds, holds_at, is, is_at};
 use pst_make::*;
-use pst_plain::{Decoding, Method, plain};
+use pst_plain::{Codec, Decoding, Method, plain};
 use sha2::{Digest, Sha256};
 use std::alloc::{AllocError, Global};
 use std::test::Fail;
@@ -22,19 +22,25 @@ const M0: [Place; 2] = [(4, 0x4c00, 44), (8, 0x4c40, 38)];
 const M1: [Place; 3] = [(4, 0x4c00, 44), (8, 0x4c40, 38), (12, 0x4c80, 90)];
 
 // Encodes the body of a block, and makes its check value anew.
-fn encode_body(image: &mut [u8], method: Method, (bid, ib, cb): Place) -> Result<(), Fail> {
+fn encode_body(image: &mut [u8], codec: &Codec, (bid, ib, cb): Place) -> Result<(), Fail> {
     let (at, len) = (ib as usize, usize::from(cb));
     if at > image.len() || len > image.len() - at {
         return Err("no body".into());
     }
-    method.encode(bid, &mut image[at..at + len]);
+    codec.encode(bid, &mut image[at..at + len]);
     Ok(())
 }
 
 // Encodes the bodies of blocks, and makes their check values anew.
-fn encode_bodies(image: &mut Vec<u8>, method: Method, blocks: &[Place]) -> Result<(), Fail> {
+fn encode_bodies(
+    alloc: Global,
+    image: &mut Vec<u8>,
+    method: Method,
+    blocks: &[Place],
+) -> Result<(), Fail> {
+    let codec = Codec::new(alloc, method)?;
     for block in blocks {
-        encode_body(image, method, *block)?;
+        encode_body(image, &codec, *block)?;
         Change::Block(block.1, block.2).apply(image)?;
     }
     Ok(())
@@ -48,8 +54,13 @@ fn set_number(image: &mut Vec<u8>, number: u8) -> Result<(), Fail> {
 }
 
 // Encodes the bodies of blocks, and says so in the header; all check values are made anew.
-fn encode(image: &mut Vec<u8>, method: Method, blocks: &[Place]) -> Result<(), Fail> {
-    encode_bodies(image, method, blocks)?;
+fn encode(
+    alloc: Global,
+    image: &mut Vec<u8>,
+    method: Method,
+    blocks: &[Place],
+) -> Result<(), Fail> {
+    encode_bodies(alloc, image, method, blocks)?;
     set_number(image, method.number())
 }
 
@@ -81,7 +92,7 @@ fn fixed_images(rt: HostRuntime) -> Result<(), Fail> {
     ] {
         let store = m0(alloc)?;
         let mut image = m0(alloc)?;
-        encode(&mut image, method, &M0)?;
+        encode(alloc, &mut image, method, &M0)?;
         is_at(&rt, method, digest_of(alloc, &image)?.as_str(), want);
         holds_at(
             &rt,
@@ -107,7 +118,7 @@ fn three_blocks(rt: HostRuntime) -> Result<(), Fail> {
     ] {
         let store = m1(alloc)?;
         let mut image = m1(alloc)?;
-        encode(&mut image, method, &M1)?;
+        encode(alloc, &mut image, method, &M1)?;
         is_at(&rt, method, digest_of(alloc, &image)?.as_str(), want);
         holds_at(
             &rt,
@@ -125,12 +136,12 @@ fn a_file_that_is_its_own_twin(rt: HostRuntime) -> Result<(), Fail> {
     holds(&rt, has_twin(alloc, &store, &store, None, 0)?);
     for (at, byte) in [(0, 0x20), (8, 0x20), (10, 14), (513, 3), (513, 0xff)] {
         let mut image = m0(alloc)?;
-        encode(&mut image, Method::Permute, &M0)?;
+        encode(alloc, &mut image, Method::Permute, &M0)?;
         set(&mut image, at, &[byte])?;
         holds_at(&rt, at, has_twin(alloc, &image, &image, None, 0)?);
     }
     let mut short = m0(alloc)?;
-    encode(&mut short, Method::Cyclic, &M0)?;
+    encode(alloc, &mut short, Method::Cyclic, &M0)?;
     short.truncate(563);
     holds(&rt, has_twin(alloc, &short, &short, None, 0)?);
     short.truncate(0);
@@ -150,7 +161,7 @@ fn damaged_before_the_blocks(rt: HostRuntime) -> Result<(), Fail> {
     let alloc = rt.alloc();
     for at in [0x4a10, 0x4810, 184, 4, 524] {
         let mut image = m1(alloc)?;
-        encode(&mut image, Method::Cyclic, &M1)?;
+        encode(alloc, &mut image, Method::Cyclic, &M1)?;
         let mut wanted = Vec::from_slice(alloc, &image)?;
         set_number(&mut wanted, 0)?;
         flip(&mut image, at)?;
@@ -172,7 +183,7 @@ fn a_damaged_block(rt: HostRuntime) -> Result<(), Fail> {
         let mut wanted = m1(alloc)?;
         flip(&mut wanted, 0x4c34)?;
         let mut image = m1(alloc)?;
-        encode(&mut image, method, &M1)?;
+        encode(alloc, &mut image, method, &M1)?;
         flip(&mut image, 0x4c34)?;
         holds_at(
             &rt,
@@ -199,9 +210,9 @@ fn blocks_out_of_place(rt: HostRuntime) -> Result<(), Fail> {
         let mut wanted = m1(alloc)?;
         set(&mut wanted, SECOND + 8, &place.to_le_bytes())?;
         Change::Page(BLOCK_PAGE).apply(&mut wanted)?;
-        encode_bodies(&mut wanted, Method::Permute, &M1[1..])?;
+        encode_bodies(alloc, &mut wanted, Method::Permute, &M1[1..])?;
         let mut image = Vec::from_slice(alloc, &wanted)?;
-        encode(&mut image, Method::Permute, &M1[..1])?;
+        encode(alloc, &mut image, Method::Permute, &M1[..1])?;
         holds_at(
             &rt,
             place,
@@ -220,11 +231,11 @@ fn an_internal_block(rt: HostRuntime) -> Result<(), Fail> {
         set(&mut wanted, SECOND, &bid.to_le_bytes())?;
         Change::Page(BLOCK_PAGE).apply(&mut wanted)?;
         let mut image = Vec::from_slice(alloc, &wanted)?;
-        encode_bodies(&mut image, Method::Cyclic, &M1[..1])?;
+        encode_bodies(alloc, &mut image, Method::Cyclic, &M1[..1])?;
         if blocks == 3 {
-            encode_bodies(&mut image, Method::Cyclic, &[(bid, 0x4c40, 38)])?;
+            encode_bodies(alloc, &mut image, Method::Cyclic, &[(bid, 0x4c40, 38)])?;
         }
-        encode(&mut image, Method::Cyclic, &M1[2..])?;
+        encode(alloc, &mut image, Method::Cyclic, &M1[2..])?;
         holds_at(
             &rt,
             bid,
@@ -263,7 +274,7 @@ fn bodies_of_all_lengths(rt: HostRuntime) -> Result<(), Fail> {
     let store = store_of(alloc, &[0, 1, 48, 49, 8176])?;
     for method in [Method::Permute, Method::Cyclic] {
         let mut image = Vec::from_slice(alloc, &store)?;
-        encode(&mut image, method, &blocks)?;
+        encode(alloc, &mut image, method, &blocks)?;
         holds_at(&rt, method, image.as_slice() != store.as_slice());
         holds_at(
             &rt,
