@@ -83,7 +83,7 @@ pub carried_law : CarriedLaw
 carried_law check old new = (right_again check (crc old) (crc new), right_still check (crc old) (crc new))
 
 -- tests of equations that say the same
-same_test : (a b c d : ℕ) → (a ≡ b → c ≡ d) → (c ≡ d → a ≡ b) → nat_eq a b ≡ nat_eq c d
+pub same_test : (a b c d : ℕ) → (a ≡ b → c ≡ d) → (c ≡ d → a ≡ b) → nat_eq a b ≡ nat_eq c d
 same_test a b c d there back =
     elim (cases_eq a b) [
       | inl is ↦ eq-eqb a b is ∙ sym (eq-eqb c d (there is))
@@ -162,10 +162,17 @@ trailer_law I method e all by_end = trailer_told I (with_body (decoded method e.
 -- ---- the header
 
 pub record HeadTold (I T : List ℕ) (number : ℕ) : Type 0 where
+  pub number_is : num T 513 1 ≡ number
   pub len : length T ≡ length I
   pub check : num T 524 4 ≡ carried (num I 524 4) (bytes_at I full_span) (bytes_at T full_span)
   pub others : (s : Span) → IsApartFromAll s head_fields → bytes_at T s ≡ bytes_at I s
   pub bytes : All IsByte T
+
+byte_written : (I : List ℕ) (at number : ℕ) → at + 1 ≤ length I → num (written I at (number ∷ [])) at 1 ≡ number
+unfolding num
+byte_written I at number inside =
+    let here = bytes_here I at (number ∷ []) (record { at = at; len = 1 }) refl refl (omega arith) in
+    ap (little_number 1) here ∙ omega arith
 
 pub head_told : (I : List ℕ) (number : ℕ) → All IsByte I → IsByte number → 564 ≤ length I → HeadTold I (with_method number I) number
 unfolding with_method with_carried
@@ -183,6 +190,7 @@ head_told I number all byte long =
     let fits : 524 + length four ≤ length J = omega (arith, four_long, J_long, long) in
     let full : bytes_at (written J 524 four) full_span ≡ new = bytes_elsewhere J 524 four full_span fits (inl (omega arith)) in
     record {
+      number_is = num_elsewhere J 524 four 513 1 fits (inl (omega arith)) ∙ byte_written I 513 number (omega arith);
       len = length_written J 524 four fits ∙ J_long;
       check = num_written J 524 over (omega (arith, J_long, long)) over_fits ∙ ap (λ n. carried n old new) v ∙ ap (λ l. carried (num I 524 4) old l) (sym full);
       others = λ s apart_all. bytes_elsewhere J 524 four s fits apart_all.1.0 ∙ bytes_elsewhere I 513 (number ∷ []) s (omega arith) apart_all.0;

@@ -11,3 +11,4 @@ pub mod AgainLemmas
 pub mod TrailerLemmas
 pub mod MapLemmas
 pub mod FaultLemmas
+pub mod HeaderLemmas

@@ -1,6 +1,6 @@
 //! Laws of twins, each the contract of a function that does nothing.
 
-ghost use Rattle.pst_plain.specs.Faults.{FrontLaw, LaterLaw};
+ghost use Rattle.pst_plain.specs.Faults.{HeaderLaw, FrontLaw, LaterLaw};
 ghost use Rattle.pst_plain.specs.Laws.{LinearLaw, CarriedLaw, TrailerLaw, FullCheckLaw, PlacesLaw, AgainLaw};
 
 /// The check value ([MS-PST] 5.3) is linear: of bytes exclusive or as many others it is the check value of the ones exclusive
@@ -28,9 +28,11 @@ pub fn twin_is_the_file()
     ensures { AgainLaw }
 {}
 
-/// Up to its allocation maps the twin of an encoded file has the first fault that the file would have with bCryptMethod 0, in
+/// The header of an encoded file with bCryptMethod 0 has the fields of the file, and the first fault of its check values and its
+/// ROOT structure. Up to its allocation maps the twin of an encoded file has the first fault that the file would have with bCryptMethod 0, in
 /// kind and place, or none where that has none; what comes later is said of the decoded bytes.
 pub fn faults_stay()
+    ensures header { HeaderLaw }
     ensures front { FrontLaw }
     ensures later { LaterLaw }
 {}

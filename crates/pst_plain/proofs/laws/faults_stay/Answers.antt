@@ -1,5 +1,9 @@
 use Rattle.pst_plain.proofs.FaultLemmas.{front_law, later_law}
+use Rattle.pst_plain.proofs.HeaderLemmas.{header_law}
 use Rattle.pst_plain.proofs.laws.faults_stay.Goals as goal
+
+pub returns-clause-header : goal.returns-clause-header
+returns-clause-header c = header_law
 
 pub returns-clause-front : goal.returns-clause-front
 returns-clause-front c = front_law
