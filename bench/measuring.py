@@ -45,13 +45,19 @@ class Bench:
         self.turns, self.limit, self.program = turns, limit, program
         self.met = self.missed = 0
         os.makedirs(OUT, exist_ok=True)
-        for name in ("run_alone", "read_and_sum"):
+        for name in ("run_alone", "read_and_sum", "encode_store"):
             subprocess.run(["cc", "-O2", "-o", f"{OUT}/{name}", f"{BENCH}/{name}.c"], check=True)
 
     def store(self, name, *words):
         """Makes a store."""
         path = os.path.join(OUT, "_".join((name, *map(str, words))) + ".pst")
         subprocess.run([f"{BENCH}/make_store", name, path, *map(str, words)], check=True)
+        return path
+
+    def encoded(self, store, method):
+        """Encodes a store by the method of a bCryptMethod."""
+        path = f"{store[:-4]}_encoded_{method}.pst"
+        subprocess.run([f"{OUT}/encode_store", store, str(method), path], check=True)
         return path
 
     def knows(self, *command):

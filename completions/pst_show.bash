@@ -23,7 +23,14 @@ _pst_show() {
     fi
     if [[ $word == -* ]]; then
         local options='--help'
-        [[ $command == check ]] && options='--help --strict'
+        case $command in
+            check) options='--help --strict --decode' ;;
+            head) options='--help --decode' ;;
+            nodes) options='--help --decode' ;;
+            folders) options='--help --decode' ;;
+            contents) options='--help --decode' ;;
+            props) options='--help --decode' ;;
+        esac
         mapfile -t COMPREPLY < <(compgen -W "$options" -- "$word")
         return
     fi

@@ -2,8 +2,9 @@
 """Compares what the built program answers over samples/ with samples/answers.json, which another program wrote.
 
 An answer has the sample's name, the words (F stands for the sample), the status, the output and the line on standard
-error. With words, only the commands that are named are compared; --program names the program in place of ./pst_show. The
-status is 0 where all are the same.
+error; and some have changes, bytes in hexadecimal that are set at places in the sample first, which the program then gets
+on standard input. With words, only the commands that are named are compared; --program names the program in place of
+./pst_show. The status is 0 where all are the same.
 """
 import argparse
 import json
@@ -14,14 +15,26 @@ import sys
 ROOT = os.path.dirname(os.path.dirname(os.path.abspath(__file__)))
 
 
+def changed(answer):
+    """The bytes of the sample with the changes of the answer."""
+    with open(f"{ROOT}/samples/{answer['file']}", "rb") as file:
+        held = bytearray(file.read())
+    for place, new in answer["changes"]:
+        new = bytes.fromhex(new)
+        held[place:place + len(new)] = new
+    return bytes(held)
+
+
 def is_same(program, answer):
     """Whether the program answers so; where it doesn't, what it says is printed."""
-    words = [f"samples/{answer['file']}" if word == "F" else word for word in answer["words"]]
-    ran = subprocess.run([program, *words], cwd=ROOT, capture_output=True, text=True, check=False)
-    given = (ran.returncode, ran.stdout, ran.stderr)
+    held = changed(answer) if "changes" in answer else None
+    name = f"samples/{answer['file']}" if held is None else "-"
+    words = [name if word == "F" else word for word in answer["words"]]
+    ran = subprocess.run([program, *words], cwd=ROOT, input=held, capture_output=True, check=False)
+    given = (ran.returncode, ran.stdout.decode(), ran.stderr.decode())
     same = given == (answer["status"], answer["stdout"], answer["stderr"])
     if not same:
-        print(f"{' '.join(words)}: {given}")
+        print(f"{answer['file']} {' '.join(words)} {answer.get('changes', '')}: {given}")
     return same
 
 

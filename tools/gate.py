@@ -15,11 +15,14 @@ import time
 ROOT = os.path.dirname(os.path.dirname(os.path.abspath(__file__)))
 KEEP = os.path.join(ROOT, "tools", "keep")
 PROGRAM = os.path.join(ROOT, "crates", "pst_show", "out", "pst_show")
+CALLS = ["--calls", os.path.join(ROOT, "crates", "pst_refused", "out", "pst_refused")]
 COUNTS = re.compile(r"(\d+) passed, (\d+) failed\s*")
+REFUSE = ["tools/refuse/refuse"]
 TRIED = [
     ["tools/compare_answers.py"],
+    ["tools/write_words.py", "--compare"],
     ["tools/check_examples.py", "--some"],
-    ["tools/refuse/refuse"],
+    REFUSE,
 ]
 LAUNCHER = "tools/try_launcher"
 
@@ -54,9 +57,10 @@ def is_good(words):
     return subprocess.run(words, cwd=ROOT, check=False).returncode == 0
 
 
-def try_program(program):
-    """How many of the commands that try a program find nothing wrong, and how many do."""
-    good = [is_good([sys.executable, *words, "--program", program]) for words in TRIED]
+def try_program(program, calls):
+    """How many of the commands that try a program find nothing wrong, and how many do. `calls` names the built program that
+    makes each call which takes memory, for the one that refuses it."""
+    good = [is_good([sys.executable, *words, "--program", program, *(calls if words is REFUSE else [])]) for words in TRIED]
     good.append(is_good([sys.executable, LAUNCHER]))
     return sum(good), len(good) - sum(good)
 
@@ -69,14 +73,14 @@ def gate():
     if not is_good([KEEP, "--compare"]):
         print("the kept program is not the one that was built: the others were not tried")
         return passed, 1
-    tried = try_program(PROGRAM)
+    tried = try_program(PROGRAM, CALLS)
     return passed + 1 + tried[0], tried[1]
 
 
 def quick():
     start = time.monotonic()
     program = printed("--program")
-    passed, failed = (0, 1) if program is None else try_program(program)
+    passed, failed = (0, 1) if program is None else try_program(program, [])
     seconds = time.monotonic() - start
     print(f"{passed} passed, {failed} failed in {seconds:.0f} s; nothing was proved here, ./check proves all")
     return failed

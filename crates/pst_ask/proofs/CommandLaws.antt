@@ -1,14 +1,17 @@
--- What each command's words ask for.
-use Rattle.std.proofs.Common.{◌≡◌, ℕ, Bool, true, false, List, [], ◌∷◌, Some, None, Ok, refl, ap, ◌∙◌, codes}
+-- What each command's words ask for: by whether the file's name is empty, a hyphen, or begins with another byte.
+use Rattle.std.proofs.Common.{◌≡◌, ℕ, Bool, true, false, List, [], ◌∷◌, Option, Some, None, Result, refl, ap, ◌∙◌}
 use Rattle.std.specs.Prelude.{nat_eq}
 use Rattle.std.proofs.lemmas.Bool.{ne_eqb, eqb-true}
-use Rattle.clap.specs.Words.{Text, fault_of}
+use Rattle.clap.specs.Words.{Text}
 use Rattle.clap.proofs.OnLiterals.{clap_on_literals}
+use Rattle.pst_ask.specs.declared.verb.Verb.{Verb}
+use Rattle.pst_ask.specs.declared.verb.Verb.TheVariants.{Check, Head, Nodes, Folders, Contents, Props}
 use Rattle.pst_ask.specs.declared.ask.Ask.{Ask}
 use Rattle.pst_ask.specs.declared.ask.Ask.TheVariants as ask
-use Rattle.pst_ask.specs.Ask.{asked_of, of_file, of_node, node_in_word}
+use Rattle.pst_ask.specs.declared.ask.Lack.{Lack}
+use Rattle.pst_ask.specs.Ask.{Asked, asked_of, asks, of_file, of_node, node_in_word}
 use Rattle.pst_ask.specs.Nid.{nid_of_word}
-use Rattle.pst_ask.specs.Words.{IsAsked, IsNoOption, WordsLaw, asked, show_app}
+use Rattle.pst_ask.specs.Words.{IsAsked, IsNoOption, WordsLaw, asked, words_for}
 
 -- ---- a byte is a hyphen or another
 
@@ -22,232 +25,169 @@ by_file P empty hyphen other [] no_option = empty
 by_file P empty hyphen other (b ∷ []) no_option = by_hyphen b (nat_eq b 45) refl (λ none. other b [] none) (λ e. rw e hyphen)
 by_file P empty hyphen other (b ∷ c ∷ rest) no_option = other b (c ∷ rest) (ne_eqb b 45 no_option)
 
--- ---- check
+-- the words of a command with these flags ask for what it shows of a file
+abbrev Asks : Verb → Bool → Bool → Text → ℕ → Text → Type 0
+Asks v strict decode word nid file = IsAsked (words_for v strict decode file word) (asked_of (asks v strict nid) decode file)
 
-check_accepts : (b : ℕ) (rest : List ℕ) → nat_eq b 45 ≡ false → fault_of show_app (codes "check" ∷ (b ∷ rest) ∷ []) ≡ []
-unfolding clap_on_literals
-check_accepts b rest other = simp other
+-- ---- a command and a file
 
-check_asks : (b : ℕ) (rest : List ℕ) → nat_eq b 45 ≡ false → asked (codes "check" ∷ (b ∷ rest) ∷ []) ≡ Ok (asked_of (ask.Check false) (b ∷ rest))
+check_other : (s d : Bool) (b : ℕ) (rest : List ℕ) → nat_eq b 45 ≡ false → Asks Check s d [] 0 (b ∷ rest)
 unfolding clap_on_literals asked
-check_asks b rest other = simp other
+check_other false false b rest other = record { accepted = rw other (rw other refl); is = rw other (rw other refl) }
+check_other false true b rest other = record { accepted = rw other (rw other refl); is = rw other (rw other refl) }
+check_other true false b rest other = record { accepted = rw other (rw other refl); is = rw other (rw other refl) }
+check_other true true b rest other = record { accepted = rw other (rw other refl); is = rw other (rw other refl) }
 
-check_empty : IsAsked (codes "check" ∷ [] ∷ []) (asked_of (ask.Check false) [])
+check_empty : (s d : Bool) → Asks Check s d [] 0 []
 unfolding clap_on_literals asked
-check_empty = record { accepted = refl; is = refl }
+check_empty false false = record { accepted = refl; is = refl }
+check_empty false true = record { accepted = refl; is = refl }
+check_empty true false = record { accepted = refl; is = refl }
+check_empty true true = record { accepted = refl; is = refl }
 
-check_hyphen : IsAsked (codes "check" ∷ (45 ∷ []) ∷ []) (asked_of (ask.Check false) (45 ∷ []))
+check_hyphen : (s d : Bool) → Asks Check s d [] 0 (45 ∷ [])
 unfolding clap_on_literals asked
-check_hyphen = record { accepted = refl; is = refl }
+check_hyphen false false = record { accepted = refl; is = refl }
+check_hyphen false true = record { accepted = refl; is = refl }
+check_hyphen true false = record { accepted = refl; is = refl }
+check_hyphen true true = record { accepted = refl; is = refl }
 
-check_law : (file : Text) → IsNoOption file → IsAsked (codes "check" ∷ file ∷ []) (asked_of (ask.Check false) file)
-check_law =
-    by_file (λ file. IsAsked (codes "check" ∷ file ∷ []) (asked_of (ask.Check false) file)) check_empty check_hyphen
-    (λ b rest other. record { accepted = check_accepts b rest other; is = check_asks b rest other })
-
--- ---- strict
-
-strict_accepts : (b : ℕ) (rest : List ℕ) → nat_eq b 45 ≡ false → fault_of show_app (codes "check" ∷ codes "--strict" ∷ (b ∷ rest) ∷ []) ≡ []
-unfolding clap_on_literals
-strict_accepts b rest other = simp other
-
-strict_asks : (b : ℕ) (rest : List ℕ) → nat_eq b 45 ≡ false → asked (codes "check" ∷ codes "--strict" ∷ (b ∷ rest) ∷ []) ≡ Ok (asked_of (ask.Check true) (b ∷ rest))
+head_other : (d : Bool) (b : ℕ) (rest : List ℕ) → nat_eq b 45 ≡ false → Asks Head false d [] 0 (b ∷ rest)
 unfolding clap_on_literals asked
-strict_asks b rest other = simp other
+head_other false b rest other = record { accepted = rw other (rw other refl); is = rw other (rw other refl) }
+head_other true b rest other = record { accepted = rw other (rw other refl); is = rw other (rw other refl) }
 
-strict_empty : IsAsked (codes "check" ∷ codes "--strict" ∷ [] ∷ []) (asked_of (ask.Check true) [])
+head_empty : (d : Bool) → Asks Head false d [] 0 []
 unfolding clap_on_literals asked
-strict_empty = record { accepted = refl; is = refl }
+head_empty false = record { accepted = refl; is = refl }
+head_empty true = record { accepted = refl; is = refl }
 
-strict_hyphen : IsAsked (codes "check" ∷ codes "--strict" ∷ (45 ∷ []) ∷ []) (asked_of (ask.Check true) (45 ∷ []))
+head_hyphen : (d : Bool) → Asks Head false d [] 0 (45 ∷ [])
 unfolding clap_on_literals asked
-strict_hyphen = record { accepted = refl; is = refl }
+head_hyphen false = record { accepted = refl; is = refl }
+head_hyphen true = record { accepted = refl; is = refl }
 
-strict_law : (file : Text) → IsNoOption file → IsAsked (codes "check" ∷ codes "--strict" ∷ file ∷ []) (asked_of (ask.Check true) file)
-strict_law =
-    by_file (λ file. IsAsked (codes "check" ∷ codes "--strict" ∷ file ∷ []) (asked_of (ask.Check true) file)) strict_empty strict_hyphen
-    (λ b rest other. record { accepted = strict_accepts b rest other; is = strict_asks b rest other })
-
--- ---- head
-
-head_accepts : (b : ℕ) (rest : List ℕ) → nat_eq b 45 ≡ false → fault_of show_app (codes "head" ∷ (b ∷ rest) ∷ []) ≡ []
-unfolding clap_on_literals
-head_accepts b rest other = simp other
-
-head_asks : (b : ℕ) (rest : List ℕ) → nat_eq b 45 ≡ false → asked (codes "head" ∷ (b ∷ rest) ∷ []) ≡ Ok (asked_of ask.Head (b ∷ rest))
+nodes_other : (d : Bool) (b : ℕ) (rest : List ℕ) → nat_eq b 45 ≡ false → Asks Nodes false d [] 0 (b ∷ rest)
 unfolding clap_on_literals asked
-head_asks b rest other = simp other
+nodes_other false b rest other = record { accepted = rw other (rw other refl); is = rw other (rw other refl) }
+nodes_other true b rest other = record { accepted = rw other (rw other refl); is = rw other (rw other refl) }
 
-head_empty : IsAsked (codes "head" ∷ [] ∷ []) (asked_of ask.Head [])
+nodes_empty : (d : Bool) → Asks Nodes false d [] 0 []
 unfolding clap_on_literals asked
-head_empty = record { accepted = refl; is = refl }
+nodes_empty false = record { accepted = refl; is = refl }
+nodes_empty true = record { accepted = refl; is = refl }
 
-head_hyphen : IsAsked (codes "head" ∷ (45 ∷ []) ∷ []) (asked_of ask.Head (45 ∷ []))
+nodes_hyphen : (d : Bool) → Asks Nodes false d [] 0 (45 ∷ [])
 unfolding clap_on_literals asked
-head_hyphen = record { accepted = refl; is = refl }
+nodes_hyphen false = record { accepted = refl; is = refl }
+nodes_hyphen true = record { accepted = refl; is = refl }
 
-head_law : (file : Text) → IsNoOption file → IsAsked (codes "head" ∷ file ∷ []) (asked_of ask.Head file)
-head_law =
-    by_file (λ file. IsAsked (codes "head" ∷ file ∷ []) (asked_of ask.Head file)) head_empty head_hyphen
-    (λ b rest other. record { accepted = head_accepts b rest other; is = head_asks b rest other })
-
--- ---- nodes
-
-nodes_accepts : (b : ℕ) (rest : List ℕ) → nat_eq b 45 ≡ false → fault_of show_app (codes "nodes" ∷ (b ∷ rest) ∷ []) ≡ []
-unfolding clap_on_literals
-nodes_accepts b rest other = simp other
-
-nodes_asks : (b : ℕ) (rest : List ℕ) → nat_eq b 45 ≡ false → asked (codes "nodes" ∷ (b ∷ rest) ∷ []) ≡ Ok (asked_of ask.Nodes (b ∷ rest))
+folders_other : (d : Bool) (b : ℕ) (rest : List ℕ) → nat_eq b 45 ≡ false → Asks Folders false d [] 0 (b ∷ rest)
 unfolding clap_on_literals asked
-nodes_asks b rest other = simp other
+folders_other false b rest other = record { accepted = rw other (rw other refl); is = rw other (rw other refl) }
+folders_other true b rest other = record { accepted = rw other (rw other refl); is = rw other (rw other refl) }
 
-nodes_empty : IsAsked (codes "nodes" ∷ [] ∷ []) (asked_of ask.Nodes [])
+folders_empty : (d : Bool) → Asks Folders false d [] 0 []
 unfolding clap_on_literals asked
-nodes_empty = record { accepted = refl; is = refl }
+folders_empty false = record { accepted = refl; is = refl }
+folders_empty true = record { accepted = refl; is = refl }
 
-nodes_hyphen : IsAsked (codes "nodes" ∷ (45 ∷ []) ∷ []) (asked_of ask.Nodes (45 ∷ []))
+folders_hyphen : (d : Bool) → Asks Folders false d [] 0 (45 ∷ [])
 unfolding clap_on_literals asked
-nodes_hyphen = record { accepted = refl; is = refl }
-
-nodes_law : (file : Text) → IsNoOption file → IsAsked (codes "nodes" ∷ file ∷ []) (asked_of ask.Nodes file)
-nodes_law =
-    by_file (λ file. IsAsked (codes "nodes" ∷ file ∷ []) (asked_of ask.Nodes file)) nodes_empty nodes_hyphen
-    (λ b rest other. record { accepted = nodes_accepts b rest other; is = nodes_asks b rest other })
-
--- ---- folders
-
-folders_accepts : (b : ℕ) (rest : List ℕ) → nat_eq b 45 ≡ false → fault_of show_app (codes "folders" ∷ (b ∷ rest) ∷ []) ≡ []
-unfolding clap_on_literals
-folders_accepts b rest other = simp other
-
-folders_asks : (b : ℕ) (rest : List ℕ) → nat_eq b 45 ≡ false → asked (codes "folders" ∷ (b ∷ rest) ∷ []) ≡ Ok (asked_of ask.Folders (b ∷ rest))
-unfolding clap_on_literals asked
-folders_asks b rest other = simp other
-
-folders_empty : IsAsked (codes "folders" ∷ [] ∷ []) (asked_of ask.Folders [])
-unfolding clap_on_literals asked
-folders_empty = record { accepted = refl; is = refl }
-
-folders_hyphen : IsAsked (codes "folders" ∷ (45 ∷ []) ∷ []) (asked_of ask.Folders (45 ∷ []))
-unfolding clap_on_literals asked
-folders_hyphen = record { accepted = refl; is = refl }
-
-folders_law : (file : Text) → IsNoOption file → IsAsked (codes "folders" ∷ file ∷ []) (asked_of ask.Folders file)
-folders_law =
-    by_file (λ file. IsAsked (codes "folders" ∷ file ∷ []) (asked_of ask.Folders file)) folders_empty folders_hyphen
-    (λ b rest other. record { accepted = folders_accepts b rest other; is = folders_asks b rest other })
+folders_hyphen false = record { accepted = refl; is = refl }
+folders_hyphen true = record { accepted = refl; is = refl }
 
 -- ---- a node behind the file
 
 -- a word that names a node begins with no hyphen
-no_hyphen : (d : ℕ) (more : List ℕ) (nid : ℕ) (b : Bool) → nat_eq d 45 ≡ b → nid_of_word (d ∷ more) ≡ Some nid → b ≡ false
+no_hyphen : (e : ℕ) (more : List ℕ) (nid : ℕ) (b : Bool) → nat_eq e 45 ≡ b → nid_of_word (e ∷ more) ≡ Some nid → b ≡ false
 unfolding nid_of_word
-no_hyphen d more nid false e is = refl
-no_hyphen d more nid true e is =
-    let none : None ≡ Some nid = rw (eqb-true d 45 e) at is in
+no_hyphen e more nid false is named = refl
+no_hyphen e more nid true is named =
+    let none : None ≡ Some nid = rw (eqb-true e 45 is) at named in
     absurd cc
+
+-- what is asked for of the node that a word names
+abbrev at_node : (ℕ → Ask) → Bool → Text → Option ℕ → Result Asked Lack
+at_node order decode file nid = of_file (of_node order (node_in_word nid)) decode (Some file)
 
 no_empty : (nid : ℕ) → nid_of_word [] ≡ Some nid → ⊥
 unfolding nid_of_word
-no_empty nid is =
-    let none : None ≡ Some nid = is in
+no_empty nid named =
+    let none : None ≡ Some nid = named in
     absurd cc
 
--- behind a file that a word names
-behind : (name : Text) (order : ℕ → Ask) (file : Text) (d : ℕ) (more : List ℕ) (nid : ℕ) → nid_of_word (d ∷ more) ≡ Some nid
-    → fault_of show_app (name ∷ file ∷ (d ∷ more) ∷ []) ≡ []
-    → asked (name ∷ file ∷ (d ∷ more) ∷ []) ≡ of_file (of_node order (node_in_word (nid_of_word (d ∷ more)))) (Some file)
-    → IsAsked (name ∷ file ∷ (d ∷ more) ∷ []) (asked_of (order nid) file)
-behind name order file d more nid is accepts asks = record {
-  accepted = accepts;
-  is = asks ∙ ap (λ o. of_file (of_node order (node_in_word o)) (Some file)) is;
-}
-
--- ---- contents
-
-contents_accepts : (b d : ℕ) (rest more : List ℕ) → nat_eq b 45 ≡ false → nat_eq d 45 ≡ false → fault_of show_app (codes "contents" ∷ (b ∷ rest) ∷ (d ∷ more) ∷ []) ≡ []
-unfolding clap_on_literals
-contents_accepts b d rest more other next = simp (other, next)
-
-contents_asks : (b d : ℕ) (rest more : List ℕ) → nat_eq b 45 ≡ false → nat_eq d 45 ≡ false
-    → asked (codes "contents" ∷ (b ∷ rest) ∷ (d ∷ more) ∷ []) ≡ of_file (of_node (λ nid. ask.Contents nid) (node_in_word (nid_of_word (d ∷ more)))) (Some (b ∷ rest))
+contents_other : (d : Bool) (e : ℕ) (more : List ℕ) (nid : ℕ) → nat_eq e 45 ≡ false → nid_of_word (e ∷ more) ≡ Some nid
+    → (b : ℕ) (rest : List ℕ) → nat_eq b 45 ≡ false → Asks Contents false d (e ∷ more) nid (b ∷ rest)
 unfolding clap_on_literals asked
-contents_asks b d rest more other next = simp (other, next)
+contents_other false e more nid next named b rest other = record { accepted = rw other (rw other (rw next (rw next refl))); is = rw other (rw other (rw next (rw next (rw named refl)))) }
+contents_other true e more nid next named b rest other = record { accepted = rw other (rw other (rw next (rw next refl))); is = rw other (rw other (rw next (rw next (rw named refl)))) }
 
-contents_accepts_empty : (d : ℕ) (more : List ℕ) → nat_eq d 45 ≡ false → fault_of show_app (codes "contents" ∷ [] ∷ (d ∷ more) ∷ []) ≡ []
-unfolding clap_on_literals
-contents_accepts_empty d more next = simp next
-
-contents_asks_empty : (d : ℕ) (more : List ℕ) → nat_eq d 45 ≡ false
-    → asked (codes "contents" ∷ [] ∷ (d ∷ more) ∷ []) ≡ of_file (of_node (λ nid. ask.Contents nid) (node_in_word (nid_of_word (d ∷ more)))) (Some [])
+contents_empty : (d : Bool) (e : ℕ) (more : List ℕ) (nid : ℕ) → nat_eq e 45 ≡ false → nid_of_word (e ∷ more) ≡ Some nid → Asks Contents false d (e ∷ more) nid []
 unfolding clap_on_literals asked
-contents_asks_empty d more next = simp next
+contents_empty false e more nid next named =
+    let found : asked (words_for Contents false false [] (e ∷ more)) ≡ at_node (λ n. ask.Contents n) false [] (nid_of_word (e ∷ more)) = rw next (rw next refl) in
+    record { accepted = rw next (rw next refl); is = found ∙ ap (at_node (λ n. ask.Contents n) false []) named }
+contents_empty true e more nid next named =
+    let found : asked (words_for Contents false true [] (e ∷ more)) ≡ at_node (λ n. ask.Contents n) true [] (nid_of_word (e ∷ more)) = rw next (rw next refl) in
+    record { accepted = rw next (rw next refl); is = found ∙ ap (at_node (λ n. ask.Contents n) true []) named }
 
-contents_accepts_hyphen : (d : ℕ) (more : List ℕ) → nat_eq d 45 ≡ false → fault_of show_app (codes "contents" ∷ (45 ∷ []) ∷ (d ∷ more) ∷ []) ≡ []
-unfolding clap_on_literals
-contents_accepts_hyphen d more next = simp next
-
-contents_asks_hyphen : (d : ℕ) (more : List ℕ) → nat_eq d 45 ≡ false
-    → asked (codes "contents" ∷ (45 ∷ []) ∷ (d ∷ more) ∷ []) ≡ of_file (of_node (λ nid. ask.Contents nid) (node_in_word (nid_of_word (d ∷ more)))) (Some (45 ∷ []))
+contents_hyphen : (d : Bool) (e : ℕ) (more : List ℕ) (nid : ℕ) → nat_eq e 45 ≡ false → nid_of_word (e ∷ more) ≡ Some nid → Asks Contents false d (e ∷ more) nid (45 ∷ [])
 unfolding clap_on_literals asked
-contents_asks_hyphen d more next = simp next
+contents_hyphen false e more nid next named =
+    let found : asked (words_for Contents false false (45 ∷ []) (e ∷ more)) ≡ at_node (λ n. ask.Contents n) false (45 ∷ []) (nid_of_word (e ∷ more)) = rw next (rw next refl) in
+    record { accepted = rw next (rw next refl); is = found ∙ ap (at_node (λ n. ask.Contents n) false (45 ∷ [])) named }
+contents_hyphen true e more nid next named =
+    let found : asked (words_for Contents false true (45 ∷ []) (e ∷ more)) ≡ at_node (λ n. ask.Contents n) true (45 ∷ []) (nid_of_word (e ∷ more)) = rw next (rw next refl) in
+    record { accepted = rw next (rw next refl); is = found ∙ ap (at_node (λ n. ask.Contents n) true (45 ∷ [])) named }
 
-contents_law : (file word : Text) (nid : ℕ) → IsNoOption file → nid_of_word word ≡ Some nid → IsAsked (codes "contents" ∷ file ∷ word ∷ []) (asked_of (ask.Contents nid) file)
-contents_law file [] nid no_option is = absurd (no_empty nid is)
-contents_law file (d ∷ more) nid no_option is =
-    let next = no_hyphen d more nid (nat_eq d 45) refl is in
-    let order : ℕ → Ask = λ n. ask.Contents n in
-    by_file (λ file. IsAsked (codes "contents" ∷ file ∷ (d ∷ more) ∷ []) (asked_of (ask.Contents nid) file))
-    (behind (codes "contents") order [] d more nid is (contents_accepts_empty d more next) (contents_asks_empty d more next))
-    (behind (codes "contents") order (45 ∷ []) d more nid is (contents_accepts_hyphen d more next) (contents_asks_hyphen d more next))
-    (λ b rest other. behind (codes "contents") order (b ∷ rest) d more nid is (contents_accepts b d rest more other next) (contents_asks b d rest more other next)) file no_option
+contents_is : (d : Bool) (word : Text) (nid : ℕ) → nid_of_word word ≡ Some nid → (file : Text) → IsNoOption file → Asks Contents false d word nid file
+contents_is d [] nid named = absurd (no_empty nid named)
+contents_is d (e ∷ more) nid named =
+    let next = no_hyphen e more nid (nat_eq e 45) refl named in
+    by_file (Asks Contents false d (e ∷ more) nid) (contents_empty d e more nid next named) (contents_hyphen d e more nid next named) (contents_other d e more nid next named)
 
--- ---- props
-
-props_accepts : (b d : ℕ) (rest more : List ℕ) → nat_eq b 45 ≡ false → nat_eq d 45 ≡ false → fault_of show_app (codes "props" ∷ (b ∷ rest) ∷ (d ∷ more) ∷ []) ≡ []
-unfolding clap_on_literals
-props_accepts b d rest more other next = simp (other, next)
-
-props_asks : (b d : ℕ) (rest more : List ℕ) → nat_eq b 45 ≡ false → nat_eq d 45 ≡ false
-    → asked (codes "props" ∷ (b ∷ rest) ∷ (d ∷ more) ∷ []) ≡ of_file (of_node (λ nid. ask.Props nid) (node_in_word (nid_of_word (d ∷ more)))) (Some (b ∷ rest))
+props_other : (d : Bool) (e : ℕ) (more : List ℕ) (nid : ℕ) → nat_eq e 45 ≡ false → nid_of_word (e ∷ more) ≡ Some nid
+    → (b : ℕ) (rest : List ℕ) → nat_eq b 45 ≡ false → Asks Props false d (e ∷ more) nid (b ∷ rest)
 unfolding clap_on_literals asked
-props_asks b d rest more other next = simp (other, next)
+props_other false e more nid next named b rest other = record { accepted = rw other (rw other (rw next (rw next refl))); is = rw other (rw other (rw next (rw next (rw named refl)))) }
+props_other true e more nid next named b rest other = record { accepted = rw other (rw other (rw next (rw next refl))); is = rw other (rw other (rw next (rw next (rw named refl)))) }
 
-props_accepts_empty : (d : ℕ) (more : List ℕ) → nat_eq d 45 ≡ false → fault_of show_app (codes "props" ∷ [] ∷ (d ∷ more) ∷ []) ≡ []
-unfolding clap_on_literals
-props_accepts_empty d more next = simp next
-
-props_asks_empty : (d : ℕ) (more : List ℕ) → nat_eq d 45 ≡ false
-    → asked (codes "props" ∷ [] ∷ (d ∷ more) ∷ []) ≡ of_file (of_node (λ nid. ask.Props nid) (node_in_word (nid_of_word (d ∷ more)))) (Some [])
+props_empty : (d : Bool) (e : ℕ) (more : List ℕ) (nid : ℕ) → nat_eq e 45 ≡ false → nid_of_word (e ∷ more) ≡ Some nid → Asks Props false d (e ∷ more) nid []
 unfolding clap_on_literals asked
-props_asks_empty d more next = simp next
+props_empty false e more nid next named =
+    let found : asked (words_for Props false false [] (e ∷ more)) ≡ at_node (λ n. ask.Props n) false [] (nid_of_word (e ∷ more)) = rw next (rw next refl) in
+    record { accepted = rw next (rw next refl); is = found ∙ ap (at_node (λ n. ask.Props n) false []) named }
+props_empty true e more nid next named =
+    let found : asked (words_for Props false true [] (e ∷ more)) ≡ at_node (λ n. ask.Props n) true [] (nid_of_word (e ∷ more)) = rw next (rw next refl) in
+    record { accepted = rw next (rw next refl); is = found ∙ ap (at_node (λ n. ask.Props n) true []) named }
 
-props_accepts_hyphen : (d : ℕ) (more : List ℕ) → nat_eq d 45 ≡ false → fault_of show_app (codes "props" ∷ (45 ∷ []) ∷ (d ∷ more) ∷ []) ≡ []
-unfolding clap_on_literals
-props_accepts_hyphen d more next = simp next
-
-props_asks_hyphen : (d : ℕ) (more : List ℕ) → nat_eq d 45 ≡ false
-    → asked (codes "props" ∷ (45 ∷ []) ∷ (d ∷ more) ∷ []) ≡ of_file (of_node (λ nid. ask.Props nid) (node_in_word (nid_of_word (d ∷ more)))) (Some (45 ∷ []))
+props_hyphen : (d : Bool) (e : ℕ) (more : List ℕ) (nid : ℕ) → nat_eq e 45 ≡ false → nid_of_word (e ∷ more) ≡ Some nid → Asks Props false d (e ∷ more) nid (45 ∷ [])
 unfolding clap_on_literals asked
-props_asks_hyphen d more next = simp next
+props_hyphen false e more nid next named =
+    let found : asked (words_for Props false false (45 ∷ []) (e ∷ more)) ≡ at_node (λ n. ask.Props n) false (45 ∷ []) (nid_of_word (e ∷ more)) = rw next (rw next refl) in
+    record { accepted = rw next (rw next refl); is = found ∙ ap (at_node (λ n. ask.Props n) false (45 ∷ [])) named }
+props_hyphen true e more nid next named =
+    let found : asked (words_for Props false true (45 ∷ []) (e ∷ more)) ≡ at_node (λ n. ask.Props n) true (45 ∷ []) (nid_of_word (e ∷ more)) = rw next (rw next refl) in
+    record { accepted = rw next (rw next refl); is = found ∙ ap (at_node (λ n. ask.Props n) true (45 ∷ [])) named }
 
-props_law : (file word : Text) (nid : ℕ) → IsNoOption file → nid_of_word word ≡ Some nid → IsAsked (codes "props" ∷ file ∷ word ∷ []) (asked_of (ask.Props nid) file)
-props_law file [] nid no_option is = absurd (no_empty nid is)
-props_law file (d ∷ more) nid no_option is =
-    let next = no_hyphen d more nid (nat_eq d 45) refl is in
-    let order : ℕ → Ask = λ n. ask.Props n in
-    by_file (λ file. IsAsked (codes "props" ∷ file ∷ (d ∷ more) ∷ []) (asked_of (ask.Props nid) file))
-    (behind (codes "props") order [] d more nid is (props_accepts_empty d more next) (props_asks_empty d more next))
-    (behind (codes "props") order (45 ∷ []) d more nid is (props_accepts_hyphen d more next) (props_asks_hyphen d more next))
-    (λ b rest other. behind (codes "props") order (b ∷ rest) d more nid is (props_accepts b d rest more other next) (props_asks b d rest more other next)) file no_option
+props_is : (d : Bool) (word : Text) (nid : ℕ) → nid_of_word word ≡ Some nid → (file : Text) → IsNoOption file → Asks Props false d word nid file
+props_is d [] nid named = absurd (no_empty nid named)
+props_is d (e ∷ more) nid named =
+    let next = no_hyphen e more nid (nat_eq e 45) refl named in
+    by_file (Asks Props false d (e ∷ more) nid) (props_empty d e more nid next named) (props_hyphen d e more nid next named) (props_other d e more nid next named)
+
+-- ---- all commands
 
 pub words_law : WordsLaw
-words_law = record {
-  check = check_law;
-  strict = strict_law;
-  head = head_law;
-  nodes = nodes_law;
-  folders = folders_law;
-  contents = contents_law;
-  props = props_law;
-}
+words_law Check s d file word nid may no_option named = by_file (Asks Check s d word nid) (check_empty s d) (check_hyphen s d) (check_other s d) file no_option
+words_law Head false d file word nid may no_option named = by_file (Asks Head false d word nid) (head_empty d) (head_hyphen d) (head_other d) file no_option
+words_law Head true d file word nid may no_option named = absurd cc
+words_law Nodes false d file word nid may no_option named = by_file (Asks Nodes false d word nid) (nodes_empty d) (nodes_hyphen d) (nodes_other d) file no_option
+words_law Nodes true d file word nid may no_option named = absurd cc
+words_law Folders false d file word nid may no_option named = by_file (Asks Folders false d word nid) (folders_empty d) (folders_hyphen d) (folders_other d) file no_option
+words_law Folders true d file word nid may no_option named = absurd cc
+words_law Contents false d file word nid may no_option named = contents_is d word nid named file no_option
+words_law Contents true d file word nid may no_option named = absurd cc
+words_law Props false d file word nid may no_option named = props_is d word nid named file no_option
+words_law Props true d file word nid may no_option named = absurd cc

@@ -12,16 +12,17 @@ use Rattle.pst_ask.specs.declared.verb.Verb.TheVariants.{Check, Head, Nodes, Fol
 use Rattle.pst_ask.specs.Nid.{nid_of_word}
 use Rattle.pst_ask.specs.Verbs.{verb_of}
 
--- what is to be shown, and of which file
+-- what is to be shown, of which file, and whether that is decoded first
 pub record Asked : Type 0 where
   pub ask : Ask
+  pub decode : Bool
   pub file : Text
 
-abbrev pub asked_of : Ask → Text → Asked
-asked_of ask file = record { ask = ask; file = file }
+abbrev pub asked_of : Ask → Bool → Text → Asked
+asked_of ask decode file = record { ask = ask; decode = decode; file = file }
 
 abbrev pub order_of : Order → Asked
-order_of order = asked_of order.ask order.file.now
+order_of order = asked_of order.ask order.decode order.file.now
 
 -- ---- by what stands behind the name of a command
 
@@ -46,6 +47,7 @@ abbrev pub of_node : (ℕ → Ask) → Result ℕ Lack → Result Ask Lack
 of_node make (Ok nid) = Ok (make nid)
 of_node make (Err lack) = Err lack
 
+-- what a command asks for by its matches
 abbrev pub ask_of : Verb → List Row → Result Ask Lack
 ask_of Check rows = Ok (ask.Check (is_used (codes "strict") rows))
 ask_of Head rows = Ok ask.Head
@@ -54,15 +56,24 @@ ask_of Folders rows = Ok ask.Folders
 ask_of Contents rows = of_node (λ nid. ask.Contents nid) (node_named (first_of (codes "NID") rows))
 ask_of Props rows = of_node (λ nid. ask.Props nid) (node_named (first_of (codes "NID") rows))
 
+-- what it asks for by its flag `--strict`, where it has that, and the node, where it takes one
+abbrev pub asks : Verb → Bool → ℕ → Ask
+asks Check strict nid = ask.Check strict
+asks Head strict nid = ask.Head
+asks Nodes strict nid = ask.Nodes
+asks Folders strict nid = ask.Folders
+asks Contents strict nid = ask.Contents nid
+asks Props strict nid = ask.Props nid
+
 -- ---- with the file
 
-abbrev pub of_file : Result Ask Lack → Option Text → Result Asked Lack
-of_file (Err lack) file = Err lack
-of_file (Ok ask) None = Err Nothing
-of_file (Ok ask) (Some file) = Ok (asked_of ask file)
+abbrev pub of_file : Result Ask Lack → Bool → Option Text → Result Asked Lack
+of_file (Err lack) decode file = Err lack
+of_file (Ok ask) decode None = Err Nothing
+of_file (Ok ask) decode (Some file) = Ok (asked_of ask decode file)
 
 abbrev pub asked_by : Verb → List Row → Result Asked Lack
-asked_by verb rows = of_file (ask_of verb rows) (first_of (codes "FILE") rows)
+asked_by verb rows = of_file (ask_of verb rows) (is_used (codes "decode") rows) (first_of (codes "FILE") rows)
 
 abbrev pub asked_with : Option Verb → List Row → Result Asked Lack
 asked_with None rows = Err Nothing

@@ -1,17 +1,16 @@
 -- What the words after the program's name ask for.
-use Rattle.std.specs.Prelude.{◌≡◌, ◌≢◌, ⊤, ℕ, true, false, List, [], ◌∷◌, map, Some, Result, Ok, Err, codes, string_bytes, String}
+use Rattle.std.specs.Prelude.{◌≡◌, ◌≢◌, ⊤, ℕ, true, false, List, [], ◌∷◌, map, ◌++◌, Bool, Some, Result, Ok, Err, codes, string_bytes, String}
 use Rattle.std.specs.Global.{Global}
 use Rattle.clap.specs.Words.{App, Shape, AddsSubcommand, app_of, Rule, Text, new_app, new_rule, with_rule, with_subcommand, subcommand_of, fault_of, HasKind}
 use Rattle.clap.specs.declared.builder.action.ArgAction.TheVariants.{SetTrue}
 use Rattle.clap.specs.declared.builder.command.Command.{Command}
-use Rattle.pst_ask.specs.declared.ask.Ask.TheVariants as ask
 use Rattle.pst_ask.specs.declared.ask.Lack.{Lack}
 use Rattle.pst_ask.specs.declared.verb.Takes.{Takes}
 use Rattle.pst_ask.specs.declared.verb.Takes.TheVariants.{File, Strict, Node}
 use Rattle.pst_ask.specs.declared.verb.Verb.{Verb}
 use Rattle.pst_ask.specs.declared.words.NoOrder.{NoOrder}
 use Rattle.pst_ask.specs.declared.words.NoOrder.TheVariants.{Words, Lacks}
-use Rattle.pst_ask.specs.Ask.{Asked, asked_of, asked_in}
+use Rattle.pst_ask.specs.Ask.{Asked, asked_of, asked_in, asks}
 use Rattle.pst_ask.specs.Nid.{nid_of_word}
 use Rattle.pst_ask.specs.Verbs.{name_of, takes_of, verbs}
 
@@ -32,11 +31,19 @@ node_rule = record (new_rule (codes "NID")) { required = true }
 abbrev pub strict_rule : Rule
 strict_rule = record (new_rule (codes "strict")) { long = Some (codes "strict"); action = Some SetTrue }
 
+-- the flag `--decode`, which every command has
+abbrev pub decode_rule : Rule
+decode_rule = record (new_rule (codes "decode")) { long = Some (codes "decode"); action = Some SetTrue }
+
+-- a file that may be decoded
+abbrev pub with_file : App → App
+with_file a = with_rule (with_rule a decode_rule) file_rule
+
 -- a command of a name, and what stands behind that
 abbrev pub app_taking : Takes → Text → App
-app_taking File name = with_rule (new_app name) file_rule
-app_taking Strict name = with_rule (with_rule (new_app name) strict_rule) file_rule
-app_taking Node name = with_rule (with_rule (new_app name) file_rule) node_rule
+app_taking File name = with_file (new_app name)
+app_taking Strict name = with_file (with_rule (new_app name) strict_rule)
+app_taking Node name = with_rule (with_file (new_app name)) node_rule
 
 abbrev pub app_for : Verb → App
 app_for verb = app_taking (takes_of verb) (name_of verb)
@@ -77,18 +84,39 @@ IsNoOption [] = ⊤
 IsNoOption (b ∷ []) = ⊤
 IsNoOption (b ∷ c ∷ rest) = b ≢ 45
 
--- Each command and a file, whatever its name, if it begins with no hyphen, or is one, are accepted, and ask for what the command
--- shows of that file; of `contents` and `props` with the identifier of a node behind the file.
-pub record WordsLaw : Type 0 where
-  pub check : (file : Text) → IsNoOption file → IsAsked (codes "check" ∷ file ∷ []) (asked_of (ask.Check false) file)
-  pub strict : (file : Text) → IsNoOption file → IsAsked (codes "check" ∷ codes "--strict" ∷ file ∷ []) (asked_of (ask.Check true) file)
-  pub head : (file : Text) → IsNoOption file → IsAsked (codes "head" ∷ file ∷ []) (asked_of ask.Head file)
-  pub nodes : (file : Text) → IsNoOption file → IsAsked (codes "nodes" ∷ file ∷ []) (asked_of ask.Nodes file)
-  pub folders : (file : Text) → IsNoOption file → IsAsked (codes "folders" ∷ file ∷ []) (asked_of ask.Folders file)
-  pub contents : (file word : Text) (nid : ℕ) → IsNoOption file → nid_of_word word ≡ Some nid
-      → IsAsked (codes "contents" ∷ file ∷ word ∷ []) (asked_of (ask.Contents nid) file)
-  pub props : (file word : Text) (nid : ℕ) → IsNoOption file → nid_of_word word ≡ Some nid
-      → IsAsked (codes "props" ∷ file ∷ word ∷ []) (asked_of (ask.Props nid) file)
+-- a command's words: its name, the flags that are used, a file, and of `contents` and `props` a node behind it
+abbrev pub flag_if : Bool → Text → List Text
+flag_if true flag = flag ∷ []
+flag_if false flag = []
+
+abbrev pub behind_file : Takes → Text → List Text
+behind_file File word = []
+behind_file Strict word = []
+behind_file Node word = word ∷ []
+
+abbrev pub words_for : Verb → Bool → Bool → Text → Text → List Text
+words_for v strict decode file word =
+    name_of v ∷ (flag_if strict (codes "--strict") ++ flag_if decode (codes "--decode")) ++ file ∷ behind_file (takes_of v) word
+
+-- only `check` has the flag `--strict`
+abbrev pub MayUse : Takes → Bool → Type 0
+MayUse Strict strict = ⊤
+MayUse File strict = strict ≡ false
+MayUse Node strict = strict ≡ false
+
+-- the word behind the file is the identifier of a node, where the command takes one
+abbrev pub NamesNode : Takes → Text → ℕ → Type 0
+NamesNode File word nid = ⊤
+NamesNode Strict word nid = ⊤
+NamesNode Node word nid = nid_of_word word ≡ Some nid
+
+-- The words of each command, with each of its flags or without, are accepted, and ask for what the command shows of the file
+-- that they name, whatever its name, if it begins with no hyphen, or is one: decoded with `--decode`, and of `contents` and
+-- `props` of the node that they name.
+abbrev pub WordsLaw : Type 0
+WordsLaw = (v : Verb) (strict decode : Bool) (file word : Text) (nid : ℕ)
+    → MayUse (takes_of v) strict → IsNoOption file → NamesNode (takes_of v) word nid
+    → IsAsked (words_for v strict decode file word) (asked_of (asks v strict nid) decode file)
 
 -- ---- where nothing is done
 

@@ -8,7 +8,7 @@ use crate::nid::read_nid;
 use crate::verb::Verb;
 use clap::ArgMatches;
 
-/// What is to be shown of a file.
+/// What a command shows of a file.
 #[derive(Clone, Copy, Debug, PartialEq, Eq)]
 pub enum Ask {
     /// The report of its check; whether lost runs make the status 1.
@@ -25,16 +25,18 @@ pub enum Ask {
     Props(u32),
 }
 
-/// What the words ask for.
+/// What a command line asks for: what to show, and of which file.
 #[derive(Clone, Copy, Debug, PartialEq, Eq)]
 pub struct Order<'a> {
-    /// What is to be shown.
+    /// What to show.
     pub ask: Ask,
-    /// The name of the file of which it is to be shown.
+    /// Whether an encoded file is decoded first, in memory.
+    pub decode: bool,
+    /// The name of the file.
     pub file: &'a str,
 }
 
-/// Why words that are accepted ask for nothing.
+/// Why an accepted command line cannot be carried out.
 #[derive(Clone, Copy, Debug, PartialEq, Eq)]
 pub enum Lack {
     /// The word that is to name a node names none.
@@ -85,13 +87,14 @@ fn ask_in(verb: Verb, found: &ArgMatches) -> Result<Ask, Lack>
     }
 }
 
-// What a command asks for, and of which file.
+// What a command asks for, of which file, and whether that is decoded first.
 fn order_by<'a>(verb: Verb, found: &ArgMatches<'a>) -> Result<Order<'a>, Lack>
     ensures { order_result result ≡ asked_by verb (rows_of (found_of found.now)) }
 {
     let ask = ask_in(verb, found)?;
+    let decode = is_given(found, "decode");
     match text_in(found, "FILE") {
-        Some(file) => Ok(Order { ask, file }),
+        Some(file) => Ok(Order { ask, decode, file }),
         None => Err(Lack::Nothing),
     }
 }

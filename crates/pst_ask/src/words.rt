@@ -5,7 +5,7 @@ mod help;
 ghost use Rattle.std.specs.Prelude.{◌≡◌, IfOk, IfErr, false};
 ghost use Rattle.clap.specs.Words.{FailsBy, HasMatchesOf, app_of, fault_of, rule_of};
 ghost use Rattle.pst_ask.specs.Ask.{order_of};
-ghost use Rattle.pst_ask.specs.Words.{AddsAs, file_rule, node_rule, strict_rule, app_for, base, with_verb, show_app, texts, IsAsked, Declines};
+ghost use Rattle.pst_ask.specs.Words.{AddsAs, decode_rule, file_rule, node_rule, strict_rule, app_for, base, with_verb, show_app, texts, IsAsked, Declines};
 
 use crate::ask::{Lack, Order, order_in};
 use crate::verb::{Takes, Verb};
@@ -56,6 +56,17 @@ fn strict_arg<'a>(alloc: Global) -> Arg<'a>
         .action(ArgAction::SetTrue)
 }
 
+// The flag of a file that is decoded first.
+fn decode_arg<'a>(alloc: Global) -> Arg<'a>
+    ensures rule { rule_of result ≡ decode_rule }
+    ensures local { result.global ≡ false }
+{
+    Arg::new(alloc, "decode")
+        .long("decode")
+        .help("Decodes an encoded file first, in memory")
+        .action(ArgAction::SetTrue)
+}
+
 // A command.
 fn command_for<'a>(alloc: Global, verb: Verb) -> Result<Command<'a>, AllocError>
     ensures { IfOk result (AddsAs (app_for verb).top) }
@@ -64,10 +75,14 @@ fn command_for<'a>(alloc: Global, verb: Verb) -> Result<Command<'a>, AllocError>
     let command = Command::new(alloc, name)
         .about(about)
         .after_help(ending_of(verb));
+    let command = match takes {
+        Takes::Strict => command.arg(strict_arg(alloc))?,
+        Takes::File | Takes::Node => command,
+    };
+    let command = command.arg(decode_arg(alloc))?.arg(file_arg(alloc))?;
     match takes {
-        Takes::File => command.arg(file_arg(alloc)),
-        Takes::Strict => command.arg(strict_arg(alloc))?.arg(file_arg(alloc)),
-        Takes::Node => command.arg(file_arg(alloc))?.arg(node_arg(alloc)),
+        Takes::Node => command.arg(node_arg(alloc)),
+        Takes::File | Takes::Strict => Ok(command),
     }
 }
 

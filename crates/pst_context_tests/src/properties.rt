@@ -64,15 +64,15 @@ fn line_alone(alloc: Global, node: Node) -> Result<String, Fail> {
     line_of(alloc, check_pc(node))
 }
 
-// With one.
-fn line_by(alloc: Global, node: Node, index: &SubIndex) -> Result<String, Fail>
+// With one that is lent to the node.
+fn line_indexed(alloc: Global, node: Node, index: &SubIndex) -> Result<String, Fail>
     requires { IsIndexedBy node index.now }
 {
-    line_of(alloc, check_pc_by(node, index))
+    line_of(alloc, check_pc(node.indexed(index)))
 }
 
 // With one that is lent to what was found.
-fn line_indexed(alloc: Global, node: Node, index: &SubIndex) -> Result<String, Fail>
+fn line_lent(alloc: Global, node: Node, index: &SubIndex) -> Result<String, Fail>
     requires { IsIndexedBy node index.now }
 {
     match check_pc(node) {
@@ -86,7 +86,7 @@ fn line_with(alloc: Global, node: Node, index: &SubIndex) -> Result<String, Fail
     requires { IsIndexedBy node index.now }
 {
     let mut maps = Maps::new(alloc);
-    line_of(alloc, check_pc_with(node, index, &mut maps))
+    line_of(alloc, check_pc_with(node.indexed(index), &mut maps))
 }
 
 // Whether the property context of a node is answered with a line, with no index of its subnodes, with one, and with one lent.
@@ -103,9 +103,9 @@ fn is_answered<R: Abort>(
     let Ok(index) = node.index(alloc) else {
         return Err(Fail::from("no memory"));
     };
-    let told = line_by(alloc, node, &index)?;
-    is(rt, told.as_str(), line);
     let told = line_indexed(alloc, node, &index)?;
+    is(rt, told.as_str(), line);
+    let told = line_lent(alloc, node, &index)?;
     is(rt, told.as_str(), line);
     let told = line_with(alloc, node, &index)?;
     is(rt, told.as_str(), line);

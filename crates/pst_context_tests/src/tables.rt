@@ -74,15 +74,15 @@ fn line_alone(alloc: Global, node: Node) -> Result<String, Fail> {
     line_of(alloc, check_tc(node))
 }
 
-// With one.
-fn line_by(alloc: Global, node: Node, index: &SubIndex) -> Result<String, Fail>
+// With one that is lent to the node.
+fn line_indexed(alloc: Global, node: Node, index: &SubIndex) -> Result<String, Fail>
     requires { IsIndexedBy node index.now }
 {
-    line_of(alloc, check_tc_by(node, index))
+    line_of(alloc, check_tc(node.indexed(index)))
 }
 
 // With one that is lent to what was found.
-fn line_indexed(alloc: Global, node: Node, index: &SubIndex) -> Result<String, Fail>
+fn line_lent(alloc: Global, node: Node, index: &SubIndex) -> Result<String, Fail>
     requires { IsIndexedBy node index.now }
 {
     match check_tc(node) {
@@ -96,7 +96,7 @@ fn line_with(alloc: Global, node: Node, index: &SubIndex) -> Result<String, Fail
     requires { IsIndexedBy node index.now }
 {
     let mut maps = Maps::new(alloc);
-    line_of(alloc, check_tc_with(node, index, &mut maps))
+    line_of(alloc, check_tc_with(node.indexed(index), &mut maps))
 }
 
 // Whether the table context of a node is answered with a line, with an index of its subnodes and with none, and by one
@@ -114,9 +114,9 @@ fn is_answered<R: Abort>(
     let Ok(index) = node.index(alloc) else {
         return Err(Fail::from("no memory"));
     };
-    let told = line_by(alloc, node, &index)?;
-    is(rt, told.as_str(), line);
     let told = line_indexed(alloc, node, &index)?;
+    is(rt, told.as_str(), line);
+    let told = line_lent(alloc, node, &index)?;
     is(rt, told.as_str(), line);
     let told = line_with(alloc, node, &index)?;
     is(rt, told.as_str(), line);

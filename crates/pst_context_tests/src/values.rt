@@ -12,20 +12,20 @@ use pst_bytes::Span;
 use pst_datatree::Value;
 use pst_fault::{Fault, Place};
 use pst_heap::{Heap, Items};
-use pst_ndb::SubIndex;
 use pst_value::*;
 use std::alloc::Global;
 use std::process::Abort;
 use std::test::Fail;
 
 // HNIDs, 4 bytes each: of nothing; of items of 0, 1, 7, 8, 9, 15, 16 and 17 bytes, and of no item; of a subnode of 16 bytes
-// in pieces, of one without data, and of none.
-const RAW: [u8; 52] = [
+// in pieces, of one without data, and of none; and of the subnode with texts.
+const RAW: [u8; 56] = [
     0, 0, 0, 0, 0x40, 0, 0, 0, 0x60, 0, 0, 0, 0x80, 0, 0, 0, 0xa0, 0, 0, 0, 0xc0, 0, 0, 0, 0xe0, 0,
     0, 0, 0, 1, 0, 0, 0x20, 1, 0, 0, 0x40, 1, 0, 0, 0x41, 0, 0, 0, 0x61, 0, 0, 0, 0x81, 0, 0, 0,
+    0xa1, 0, 0, 0,
 ];
 
-// What each of these is under types of a class: its length, as a digit to the base 36, or P for Property, H for HeapId, S for
+// What each of these but the last is under types of a class: its length, as a digit to the base 36, or P for Property, H for HeapId, S for
 // Subnode.
 const ROWS: [(&[u16], Class, &[u8]); 9] = [
     (&[0x0002], Class::Inline, b"2222222222222"),
@@ -100,7 +100,7 @@ fn add_item(items: &mut Vec<u8>, len: u8) -> Result<(), Fail> {
 // The body of a heap: its header, RAW as its first item, the other items, and the page map.
 fn heap_body(alloc: Global) -> Result<Vec<u8>, Fail> {
     let mut items = Vec::from_slice(alloc, &RAW)?;
-    let mut map = Vec::from_slice(alloc, &[9, 0, 0, 0, 12, 0, 64, 0])?;
+    let mut map = Vec::from_slice(alloc, &[9, 0, 0, 0, 12, 0, 68, 0])?;
     for len in LENGTHS {
         add_item(&mut items, len)?;
         put(&mut map, items.len().saturating_add(12) as u64, 2)?;
@@ -143,7 +143,18 @@ fn checked(heap: &Heap, kind: u16, at: u64) -> Result<(), Fault>
 {
     let raw = Span { at, len: 4 };
     let mut items = Items::of(*heap);
-    check_value_by(&mut items, &SubIndex::none(), PropType(kind), at, raw)
+    check_value(&mut items, PropType(kind), at, raw)
+}
+
+// What the HNID of RAW with a number names, as bytes of any length.
+fn named<'a>(heap: &Heap<'a>, number: u64) -> Result<Value<'a>, Fail> {
+    if heap.image().len() < 100_000 || number > 13 {
+        return Err(Fail::from("no such HNID"));
+    }
+    match resolved(heap, 0x0102, 0x4c0c + 4 * number) {
+        Ok(value) => Ok(value),
+        Err(_) => Err(Fail::from("nothing is named")),
+    }
 }
 
 // A length as a byte of ROWS.
@@ -195,8 +206,8 @@ fn row_of<R: Abort>(rt: &R, alloc: Global, heap: &Heap, kind: u16) -> Result<Vec
 
 // The item of 8 bytes is the file's own memory, behind those of 0, 1 and 7.
 fn item_is_lent<R: Abort>(rt: &R, heap: &Heap) -> Result<(), Fail> {
-    let value = named_value(heap, 0xa0).expect(rt, "no item");
-    is(rt, value.at(), 0x4c48);
+    let value = named(heap, 4)?;
+    is(rt, value.at(), 0x4c4c);
     let Value::Whole(_, bytes) = value else {
         return Err(Fail::from("in pieces"));
     };

@@ -1,4 +1,5 @@
 pub mod TurnLemmas
 pub mod TableLemmas
 pub mod CyclicLemmas
+pub mod PassLemmas
 pub mod MethodLemmas

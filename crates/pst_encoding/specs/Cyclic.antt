@@ -35,6 +35,25 @@ unfoldable pub cycled : ℕ → List ℕ → List ℕ
 cycled key [] = []
 cycled key (b ∷ rest) = cycled_byte key b ∷ cycled ((key + 1) % 2 ^ 16) rest
 
+-- ---- the same in three passes
+
+-- the low byte of each byte's key is added: that of the first is given, and the next is one more
+unfoldable pub raised : ℕ → List ℕ → List ℕ
+raised low [] = []
+raised low (b ∷ rest) = (b + low) % 256 ∷ raised ((low + 1) % 256) rest
+
+-- the inner steps are done, under the high byte of each byte's key
+unfoldable pub turned_each : ℕ → List ℕ → List ℕ
+turned_each key [] = []
+turned_each key (b ∷ rest) = turned (key / 256 % 256) b ∷ turned_each ((key + 1) % 2 ^ 16) rest
+
+-- the low byte of each byte's key is subtracted
+unfoldable pub lowered : ℕ → List ℕ → List ℕ
+lowered low [] = []
+lowered low (b ∷ rest) = (b + (256 - low)) % 256 ∷ lowered ((low + 1) % 256) rest
+
+-- ---- the law
+
 -- It undoes itself, whatever the key.
 abbrev pub CyclicLaw : Type 0
 CyclicLaw = (key : ℕ) (bytes : List ℕ) → All IsByte bytes → cycled key (cycled key bytes) ≡ bytes

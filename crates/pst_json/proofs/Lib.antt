@@ -2,4 +2,3 @@ pub mod CheckLemmas
 pub mod FolderLemmas
 pub mod HeadLemmas
 pub mod NodeLemmas
-pub mod NodeLineLemmas

@@ -1,22 +1,27 @@
--- The line that shows nodes.
-use Rattle.std.proofs.Common.{◌≡◌, false, List, [], ◌∷◌, ◌++◌, map, refl, sym, codes, append_assoc}
-use Rattle.serde_json.specs.Data.{Items, array, object, member, no_members}
-use Rattle.serde_json.specs.View.{items_of}
-use Rattle.serde_json.specs.Written.{compact_text, items_text, has_float}
-use Rattle.serde_json.proofs.OnLiterals.{serde_json_on_literals}
+-- Nodes and attachments have no floating-point number.
+use Rattle.std.proofs.Common.{◌≡◌, ℕ, false, refl}
+use Rattle.std.specs.Prelude.{Option, Some, None}
+use Rattle.serde_json.specs.Written.{has_float}
 use Rattle.pst_page.specs.declared.entry.NodeEntry.{NodeEntry}
-use Rattle.pst_value_json.specs.Line.{line_of, rows_text}
-use Rattle.pst_json.specs.Nodes.{node_data, nodes_data, nodes_line}
+use Rattle.pst_block.specs.Table.{Table}
+use Rattle.pst_verify.specs.pst_msg.Shown.{Shown}
+use Rattle.pst_value_json.specs.Names.{nid_or_null}
+use Rattle.pst_value_json.specs.Plain.{IsPlain}
+use Rattle.pst_value_json.specs.Props.{prop_data}
+use Rattle.pst_value_json.proofs.PlainLemmas.{list_is_plain}
+use Rattle.pst_value_json.proofs.PropLemmas.{prop_is_plain}
+use Rattle.pst_json.specs.Node.{attachment_data, embedded_there, props_there}
+use Rattle.pst_json.specs.Nodes.{node_data}
 
 pub node_has_none : (entry : NodeEntry) → has_float (node_data entry) ≡ false
 unfolding node_data
 node_has_none entry = refl
 
-one_list : (rows : Items)
-    → compact_text (object (member (codes "nodes") (array rows) no_members)) ++ 10 ∷ [] ≡ (codes "{\"nodes\":[" ++ items_text false rows) ++ (125 ∷ 10 ∷ [])
-unfolding serde_json_on_literals
-one_list rows = simp append_assoc
+nid_is_plain : (nid : Option ℕ) → IsPlain (nid_or_null nid)
+nid_is_plain None = record { no_float = refl }
+nid_is_plain (Some nid) = record { no_float = refl }
 
-pub nodes_line_of : (entries : List NodeEntry) → (codes "{\"nodes\":[" ++ rows_text node_data false entries) ++ (125 ∷ 10 ∷ []) ≡ nodes_line entries
-unfolding nodes_line line_of nodes_data rows_text
-nodes_line_of entries = sym (one_list (items_of (map node_data entries)))
+pub attachment_has_none : (t : Table) (s : Shown) → has_float (attachment_data t s) ≡ false
+unfolding attachment_data
+attachment_has_none t s =
+    rw (IsPlain.no_float (nid_is_plain (embedded_there t s.roots)), IsPlain.no_float (list_is_plain prop_data prop_is_plain (props_there t s.roots))) refl

@@ -1,13 +1,13 @@
 -- The report of a check as a document, and its line.
-use Rattle.std.specs.Prelude.{ℕ, false, List, [], ◌∷◌, ◌++◌, codes}
+use Rattle.std.specs.Prelude.{ℕ, List, map, drop, codes}
 use Rattle.serde_json.specs.Data.{Data, string, object, member, no_members}
-use Rattle.serde_json.specs.Written.{compact_text}
 use Rattle.pst_bytes.specs.declared.span.Span.{Span}
 use Rattle.pst_amap.specs.declared.report.BitOrder.{BitOrder}
 use Rattle.pst_amap.specs.declared.report.BitOrder.TheVariants.{High, Low}
 use Rattle.pst_verify.specs.declared.report.Report.{Report}
+use Rattle.pst_json.specs.declared.check.LostRows.{LostRows}
 use Rattle.pst_value_json.specs.Parts.{natural, list_data}
-use Rattle.pst_value_json.specs.Line.{line_of, rows_text}
+use Rattle.pst_value_json.specs.Line.{line_of}
 
 -- ---- what is shown of a report
 
@@ -28,6 +28,10 @@ report_parts r = record { pages = r.pages; blocks = r.blocks; nodes = r.nodes; f
 -- a lost run
 unfoldable pub lost_data : Span → Data
 lost_data s = object (member (codes "at") (natural s.at) (member (codes "len") (natural s.len) no_members))
+
+-- the runs from one on
+abbrev pub lost_rows : LostRows → List Data
+lost_rows rows = map lost_data (drop rows.at rows.runs.now)
 
 abbrev pub order_data : BitOrder → Data
 order_data High = string (codes "high")
@@ -54,18 +58,3 @@ check_data r =
 -- the line that shows a report
 unfoldable pub check_line : ReportParts → List ℕ
 check_line r = line_of (check_data r)
-
--- ---- its text in three parts: up to the lost runs, up to the order, and the rest
-
-unfoldable pub check_front : ReportParts → List ℕ
-check_front r =
-    ((((codes "{\"blocks\":" ++ compact_text (natural r.blocks)) ++ codes ",\"folders\":") ++ compact_text (natural r.folders)) ++ codes ",\"lost\":[")
-    ++ rows_text lost_data false r.lost
-
-unfoldable pub check_middle : ReportParts → List ℕ
-check_middle r =
-    ((((codes ",\"messages\":" ++ compact_text (natural r.messages)) ++ codes ",\"nodes\":") ++ compact_text (natural r.nodes)) ++ codes ",\"order\":")
-    ++ compact_text (order_data r.order)
-
-unfoldable pub check_back : ReportParts → List ℕ
-check_back r = (((codes ",\"pages\":" ++ compact_text (natural r.pages)) ++ codes ",\"verdict\":") ++ compact_text yes_data) ++ (125 ∷ 10 ∷ [])

@@ -1,16 +1,20 @@
 -- The messages of a folder as a document ([MS-PST] 2.4.4.5).
-use Rattle.std.specs.Prelude.{ℕ, Option, Some, None, List, Result, Ok, Err, codes, if◌then◌else◌}
+use Rattle.std.specs.Prelude.{ℕ, Option, Some, None, List, map, Result, Ok, Err, codes, if◌then◌else◌}
 use Rattle.serde_json.specs.Data.{Data, null, object, member, no_members}
 use Rattle.pst_page.specs.declared.entry.NodeEntry.{NodeEntry}
 use Rattle.pst_block.specs.Table.{Table}
 use Rattle.pst_ndb.specs.Roots.{Roots, node_in}
+use Rattle.pst_ndb.specs.Views.{table_of_ndb, nodes_of}
 use Rattle.pst_value_json.specs.pst_tc.Values.{RowParts}
 use Rattle.pst_verify.specs.pst_msg.declared.items.Items.TheVariants.{Messages}
 use Rattle.pst_verify.specs.pst_msg.declared.nid.TheConstants.{FOLDER}
+use Rattle.pst_verify.specs.pst_msg.Left.{rows_of_rest}
 use Rattle.pst_verify.specs.pst_msg.Nid.{is_type}
 use Rattle.pst_verify.specs.pst_msg.Shown.{rows_there, folder_table}
 use Rattle.pst_verify.specs.pst_msg.Values.{is_message}
 unfoldable pub use Rattle.pst_verify.specs.pst_store.Kind.{node_of_kind}
+use Rattle.pst_verify.specs.pst_store.View.{ndb_of_store}
+use Rattle.pst_json.specs.declared.contents.ListedRows.{ListedRows}
 use Rattle.pst_json.specs.declared.fault.DocFault.{DocFault}
 use Rattle.pst_json.specs.declared.fault.DocFault.TheVariants.{NoFolder}
 use Rattle.pst_json.specs.declared.texts.TheConstants.{CLASS, SENDER, SUBJECT}
@@ -33,6 +37,10 @@ listed_data t nodes x =
     (member (codes "sender") (text_there t (node_of_kind is_message nodes x.id) SENDER)
     (member (codes "subject") (text_there t (node_of_kind is_message nodes x.id) SUBJECT)
     no_members))))
+
+-- the messages that are left
+abbrev pub listed_rows : ListedRows → List Data
+listed_rows rows = let ndb = ndb_of_store rows.store in map (listed_data (table_of_ndb ndb) (nodes_of ndb)) (rows_of_rest rows.rows)
 
 -- the messages of a folder, their identifiers rising
 unfoldable pub contents_data : Table → List NodeEntry → ℕ → Data

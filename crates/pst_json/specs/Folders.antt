@@ -1,16 +1,19 @@
 -- The folders of a store as a document ([MS-PST] 2.4.4).
-use Rattle.std.specs.Prelude.{ℕ, nat_eq, Option, Some, None, List, length, codes, if◌then◌else◌}
+use Rattle.std.specs.Prelude.{ℕ, nat_eq, Option, Some, None, List, length, map, codes, if◌then◌else◌}
 use Rattle.serde_json.specs.Data.{Data, null, object, member, no_members}
 use Rattle.pst_page.specs.declared.entry.NodeEntry.{NodeEntry}
 use Rattle.pst_block.specs.Table.{Table}
 use Rattle.pst_btree.specs.Entries.{first_with}
 use Rattle.pst_ndb.specs.Roots.{Roots, all_roots}
+use Rattle.pst_ndb.specs.Views.{table_of_ndb, nodes_of}
 use Rattle.pst_value_json.specs.pst_pc.Values.{Property, id_of, props_of}
 use Rattle.pst_value_json.specs.pst_tc.Values.{RowParts}
 use Rattle.pst_verify.specs.pst_msg.declared.items.Items.TheVariants.{Subfolders, Messages, Associated}
 use Rattle.pst_verify.specs.pst_msg.Shown.{rows_there, folder_table}
 use Rattle.pst_verify.specs.pst_msg.Values.{is_folder}
 use Rattle.pst_verify.specs.pst_store.Kind.{of_kind}
+use Rattle.pst_verify.specs.pst_store.View.{folders_left, folders_ndb}
+use Rattle.pst_json.specs.declared.folders.FolderRows.{FolderRows}
 use Rattle.pst_json.specs.declared.texts.TheConstants.{NAME}
 use Rattle.pst_value_json.specs.Line.{line_of}
 use Rattle.pst_value_json.specs.Names.{nid_data}
@@ -44,6 +47,10 @@ folder_data t nodes r =
     (member (codes "nid") (nid_data r.top)
     (member (codes "subfolders") (list_data row_nid (rows_there t (folder_table nodes Subfolders r.top)))
     no_members)))))
+
+-- the folders that are left
+abbrev pub folder_rows : FolderRows → List Data
+folder_rows rows = let ndb = folders_ndb rows.0 in map (folder_data (table_of_ndb ndb) (nodes_of ndb)) (folders_left rows.0)
 
 -- all folders and search folders, their identifiers rising
 unfoldable pub folders_data : Table → List NodeEntry → Data

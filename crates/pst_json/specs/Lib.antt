@@ -12,6 +12,7 @@ pub mod Folders
 pub mod Contents
 pub mod Node
 pub mod Found
+pub mod Lists
 pub mod Output
 pub use Rattle.pst_verify.specs as pst_verify
 pub use Rattle.pst_verify.specs.pst_store as pst_store

@@ -1,7 +1,6 @@
 -- The properties of a node as a document ([MS-PST] 2.3.3), and of a message also its attachments and recipients (2.4.5).
-use Rattle.std.specs.Prelude.{ℕ, Option, Some, None, option_map, List, [], ◌++◌, false, Result, Ok, Err, map, codes, if◌then◌else◌}
+use Rattle.std.specs.Prelude.{ℕ, Option, Some, None, option_map, List, [], Result, Ok, Err, map, codes, if◌then◌else◌}
 use Rattle.serde_json.specs.Data.{Data, array, no_items, object, member, no_members}
-use Rattle.serde_json.specs.Written.{compact_text}
 use Rattle.pst_fault.specs.declared.fault.Fault.{Fault}
 use Rattle.pst_page.specs.declared.entry.NodeEntry.{NodeEntry}
 use Rattle.pst_block.specs.Table.{Table}
@@ -15,7 +14,6 @@ use Rattle.pst_verify.specs.pst_msg.Values.{is_message, embedded_of}
 use Rattle.pst_json.specs.declared.fault.DocFault.{DocFault}
 use Rattle.pst_json.specs.declared.fault.DocFault.TheVariants.{NoNode, Bad}
 use Rattle.pst_value_json.specs.Cells.{table_row_data}
-use Rattle.pst_value_json.specs.Line.{rows_text}
 use Rattle.pst_value_json.specs.Names.{nid_data, nid_or_null}
 use Rattle.pst_value_json.specs.Parts.{list_data}
 use Rattle.pst_value_json.specs.Props.{prop_data}
@@ -90,13 +88,3 @@ props_told t nodes nid = node_there t nid (node_in nodes nid)
 -- the line that shows it
 unfoldable pub props_line : Table → List NodeEntry → ℕ → Result (List ℕ) DocFault
 props_line t nodes nid = lined (props_told t nodes nid)
-
--- ---- the texts before the properties of an attachment, and of a message
-
-unfoldable pub attachment_front : Table → Shown → List ℕ
-attachment_front t s =
-    (((codes "{\"embedded\":" ++ compact_text (nid_or_null (embedded_there t s.roots))) ++ codes ",\"nid\":") ++ compact_text (nid_data s.nid)) ++ codes ",\"props\":["
-
-unfoldable pub message_front : Table → Roots → ℕ → List ℕ
-message_front t r nid =
-    (((codes "{\"attachments\":[" ++ rows_text (attachment_data t) false (map (row_shown t r) (attachment_rows t r))) ++ codes ",\"nid\":") ++ compact_text (nid_data nid)) ++ codes ",\"props\":["

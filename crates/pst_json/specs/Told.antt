@@ -1,6 +1,7 @@
 -- What a call answers that may have no document.
-use Rattle.std.specs.Prelude.{◌≡◌, ℕ, List, Result, Ok, Err}
+use Rattle.std.specs.Prelude.{◌≡◌, ℕ, List, Result, Ok, Err, codes}
 use Rattle.serde_json.specs.Data.{Data}
+use Rattle.pst_fault.specs.Fault.{fault_text}
 use Rattle.pst_json.specs.declared.fault.DocFault.{DocFault}
 use Rattle.pst_json.specs.declared.fault.DocFault.TheVariants.{NoFolder, NoNode, Bad, Memory}
 use Rattle.pst_value_json.specs.Line.{line_of}
@@ -12,6 +13,13 @@ TellsDoc shown (Err NoFolder) answer = answer ≡ Err NoFolder
 TellsDoc shown (Err NoNode) answer = answer ≡ Err NoNode
 TellsDoc shown (Err (Bad f)) answer = answer ≡ Err (Bad f)
 TellsDoc shown (Err Memory) answer = Unit {0}
+
+-- what is said of a document that there is not, without the identifier that was asked for
+abbrev pub doc_fault_text : DocFault → List ℕ
+doc_fault_text NoFolder = codes "no folder"
+doc_fault_text NoNode = codes "no node"
+doc_fault_text (Bad f) = fault_text f
+doc_fault_text Memory = codes "out of memory"
 
 -- the line of a document, where there is one
 abbrev pub lined : Result Data DocFault → Result (List ℕ) DocFault

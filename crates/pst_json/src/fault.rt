@@ -1,28 +1,42 @@
 //! Why there is no document.
 
-ghost use Rattle.std.specs.Prelude.{◌≡◌};
+ghost use Rattle.std.specs.Prelude.{◌≡◌, Some};
+ghost use Rattle.pst_json.specs.Told.{doc_fault_text};
 ghost use Rattle.pst_json.specs.declared.fault.DocFault.TheVariants.{Memory};
 
 use pst_fault::Fault;
 use std::alloc::AllocError;
-use thiserror::Error;
+use std::error::Error;
+use std::fmt;
 
 /// Why there is no document.
-#[derive(Clone, Copy, Debug, PartialEq, Eq, Error)]
+#[derive(Clone, Copy, Debug, PartialEq, Eq)]
 pub enum DocFault {
     /// The store has no folder with the identifier.
-    #[error("no such folder")]
     NoFolder,
     /// The store has no node with the identifier.
-    #[error("no such node")]
     NoNode,
     /// The node is neither a message nor a property context: its first fault as one.
-    #[error("{0}")]
     Bad(Fault),
     /// Memory was refused.
-    #[error("out of memory")]
     Memory,
 }
+
+/// What is said of it, without the identifier that was asked for and without a line feed.
+impl fmt::Display for DocFault {
+    ghost output = { λ f. Some (doc_fault_text f) };
+
+    fn fmt<W: fmt::Write>(&self, f: &mut fmt::Formatter<W>) -> fmt::Result {
+        match self {
+            DocFault::NoFolder => write!(f, "no folder"),
+            DocFault::NoNode => write!(f, "no node"),
+            DocFault::Bad(fault) => write!(f, "{fault}"),
+            DocFault::Memory => write!(f, "out of memory"),
+        }
+    }
+}
+
+impl Error for DocFault {}
 
 impl From<AllocError> for DocFault {
     ghost from_gives = { λ _ f. f ≡ Memory };

@@ -1,6 +1,6 @@
 //! The folders of a store as a document.
 
-ghost use Rattle.std.specs.Prelude.{◌≡◌, ◌++◌, IfOk, OnOk, IfSome, false, length, option_map};
+ghost use Rattle.std.specs.Prelude.{◌≡◌, IfOk, IfSome, length, option_map};
 ghost use Rattle.serde_json.specs.View.{view};
 ghost use Rattle.pst_block.specs.Table.{Table};
 ghost use Rattle.pst_ndb.specs.Views.{table_of_ndb, nodes_of, table_of_node, roots_of};
@@ -8,13 +8,12 @@ ghost use Rattle.pst_value_json.specs.pst_tc.Tc.{node_of_tc};
 ghost use Rattle.pst_value_json.specs.pst_tc.Values.{tc_rows};
 ghost use Rattle.pst_verify.specs.pst_msg.Shown.{rows_there};
 ghost use Rattle.pst_verify.specs.pst_msg.View.{tc_roots, ndb_of_folder, folder_roots};
-ghost use Rattle.pst_verify.specs.pst_store.View.{ndb_of_store, folders_left, folders_ndb};
-ghost use Rattle.pst_json.specs.Folders.{row_nid, folder_data, folders_data, folders_line as line_of_folders};
-ghost use Rattle.pst_value_json.specs.Line.{rows_text};
+ghost use Rattle.pst_verify.specs.pst_store.View.{ndb_of_store};
+ghost use Rattle.pst_json.specs.Folders.{row_nid, folder_data, folder_rows, folders_data, folders_line as line_of_folders};
 ghost use Rattle.pst_value_json.specs.Parts.{list_data};
 
 use crate::texts::{NAME, text_property_doc};
-use pst_value_json::{Tc, nid_text, put_row};
+use pst_value_json::{Line, Part, Rows, Sink, Tc, Tree, nid_text};
 use pst_verify::{Folder, Folders, Store};
 use serde_json::{Value as Doc, json};
 use std::alloc::{AllocError, Global};
@@ -80,21 +79,6 @@ fn folder_doc(alloc: Global, folder: Folder) -> Result<Doc, AllocError>
     })
 }
 
-/// The folders and search folders of a store as a JSON object with one member, an array that has an object for each, in
-/// order of their identifiers. A folder has the numbers of the messages that belong to it and that are in it, its name or
-/// null, its identifier, and those of its subfolders.
-#[tactic(auto, unfolding(crate::specs::Folders::folders_data))]
-pub fn folders_doc(alloc: Global, store: &Store) -> Result<Doc, AllocError>
-    ensures { let ndb = ndb_of_store store.now in
-        IfOk result (λ d. view d ≡ folders_data (table_of_ndb ndb) (nodes_of ndb)) }
-{
-    let mut docs = Vec::new(alloc);
-    for folder in store.folders() {
-        docs.push(folder_doc(alloc, folder)?)?;
-    }
-    json!(in alloc; {"folders": docs})
-}
-
 // How many bytes the rows of folders take, where their names are short.
 fn room_for(folders: Folders) -> usize {
     let mut room = 0usize;
@@ -104,35 +88,53 @@ fn room_for(folders: Folders) -> usize {
     room
 }
 
-// Puts folders and the bracket that closes their list behind a text.
-#[tactic(auto, using(pst_value_json::proofs::RowLemmas::put_next, pst_value_json::proofs::RowLemmas::put_end, crate::proofs::FolderLemmas::folder_has_none))]
-fn put_folders(alloc: Global, folders: Folders, text: &mut Vec<u8>) -> Result<(), AllocError>
-    ensures { let ndb = folders_ndb folders.entry in
-        let shown = folder_data (table_of_ndb ndb) (nodes_of ndb) in
-        OnOk result (text.new.items ≡ text.old.items ++ rows_text shown false
-        (folders_left folders.entry)) }
-{
-    let mut later = false;
-    for folder in folders {
-        let doc = folder_doc(alloc, folder)?;
-        put_row(alloc, &doc, later, text)?;
-        later = true;
+/// The folders that are left, each as an object.
+#[derive(Drop)]
+pub(crate) struct FolderRows<'a>(Folders<'a>);
+
+#[tactic(auto, using(crate::proofs::FolderLemmas::folder_has_none))]
+impl Rows for FolderRows<'_> {
+    ghost left = { folder_rows };
+
+    fn next_doc(&mut self, alloc: Global) -> Result<Option<Doc>, AllocError> {
+        match self.0.next() {
+            Some(folder) => Ok(Some(folder_doc(alloc, folder)?)),
+            None => Ok(None),
+        }
     }
-    text.push(b']')?;
-    Ok(())
+
+    fn room(&self) -> usize {
+        room_for(self.0)
+    }
+}
+
+// The document.
+#[tactic(auto, unfolding(crate::specs::Folders::folders_data))]
+fn shown_folders<S: Sink>(alloc: Global, store: &Store) -> Result<S::Out, AllocError>
+    ensures { let ndb = ndb_of_store store.now in
+        IfOk result (λ out. S.Shows out (folders_data (table_of_ndb ndb) (nodes_of ndb))) }
+{
+    let parts = vec![in alloc; Part::Rows("folders", FolderRows(store.folders()))]?;
+    S::object(alloc, parts)
+}
+
+/// The folders and search folders of a store as a JSON object with one member, an array that has an object for each, in
+/// order of their identifiers. A folder has the numbers of the messages that belong to it and that are in it, its name or
+/// null, its identifier, and those of its subfolders.
+pub fn folders_doc(alloc: Global, store: &Store) -> Result<Doc, AllocError>
+    ensures { let ndb = ndb_of_store store.now in
+        IfOk result (λ d. view d ≡ folders_data (table_of_ndb ndb) (nodes_of ndb)) }
+{
+    shown_folders::<Tree>(alloc, store)
 }
 
 /// The line that shows the folders of a store: the compact text of their document, and a line feed. It is made folder by
 /// folder: beside the text, memory is taken for one folder at a time. Room for all of them is taken at the start, so that a
 /// long text need not be moved while it grows.
-#[tactic(auto, using(crate::proofs::FolderLemmas::folders_line_of))]
+#[tactic(auto, unfolding(crate::specs::Folders::folders_line))]
 pub fn folders_line(alloc: Global, store: &Store) -> Result<Vec<u8>, AllocError>
     ensures { let ndb = ndb_of_store store.now in
         IfOk result (λ t. t.items ≡ line_of_folders (table_of_ndb ndb) (nodes_of ndb)) }
 {
-    let mut text = Vec::with_capacity(alloc, room_for(store.folders()))?;
-    text.extend_from_slice(b"{\"folders\":[")?;
-    put_folders(alloc, store.folders(), &mut text)?;
-    text.extend_from_slice(b"}\n")?;
-    Ok(text)
+    shown_folders::<Line>(alloc, store)
 }

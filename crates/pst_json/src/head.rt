@@ -5,7 +5,7 @@ ghost use Rattle.serde_json.specs.View.{view};
 ghost use Rattle.pst_json.specs.Head.{bref_data, head_data, head_line as line_of_head};
 
 use pst_header::{Bref, Header};
-use pst_value_json::line;
+use pst_value_json::line_text;
 use serde_json::{Value as Doc, json};
 use std::alloc::{AllocError, Global};
 
@@ -51,5 +51,5 @@ pub fn head_line(alloc: Global, header: &Header) -> Result<Vec<u8>, AllocError>
     ensures { IfOk result (λ t. t.items ≡ line_of_head header.now) }
 {
     let doc = head_doc(alloc, header)?;
-    line(alloc, &doc)
+    line_text(alloc, &doc)
 }

@@ -1,7 +1,7 @@
 //! The documents of a store, as JSON.
 //!
-//! Each has two calls: one gives it as a tree of JSON, the other its line, the compact text of that tree and a line feed, made
-//! row by row. `emit` writes a text:
+//! Each is made once, of its parts, and has two calls: one gives it as a tree of JSON, the other its line, the compact text of
+//! that tree and a line feed, made row by row. Begin with `nodes_doc` and `nodes_line`; `emit` writes a text:
 //!
 //! ```text
 //! let line = folders_line(alloc, &store)?;
@@ -9,14 +9,15 @@
 //! ```
 #![tactic(auto)]
 
+mod attachment;
 mod check;
 mod contents;
 mod fault;
 mod folders;
 mod head;
 mod index;
+mod lists;
 mod node;
-mod node_line;
 mod nodes;
 mod output;
 mod texts;
@@ -26,8 +27,7 @@ pub use contents::{contents_doc, contents_line};
 pub use fault::DocFault;
 pub use folders::{folders_doc, folders_line};
 pub use head::{head_doc, head_line};
-pub use node::props_doc;
-pub use node_line::props_line;
+pub use node::{props_doc, props_line};
 pub use nodes::{nodes_doc, nodes_line};
 pub use output::{EmitFault, emit};
 pub use pst_ndb::read_nodes;

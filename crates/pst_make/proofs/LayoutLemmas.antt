@@ -1,19 +1,21 @@
 -- The cursor only goes forward, and a tree has few pages.
-use Rattle.std.proofs.Common.{◌≡◌, ℕ, zero, suc, ◌+◌, ◌-◌, ◌*◌, ◌/◌, ◌%◌, ◌^◌, ◌<◌, ◌≤◌, inl, inr, Bool, true, false, cond, eqb, leb, List, [], ◌∷◌, ◌++◌, length, drop, get_or, max, refl, sym, ap, ◌∙◌, arith}
+use Rattle.std.proofs.Common.{◌≡◌, ℕ, zero, suc, ◌+◌, ◌-◌, ◌*◌, ◌/◌, ◌%◌, ◌^◌, ◌<◌, ◌≤◌, inl, inr, Bool, true, false, cond, eqb, leb, List, [], ◌∷◌, ◌++◌, length, map, drop, get_or, max, refl, sym, ap, ◌∙◌, arith}
 use Rattle.std.proofs.lemmas.Bool.{le-leb, cases_lt}
-use Rattle.std.proofs.lemmas.List.{get_or-map, drop_more, length-map}
+use Rattle.std.proofs.lemmas.List.{get_or-map, drop_more, drop_all, length-map, map-append, append_assoc, append-nil}
 use Rattle.std.proofs.lemmas.List.Elements.{All-weaker, All-push}
 use Rattle.std.proofs.Math.Nat.{div-mul-le_self}
 use Rattle.std.proofs.lemmas.Nat.{mul-le}
 use Rattle.std.specs.List.{All}
 use Rattle.pst_make.specs.declared.layout.Bref.{Bref}
+use Rattle.pst_make.specs.declared.layout.BlockPlace.{BlockPlace}
 use Rattle.pst_make.specs.declared.layout.PlacedBlock.{PlacedBlock}
 use Rattle.pst_make.specs.declared.plan.BlockPlan.{BlockPlan}
+use Rattle.pst_make.specs.declared.plan.Plan.{Plan}
 use Rattle.pst_make.specs.Plan.{body_length, body_lengths}
 use Rattle.pst_make.specs.declared.plan.MakeFault.{MakeFault}
 use Rattle.pst_make.specs.declared.plan.MakeFault.TheVariants.{TooLarge, Body, Memory}
 use Rattle.pst_make.specs.declared.layout.TheConstants.{FIRST_MAP}
-use Rattle.pst_make.specs.Layout.{map_place, region_of, free_from, place_of, after, after_pages, after_blocks, pages_for, pages_above, branch_pages, tree_pages, layout_end, IsPlaceFault, IsPageBelow, IsBlockBelow}
+use Rattle.pst_make.specs.Layout.{map_place, region_of, free_from, place_of, after, after_pages, after_blocks, pages_for, pages_above, branch_pages, tree_pages, layout_end, place_in, places_from, block_places, IsPlaceFault, IsPageBelow, IsBlockBelow}
 use Rattle.pst_make.specs.Sealed.{sealed_size}
 
 free_above : (j : ℕ) (b : Bool) → map_place j + 512 ≤ map_place j + cond b 1024 512
@@ -141,7 +143,27 @@ pub blocks_below : (placed : List PlacedBlock) (block : PlacedBlock) (next behin
 blocks_below placed block next behind all le here =
     All-push (IsBlockBelow behind) placed block (All-weaker (IsBlockBelow next) (IsBlockBelow behind) (λ p h. (h.0, h.1, omega arith)) placed all) here
 
+-- where they lie: what is placed, and what is left, are all of it
+pub places_next : (blocks : List BlockPlan) (i : ℕ) (block : BlockPlan) (placed : List PlacedBlock) (one : PlacedBlock) (next behind : ℕ) (total : List BlockPlace) → i < length blocks
+    → block ≡ get_or blocks i block → one.bid ≡ block.bid → one.ib ≡ place_of next (sealed_size (body_length block)) → length one.body.now ≡ body_length block
+    → behind ≡ after next (sealed_size (body_length block)) → map place_in placed ++ places_from next (drop i blocks) ≡ total
+    → map place_in (placed ++ one ∷ []) ++ places_from behind (drop (i + 1) blocks) ≡ total
+places_next blocks i block placed one next behind total lt at bid ib cb is so_far =
+    let split : drop i blocks ≡ block ∷ drop (i + 1) blocks = drop_more blocks i block lt ∙ ap (λ (b : BlockPlan). b ∷ drop (i + 1) blocks) (sym at) in
+    rw (map-append place_in placed (one ∷ []), append_assoc, bid, ib, cb, is) (ap (λ (l : List BlockPlan). map place_in placed ++ places_from next l) (sym split) ∙ so_far)
+
+pub places_done : (blocks : List BlockPlan) (i : ℕ) (placed : List PlacedBlock) (next : ℕ) (total : List BlockPlace) → length blocks ≤ i
+    → map place_in placed ++ places_from next (drop i blocks) ≡ total → map place_in placed ≡ total
+places_done blocks i placed next total past so_far =
+    sym (append-nil (map place_in placed)) ∙ ap (λ (l : List BlockPlan). map place_in placed ++ places_from next l) (sym (drop_all i blocks past)) ∙ so_far
+
 -- ---- the whole
+
+pub places_are : (plan : Plan) (node_pages block_pages one two : ℕ) (shown : List BlockPlan) (places : List BlockPlace) → shown ≡ plan.blocks.items → node_pages ≡ tree_pages 15 (length plan.nodes.items)
+    → block_pages ≡ tree_pages 20 (length (body_lengths plan.blocks.items)) → one ≡ after_pages 18432 node_pages → two ≡ after_pages one block_pages → places ≡ places_from two shown → places ≡ block_places plan
+unfolding block_places
+places_are plan node_pages block_pages one two shown places same np bp first second is =
+    is ∙ ap (places_from two) same ∙ ap (λ n. places_from n plan.blocks.items) (second ∙ rw (first, np, bp) refl)
 
 pub end_is : (nodes node_pages block_pages : ℕ) (lengths : List ℕ) (one two three : ℕ) → node_pages ≡ tree_pages 15 nodes → block_pages ≡ tree_pages 20 (length lengths)
     → one ≡ after_pages 18432 node_pages → two ≡ after_pages one block_pages → three ≡ after_blocks two lengths → three ≡ layout_end nodes lengths

@@ -1,3 +1,4 @@
+pub mod EncodeLemmas
 pub mod ImageLemmas
 pub mod LayoutLemmas
 pub mod PageLemmas

@@ -9,7 +9,7 @@ use Rattle.pst_bytes.specs.Span.{IsApartFrom}
 use Rattle.pst_make.specs.Elsewhere.{written, SameElsewhere, one_field}
 
 -- what stands from the place on
-from_place : (I : List ℕ) (at : ℕ) (bytes : List ℕ) → at ≤ length I → drop at (written I at bytes) ≡ bytes ++ drop (at + length bytes) I
+pub from_place : (I : List ℕ) (at : ℕ) (bytes : List ℕ) → at ≤ length I → drop at (written I at bytes) ≡ bytes ++ drop (at + length bytes) I
 unfolding written
 from_place I at bytes h = drop_at (take at I) (bytes ++ drop (at + length bytes) I) at (length-take-le at I h)
 
@@ -22,7 +22,7 @@ num_written I J at n x same inside fits =
     ap (little_number n) (first ∙ sym (append-nil bytes)) ∙ little_number-reads_back n x [] fits
 
 -- there are as many bytes as before
-length_written : (I : List ℕ) (at : ℕ) (bytes : List ℕ) → at + length bytes ≤ length I → length (written I at bytes) ≡ length I
+pub length_written : (I : List ℕ) (at : ℕ) (bytes : List ℕ) → at + length bytes ≤ length I → length (written I at bytes) ≡ length I
 unfolding written
 length_written I at bytes h =
     let a = length-append (take at I) (bytes ++ drop (at + length bytes) I) in
@@ -54,7 +54,7 @@ behind I at bytes from inside apart =
     ∙ drop-drop (from - (at + k)) (at + k) I
     ∙ ap (λ n. drop n I) f
 
-bytes_written : (I : List ℕ) (at : ℕ) (bytes : List ℕ) (s : Span) → at + length bytes ≤ length I → IsApartFrom s (record { at = at; len = length bytes }) → bytes_at (written I at bytes) s ≡ bytes_at I s
+pub bytes_written : (I : List ℕ) (at : ℕ) (bytes : List ℕ) (s : Span) → at + length bytes ≤ length I → IsApartFrom s (record { at = at; len = length bytes }) → bytes_at (written I at bytes) s ≡ bytes_at I s
 unfolding written
 bytes_written I at bytes s inside (inl h) = before I (bytes ++ drop (at + length bytes) I) at s.at s.len (omega arith) h
 bytes_written I at bytes s inside (inr h) = ap (take s.len) (behind I at bytes s.at (omega arith) h)

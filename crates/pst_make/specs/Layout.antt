@@ -2,12 +2,14 @@
 use Rattle.std.specs.Prelude.{ℕ, zero, suc, ◌+◌, ◌-◌, ◌*◌, ◌/◌, ◌%◌, ◌≤◌, ◌<◌, List, [], ◌∷◌, length, max, nat_eq, nat_le, if◌then◌else◌}
 use Rattle.std.specs.Int.{div_ceil}
 use Rattle.pst_make.specs.declared.layout.Bref.{Bref}
+use Rattle.pst_make.specs.declared.layout.BlockPlace.{BlockPlace}
 use Rattle.pst_make.specs.declared.layout.PlacedBlock.{PlacedBlock}
 use Rattle.pst_make.specs.declared.layout.TheConstants.{FIRST_MAP, REGION}
+use Rattle.pst_make.specs.declared.plan.BlockPlan.{BlockPlan}
 use Rattle.pst_make.specs.declared.plan.MakeFault.{MakeFault}
 use Rattle.pst_make.specs.declared.plan.MakeFault.TheVariants.{TooLarge, Body, Memory}
 use Rattle.pst_make.specs.declared.plan.Plan.{Plan}
-use Rattle.pst_make.specs.Plan.{body_lengths}
+use Rattle.pst_make.specs.Plan.{body_length, body_lengths}
 use Rattle.pst_make.specs.Sealed.{sealed_size}
 
 -- ---- regions ([MS-PST] 2.2.2.7.2)
@@ -82,11 +84,26 @@ layout_end nodes lengths =
 abbrev pub plan_end : Plan → ℕ
 plan_end plan = layout_end (length plan.nodes.items) (body_lengths plan.blocks.items)
 
+-- where blocks lie from the cursor on
+abbrev pub places_from : ℕ → List BlockPlan → List BlockPlace
+places_from next [] = []
+places_from next (block ∷ rest) =
+    record { bid = block.bid; ib = place_of next (sealed_size (body_length block)); cb = body_length block } ∷ places_from (after next (sealed_size (body_length block))) rest
+
+-- where the blocks of a plan lie
+unfoldable pub block_places : Plan → List BlockPlace
+block_places plan =
+    places_from (after_pages (after_pages 18432 (tree_pages 15 (length plan.nodes.items))) (tree_pages 20 (length (body_lengths plan.blocks.items)))) plan.blocks.items
+
 -- a store is whole regions, up to the one where the last structure ends
 abbrev pub store_length : ℕ → ℕ
 store_length end = FIRST_MAP + REGION * div_ceil (end - FIRST_MAP) REGION
 
 -- ---- what was placed
+
+-- where a block lies, without its body
+abbrev pub place_in : PlacedBlock → BlockPlace
+place_in block = record { bid = block.bid; ib = block.ib; cb = length block.body.now }
 
 -- a page, or a block, ends at or before this place
 abbrev pub IsPageBelow : ℕ → Bref → Type 0

@@ -1,5 +1,6 @@
 pub mod Change
 pub mod Elsewhere
+pub mod Encoded
 pub mod Layout
 pub mod Made
 pub mod Pages

@@ -1,9 +1,9 @@
 //! Placing the pages and blocks of a plan: the pages of the node B-tree, those of the block B-tree, and the blocks.
 
-ghost use Rattle.std.specs.Prelude.{◌≡◌, ◌+◌, ◌%◌, ◌≤◌, ◌<◌, length, nat_eq, IfOk, IfErr};
+ghost use Rattle.std.specs.Prelude.{◌≡◌, ◌+◌, ◌%◌, ◌≤◌, ◌<◌, length, map, nat_eq, IfOk, IfErr};
 ghost use Rattle.std.specs.List.{All};
 ghost use Rattle.pst_make.specs.declared.layout.TheConstants.{FIRST_MAP};
-ghost use Rattle.pst_make.specs.Layout.{IsBlockBelow, IsPageBelow, IsPlaceFault, after, after_blocks, after_pages, map_place, plan_end, free_from, pages_above, pages_for, place_of, store_limit, tree_pages};
+ghost use Rattle.pst_make.specs.Layout.{IsBlockBelow, IsPageBelow, IsPlaceFault, after, after_blocks, after_pages, block_places, map_place, place_in, places_from, plan_end, free_from, pages_above, pages_for, place_of, store_limit, tree_pages};
 ghost use Rattle.pst_make.specs.Plan.{HasShortBody, body_lengths};
 
 use crate::plan::{BlockPlan, MakeFault, Plan};
@@ -38,6 +38,34 @@ pub(crate) struct PlacedBlock<'a> {
     pub bid: u64,
     pub ib: u64,
     pub body: &'a [u8],
+}
+
+/// Where a block lies, and how long its body is.
+#[derive(Clone, Copy, Debug, PartialEq, Eq)]
+pub struct BlockPlace {
+    /// Its identifier, a BID ([MS-PST] 2.2.2.2).
+    pub bid: u64,
+    /// Its place.
+    pub ib: u64,
+    /// How many bytes its body has.
+    pub cb: u16,
+}
+
+impl PlacedBlock<'_> {
+    ghost use Rattle.std.specs.Prelude.{◌≡◌, ◌≤◌, length};
+    ghost use Rattle.pst_make.specs.Layout.{place_in};
+
+    /// Where the block lies, without its body.
+    pub fn place(&self) -> BlockPlace
+        requires { length self.now.body.now ≤ 8176 }
+        ensures { result ≡ place_in self.now }
+    {
+        BlockPlace {
+            bid: self.bid,
+            ib: self.ib,
+            cb: self.body.len() as u16,
+        }
+    }
 }
 
 /// The place of an allocation map, at the start of its region.
@@ -178,6 +206,8 @@ fn place_blocks<'a>(
 ) -> Result<Vec<PlacedBlock<'a>>, MakeFault>
     requires { All HasShortBody blocks.now }
     ensures placed { IfOk result (λ placed. All (IsBlockBelow cursor.new.next) placed.items) }
+    ensures places { IfOk result (λ placed.
+        map place_in placed.items ≡ places_from cursor.old.next blocks.now) }
     ensures next { IfOk result (λ _.
         cursor.new.next ≡ after_blocks cursor.old.next (body_lengths blocks.now)) }
     ensures fault { IfErr result
@@ -223,6 +253,8 @@ impl<'a> Layout<'a> {
     pub fn of(alloc: Global, plan: &'a Plan) -> Result<Layout<'a>, MakeFault>
         requires { All HasShortBody plan.now.blocks.items }
         ensures placed { IfOk result (λ layout. layout.end ≡ plan_end plan.entry.now) }
+        ensures places { IfOk result (λ layout.
+            map place_in layout.blocks.items ≡ block_places plan.entry.now) }
         ensures fault { IfErr result (IsPlaceFault (plan_end plan.entry.now)) }
     {
         let nodes = plan.nodes.as_slice();

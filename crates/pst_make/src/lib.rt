@@ -14,11 +14,18 @@
 //! let mut image = build(alloc, &plan)?;
 //! change_all(&mut image, &[Change::Set(0x4404, &[0xe0]), Change::Page(0x4400)])?;
 //! ```
+//!
+//! `encode` encodes the data blocks of a store by a method, and says so in its header:
+//!
+//! ```
+//! encode(alloc, &mut image, &plan, Method::Cyclic)?;
+//! ```
 #![tactic(auto)]
 
 mod block;
 mod bodies;
 mod change;
+mod encoding;
 mod header;
 mod images;
 mod layout;
@@ -30,7 +37,10 @@ mod seal;
 mod store;
 
 pub use change::{Change, ChangeFault, change_all, flip, set};
+pub use encoding::{encode, encode_block};
 pub use images::{m0, m0_plan, m1, m1_plan, m2, m2_plan};
+pub use layout::BlockPlace;
 pub use plan::{BlockPlan, MakeFault, NodePlan, Plan};
+pub use pst_encoding::{Codec, Method};
 pub use seal::{seal_block, seal_header, seal_page};
 pub use store::build;

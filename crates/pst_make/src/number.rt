@@ -14,6 +14,15 @@ pub(crate) fn put_bytes(image: &mut [u8], at: u64, bytes: &[u8])
     image[at..at + bytes.len()].copy_from_slice(bytes);
 }
 
+/// Writes a number of 1 byte at a place, and nothing else.
+pub(crate) fn put8(image: &mut [u8], at: u64, number: u8)
+    requires { at + 1 ≤ length image.old }
+    ensures value { num image.new at 1 ≡ number }
+    ensures others { SameElsewhere image.old image.new (one_field at 1) }
+{
+    put_bytes(image, at, &number.to_le_bytes());
+}
+
 /// Writes a number of 2 bytes at a place, and nothing else.
 pub(crate) fn put16(image: &mut [u8], at: u64, number: u16)
     requires { at + 2 ≤ length image.old }

@@ -15,7 +15,8 @@ use std::alloc::{AllocError, Global};
 // A block's body has at most this many bytes ([MS-PST] 2.2.2.8).
 const LONGEST_BODY: usize = 8176;
 
-fn has_long_body(blocks: &[BlockPlan]) -> bool
+/// Whether a body has more bytes than a block holds.
+pub(crate) fn has_long_body(blocks: &[BlockPlan]) -> bool
     ensures { result ≡ has_long_body blocks.now }
 {
     blocks.iter().any(|block| block.body.len() > LONGEST_BODY)

@@ -1,9 +1,11 @@
 -- What the view of a folder stands on.
-use Rattle.std.proofs.Common.{◌≡◌, Bool, true, false, List, Some, None, refl, sym, ◌∙◌}
+use Rattle.std.proofs.Common.{◌≡◌, Bool, true, false, List, Some, None, refl, sym, subst, ◌∙◌}
 use Rattle.std.specs.Prelude.{◌||◌}
 use Rattle.std.proofs.lemmas.Bool.{eqb-true}
 use Rattle.pst_page.specs.declared.entry.NodeEntry.{NodeEntry}
 use Rattle.pst_block.specs.Table.{Table}
+use Rattle.pst_subnode.specs.declared.check.TheConstants.{LISTS}
+use Rattle.pst_subnode.specs.Tree.{sub_fault}
 use Rattle.pst_ndb.specs.declared.ndb.Ndb.{Ndb}
 use Rattle.pst_ndb.specs.declared.node.Node.{Node}
 use Rattle.pst_ndb.specs.Roots.{Roots}
@@ -19,7 +21,8 @@ use Rattle.pst_msg.specs.Nid.{type_of, is_type}
 use Rattle.pst_msg.specs.Values.{is_folder, is_message, listing_of}
 use Rattle.pst_msg.specs.Fault.{message_fault, typed_node_fault}
 use Rattle.pst_msg.specs.Grammar.{IsFolder, Lists}
-use Rattle.pst_msg.proofs.ContentsLaws.{none_folder, node_is_folder, node_is_search, node_is_message, node_is_associated}
+use Rattle.pst_msg.specs.NodeLaw.{IsAsTyped}
+use Rattle.pst_msg.proofs.ContentsLaws.{none_folder, node_law, node_is_folder, node_is_search, node_is_message, node_is_associated}
 
 either : {P : Type 0} (a b : Bool) → (a || b) ≡ true → (a ≡ true → P) → (b ≡ true → P) → P
 either true b e f g = f refl
@@ -34,6 +37,10 @@ of_message t nodes r none is =
 
 of_folder : (t : Table) (nodes : List NodeEntry) (r : Roots) → typed_node_fault t nodes r ≡ None → is_type FOLDER r.top ≡ true → IsFolder t nodes r
 of_folder t nodes r none is = none_folder t nodes r (sym (node_is_folder t nodes r (eqb-true (type_of r.top) FOLDER is)) ∙ none)
+
+-- a node is what its type says
+pub is_typed : (ndb : Ndb) (node : Node) → table_of_node node ≡ table_of_ndb ndb → typed_node_fault (table_of_ndb ndb) (nodes_of ndb) (roots_of node) ≡ None → IsAsTyped (table_of_ndb ndb) (nodes_of ndb) (roots_of node)
+is_typed ndb node same none = (node_law (table_of_ndb ndb) (nodes_of ndb) (roots_of node) (subst (λ t. sub_fault t LISTS (roots_of node).bid_sub ≡ None) same node.subs)).1 none
 
 pub folder_properties : (ndb : Ndb) (node : Node) → table_of_node node ≡ table_of_ndb ndb → is_folder (top_of node) ≡ true → typed_node_fault (table_of_ndb ndb) (nodes_of ndb) (roots_of node) ≡ None → pc_fault (table_of_node node) (roots_of node) ≡ None
 folder_properties ndb node same kind none =

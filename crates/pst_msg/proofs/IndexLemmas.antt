@@ -1,9 +1,15 @@
 -- An index of a list of subnodes.
-use Rattle.std.proofs.Common.{◌≡◌, ℕ, sym, ◌∙◌}
+use Rattle.std.proofs.Common.{◌≡◌, ℕ, Option, None, sym, ap, ◌∙◌}
+use Rattle.std.specs.Prelude.{option_map}
 use Rattle.pst_block.specs.Block.{bid_key}
+use Rattle.pst_block.specs.Table.{Table}
+use Rattle.pst_btree.specs.Entries.{first_with}
 use Rattle.pst_subnode.specs.declared.index.SubIndex.{SubIndex}
+use Rattle.pst_subnode.specs.declared.sub.Sub.{Sub}
+use Rattle.pst_subnode.specs.List.{sub_nid, subs_of}
 use Rattle.pst_subnode.proofs.IndexLemmas.{index_of_key}
 use Rattle.pst_ndb.specs.declared.node.Node.{Node}
+use Rattle.pst_ndb.specs.Roots.{Roots, sub_roots, subnode_of}
 use Rattle.pst_ndb.specs.Views.{table_of_node, sub_bid_of, IsIndexedBy}
 use Rattle.pst_msg.specs.declared.list_index.ListIndex.{ListIndex}
 use Rattle.pst_msg.specs.ListIndex.{IsIndexIn}
@@ -16,3 +22,11 @@ index_of_list node index list is same bid e = index_of_key (table_of_node node) 
 pub indexed_by : (node : Node) (i : ListIndex) → IsIndexIn (table_of_node node) i → bid_key (sub_bid_of node) ≡ i.list → IsIndexedBy node i.index
 unfolding IsIndexIn
 indexed_by node i is e = is (sub_bid_of node) e
+
+-- an entry that is found in the list of a node which is lent an index is that of the node's subnode
+pub found_lent : (t u : Table) (r l : Roots) (nid : ℕ) (found : Option Sub) → u ≡ t → l ≡ r → found ≡ first_with sub_nid nid (subs_of u l.bid_sub) → option_map (sub_roots r) found ≡ subnode_of t r nid
+unfolding subnode_of
+found_lent t u r l nid found table roots is = ap (option_map (sub_roots r)) (rw (table, roots) at is)
+
+pub none_lent : (t u : Table) (r l : Roots) (nid : ℕ) → u ≡ t → l ≡ r → None ≡ first_with sub_nid nid (subs_of u l.bid_sub) → None ≡ subnode_of t r nid
+none_lent t u r l nid table roots is = found_lent t u r l nid None table roots is

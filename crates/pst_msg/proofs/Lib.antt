@@ -23,4 +23,5 @@ pub mod NamesLaws
 pub mod OneCount
 pub mod ViewLemmas
 pub mod FolderLemmas
+pub mod LookUpLaws
 pub use Rattle.pst_pc.proofs as pst_pc

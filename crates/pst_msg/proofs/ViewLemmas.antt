@@ -43,13 +43,21 @@ pub subnode_sound : (t : Table) (limit nid : ℕ) (r s : Roots) → sub_fault t 
 unfolding subnode_of
 subnode_sound t limit nid r s h e = mapped_sound t limit nid r s (first_with sub_nid nid (subs_of t r.bid_sub)) h refl e
 
+-- ---- by the grammar
+
+pub is_message : (node : Node) → message_fault (table_of_node node) (roots_of node) ≡ None → IsMessage (table_of_node node) (roots_of node)
+is_message node none = (message_law (table_of_node node) (roots_of node) node.subs).1 none
+
+pub is_attachment : (node : Node) → attachment_fault (table_of_node node) (roots_of node) ≡ None → IsAttachment (table_of_node node) (roots_of node)
+is_attachment node none = (attachment_law (table_of_node node) (roots_of node) node.subs).1 none
+
 -- ---- what a message and an attachment without fault have
 
 facts_of_message : (node : Node) → message_fault (table_of_node node) (roots_of node) ≡ None → MessageFacts (table_of_node node) (IsAttachment (table_of_node node)) (roots_of node)
-facts_of_message node none = message_facts (table_of_node node) (roots_of node) ((message_law (table_of_node node) (roots_of node) node.subs).1 none)
+facts_of_message node none = message_facts (table_of_node node) (roots_of node) (is_message node none)
 
 facts_of_attachment : (node : Node) → attachment_fault (table_of_node node) (roots_of node) ≡ None → AttachmentFacts (table_of_node node) (IsMessage (table_of_node node)) (roots_of node)
-facts_of_attachment node none = attachment_facts (table_of_node node) (roots_of node) ((attachment_law (table_of_node node) (roots_of node) node.subs).1 none)
+facts_of_attachment node none = attachment_facts (table_of_node node) (roots_of node) (is_attachment node none)
 
 pub message_properties : (node : Node) → message_fault (table_of_node node) (roots_of node) ≡ None → pc_fault (table_of_node node) (roots_of node) ≡ None
 message_properties node none = pc_none (table_of_node node) (roots_of node) (facts_of_message node none).properties

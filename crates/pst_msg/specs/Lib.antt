@@ -14,6 +14,8 @@ pub mod NodeLaw
 pub mod Shown
 pub mod Left
 pub mod View
+pub mod NodeLookUps
+pub mod LookUps
 pub mod Steps
 pub mod Frames
 pub use Rattle.pst_pc.specs as pst_pc

@@ -21,6 +21,7 @@ impl<'a> Attachment<'a> {
     ghost use Rattle.pst_ndb.specs.Views.{image_of_node, table_of_node, nid_of, roots_of};
     ghost use Rattle.pst_pc.specs.View.{node_of_pc};
     ghost use Rattle.pst_msg.specs.Fault.{attachment_fault};
+    ghost use Rattle.pst_msg.specs.Grammar.{IsAttachment};
     ghost use Rattle.pst_msg.specs.Shown.{object_shown};
     ghost use Rattle.pst_msg.specs.Values.{embedded_of};
     ghost use Rattle.pst_msg.specs.View.{node_of_attachment, node_of_message, message_shown};
@@ -33,10 +34,13 @@ impl<'a> Attachment<'a> {
         Attachment { node }
     }
 
-    /// What is known of every attachment: it has no first fault.
+    /// What is known of every attachment: it has no first fault, so it is one by the grammar.
+    #[tactic(auto, using(crate::proofs::ViewLemmas::is_attachment))]
     pub fn is_sound(&self)
-        ensures { let node = node_of_attachment self.now in
+        ensures sound { let node = node_of_attachment self.now in
             attachment_fault (table_of_node node) (roots_of node) ≡ None }
+        ensures attachment { let node = node_of_attachment self.now in
+            IsAttachment (table_of_node node) (roots_of node) }
     {}
 
     /// Its node, a subnode.

@@ -10,7 +10,7 @@ ghost use Rattle.pst_msg.specs.Growth.{Grows};
 
 use crate::keys::key_of;
 use crate::known::Known;
-use crate::role::{Role, role_number};
+use crate::role::{Role, check_context, role_number};
 use pst_fault::Fault;
 use pst_ndb::Node;
 
@@ -29,7 +29,7 @@ pub(crate) fn once(known: &mut Known, role: Role, node: Node) -> Result<(), Faul
         return Ok(());
     }
     known.index.turn(known.alloc, node)?;
-    known.index.check(role, node, &mut known.maps)?;
+    check_context(role, known.index.lend(node), &mut known.maps)?;
     known.contexts.put(taken)?;
     known.count = known.count.saturating_add(1);
     Ok(())

@@ -30,6 +30,7 @@ impl<'a> Folder<'a> {
     ghost use Rattle.pst_tc.specs.Tc.{node_of_tc};
     ghost use Rattle.pst_msg.specs.declared.items.Items.TheVariants.{Subfolders, Messages, Associated};
     ghost use Rattle.pst_msg.specs.Fault.{typed_node_fault};
+    ghost use Rattle.pst_msg.specs.NodeLaw.{IsAsTyped};
     ghost use Rattle.pst_msg.specs.Shown.{folder_table};
     ghost use Rattle.pst_msg.specs.Values.{is_folder};
     ghost use Rattle.pst_msg.specs.View.{tc_roots, ndb_of_folder, node_of_folder};
@@ -47,7 +48,9 @@ impl<'a> Folder<'a> {
         Folder { ndb, node }
     }
 
-    /// What is known of every folder: it is a node of its node database, of a folder's type, and has no first fault.
+    /// What is known of every folder: it is a node of its node database, of a folder's type, and has no first fault, so it is
+    /// what its type says by the grammar: a folder, or a search folder.
+    #[tactic(auto, using(crate::proofs::FolderLemmas::is_typed))]
     pub fn is_sound(&self)
         ensures table { let ndb = ndb_of_folder self.now in
             table_of_node (node_of_folder self.now) ≡ table_of_ndb ndb }
@@ -57,6 +60,8 @@ impl<'a> Folder<'a> {
         ensures sound { let ndb = ndb_of_folder self.now in
             typed_node_fault (table_of_ndb ndb) (nodes_of ndb) (roots_of (node_of_folder self.now))
             ≡ None }
+        ensures folder { let ndb = ndb_of_folder self.now in
+            IsAsTyped (table_of_ndb ndb) (nodes_of ndb) (roots_of (node_of_folder self.now)) }
     {}
 
     /// Its node.

@@ -1,6 +1,7 @@
 //! Laws of messaging, each the contract of a function that does nothing.
 
 ghost use Rattle.pst_msg.specs.Laws.{MessageLaw, AttachmentLaw, ContentsLaw, LimitLaw, AlikeLaw, CountLaw, NamesLaw};
+ghost use Rattle.pst_msg.specs.LookUps.{FolderLookUpsLaw, ViewLookUpsLaw};
 
 /// A node whose subnodes have no fault is a message, or an attachment, exactly where it has no first fault as one.
 pub fn messages_decide()
@@ -32,4 +33,11 @@ pub fn counts_agree()
 /// What a store's messaging names are contexts without fault.
 pub fn named_are_contexts()
     ensures { NamesLaw }
+{}
+
+/// What folders, messages and attachments are asked, and their property contexts and tables, they answer by the grammar, in the
+/// words and the memory of the file that they are of.
+pub fn message_look_ups()
+    ensures folders { FolderLookUpsLaw }
+    ensures views { ViewLookUpsLaw }
 {}

@@ -23,6 +23,7 @@ mod context;
 mod folder;
 mod folder_view;
 mod frame;
+mod given;
 mod indexes;
 mod items;
 mod keys;
@@ -44,11 +45,14 @@ pub use attachment_view::Attachment;
 pub use attachments::Attachments;
 pub use check::check_messaging;
 pub use folder_view::Folder;
+pub use given::{
+    attachment_gives, folder_gives, message_gives, node_gives, pc_gives, row_gives, tc_gives,
+};
 pub use items::Items;
 pub use kinds::{is_folder, is_message};
 pub use laws::{
-    contents_decide, counts_agree, limits_agree, messages_are_of_keys, messages_decide,
-    named_are_contexts,
+    contents_decide, counts_agree, limits_agree, message_look_ups, messages_are_of_keys,
+    messages_decide, named_are_contexts,
 };
 pub use message_view::Message;
 pub use nid::{ASSOCIATED, FOLDER, MESSAGE, ROOT, SEARCH_FOLDER, STORE, is_type};

@@ -1,10 +1,8 @@
 //! The index of the list of subnodes that was asked about last.
 
 use crate::keys::cleared;
-use crate::role::{Role, check_context};
 use pst_fault::Fault;
 use pst_ndb::Node;
-use pst_pc::Maps;
 use pst_subnode::SubIndex;
 use std::alloc::Global;
 
@@ -22,11 +20,8 @@ impl ListIndex {
     ghost use Rattle.std.specs.Prelude.{◌≡◌, true, IfOk, IfErr, IfSome, option_map};
     ghost use Rattle.pst_block.specs.Table.{Table};
     ghost use Rattle.pst_fault.specs.Fault.{no_memory};
-    ghost use Rattle.pst_fault.specs.First.{Tells};
     ghost use Rattle.pst_ndb.specs.Roots.{subnode_of};
     ghost use Rattle.pst_ndb.specs.Views.{table_of_node, nid_of, roots_of, IsIndexedBy};
-    ghost use Rattle.pst_pc.specs.pst_heap.Maps.{AreMapsTrue};
-    ghost use Rattle.pst_msg.specs.Roles.{role_fault};
     ghost use Rattle.pst_msg.specs.ListIndex.{IsIndexIn, index_in};
 
     /// None yet.
@@ -77,7 +72,20 @@ impl ListIndex {
         Ok(())
     }
 
+    /// The node, which is lent this index, where it is of the node's list.
+    pub(crate) fn lend<'a>(&'a self, node: Node<'a>) -> Node<'a>
+        requires { IsIndexIn (table_of_node node) self.now }
+        ensures roots { roots_of result ≡ roots_of node.entry }
+        ensures table { table_of_node result ≡ table_of_node node.entry }
+    {
+        if self.is_of(node) {
+            return node.indexed(&self.index);
+        }
+        node
+    }
+
     /// The subnode of a node with an identifier, by this index, where it is of the node's list.
+    #[tactic(auto, using(crate::proofs::IndexLemmas::none_lent))]
     pub(crate) fn subnode<'a>(&self, node: Node<'a>, nid: u32) -> Option<Node<'a>>
         requires { IsIndexIn (table_of_node node) self.now }
         ensures nid { IfSome result (λ s. nid_of s ≡ nid) }
@@ -85,23 +93,9 @@ impl ListIndex {
             option_map roots_of result ≡ subnode_of t (roots_of node.entry) nid }
         ensures table { IfSome result (λ s. table_of_node s ≡ table_of_node node.entry) }
     {
-        if self.is_of(node) {
-            return node.sub_by(&self.index, nid);
+        match self.lend(node).sub_entry(nid) {
+            Some(entry) => Some(node.child(entry)),
+            None => None,
         }
-        node.sub(nid)
-    }
-
-    /// The context of a node in a role, whose values in subnodes are found by this index, where it is of the node's list.
-    pub(crate) fn check(&self, role: Role, node: Node, maps: &mut Maps) -> Result<(), Fault>
-        requires index { IsIndexIn (table_of_node node) self.now }
-        requires known { AreMapsTrue (table_of_node node) maps.old }
-        ensures known { AreMapsTrue (table_of_node node.entry) maps.new }
-        ensures exact { let t = table_of_node node.entry in
-            Tells result (role_fault t role (roots_of node.entry)) tt }
-    {
-        if self.is_of(node) {
-            return check_context(role, node, &self.index, maps);
-        }
-        check_context(role, node, &SubIndex::none(), maps)
     }
 }

@@ -28,6 +28,7 @@ impl<'a> Message<'a> {
     ghost use Rattle.pst_tc.specs.Values.{row_id_of};
     ghost use Rattle.pst_tc.specs.View.{row_parts};
     ghost use Rattle.pst_msg.specs.Fault.{message_fault};
+    ghost use Rattle.pst_msg.specs.Grammar.{IsMessage};
     ghost use Rattle.pst_msg.specs.Left.{rows_of_rest};
     ghost use Rattle.pst_msg.specs.Shown.{attachment_rows, row_shown};
     ghost use Rattle.pst_msg.specs.View.{tc_roots, node_of_message, node_of_attachment, attachment_shown, attachments_left, holder_left};
@@ -40,10 +41,13 @@ impl<'a> Message<'a> {
         Message { node }
     }
 
-    /// What is known of every message: it has no first fault.
+    /// What is known of every message: it has no first fault, so it is one by the grammar.
+    #[tactic(auto, using(crate::proofs::ViewLemmas::is_message))]
     pub fn is_sound(&self)
-        ensures { let node = node_of_message self.now in
+        ensures sound { let node = node_of_message self.now in
             message_fault (table_of_node node) (roots_of node) ≡ None }
+        ensures message { let node = node_of_message self.now in
+            IsMessage (table_of_node node) (roots_of node) }
     {}
 
     /// Its node.

@@ -2,7 +2,7 @@
 
 ghost use Rattle.std.specs.Prelude.{◌≡◌};
 ghost use Rattle.pst_fault.specs.First.{Tells};
-ghost use Rattle.pst_ndb.specs.Views.{table_of_node, roots_of, IsIndexedBy};
+ghost use Rattle.pst_ndb.specs.Views.{table_of_node, roots_of};
 ghost use Rattle.pst_pc.specs.Fault.{pc_fault};
 ghost use Rattle.pst_pc.specs.pst_heap.Maps.{AreMapsTrue};
 ghost use Rattle.pst_tc.specs.Fault.{tc_fault};
@@ -12,7 +12,6 @@ use crate::items::Items;
 use pst_fault::Fault;
 use pst_ndb::Node;
 use pst_pc::{Maps, check_pc_with};
-use pst_subnode::SubIndex;
 use pst_tc::check_tc_with;
 
 /// What a context is to what names it.
@@ -43,44 +42,36 @@ pub(crate) fn role_number(role: Role) -> u64
 }
 
 // The property context of a node.
-fn check_properties(node: Node, index: &SubIndex, maps: &mut Maps) -> Result<(), Fault>
-    requires index { IsIndexedBy node index.now }
+fn check_properties(node: Node, maps: &mut Maps) -> Result<(), Fault>
     requires known { AreMapsTrue (table_of_node node) maps.old }
     ensures known { AreMapsTrue (table_of_node node.entry) maps.new }
     ensures exact { Tells result (pc_fault (table_of_node node.entry) (roots_of node.entry)) tt }
 {
-    check_pc_with(node, index, maps)?;
+    check_pc_with(node, maps)?;
     Ok(())
 }
 
 // A table context of a node, in a role.
-fn check_table(node: Node, index: &SubIndex, maps: &mut Maps) -> Result<(), Fault>
-    requires index { IsIndexedBy node index.now }
+fn check_table(node: Node, maps: &mut Maps) -> Result<(), Fault>
     requires known { AreMapsTrue (table_of_node node) maps.old }
     ensures known { AreMapsTrue (table_of_node node.entry) maps.new }
     ensures exact { Tells result (tc_fault (table_of_node node.entry) (roots_of node.entry)) tt }
 {
-    check_tc_with(node, index, maps)?;
+    check_tc_with(node, maps)?;
     Ok(())
 }
 
-/// Checks the context of a node in a role, whose values in subnodes are found by an index of them, by what is known of page maps.
-pub(crate) fn check_context(
-    role: Role,
-    node: Node,
-    index: &SubIndex,
-    maps: &mut Maps,
-) -> Result<(), Fault>
-    requires index { IsIndexedBy node index.now }
+/// Checks the context of a node in a role, by what is known of page maps.
+pub(crate) fn check_context(role: Role, node: Node, maps: &mut Maps) -> Result<(), Fault>
     requires known { AreMapsTrue (table_of_node node) maps.old }
     ensures known { AreMapsTrue (table_of_node node.entry) maps.new }
     ensures exact { let t = table_of_node node.entry in
         Tells result (role_fault t role (roots_of node.entry)) tt }
 {
     match role {
-        Role::Properties => check_properties(node, index, maps),
-        Role::Listed(_) => check_table(node, index, maps),
-        Role::Recipients => check_table(node, index, maps),
-        Role::Attachments => check_table(node, index, maps),
+        Role::Properties => check_properties(node, maps),
+        Role::Listed(_) => check_table(node, maps),
+        Role::Recipients => check_table(node, maps),
+        Role::Attachments => check_table(node, maps),
     }
 }

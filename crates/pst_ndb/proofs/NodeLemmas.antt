@@ -1,7 +1,6 @@
 -- The faults of nodes, and a file that has none.
-use Rattle.std.proofs.Common.{◌≡◌, ℕ, List, [], ◌∷◌, Bool, true, false, cond, eqb, Option, Some, None, refl, sym, ap, ◌∙◌}
+use Rattle.std.proofs.Common.{◌≡◌, ℕ, List, [], ◌∷◌, Bool, true, false, cond, eqb, Some, None, sym, ap, ◌∙◌}
 use Rattle.std.specs.Prelude.{option_map}
-use Rattle.std.proofs.lemmas.Bool.{eqb-true}
 use Rattle.pst_header.specs.declared.header.Header.{Header}
 use Rattle.pst_header.specs.Header.{header_fault, fields}
 use Rattle.pst_header.specs.Head.{Head}
@@ -13,7 +12,6 @@ use Rattle.pst_datatree.specs.Data.{data_fault}
 use Rattle.pst_subnode.specs.declared.check.TheConstants.{LISTS}
 use Rattle.pst_subnode.specs.Tree.{sub_fault, at_top}
 use Rattle.pst_ndb.specs.Entries.{block_table, node_list}
-use Rattle.pst_fault.specs.declared.fault.Fault.{Fault}
 use Rattle.pst_fault.specs.Each.{first_of}
 use Rattle.pst_fault.proofs.FirstLemmas.{none_then, both_none}
 use Rattle.pst_fault.proofs.ToldLemmas.{none_told, told_none}

@@ -5,7 +5,6 @@ use Rattle.pst_block.specs.Table.{Table}
 use Rattle.pst_btree.specs.Entries.{first_with, node_with}
 use Rattle.pst_subnode.specs.declared.sub.Sub.{Sub}
 use Rattle.pst_subnode.specs.List.{sub_nid, subs_of}
-use Rattle.pst_ndb.specs.Node.{NodeParts}
 
 pub record Roots : Type 0 where
   -- the node of the node B-tree from which it was reached: faults are told of it

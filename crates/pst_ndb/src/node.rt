@@ -16,7 +16,7 @@ use pst_datatree::{
     Leaves, Parts, Pieces, Value, data_lies_inside, leaf, leaf_count, spans, value,
 };
 use pst_fault::Fault;
-use pst_subnode::{Sub, SubIndex, Subs, find_sub_by, subs};
+use pst_subnode::{Sub, SubIndex, Subs, find_sub, find_sub_by, subs};
 use std::alloc::Global;
 
 /// A node of a checked file, or a subnode of one: its data and its subnodes are known to be without fault.
@@ -191,8 +191,8 @@ impl<'a> Node<'a> {
         subs(&self.blocks, self.bid_sub)
     }
 
-    /// An index of its subnodes, for as many look-ups by `sub_by` as there are: of n subnodes it is made in about n log n steps.
-    /// Where their list is one SLBLOCK it holds nothing, and takes no memory. NoMemory, if memory runs out.
+    /// An index of its subnodes, to be lent to it (`indexed`): of n subnodes it is made in about n log n steps. Where their list
+    /// is one SLBLOCK it holds nothing, and takes no memory. NoMemory, if memory runs out.
     pub fn index(&self, alloc: Global) -> Result<SubIndex, Fault>
         ensures index { IfOk result (IsIndexedBy self.now) }
         ensures held { let t = table_of_node self.now in
@@ -202,8 +202,8 @@ impl<'a> Node<'a> {
         SubIndex::of(alloc, &self.blocks, self.bid_sub)
     }
 
-    /// The same node, which is lent an index of its subnodes: `sub`, and whatever stands on it, finds them by this index from
-    /// then on.
+    /// The same node, which is lent an index of its subnodes, or of those of a node whose list is the same: `sub`, and whatever
+    /// stands on it, finds them by this index from then on.
     pub fn indexed(self, index: &'a SubIndex) -> Node<'a>
         requires { IsIndexedBy self index.now }
         ensures parts { parts_of result ≡ parts_of self.entry }
@@ -217,32 +217,24 @@ impl<'a> Node<'a> {
         node
     }
 
-    /// The subnode with an identifier, as `sub` gives it, found by the index that this node was lent; where it was lent none, by
-    /// another index of its subnodes, or of those of a node whose list is the same.
-    #[tactic(auto, using(pst_subnode::proofs::HeightLaws::found_entry, crate::proofs::NodeLemmas::first_keyed), unfolding(crate::specs::Roots::subnode_of))]
-    pub fn sub_by(&self, index: &SubIndex, nid: u32) -> Option<Node<'a>>
-        requires { IsIndexedBy self.now index.now }
-        ensures value { option_map parts_of result ≡ option_map (sub_parts (parts_of self.now))
-            (first_with sub_nid nid (subs_of (table_of_node self.now) (sub_bid_of self.now))) }
-        ensures roots { option_map roots_of result ≡
-            subnode_of (table_of_node self.now) (roots_of self.now) nid }
-        ensures image { IfSome result (λ n. image_of_node n ≡ image_of_node self.now) }
-        ensures table { IfSome result (λ n. table_of_node n ≡ table_of_node self.now) }
-        ensures top { IfSome result (λ n. top_of n ≡ top_of self.now) }
-        ensures nid { IfSome result (λ n. nid_of n ≡ nid) }
-        // Its own subnodes nest one list fewer at least.
-        ensures lower { IfSome result (λ n. height_of n < height_of self.now) }
-        ensures below { IfSome result (λ n.
-            sub_fault (table_of_node n) (LISTS - 1) (sub_bid_of n) ≡ None) }
+    /// The entry of a subnode with an identifier in the node's list: by the index that the node was lent, each of n entries in
+    /// about log n steps; where it was lent none, as `find_sub` finds it.
+    #[tactic(auto, using(pst_subnode::proofs::HeightLaws::found_entry, crate::proofs::NodeLemmas::first_keyed))]
+    pub fn sub_entry(&self, nid: u32) -> Option<Sub>
+        ensures value { result ≡
+            first_with sub_nid nid (subs_of (table_of_node self.now) (sub_bid_of self.now)) }
+        ensures there { IfSome result
+            (Contains (subs_of (table_of_node self.now) (sub_bid_of self.now))) }
+        ensures nid { IfSome result (λ s. s.nid ≡ nid) }
     {
-        let found = match self.index {
-            Some(own) => find_sub_by(&self.blocks, self.bid_sub, own, nid)?,
-            None => find_sub_by(&self.blocks, self.bid_sub, index, nid)?,
-        };
-        Some(self.child(found))
+        match self.index {
+            Some(index) => find_sub_by(&self.blocks, self.bid_sub, index, nid),
+            None => find_sub(&self.blocks, self.bid_sub, nid),
+        }
     }
 
     /// The subnode with an identifier; None exactly where the list has none. It is reached from where this node was.
+    #[tactic(auto, unfolding(crate::specs::Roots::subnode_of))]
     pub fn sub(&self, nid: u32) -> Option<Node<'a>>
         ensures value { option_map parts_of result ≡ option_map (sub_parts (parts_of self.now))
             (first_with sub_nid nid (subs_of (table_of_node self.now) (sub_bid_of self.now))) }
@@ -257,7 +249,8 @@ impl<'a> Node<'a> {
         ensures below { IfSome result (λ n.
             sub_fault (table_of_node n) (LISTS - 1) (sub_bid_of n) ≡ None) }
     {
-        self.sub_by(&SubIndex::none(), nid)
+        let entry = self.sub_entry(nid)?;
+        Some(self.child(entry))
     }
 
     /// The subnode of an entry of its list.

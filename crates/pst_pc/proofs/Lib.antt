@@ -1,3 +1,4 @@
 pub mod PcLemmas
 pub mod PcLaws
 pub mod AlikeLaws
+pub mod LookUpLaws

@@ -4,4 +4,5 @@ pub mod Grammar
 pub mod Laws
 pub mod View
 pub mod Left
+pub mod LookUps
 pub use Rattle.pst_heap.specs as pst_heap

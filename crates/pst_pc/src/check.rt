@@ -4,7 +4,7 @@ ghost use Rattle.std.specs.Prelude.{◌≡◌, ◌≤◌, IfOk, IsOk, OnOk, None
 ghost use Rattle.pst_bytes.specs.Image.{IsInside};
 ghost use Rattle.pst_fault.specs.Each.{first_of};
 ghost use Rattle.pst_fault.specs.First.{Checks, TellsFirst};
-ghost use Rattle.pst_ndb.specs.Views.{table_of_node, roots_of, IsIndexedBy};
+ghost use Rattle.pst_ndb.specs.Views.{table_of_node, roots_of};
 ghost use Rattle.pst_heap.specs.Fault.{told_under};
 ghost use Rattle.pst_heap.specs.Maps.{AreMapsTrue};
 ghost use Rattle.pst_heap.specs.View.{node_of, data_of};
@@ -20,13 +20,12 @@ use pst_bth::{Bth, check_bth_at};
 use pst_bytes::Span;
 use pst_fault::Fault;
 use pst_heap::{Heap, Items, Maps, check_client, check_heap, check_heap_with, known_heap};
-use pst_ndb::{Node, SubIndex};
-use pst_value::{PropType, check_value_by};
+use pst_ndb::Node;
+use pst_value::{PropType, check_value};
 
 // The value of a record.
 #[tactic(auto, unfolding(crate::specs::Fault::property_fault))]
-fn check_property(items: &mut Items, index: &SubIndex, id: u32, content: Span) -> Result<(), Fault>
-    requires index { IsIndexedBy (node_of_items items.old) index.now }
+fn check_property(items: &mut Items, id: u32, content: Span) -> Result<(), Fault>
     requires inside { IsInside (data_of_items items.old).image content }
     requires behind { 2 ≤ content.at }
     requires size { content.len ≡ 6 }
@@ -40,13 +39,12 @@ fn check_property(items: &mut Items, index: &SubIndex, id: u32, content: Span) -
         at: content.at + 2,
         len: 4,
     };
-    check_value_by(items, index, kind, content.at - 2, raw)
+    check_value(items, kind, content.at - 2, raw)
 }
 
 // The values of all records, in order.
 #[tactic(auto, using(pst_bth::proofs::RecordLemmas::record_next, pst_bth::proofs::RecordLemmas::record_fails, pst_bth::proofs::RecordLemmas::records_done))]
-fn check_properties(heap: &Heap, index: &SubIndex, bth: &Bth) -> Result<(), Fault>
-    requires index { IsIndexedBy (node_of heap.now) index.now }
+fn check_properties(heap: &Heap, bth: &Bth) -> Result<(), Fault>
     requires heap { node_of (heap_of bth.now) ≡ node_of heap.now }
     requires sizes { sizes_in bth.now ≡ pc_sizes }
     ensures exact { let node = node_of heap.now in let r = roots_of node in
@@ -56,33 +54,31 @@ fn check_properties(heap: &Heap, index: &SubIndex, bth: &Bth) -> Result<(), Faul
     let mut items = Items::of(*heap);
     let mut rest = bth.records();
     while let Some(taken) = rest.next() {
-        check_property(&mut items, index, taken.0, taken.1)?;
+        check_property(&mut items, taken.0, taken.1)?;
     }
     Ok(())
 }
 
 // What a heap has to have to be a property context.
 #[tactic(auto, using(crate::proofs::PcLemmas::client_fails, crate::proofs::PcLemmas::bth_fails, crate::proofs::PcLemmas::all_left))]
-fn check_content(heap: &Heap, index: &SubIndex) -> Result<(), Fault>
-    requires { IsIndexedBy (node_of heap.now) index.now }
+fn check_content(heap: &Heap) -> Result<(), Fault>
     ensures exact { let node = node_of heap.now in
         Checks result (pc_fault (table_of_node node) (roots_of node)) }
 {
     heap.is_sound();
     check_client(heap, 0xBC)?;
     let bth = check_bth_at(heap, heap.user_root_place(), heap.user_root(), 2, 6)?;
-    check_properties(heap, index, &bth)
+    check_properties(heap, &bth)
 }
 
 // All of a property context.
 #[tactic(auto, using(crate::proofs::PcLemmas::heap_fails))]
-fn check_all<'a>(node: Node<'a>, index: &SubIndex) -> Result<Heap<'a>, Fault>
-    requires { IsIndexedBy node index.now }
+fn check_all(node: Node<'_>) -> Result<Heap<'_>, Fault>
     ensures exact { Checks result (pc_fault (table_of_node node.entry) (roots_of node.entry)) }
     ensures node { IfOk result (λ h. node_of h ≡ node.entry) }
 {
     let heap = check_heap(node)?;
-    check_content(&heap, index)?;
+    check_content(&heap)?;
     Ok(heap)
 }
 
@@ -95,24 +91,6 @@ pub fn known_pc(node: Node<'_>) -> Pc<'_>
     Pc::of(known_heap(node))
 }
 
-/// Checks the property context of a node as `check_pc` does, values in subnodes found by an index of the node's subnodes, or of
-/// those of a node whose list is the same. So a subnode is found in about log n steps, in whatever order the list has them.
-#[tactic(auto, using(crate::proofs::PcLaws::none_pc, crate::proofs::PcLaws::pc_none))]
-pub fn check_pc_by<'a>(node: Node<'a>, index: &SubIndex) -> Result<Pc<'a>, Fault>
-    requires { IsIndexedBy node index.now }
-
-    // A property context, or the first fault.
-    ensures exact { Checks result (pc_fault (table_of_node node.entry) (roots_of node.entry)) }
-    ensures node { IfOk result (λ p. node_of_pc p ≡ node.entry) }
-
-    // What is found is one, and one is found.
-    ensures found { OnOk result (IsPc (table_of_node node.entry) (roots_of node.entry)) }
-    ensures only { IsPc (table_of_node node.entry) (roots_of node.entry) → IsOk result }
-{
-    let heap = check_all(node, index)?;
-    Ok(Pc::of(heap))
-}
-
 /// Checks the property context of a node ([MS-PST] 2.3.3), in this order, with the node's bidData and the node of the tree from
 /// which it was reached:
 ///
@@ -122,7 +100,9 @@ pub fn check_pc_by<'a>(node: Node<'a>, index: &SubIndex) -> Result<Pc<'a>, Fault
 ///   record, where the value has a length that its type does not allow.
 ///
 /// It takes no memory. Of n properties each is looked at once, and its value looked up, as an item of the heap or as a subnode.
-/// Where many values are in subnodes of a long list whose identifiers do not rise, `check_pc_by` finds them sooner.
+/// Of a node that was lent an index of its subnodes (`Node::indexed`) each is found in about log n steps, in whatever order their
+/// list has them.
+#[tactic(auto, using(crate::proofs::PcLaws::none_pc, crate::proofs::PcLaws::pc_none))]
 pub fn check_pc(node: Node<'_>) -> Result<Pc<'_>, Fault>
     // A property context, or the first fault.
     ensures exact { Checks result (pc_fault (table_of_node node.entry) (roots_of node.entry)) }
@@ -132,14 +112,13 @@ pub fn check_pc(node: Node<'_>) -> Result<Pc<'_>, Fault>
     ensures found { OnOk result (IsPc (table_of_node node.entry) (roots_of node.entry)) }
     ensures only { IsPc (table_of_node node.entry) (roots_of node.entry) → IsOk result }
 {
-    check_pc_by(node, &SubIndex::none())
+    let heap = check_all(node)?;
+    Ok(Pc::of(heap))
 }
 
-/// Checks the property context of a node as `check_pc_by` does, its heap by what is known of page maps, as `check_heap_with`
-/// does. NoMemory where memory is refused for that.
-pub fn check_pc_with<'a>(node: Node<'a>, index: &SubIndex, maps: &mut Maps) -> Result<Pc<'a>, Fault>
-    requires index { IsIndexedBy node index.now }
-
+/// Checks the property context of a node as `check_pc` does, its heap by what is known of page maps, as `check_heap_with` does.
+/// NoMemory where memory is refused for that.
+pub fn check_pc_with<'a>(node: Node<'a>, maps: &mut Maps) -> Result<Pc<'a>, Fault>
     // What is known is true, and stays so.
     requires known { AreMapsTrue (table_of_node node) maps.old }
     ensures known { AreMapsTrue (table_of_node node.entry) maps.new }
@@ -149,7 +128,7 @@ pub fn check_pc_with<'a>(node: Node<'a>, index: &SubIndex, maps: &mut Maps) -> R
     ensures node { IfOk result (λ p. node_of_pc p ≡ node.entry) }
 {
     let heap = check_heap_with(node, maps)?;
-    match check_content(&heap, index) {
+    match check_content(&heap) {
         Ok(()) => Ok(Pc::of(heap)),
         Err(fault) => Err(fault),
     }

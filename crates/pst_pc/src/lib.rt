@@ -16,8 +16,8 @@ mod pc;
 mod prop;
 mod props;
 
-pub use check::{check_pc, check_pc_by, check_pc_with, known_pc};
-pub use laws::{pc_decides, pc_has_records, pc_is_of_keys, pc_keys_rise};
+pub use check::{check_pc, check_pc_with, known_pc};
+pub use laws::{pc_decides, pc_has_records, pc_is_of_keys, pc_keys_rise, pc_look_ups};
 pub use pc::Pc;
 pub use prop::Prop;
 pub use props::Props;

@@ -10,5 +10,6 @@ pub mod PlacedLemmas
 pub mod AgainLemmas
 pub mod TrailerLemmas
 pub mod MapLemmas
+pub mod BodyLemmas
 pub mod FaultLemmas
 pub mod HeaderLemmas

@@ -18,7 +18,6 @@ use Rattle.pst_plain.specs.Written.{written}
 use Rattle.pst_plain.specs.Carried.{with_carried}
 use Rattle.pst_plain.specs.Blocks.{EndsBy}
 use Rattle.pst_plain.specs.Twin.{with_method, full_span, with_body, all_decoded}
-use Rattle.pst_plain.proofs.WriteLemmas.{bytes_here, length_decoded}
 
 -- ---- the header
 
@@ -35,19 +34,13 @@ body_inside end e by_end = let k : e.ib + block_size e.cb ≤ end = by_end in om
 pub body_length : (I : List ℕ) (e : BlockEntry) → e.ib + e.cb ≤ length I → length (bytes_at I (body_span e)) ≡ e.cb
 body_length I e inside = let d = length-drop e.ib I in length-take-le e.cb (drop e.ib I) (omega (arith, d, inside))
 
-pub body_made : (I K L : List ℕ) (method : Method) (e : BlockEntry) (span : Span) (at old new : ℕ) → EndsBy (length I) e → span ≡ body_span e → at ≡ e.ib + block_size e.cb - 12
-    → old ≡ crc (bytes_at I span) → K ≡ written I span.at (decoded method e.bid (bytes_at I span)) → new ≡ crc (bytes_at K span)
-    → L ≡ written K at (little_bytes 4 (bit_xor (num K at 4) (bit_xor old new))) → L ≡ with_body (decoded method e.bid) e I
+pub body_made : (I K L : List ℕ) (method : Method) (e : BlockEntry) (span : Span) (at change : ℕ) → span ≡ body_span e → at ≡ e.ib + block_size e.cb - 12
+    → K ≡ written I span.at (decoded method e.bid (bytes_at I span)) → change ≡ bit_xor (crc (bytes_at I span)) (crc (decoded method e.bid (bytes_at I span)))
+    → L ≡ written K at (little_bytes 4 (bit_xor (num K at 4) change)) → L ≡ with_body (decoded method e.bid) e I
 unfolding with_body with_carried
-body_made I K L method e span at old new by_end is place first put second carries =
-    let body = bytes_at I (body_span e) in
-    let large = size_large e.cb in
-    let there : at ≡ trailer_at e + 4 = omega (arith, large, place) in
-    let size : length body ≡ e.cb = body_length I e (body_inside (length I) e by_end) in
-    let long : length (decoded method e.bid body) ≡ e.cb = length_decoded method e.bid body ∙ size in
-    let stands : bytes_at (written I e.ib (decoded method e.bid body)) (body_span e) ≡ decoded method e.bid body =
-    bytes_here I e.ib (decoded method e.bid body) (body_span e) refl (sym long) (rw long (body_inside (length I) e by_end)) in
-    rw (carries, there, first, second, put, is, stands) refl
+body_made I K L method e span at change is place put changes carries =
+    let there : at ≡ trailer_at e + 4 = let large = size_large e.cb in omega (arith, large, place) in
+    rw (carries, there, changes, put, is) refl
 
 pub decoded_bytes : (method : Method) (bid : ℕ) (body : List ℕ) → All IsByte body → All IsByte (decoded method bid body)
 decoded_bytes method bid body all = (method_law method bid body all).decoded_bytes

@@ -1,6 +1,6 @@
 //! The bodies of encoded blocks.
 
-ghost use Rattle.std.specs.Prelude.{◌≡◌, ◌+◌, ◌≤◌, length};
+ghost use Rattle.std.specs.Prelude.{◌≡◌, ◌+◌, ◌≤◌, length, bit_xor};
 ghost use Rattle.std.specs.List.{All};
 ghost use Rattle.pst_bytes.specs.Image.{bytes_at, IsInside};
 ghost use Rattle.pst_crc.specs.Crc.{crc};
@@ -9,11 +9,12 @@ ghost use Rattle.pst_encoding.specs.Method.{decoded};
 ghost use Rattle.pst_block.specs.Block.{body_span as span_of};
 ghost use Rattle.pst_plain.specs.Blocks.{EndsBy};
 ghost use Rattle.pst_plain.specs.Written.{written};
+ghost use Rattle.pst_plain.specs.Laws.{xor_each};
 ghost use Rattle.pst_plain.specs.Twin.{with_body, all_decoded};
 
 use crate::write::carry;
 use pst_block::{BlockEntry, block_size};
-use pst_bytes::{Image, Span};
+use pst_bytes::Span;
 use pst_encoding::Codec;
 
 // Where the body of a block lies.
@@ -26,36 +27,60 @@ fn body_span(entry: BlockEntry) -> Span
     }
 }
 
-// The check value of the bytes of a span.
-fn check_of(file: &[u8], span: Span) -> u32
-    requires { IsInside file.now span }
-    ensures { result ≡ crc (bytes_at file.now span) }
+// How many bytes a block's cb can say that its body has, at most.
+const ROOM: usize = 65_535;
+
+// Each byte becomes itself exclusive or the other's.
+fn xor_bytes(bytes: &mut [u8], others: &[u8])
+    requires { length bytes.old ≡ length others.now }
+    ensures { bytes.new ≡ xor_each bytes.old others.now }
 {
-    pst_crc::check(Image::new(file).slice(span))
+    for i in 0..others.len() {
+        bytes[i] ^= others[i];
+    }
 }
 
-// Decodes the bytes of a span, which are those of the block with an identifier.
+// Decodes the body of the block with an identifier, and tells what its check value before is exclusive or the one after. In
+// as much room the bytes before are kept and made what differs: the check value of that is both, in one sum.
+fn decode_body(codec: &Codec, bid: u64, body: &mut [u8], room: &mut [u8]) -> u32
+    requires { length room.old ≡ length body.old }
+    ensures body { body.new ≡ decoded (method_of codec.now) bid body.old }
+    ensures change { result ≡ bit_xor (crc body.old) (crc body.new) }
+    ensures room { length room.new ≡ length room.old }
+{
+    room.copy_from_slice(body);
+    codec.decode(bid, body);
+    xor_bytes(room, body);
+    pst_crc::check(room)
+}
+
+// The same of the bytes of a span.
 #[tactic(auto, unfolding(crate::specs::Written::written), using(crate::proofs::WriteLemmas::length_decoded))]
-fn decode_span(codec: &Codec, bid: u64, file: &mut [u8], span: Span)
-    requires { IsInside file.old span }
-    ensures { file.new ≡ written file.old span.at
+fn decode_span(codec: &Codec, bid: u64, file: &mut [u8], span: Span, room: &mut [u8]) -> u32
+    requires inside { IsInside file.old span }
+    requires room { span.len ≤ length room.old }
+    ensures file { file.new ≡ written file.old span.at
         (decoded (method_of codec.now) bid (bytes_at file.old span)) }
+    ensures change { result ≡ bit_xor (crc (bytes_at file.old span))
+        (crc (decoded (method_of codec.now) bid (bytes_at file.old span))) }
+    ensures room { length room.new ≡ length room.old }
 {
     let at = span.at as usize;
-    let end = at + span.len as usize;
-    codec.decode(bid, &mut file[at..end]);
+    let len = span.len as usize;
+    decode_body(codec, bid, &mut file[at..at + len], &mut room[..len])
 }
 
 // Decodes the body of a block, and carries the check value of its trailer over.
-fn decode_block(codec: &Codec, entry: BlockEntry, file: &mut [u8])
-    requires { EndsBy (length file.old) entry }
-    ensures { file.new ≡ with_body (decoded (method_of codec.now) entry.bid) entry file.old }
+fn decode_block(codec: &Codec, entry: BlockEntry, file: &mut [u8], room: &mut [u8])
+    requires inside { EndsBy (length file.old) entry }
+    requires room { length room.old ≡ ROOM }
+    ensures file { file.new ≡
+        with_body (decoded (method_of codec.now) entry.bid) entry file.old }
+    ensures room { length room.new ≡ length room.old }
 {
     let span = body_span(entry);
-    let old = check_of(file, span);
-    decode_span(codec, entry.bid, file, span);
-    let new = check_of(file, span);
-    carry(file, entry.ib + block_size(entry.cb) - 12, old, new);
+    let change = decode_span(codec, entry.bid, file, span, room);
+    carry(file, entry.ib + block_size(entry.cb) - 12, change);
 }
 
 /// Decodes the bodies of blocks, one after another.
@@ -63,7 +88,8 @@ pub(crate) fn decode_each(codec: &Codec, entries: &[BlockEntry], file: &mut [u8]
     requires { All (EndsBy (length file.old)) entries.now }
     ensures { file.new ≡ all_decoded (method_of codec.now) entries.now file.old }
 {
+    let mut room = [0; ROOM];
     for entry in entries {
-        decode_block(codec, *entry, file);
+        decode_block(codec, *entry, file, &mut room);
     }
 }

@@ -53,5 +53,5 @@ pub(crate) fn set_method(number: u8, file: &mut [u8])
     let old = full_check(file);
     put_bytes(file, 513, &[number]);
     let new = full_check(file);
-    carry(file, 524, old, new);
+    carry(file, 524, old ^ new);
 }

@@ -17,13 +17,14 @@ pub(crate) fn put_bytes(file: &mut [u8], at: u64, bytes: &[u8])
     file[at..at + bytes.len()].copy_from_slice(bytes);
 }
 
-/// Carries the check value at a place over from bytes with one check value to bytes with another.
-pub(crate) fn carry(file: &mut [u8], at: u64, old: u32, new: u32)
+/// Carries the check value at a place over: it becomes itself exclusive or its change, which is the check value of the bytes
+/// before exclusive or that of the bytes after.
+pub(crate) fn carry(file: &mut [u8], at: u64, change: u32)
     requires { at + 4 ≤ length file.old }
     ensures { file.new ≡ written file.old at
-        (little_bytes 4 (bit_xor (num file.old at 4) (bit_xor old new))) }
+        (little_bytes 4 (bit_xor (num file.old at 4) change)) }
 {
     let check = Image::new(file).number32(at);
-    let carried = check ^ (old ^ new);
+    let carried = check ^ change;
     put_bytes(file, at, &carried.to_le_bytes());
 }

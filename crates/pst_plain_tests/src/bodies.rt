@@ -6,8 +6,8 @@ use sha2::{Digest, Sha256};
 use std::alloc::Global;
 use std::test::Fail;
 
-// All bytes in order, again and again.
-fn rising(alloc: Global, len: usize) -> Result<Vec<u8>, Fail> {
+/// All bytes in order, again and again.
+pub(crate) fn rising(alloc: Global, len: usize) -> Result<Vec<u8>, Fail> {
     let mut bytes = Vec::new(alloc);
     let mut byte = 0u8;
     for _ in 0..len {

@@ -5,6 +5,8 @@
 #[cfg(test)]
 mod bodies;
 #[cfg(test)]
+mod encoded;
+#[cfg(test)]
 mod told;
 #[cfg(test)]
 mod twins;

@@ -1,5 +1,5 @@
 -- What each command answers to the bytes of a file.
-use Rattle.std.specs.Prelude.{◌≡◌, ℕ, ◌+◌, Bool, false, ◌&&◌, ◌==◌, not, List, length, Option, Some, None, Result, Ok, Err}
+use Rattle.std.specs.Prelude.{◌≡◌, ℕ, ◌+◌, Bool, false, ◌&&◌, ◌==◌, not, if◌then◌else◌, List, length, Option, Some, None, Result, Ok, Err}
 use Rattle.pst_fault.specs.declared.fault.Fault.{Fault}
 use Rattle.pst_fault.specs.First.{answer}
 use Rattle.pst_header.specs.Header.{header_fault, fields}
@@ -21,12 +21,19 @@ use Rattle.pst_json.specs.Folders.{folders_line}
 use Rattle.pst_json.specs.Head.{head_line}
 use Rattle.pst_json.specs.Node.{props_line}
 use Rattle.pst_json.specs.Nodes.{nodes_line}
+use Rattle.pst_plain.specs.Twin.{twin_of}
 use Rattle.pst_run.specs.declared.answers.Shown.{Shown}
 use Rattle.pst_ask.specs.declared.ask.Ask.{Ask}
 use Rattle.pst_ask.specs.declared.ask.Ask.TheVariants.{Check, Head, Nodes, Folders, Contents, Props}
 use Rattle.pst_run.specs.declared.refusal.Refusal.{Refusal}
 use Rattle.pst_run.specs.declared.refusal.Refusal.TheVariants as refusal
 use Rattle.pst_run.specs.Refusal.{refusal_of, refusal_for}
+
+-- ---- of which bytes
+
+-- the bytes of which a command shows something: those of the file, or of its plain twin where it is to be decoded
+abbrev pub bytes_for : Bool → List ℕ → List ℕ
+bytes_for decode bytes = if decode then twin_of bytes else bytes
 
 -- ---- what is shown: a text, and whether the run ends with status 1 all the same
 
@@ -99,8 +106,7 @@ answer_to (Props nid) I = of_store (store_fault I) (line_of_node nid (props_line
 abbrev pub Gives : Result Shown Refusal → Result Told Refusal → Type 0
 Gives (Ok shown) answer = answer ≡ Ok (told_in shown)
 Gives (Err (refusal.Fault f)) answer = answer ≡ Err (refusal.Fault f)
-Gives (Err (refusal.NoFolder nid)) answer = answer ≡ Err (refusal.NoFolder nid)
-Gives (Err (refusal.NoNode nid)) answer = answer ≡ Err (refusal.NoNode nid)
+Gives (Err (refusal.Document nid f)) answer = answer ≡ Err (refusal.Document nid f)
 Gives (Err refusal.Input) answer = ⊥
 Gives (Err (refusal.Output f)) answer = ⊥
 Gives (Err refusal.Memory) answer = Unit {0}

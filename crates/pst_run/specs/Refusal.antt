@@ -8,6 +8,7 @@ use Rattle.pst_json.specs.declared.fault.DocFault.{DocFault}
 use Rattle.pst_json.specs.declared.fault.DocFault.TheVariants as doc
 use Rattle.pst_json.specs.declared.output.EmitFault.TheVariants.{Closed}
 use Rattle.pst_json.specs.Output.{emit_fault_text}
+use Rattle.pst_json.specs.Told.{doc_fault_text}
 use Rattle.pst_run.specs.declared.refusal.Refusal.{Refusal}
 use Rattle.pst_run.specs.declared.refusal.Refusal.TheVariants as refusal
 
@@ -22,16 +23,14 @@ refusal_of f = if is_memory f.kind then refusal.Memory else refusal.Fault f
 
 -- what comes of a document that there is not, of the node with an identifier
 abbrev pub refusal_for : ℕ → DocFault → Refusal
-refusal_for nid doc.NoFolder = refusal.NoFolder nid
-refusal_for nid doc.NoNode = refusal.NoNode nid
 refusal_for nid (doc.Bad f) = refusal_of f
 refusal_for nid doc.Memory = refusal.Memory
+refusal_for nid f = refusal.Document nid f
 
 -- what may come from reading
 abbrev pub IsOfInput : Refusal → Type 0
 IsOfInput (refusal.Fault f) = ⊥
-IsOfInput (refusal.NoFolder nid) = ⊥
-IsOfInput (refusal.NoNode nid) = ⊥
+IsOfInput (refusal.Document nid f) = ⊥
 IsOfInput refusal.Input = Unit {0}
 IsOfInput (refusal.Output f) = ⊥
 IsOfInput refusal.Memory = Unit {0}
@@ -39,8 +38,7 @@ IsOfInput refusal.Memory = Unit {0}
 -- the status with which a run ends that is refused
 abbrev pub status_of : Refusal → ℕ
 status_of (refusal.Fault f) = 1
-status_of (refusal.NoFolder nid) = 1
-status_of (refusal.NoNode nid) = 1
+status_of (refusal.Document nid f) = 1
 status_of refusal.Input = 3
 status_of (refusal.Output f) = 3
 status_of refusal.Memory = 4
@@ -48,8 +46,7 @@ status_of refusal.Memory = 4
 -- the line of a refusal, without its line feed
 abbrev pub refusal_text : Refusal → List ℕ
 refusal_text (refusal.Fault f) = fault_text f
-refusal_text (refusal.NoFolder nid) = codes "no folder 0x" ++ hex nid
-refusal_text (refusal.NoNode nid) = codes "no node 0x" ++ hex nid
+refusal_text (refusal.Document nid f) = doc_fault_text f ++ codes " 0x" ++ hex nid
 refusal_text refusal.Input = codes "cannot read the file"
 refusal_text (refusal.Output f) = emit_fault_text f
 refusal_text refusal.Memory = codes "out of memory"

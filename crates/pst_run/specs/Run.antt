@@ -7,14 +7,14 @@ use Rattle.pst_ask.specs.clap.declared.error.Error.{Error}
 use Rattle.pst_ask.specs.clap.declared.error.kind.ErrorKind.{ErrorKind}
 use Rattle.pst_ask.specs.clap.declared.error.kind.ErrorKind.TheVariants as kind
 use Rattle.pst_json.specs.declared.output.EmitFault.{EmitFault}
-use Rattle.pst_ask.specs.declared.ask.Ask.{Ask}
+use Rattle.pst_ask.specs.Ask.{Asked}
 use Rattle.pst_ask.specs.declared.ask.Lack.{Lack}
 use Rattle.pst_ask.specs.declared.ask.Lack.TheVariants.{Nid, Nothing}
 use Rattle.pst_ask.specs.declared.words.NoOrder.{NoOrder}
 use Rattle.pst_ask.specs.declared.words.NoOrder.TheVariants.{Words, Lacks}
 use Rattle.pst_run.specs.declared.refusal.Refusal.{Refusal}
 use Rattle.pst_run.specs.declared.refusal.Refusal.TheVariants as refusal
-use Rattle.pst_run.specs.Answer.{Told, answer_to}
+use Rattle.pst_run.specs.Answer.{Told, answer_to, bytes_for}
 use Rattle.pst_run.specs.Refusal.{line_of_text, refusal_line, status_of}
 
 -- what both outputs hold, where they tell it
@@ -51,8 +51,7 @@ ShowsFront answer old new = (told : Told) × (answer ≡ Ok told) × AppendsFron
 abbrev pub Ends : Result Bool Refusal → Result Told Refusal → Option (List ℕ) → Option (List ℕ) → Type 0
 Ends (Ok fails) answer old new = Shows answer fails old new
 Ends (Err (refusal.Fault f)) answer old new = (answer ≡ Err (refusal.Fault f)) × Keeps old new
-Ends (Err (refusal.NoFolder nid)) answer old new = (answer ≡ Err (refusal.NoFolder nid)) × Keeps old new
-Ends (Err (refusal.NoNode nid)) answer old new = (answer ≡ Err (refusal.NoNode nid)) × Keeps old new
+Ends (Err (refusal.Document nid f)) answer old new = (answer ≡ Err (refusal.Document nid f)) × Keeps old new
 Ends (Err refusal.Input) answer old new = ⊥
 Ends (Err (refusal.Output f)) answer old new = ShowsFront answer old new
 Ends (Err refusal.Memory) answer old new = Keeps old new
@@ -73,10 +72,11 @@ IsUnread status old new =
     ((status ≡ 3) × Keeps old.out new.out × Says refusal.Input old.err new.err)
     ⊎ ((status ≡ 4) × Keeps old.out new.out × Says refusal.Memory old.err new.err)
 
--- The answer to some bytes, which are those of the reader where it tells them; or these did not come.
-abbrev pub CarriesOut : Ask → Option (List ℕ) → ℕ → Outputs → Outputs → Type 0
-CarriesOut ask known status old new =
-    ((bytes : List ℕ) × IfSome known (λ all. bytes ≡ all) × Answers (answer_to ask bytes) status old new)
+-- The answer to some bytes, which are those of the reader where it tells them, decoded where that is asked for; or these did
+-- not come.
+abbrev pub CarriesOut : Asked → Option (List ℕ) → ℕ → Outputs → Outputs → Type 0
+CarriesOut a known status old new =
+    ((bytes : List ℕ) × IfSome known (λ all. bytes ≡ all) × Answers (answer_to a.ask (bytes_for a.decode bytes)) status old new)
     ⊎ IsUnread status old new
 
 -- ---- where nothing is done

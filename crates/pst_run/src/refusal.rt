@@ -15,10 +15,8 @@ use std::fmt;
 pub enum Refusal {
     /// The file is not what it has to be. The kind is not NoMemory.
     Fault(Fault),
-    /// The store has no folder with this identifier.
-    NoFolder(u32),
-    /// The store has no node with this identifier.
-    NoNode(u32),
+    /// There is no such document, of the folder or node with this identifier.
+    Document(u32, DocFault),
     /// The file cannot be read, or is too long.
     Input,
     /// The output cannot be written. Where it is closed no line is written.
@@ -34,8 +32,7 @@ impl fmt::Display for Refusal {
     fn fmt<W: fmt::Write>(&self, f: &mut fmt::Formatter<W>) -> fmt::Result {
         match self {
             Refusal::Fault(fault) => write!(f, "{fault}"),
-            Refusal::NoFolder(nid) => write!(f, "no folder 0x{nid:x}"),
-            Refusal::NoNode(nid) => write!(f, "no node 0x{nid:x}"),
+            Refusal::Document(nid, fault) => write!(f, "{fault} 0x{nid:x}"),
             Refusal::Input => write!(f, "cannot read the file"),
             Refusal::Output(fault) => write!(f, "{fault}"),
             Refusal::Memory => write!(f, "out of memory"),
@@ -49,21 +46,20 @@ impl Refusal {
         ensures { result ≡ status_of self }
     {
         match self {
-            Refusal::Fault(_) | Refusal::NoFolder(_) | Refusal::NoNode(_) => 1,
+            Refusal::Fault(_) | Refusal::Document(..) => 1,
             Refusal::Input | Refusal::Output(_) => 3,
             Refusal::Memory => 4,
         }
     }
 
-    /// What comes of a document that there is not, of the node with an identifier.
+    /// The refusal for a folder or node that has no such document.
     pub fn of_document(nid: u32, fault: DocFault) -> Refusal
         ensures { result ≡ refusal_for nid fault }
     {
         match fault {
-            DocFault::NoFolder => Refusal::NoFolder(nid),
-            DocFault::NoNode => Refusal::NoNode(nid),
             DocFault::Bad(fault) => Refusal::from(fault),
             DocFault::Memory => Refusal::Memory,
+            _ => Refusal::Document(nid, fault),
         }
     }
 }

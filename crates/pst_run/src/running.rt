@@ -1,11 +1,11 @@
 //! One run of the program.
 
-ghost use Rattle.std.specs.Prelude.{◌≡◌, ◌≢◌, ◌⊎◌, [], Err, IfSome};
-ghost use Rattle.pst_ask.specs.Ask.{Asked};
+ghost use Rattle.std.specs.Prelude.{◌≡◌, ◌≢◌, ◌⊎◌, [], Err, IfOk, IfSome};
+ghost use Rattle.pst_ask.specs.Ask.{Asked, order_of};
 ghost use Rattle.pst_ask.specs.Words.{IsAsked, asked, show_app, texts};
 ghost use Rattle.pst_ask.specs.clap.Words.{fault_of, kind_of};
 ghost use Rattle.pst_ask.specs.declared.words.NoOrder.TheVariants.{Lacks};
-ghost use Rattle.pst_run.specs.Answer.{answer_to};
+ghost use Rattle.pst_run.specs.Answer.{answer_to, bytes_for};
 ghost use Rattle.pst_run.specs.declared.refusal.Refusal.TheVariants as refused;
 ghost use Rattle.pst_run.specs.Refusal.{line_of_text, status_of};
 ghost use Rattle.pst_run.specs.Run.{Answers, CarriesOut, Ends, IsLacking, IsRefused, IsStatusOf, MatchNone, Says, SaysLine, lack_text, outputs};
@@ -14,9 +14,10 @@ use crate::answers::answer;
 use crate::input::load_counted;
 use crate::refusal::Refusal;
 use arrayvec::ArrayString;
-use pst_ask::{Ask, ErrorKind, Lack, NoOrder, parse};
+use pst_ask::{Ask, ErrorKind, Lack, NoOrder, Order, parse};
 use pst_json::{EmitFault, emit};
-use std::alloc::Global;
+use pst_plain::plain;
+use std::alloc::{AllocError, Global};
 use std::fmt::{Display, Write as _};
 use std::io::{Read, Write};
 
@@ -46,8 +47,23 @@ fn say<D: Display + Drop, E: Write>(text: D, err: &mut E)
     }
 }
 
-// Shows what is asked for of these bytes, and tells whether that fails.
-fn show<W: Write>(alloc: Global, ask: Ask, bytes: &[u8], out: &mut W) -> Result<bool, Refusal>
+// Decodes an encoded file in the memory into which it was read, where that is asked for.
+fn decode_if(alloc: Global, decode: bool, mut bytes: Vec<u8>) -> Result<Vec<u8>, AllocError>
+    ensures { IfOk result (λ v. v.items ≡ bytes_for decode bytes.items) }
+{
+    if decode {
+        plain(alloc, &mut bytes)?;
+    }
+    Ok(bytes)
+}
+
+// Writes what a command answers to these bytes, and tells whether the run fails all the same.
+fn write_answer<W: Write>(
+    alloc: Global,
+    ask: Ask,
+    bytes: &[u8],
+    out: &mut W,
+) -> Result<bool, Refusal>
     ensures { Ends result (answer_to ask bytes.now) (W.contents out.old) (W.contents out.new) }
 {
     let shown = answer(alloc, ask, bytes)?;
@@ -120,7 +136,7 @@ pub fn answer_out<W: Write, E: Write>(
     // It is not that of words that are refused.
     ensures accepted { result ≢ 2 }
 {
-    match show(alloc, ask, bytes, out) {
+    match write_answer(alloc, ask, bytes, out) {
         Ok(false) => 0,
         Ok(true) => 1,
         Err(refusal) => refuse(refusal, err),
@@ -131,14 +147,14 @@ pub fn answer_out<W: Write, E: Write>(
 /// many bytes are expected of the reader, as `load` says.
 pub fn carry_out<R: Read, W: Write, E: Write>(
     alloc: Global,
-    ask: Ask,
+    order: &Order,
     input: &mut R,
     expected: usize,
     out: &mut W,
     err: &mut E,
 ) -> u8
-    // The status, what is written and what is said are the answer to the bytes that came.
-    ensures answered { CarriesOut ask (R.remaining input.old) result
+    // The status, what is written and what is said are the answer to the bytes that came, decoded where that is asked for.
+    ensures answered { CarriesOut (order_of order.now) (R.remaining input.old) result
         (outputs (W.contents out.old) (E.contents err.old))
         (outputs (W.contents out.new) (E.contents err.new)) }
 
@@ -146,7 +162,10 @@ pub fn carry_out<R: Read, W: Write, E: Write>(
     ensures accepted { result ≢ 2 }
 {
     match load_counted(alloc, input, expected).0 {
-        Ok(bytes) => answer_out(alloc, ask, &bytes, out, err),
+        Ok(bytes) => match decode_if(alloc, order.decode, bytes) {
+            Ok(bytes) => answer_out(alloc, order.ask, &bytes, out, err),
+            Err(_) => refuse(Refusal::Memory, err),
+        },
         Err(fault) => refuse(Refusal::from(fault), err),
     }
 }
@@ -164,9 +183,9 @@ pub fn run<R: Read, W: Write, E: Write>(
     err: &mut E,
 ) -> u8
     // Where the words are accepted and ask for something, the status, what is written and what is said are the
-    // answer to the bytes of the file.
+    // answer to the bytes of the file, decoded where the words ask for it.
     ensures answered { (a : Asked) → IsAsked (texts words.entry.now) a →
-        CarriesOut a.ask (R.remaining input.old) result
+        CarriesOut a (R.remaining input.old) result
         (outputs (W.contents out.old) (E.contents err.old))
         (outputs (W.contents out.new) (E.contents err.new)) }
 
@@ -187,7 +206,7 @@ pub fn run<R: Read, W: Write, E: Write>(
         (result ≡ 2) ⊎ (result ≡ 4) → out.new ≡ out.old }
 {
     match parse(alloc, words) {
-        Ok(order) => carry_out(alloc, order.ask, input, 0, out, err),
+        Ok(order) => carry_out(alloc, &order, input, 0, out, err),
         Err(none) => decline(none, out, err),
     }
 }

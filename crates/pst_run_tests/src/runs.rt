@@ -10,6 +10,7 @@ mod check_messages;
 mod check_nodes;
 mod check_order;
 mod documents;
+mod encoded;
 mod folders;
 mod head;
 mod heaps;

@@ -7,20 +7,13 @@ use std::io::Write;
 use std::process::ExitCode;
 use std::{env, io};
 
-// Shows what is asked for of what the file's name stands for. Where that cannot be read, a line says why.
-fn show(rt: &HostRuntime, order: Order<'_>) -> u8 {
+// Runs the command on the named file. Where that cannot be read, a line says why.
+fn run_command(rt: &HostRuntime, order: Order<'_>) -> u8 {
     let source = Source::named(rt, order.file);
     let expected = source.expected();
     let mut input = Watched::new(source);
     let (mut out, mut err) = (rt.stdout(), rt.stderr());
-    let status = carry_out(
-        rt.alloc(),
-        order.ask,
-        &mut input,
-        expected,
-        &mut out,
-        &mut err,
-    );
+    let status = carry_out(rt.alloc(), &order, &mut input, expected, &mut out, &mut err);
     match input.fault() {
         Some(error) if status == Refusal::Input.status() => {
             explain(rt.alloc(), order.file, error, &mut err);
@@ -45,7 +38,7 @@ fn status(rt: &HostRuntime) -> Result<u8, Refusal> {
         .collect(rt.alloc())
         .map_err(|_| Refusal::Memory)?;
     match parse(rt.alloc(), &words) {
-        Ok(order) => Ok(show(rt, order)),
+        Ok(order) => Ok(run_command(rt, order)),
         Err(none) => Ok(decline(none, &mut rt.stdout(), &mut rt.stderr())),
     }
 }

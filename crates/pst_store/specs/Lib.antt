@@ -5,4 +5,5 @@ pub mod Values
 pub mod Laws
 pub mod Kind
 pub mod View
+pub mod LookUps
 pub use Rattle.pst_msg.specs as pst_msg

@@ -2,10 +2,14 @@
 use Rattle.std.specs.Prelude.{◌≡◌, ℕ, Option, IfSome, List}
 use Rattle.std.specs.Borrow.{Bor}
 use Rattle.std.specs.Iterator.{YieldsFirstBy}
+use Rattle.pst_bytes.specs.declared.Image.{Image}
 use Rattle.pst_bytes.specs.Image.{memory_of, bytes_of}
+use Rattle.pst_header.specs.declared.header.Header.{Header}
+use Rattle.pst_page.specs.declared.entry.NodeEntry.{NodeEntry}
+use Rattle.pst_block.specs.Table.{Table}
 use Rattle.pst_ndb.specs.declared.ndb.Ndb.{Ndb}
 use Rattle.pst_ndb.specs.Roots.{Roots}
-use Rattle.pst_ndb.specs.Views.{image_of_ndb, table_of_ndb, image_of_node, table_of_node, nid_of, top_of, roots_left}
+use Rattle.pst_ndb.specs.Views.{image_of_ndb, header_of, table_of_ndb, nodes_of, image_of_node, table_of_node, nid_of, top_of, roots_left}
 use Rattle.pst_msg.specs.declared.folder_view.Folder.{Folder}
 use Rattle.pst_msg.specs.declared.message_view.Message.{Message}
 use Rattle.pst_msg.specs.Values.{is_folder, is_message}
@@ -24,6 +28,19 @@ memory_of_store s = memory_of (image_of_ndb s.ndb)
 
 abbrev pub bytes_of_store : Store → List ℕ
 bytes_of_store s = bytes_of (image_of_ndb s.ndb)
+
+-- the file, its header, its blocks by their identifiers, and the entries of its nodes
+abbrev pub image_of_store : Store → Image
+image_of_store s = image_of_ndb s.ndb
+
+abbrev pub header_of_store : Store → Header
+header_of_store s = header_of s.ndb
+
+abbrev pub table_of_store : Store → Table
+table_of_store s = table_of_ndb s.ndb
+
+abbrev pub nodes_of_store : Store → List NodeEntry
+nodes_of_store s = nodes_of s.ndb
 
 -- ---- iterators
 

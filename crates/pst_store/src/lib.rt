@@ -11,12 +11,14 @@
 #![tactic(auto)]
 
 mod folders;
+mod given;
 mod laws;
 mod messages;
 mod sort;
 mod store;
 
 pub use folders::Folders;
+pub use given::{store_gives, store_gives_folders, store_gives_messages};
 pub use laws::store_decides;
 pub use messages::Messages;
 pub use pst_msg::{

@@ -24,7 +24,7 @@ pub struct Store<'a> {
 impl<'a> Store<'a> {
     ghost use Rattle.std.specs.Prelude.{◌≡◌, Some, None, IfSome, option_map};
     ghost use Rattle.pst_ndb.specs.Roots.{node_in, all_roots};
-    ghost use Rattle.pst_ndb.specs.Views.{header_of, image_of_ndb, table_of_ndb, nodes_of, image_of_node, table_of_node, top_of, nid_of, roots_of};
+    ghost use Rattle.pst_ndb.specs.Views.{table_of_ndb, nodes_of, image_of_node, table_of_node, top_of, nid_of, roots_of};
     ghost use Rattle.pst_msg.specs.pst_pc.View.{node_of_pc};
     ghost use Rattle.pst_msg.specs.Fault.{messaging_fault};
     ghost use Rattle.pst_msg.specs.Values.{is_folder as folder_kind, is_message as message_kind};
@@ -34,7 +34,8 @@ impl<'a> Store<'a> {
     ghost use Rattle.pst_store.specs.Kind.{of_kind, node_of_kind};
     ghost use Rattle.pst_store.specs.Parts.{table_in, entries_in};
     ghost use Rattle.pst_store.specs.Values.{store_in};
-    ghost use Rattle.pst_store.specs.View.{ndb_of_store, bytes_of_store, folders_left, folders_ndb, messages_left, messages_ndb};
+    ghost use Rattle.pst_store.specs.View.{ndb_of_store, bytes_of_store, image_of_store, header_of_store, table_of_store, nodes_of_store};
+    ghost use Rattle.pst_store.specs.View.{folders_left, folders_ndb, messages_left, messages_ndb};
 
     /// The store of a node database whose messaging has no first fault: `check_messaging` answered Ok of it.
     #[tactic(auto, using(crate::proofs::StoreLemmas::is_store))]
@@ -53,11 +54,11 @@ impl<'a> Store<'a> {
         ensures sound { store_fault (bytes_of_store self.now) ≡ None }
         ensures store { let I = bytes_of_store self.now in IsStore I (store_in I) }
         ensures header { let I = bytes_of_store self.now in
-            header_of (ndb_of_store self.now) ≡ (store_in I).header }
+            header_of_store self.now ≡ (store_in I).header }
         ensures table { let I = bytes_of_store self.now in
-            table_of_ndb (ndb_of_store self.now) ≡ table_in I (store_in I) }
+            table_of_store self.now ≡ table_in I (store_in I) }
         ensures nodes { let I = bytes_of_store self.now in
-            nodes_of (ndb_of_store self.now) ≡ entries_in I (store_in I) }
+            nodes_of_store self.now ≡ entries_in I (store_in I) }
     {
         self.ndb.is_sound();
     }
@@ -71,12 +72,9 @@ impl<'a> Store<'a> {
 
     /// The node with an identifier; None exactly where the store has none.
     pub fn node(&self, nid: u32) -> Option<Node<'a>>
-        ensures roots { option_map roots_of result ≡
-            node_in (nodes_of (ndb_of_store self.now)) nid }
-        ensures image { IfSome result (λ n.
-            image_of_node n ≡ image_of_ndb (ndb_of_store self.now)) }
-        ensures table { IfSome result (λ n.
-            table_of_node n ≡ table_of_ndb (ndb_of_store self.now)) }
+        ensures roots { option_map roots_of result ≡ node_in (nodes_of_store self.now) nid }
+        ensures image { IfSome result (λ n. image_of_node n ≡ image_of_store self.now) }
+        ensures table { IfSome result (λ n. table_of_node n ≡ table_of_store self.now) }
         ensures top { IfSome result (λ n. top_of n ≡ nid) }
         ensures nid { IfSome result (λ n. nid_of n ≡ nid) }
     {
@@ -86,10 +84,10 @@ impl<'a> Store<'a> {
     /// The properties of the message store itself ([MS-PST] 2.4.3).
     #[tactic(auto, using(crate::proofs::StoreLemmas::store_there, crate::proofs::StoreLemmas::store_properties))]
     pub fn props(&self) -> Pc<'a>
-        ensures roots { let nodes = nodes_of (ndb_of_store self.now) in
-            Some (roots_of (node_of_pc result)) ≡ node_in nodes STORE }
-        ensures image { image_of_node (node_of_pc result) ≡ image_of_ndb (ndb_of_store self.now) }
-        ensures table { table_of_node (node_of_pc result) ≡ table_of_ndb (ndb_of_store self.now) }
+        ensures roots { Some (roots_of (node_of_pc result))
+            ≡ node_in (nodes_of_store self.now) STORE }
+        ensures image { image_of_node (node_of_pc result) ≡ image_of_store self.now }
+        ensures table { table_of_node (node_of_pc result) ≡ table_of_store self.now }
     {
         match self.ndb.node(STORE) {
             Some(node) => known_pc(node),
@@ -100,8 +98,7 @@ impl<'a> Store<'a> {
     /// The root folder.
     #[tactic(auto, using(crate::proofs::StoreLemmas::root_there, crate::proofs::StoreLemmas::root_kind, crate::proofs::StoreLemmas::node_sound))]
     pub fn root(&self) -> Folder<'a>
-        ensures roots { let nodes = nodes_of (ndb_of_store self.now) in
-            Some (folder_roots result) ≡ node_in nodes ROOT }
+        ensures roots { Some (folder_roots result) ≡ node_in (nodes_of_store self.now) ROOT }
         ensures ndb { ndb_of_folder result ≡ ndb_of_store self.now }
     {
         match self.ndb.node(ROOT) {
@@ -113,7 +110,7 @@ impl<'a> Store<'a> {
     /// The folder or search folder with an identifier; None exactly where the store has no such node.
     #[tactic(auto, using(crate::proofs::StoreLemmas::kind_found, crate::proofs::StoreLemmas::node_sound), unfolding(crate::specs::Kind::node_of_kind))]
     pub fn folder(&self, nid: u32) -> Option<Folder<'a>>
-        ensures roots { let nodes = nodes_of (ndb_of_store self.now) in
+        ensures roots { let nodes = nodes_of_store self.now in
             option_map folder_roots result ≡ node_of_kind folder_kind nodes nid }
         ensures ndb { IfSome result (λ f. ndb_of_folder f ≡ ndb_of_store self.now) }
         ensures nid { IfSome result (λ f. nid_of (node_of_folder f) ≡ nid) }
@@ -130,7 +127,7 @@ impl<'a> Store<'a> {
     /// Its folders and search folders, their identifiers rising.
     #[tactic(auto, using(crate::proofs::StoreLemmas::nodes_sound))]
     pub fn folders(&self) -> Folders<'a>
-        ensures left { let nodes = nodes_of (ndb_of_store self.now) in
+        ensures left { let nodes = nodes_of_store self.now in
             folders_left result ≡ of_kind folder_kind (all_roots nodes) }
         ensures ndb { folders_ndb result ≡ ndb_of_store self.now }
     {
@@ -140,12 +137,12 @@ impl<'a> Store<'a> {
     /// The message with an identifier, also one that belongs to a folder itself; None exactly where the store has no such node.
     #[tactic(auto, using(crate::proofs::StoreLemmas::message_found), unfolding(crate::specs::Kind::node_of_kind))]
     pub fn message(&self, nid: u32) -> Option<Message<'a>>
-        ensures roots { let nodes = nodes_of (ndb_of_store self.now) in
+        ensures roots { let nodes = nodes_of_store self.now in
             option_map message_roots result ≡ node_of_kind message_kind nodes nid }
         ensures image { IfSome result (λ m.
-            image_of_node (node_of_message m) ≡ image_of_ndb (ndb_of_store self.now)) }
+            image_of_node (node_of_message m) ≡ image_of_store self.now) }
         ensures table { IfSome result (λ m.
-            table_of_node (node_of_message m) ≡ table_of_ndb (ndb_of_store self.now)) }
+            table_of_node (node_of_message m) ≡ table_of_store self.now) }
         ensures nid { IfSome result (λ m. nid_of (node_of_message m) ≡ nid) }
     {
         if !is_message(nid) {
@@ -160,7 +157,7 @@ impl<'a> Store<'a> {
     /// Its messages, also those that belong to a folder itself, their identifiers rising.
     #[tactic(auto, using(crate::proofs::StoreLemmas::nodes_sound))]
     pub fn messages(&self) -> Messages<'a>
-        ensures left { let nodes = nodes_of (ndb_of_store self.now) in
+        ensures left { let nodes = nodes_of_store self.now in
             messages_left result ≡ of_kind message_kind (all_roots nodes) }
         ensures ndb { messages_ndb result ≡ ndb_of_store self.now }
     {

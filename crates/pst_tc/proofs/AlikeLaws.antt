@@ -12,7 +12,6 @@ use Rattle.pst_fault.proofs.GeneralLemmas.{map_same}
 use Rattle.pst_fault.proofs.FirstLemmas.{first_below_same}
 use Rattle.pst_block.specs.Table.{Table}
 use Rattle.pst_btree.specs.Entries.{first_with}
-use Rattle.pst_datatree.proofs.KeyLemmas.{data_spans_same}
 use Rattle.pst_ndb.specs.pst_subnode.declared.sub.Sub.{Sub}
 use Rattle.pst_ndb.specs.pst_subnode.List.{sub_nid, subs_of}
 use Rattle.pst_ndb.proofs.pst_subnode.HeightLaws.{subs_same}
@@ -22,10 +21,13 @@ use Rattle.pst_heap.specs.Fault.{heap_fault, client_fault, item_or, no_item, tol
 use Rattle.pst_bth.specs.Fault.{bth_fault}
 use Rattle.pst_bth.specs.Values.{bth_records}
 use Rattle.pst_ndb.specs.Alike.{Alike}
+use Rattle.pst_value.specs.declared.hnid.Hnid.{Hnid}
+use Rattle.pst_value.specs.declared.hnid.Hnid.TheVariants.{Nothing, Item, Subnode}
+use Rattle.pst_value.specs.Hnid.{hnid_of}
 use Rattle.pst_value.specs.Fault.{missing_at}
 use Rattle.pst_value.proofs.AlikeLaws.{heap_alike, value_alike, fault_alike, alike_value_law}
 use Rattle.pst_tc.specs.Info.{column_count, column_kind, column_place, column_places, column_tag, cell_span, index_place, index_hid, matrix_place, matrix_hnid, row_size}
-use Rattle.pst_tc.specs.Values.{tc_client, tc_sizes, info_of, span_or_empty, tc_records, row_of_data, row_of_matrix, row_of_record, row_record_place, column_parts_at, tc_columns, row_parts_at, tc_rows, cell_spans, spans_in_column, tc_cell}
+use Rattle.pst_tc.specs.Values.{tc_client, tc_sizes, info_of, span_or_empty, tc_records, row_or_none, row_of_data, row_under, row_of_matrix, row_of_record, row_record_place, column_parts_at, tc_columns, row_parts_at, tc_rows, cell_spans, spans_in_column, tc_cell}
 use Rattle.pst_tc.specs.Fault.{info_fault, cell_fault, cells_fault, bad_row, row_fault, row_record_fault, no_fault, matrix_fault, tc_body_fault, untold_tc_fault, tc_fault}
 use Rattle.pst_tc.specs.Laws.{AlikeTcLaw}
 
@@ -55,9 +57,14 @@ data_row_alike : (t : Table) (r s : Roots) (size n nid : ℕ) → Alike r s → 
 unfolding subnode_of
 data_row_alike t r s size n nid e = rw (subs_same t r.bid_sub s.bid_sub e.1) (data_row_same t r s size n (first_with sub_nid nid (subs_of t s.bid_sub)))
 
+row_under_alike : (t : Table) (r s : Roots) (size n : ℕ) (h : Hnid) → Alike r s → row_under t r size n h ≡ row_under t s size n h
+row_under_alike t r s size n Nothing e = refl
+row_under_alike t r s size n (Item hid) e = ap (λ (h : HeapData). row_or_none size n (item_of h hid)) (heap_alike t r s e)
+row_under_alike t r s size n (Subnode nid) e = data_row_alike t r s size n nid e
+
 matrix_alike : (t : Table) (r s : Roots) (hnid size n : ℕ) → Alike r s → row_of_matrix t r hnid size n ≡ row_of_matrix t s hnid size n
 unfolding row_of_matrix
-matrix_alike t r s hnid size n e = rw (data_spans_same t r.bid_data s.bid_data e.0, data_row_alike t r s size n hnid e) refl
+matrix_alike t r s hnid size n e = row_under_alike t r s size n (hnid_of hnid) e
 
 row_alike : (t : Table) (r s : Roots) (i : Span) (x : ℕ × Span) → Alike r s → row_of_record t r i x ≡ row_of_record t s i x
 unfolding row_of_record

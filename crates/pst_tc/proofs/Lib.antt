@@ -5,4 +5,5 @@ pub mod TcLemmas
 pub mod TcLaws
 pub mod RowLemmas
 pub mod AlikeLaws
+pub mod LookUpLaws
 pub mod BlockLemmas

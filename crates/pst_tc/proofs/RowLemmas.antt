@@ -1,5 +1,5 @@
 -- What is known of a table context without fault, down to its cells.
-use Rattle.std.proofs.Common.{◌≡◌, ℕ, ◌+◌, ◌*◌, ◌≤◌, Bool, true, false, cond, eqb, List, [], ◌∷◌, map, Option, Some, None, refl, ap, ◌∙◌}
+use Rattle.std.proofs.Common.{◌≡◌, ℕ, ◌+◌, ◌*◌, ◌≤◌, true, List, Option, Some, None, refl, ap, ◌∙◌}
 use Rattle.std.specs.Prelude.{option_map, is_some}
 use Rattle.pst_bytes.specs.declared.span.Span.{Span}
 use Rattle.pst_fault.specs.declared.fault.Fault.{Fault}
@@ -17,7 +17,7 @@ use Rattle.pst_value.specs.Values.{hnid_spans}
 use Rattle.pst_value.specs.Fault.{value_fault}
 use Rattle.pst_value.proofs.ValueLaws.{place_law}
 use Rattle.pst_tc.specs.Info.{column_count, column_place, column_places, column_tag, column_kind, cell_span, index_place, index_hid, matrix_hnid, is_present, is_typed}
-use Rattle.pst_tc.specs.Values.{tc_sizes, tc_records, info_of, row_of_record, row_record_place, row_parts_at, row_id_of, tc_rows}
+use Rattle.pst_tc.specs.Values.{tc_sizes, tc_records, info_of, row_of_record, row_parts_at, row_id_of, tc_rows}
 use Rattle.pst_tc.specs.Fault.{info_fault, matrix_fault, no_fault, row_record_fault, row_fault, bad_row, cells_fault, cell_fault, tc_body_fault}
 use Rattle.pst_tc.proofs.InfoLemmas.{sound_room}
 use Rattle.pst_tc.proofs.ColumnLemmas.{found_place}

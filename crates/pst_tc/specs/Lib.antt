@@ -9,4 +9,5 @@ pub mod Front
 pub mod Grid
 pub mod View
 pub mod Left
+pub mod LookUps
 pub mod Blocks

@@ -1,7 +1,7 @@
 -- What a table context holds ([MS-PST] 2.3.4): a heap with the client signature 0x7C, whose user root names TCINFO; the row index,
 -- a BTH of the numbers of rows under their identifiers; and the row matrix: none, an item of the heap, or the data of a subnode,
 -- each of whose blocks has as many whole rows as fit into 8,176 bytes (2.3.4.4).
-use Rattle.std.specs.Prelude.{ℕ, ◌+◌, ◌-◌, ◌*◌, ◌/◌, ◌%◌, nat_eq, nat_le, List, map, Option, Some, None, slice_get, if◌then◌else◌}
+use Rattle.std.specs.Prelude.{ℕ, ◌+◌, ◌-◌, ◌*◌, ◌/◌, ◌%◌, nat_le, List, map, Option, Some, None, slice_get, if◌then◌else◌}
 use Rattle.pst_bytes.specs.declared.span.Span.{Span}
 use Rattle.pst_bytes.specs.Image.{num}
 use Rattle.pst_block.specs.Table.{Table}
@@ -12,6 +12,9 @@ use Rattle.pst_heap.specs.Values.{heap_at, user_root_of, item_of}
 use Rattle.pst_bth.specs.declared.sizes.Sizes.{Sizes}
 use Rattle.pst_bth.specs.Rows.{sizes_of}
 use Rattle.pst_bth.specs.Values.{bth_records}
+use Rattle.pst_value.specs.declared.hnid.Hnid.{Hnid}
+use Rattle.pst_value.specs.declared.hnid.Hnid.TheVariants.{Nothing, Item, Subnode}
+use Rattle.pst_value.specs.Hnid.{hnid_of}
 use Rattle.pst_value.specs.Values.{one_span, value_spans}
 use Rattle.pst_tc.specs.Info.{row_size, index_hid, matrix_hnid, column_places, column_tag, column_kind, column_start, column_width, column_bit, cell_span, is_present, is_typed}
 
@@ -61,11 +64,13 @@ row_of_data t size n None = None
 row_of_data t size n (Some x) = row_of_blocks size n (data_spans t x.bid_data)
 
 -- the row with a number in the matrix that an HNID names
+abbrev pub row_under : Table → Roots → ℕ → ℕ → Hnid → Option Span
+row_under t r size n Nothing = None
+row_under t r size n (Item hid) = row_or_none size n (item_of (heap_at t r) hid)
+row_under t r size n (Subnode nid) = row_of_data t size n (subnode_of t r nid)
+
 unfoldable pub row_of_matrix : Table → Roots → ℕ → ℕ → ℕ → Option Span
-row_of_matrix t r hnid size n =
-    if nat_eq hnid 0 then None
-    else if nat_eq (hnid % 32) 0 then row_or_none size n (item_of (heap_at t r) hnid)
-    else row_of_data t size n (subnode_of t r hnid)
+row_of_matrix t r hnid size n = row_under t r size n (hnid_of hnid)
 
 -- the row of a record of the row index
 unfoldable pub row_of_record : Table → Roots → Span → ℕ × Span → Option Span

@@ -4,7 +4,7 @@ ghost use Rattle.std.specs.Prelude.{◌≡◌, ℕ, ◌+◌, ◌≤◌, length, 
 ghost use Rattle.pst_bytes.specs.Image.{IsInside};
 ghost use Rattle.pst_fault.specs.First.{Checks};
 ghost use Rattle.pst_fault.specs.Each.{first_of};
-ghost use Rattle.pst_ndb.specs.Views.{table_of_node, roots_of, IsIndexedBy};
+ghost use Rattle.pst_ndb.specs.Views.{table_of_node, roots_of};
 ghost use Rattle.pst_heap.specs.Fault.{told_under};
 ghost use Rattle.pst_heap.specs.View.{node_of, data_of};
 ghost use Rattle.pst_heap.specs.Items.{heap_of_items, node_of_items, data_of_items};
@@ -24,19 +24,12 @@ use pst_bth::{Bth, check_bth_at};
 use pst_bytes::Span;
 use pst_fault::{Fault, Kind};
 use pst_heap::{Heap, Items, check_client, check_heap, known_heap, told_of};
-use pst_ndb::{Node, SubIndex};
-use pst_value::{PropType, check_value_by, missing_at};
+use pst_ndb::Node;
+use pst_value::{PropType, check_value, missing_at};
 
 // The cell of a column in a row.
 #[tactic(auto, unfolding(crate::specs::Fault::cell_fault), using(crate::proofs::InfoLemmas::cell_inside, crate::proofs::TypedLemmas::typed_room, crate::proofs::TypedLemmas::typed_is))]
-fn check_cell(
-    items: &mut Items,
-    index: &SubIndex,
-    info: Span,
-    row: Span,
-    column: u64,
-) -> Result<(), Fault>
-    requires index { IsIndexedBy (node_of_items items.old) index.now }
+fn check_cell(items: &mut Items, info: Span, row: Span, column: u64) -> Result<(), Fault>
     requires info { info.at + 22 ≤ length (data_of_items items.old).image }
     requires column { column + 8 ≤ length (data_of_items items.old).image }
     requires row { IsInside (data_of_items items.old).image row }
@@ -59,13 +52,12 @@ fn check_cell(
         at: row.at + u64::from(image.number16(column + 4)),
         len: u64::from(image.number8(column + 6)),
     };
-    check_value_by(items, index, kind, raw.at, raw)
+    check_value(items, kind, raw.at, raw)
 }
 
 // The cells of a row, in the order of their columns.
 #[tactic(auto, unfolding(crate::specs::Fault::cells_fault), using(crate::proofs::InfoLemmas::sound_room, crate::proofs::InfoLemmas::sound_column, crate::proofs::TcLemmas::cells_more, crate::proofs::TcLemmas::cells_fail, crate::proofs::TcLemmas::cells_done))]
-fn check_cells(items: &mut Items, index: &SubIndex, info: Span, row: Span) -> Result<(), Fault>
-    requires index { IsIndexedBy (node_of_items items.old) index.now }
+fn check_cells(items: &mut Items, info: Span, row: Span) -> Result<(), Fault>
     requires info { IsInside (data_of_items items.old).image info }
     requires sound { info_fault (data_of_items items.old).image info ≡ None }
     requires row { IsInside (data_of_items items.old).image row }
@@ -78,7 +70,7 @@ fn check_cells(items: &mut Items, index: &SubIndex, info: Span, row: Span) -> Re
     let count = column_count(image, info);
     for i in 0..count {
         let column = info.at + 22 + 8 * u64::from(i);
-        check_cell(items, index, info, row, column)?;
+        check_cell(items, info, row, column)?;
     }
     Ok(())
 }
@@ -87,13 +79,11 @@ fn check_cells(items: &mut Items, index: &SubIndex, info: Span, row: Span) -> Re
 #[tactic(auto, unfolding(crate::specs::Fault::row_record_fault, crate::specs::Values::row_of_record))]
 fn check_row<'a>(
     items: &mut Items<'a>,
-    index: &SubIndex,
     info: Span,
     matrix: &mut Matrix<'a>,
     id: u32,
     content: Span,
 ) -> Result<(), Fault>
-    requires index { IsIndexedBy (node_of_items items.old) index.now }
     requires info { IsInside (data_of_items items.old).image info }
     requires sound { info_fault (data_of_items items.old).image info ≡ None }
     requires matrix { LiesIn (data_of_items items.old).image matrix.old }
@@ -119,19 +109,12 @@ fn check_row<'a>(
     if image.number32(row.at) != id {
         return Err(told_of(&items.heap().node(), bad));
     }
-    check_cells(items, index, info, row)
+    check_cells(items, info, row)
 }
 
 // The rows of all records of the row index, in order.
 #[tactic(auto, using(pst_bth::proofs::RecordLemmas::record_next, pst_bth::proofs::RecordLemmas::records_done))]
-fn check_rows<'a>(
-    heap: &Heap<'a>,
-    index: &SubIndex,
-    info: Span,
-    matrix: Matrix<'a>,
-    bth: &Bth,
-) -> Result<(), Fault>
-    requires index { IsIndexedBy (node_of heap.now) index.now }
+fn check_rows<'a>(heap: &Heap<'a>, info: Span, matrix: Matrix<'a>, bth: &Bth) -> Result<(), Fault>
     requires info { IsInside (data_of heap.now).image info }
     requires sound { info_fault (data_of heap.now).image info ≡ None }
     requires matrix { LiesIn (data_of heap.now).image matrix }
@@ -148,7 +131,7 @@ fn check_rows<'a>(
     let mut matrix = matrix;
     let mut rest = bth.records();
     while let Some(taken) = rest.next() {
-        check_row(&mut items, index, info, &mut matrix, taken.0, taken.1)?;
+        check_row(&mut items, info, &mut matrix, taken.0, taken.1)?;
     }
     Ok(())
 }
@@ -167,8 +150,7 @@ fn check_front(heap: &Heap, info: Span) -> Result<(), Fault>
 
 // The row matrix.
 #[tactic(auto, unfolding(crate::specs::Fault::matrix_fault), using(crate::proofs::InfoLemmas::sound_room, crate::proofs::TcLemmas::matrix_there, crate::proofs::TcLemmas::matrix_missing))]
-fn check_matrix<'a>(heap: &Heap<'a>, index: &SubIndex, info: Span) -> Result<Matrix<'a>, Fault>
-    requires index { IsIndexedBy (node_of heap.now) index.now }
+fn check_matrix<'a>(heap: &Heap<'a>, info: Span) -> Result<Matrix<'a>, Fault>
     requires info { IsInside (data_of heap.now).image info }
     requires room { 22 ≤ info.len }
     ensures exact { let node = node_of heap.now in let r = roots_of node in
@@ -181,7 +163,7 @@ fn check_matrix<'a>(heap: &Heap<'a>, index: &SubIndex, info: Span) -> Result<Mat
     let image = heap.image();
     let named = info.at + 14;
     let hnid = image.number32(named);
-    match open_matrix(heap, index, hnid) {
+    match open_matrix(heap, hnid) {
         Some(matrix) => Ok(matrix),
         None => Err(told_of(&heap.node(), missing_at(named, hnid))),
     }
@@ -189,8 +171,7 @@ fn check_matrix<'a>(heap: &Heap<'a>, index: &SubIndex, info: Span) -> Result<Mat
 
 // TCINFO, and all that it names.
 #[tactic(auto, using(crate::proofs::TcLemmas::info_told_none))]
-fn check_body(heap: &Heap, index: &SubIndex, info: Span) -> Result<(), Fault>
-    requires index { IsIndexedBy (node_of heap.now) index.now }
+fn check_body(heap: &Heap, info: Span) -> Result<(), Fault>
     requires inside { IsInside (data_of heap.now).image info }
     ensures exact { let node = node_of heap.now in let r = roots_of node in
         Checks result (option_map (told_under r) (tc_body_fault (table_of_node node) r info)) }
@@ -204,13 +185,12 @@ fn check_body(heap: &Heap, index: &SubIndex, info: Span) -> Result<(), Fault>
         4,
         4,
     )?;
-    let matrix = check_matrix(heap, index, info)?;
-    check_rows(heap, index, info, matrix, &bth)
+    let matrix = check_matrix(heap, info)?;
+    check_rows(heap, info, matrix, &bth)
 }
 
 // What a heap has to have to be a table context.
-pub(crate) fn check_content(heap: &Heap, index: &SubIndex) -> Result<(), Fault>
-    requires { IsIndexedBy (node_of heap.now) index.now }
+pub(crate) fn check_content(heap: &Heap) -> Result<(), Fault>
     ensures exact { let node = node_of heap.now in
         Checks result (tc_fault (table_of_node node) (roots_of node)) }
 {
@@ -220,17 +200,16 @@ pub(crate) fn check_content(heap: &Heap, index: &SubIndex) -> Result<(), Fault>
     let Some(info) = heap.item_span(heap.user_root()) else {
         return Err(told_of(&heap.node(), Fault::at(Kind::HeapId, named)));
     };
-    check_body(heap, index, info)
+    check_body(heap, info)
 }
 
 // All of a table context.
-fn check_all<'a>(node: Node<'a>, index: &SubIndex) -> Result<Heap<'a>, Fault>
-    requires { IsIndexedBy node index.now }
+fn check_all(node: Node<'_>) -> Result<Heap<'_>, Fault>
     ensures exact { Checks result (tc_fault (table_of_node node.entry) (roots_of node.entry)) }
     ensures node { IfOk result (λ h. node_of h ≡ node.entry) }
 {
     let heap = check_heap(node)?;
-    check_content(&heap, index)?;
+    check_content(&heap)?;
     Ok(heap)
 }
 
@@ -241,24 +220,6 @@ pub fn known_tc(node: Node<'_>) -> Tc<'_>
     ensures { node_of_tc result ≡ node.entry }
 {
     Tc::of(known_heap(node))
-}
-
-/// Checks the table context of a node as `check_tc` does, the row matrix and values in subnodes found by an index of the node's
-/// subnodes, or of those of a node whose list is the same.
-#[tactic(auto, using(crate::proofs::TcLaws::none_tc, crate::proofs::TcLaws::tc_none))]
-pub fn check_tc_by<'a>(node: Node<'a>, index: &SubIndex) -> Result<Tc<'a>, Fault>
-    requires { IsIndexedBy node index.now }
-
-    // A table context, or the first fault.
-    ensures exact { Checks result (tc_fault (table_of_node node.entry) (roots_of node.entry)) }
-    ensures node { IfOk result (λ t. node_of_tc t ≡ node.entry) }
-
-    // What is found is one, and one is found.
-    ensures found { OnOk result (IsTc (table_of_node node.entry) (roots_of node.entry)) }
-    ensures only { IsTc (table_of_node node.entry) (roots_of node.entry) → IsOk result }
-{
-    let heap = check_all(node, index)?;
-    Ok(Tc::of(heap))
 }
 
 /// Checks the table context of a node ([MS-PST] 2.3.4), in this order, with the node's bidData and the node of the tree from
@@ -275,8 +236,9 @@ pub fn check_tc_by<'a>(node: Node<'a>, index: &SubIndex) -> Result<Tc<'a>, Fault
 ///   at its HNID, where that names no item or no subnode; Property at the cell, where the value has a length that its type does not
 ///   allow.
 ///
-/// It takes no memory. Of n rows each is looked at once, and each of its cells. Where many values are in subnodes of a long list
-/// whose identifiers do not rise, `check_tc_by` finds them sooner.
+/// It takes no memory. Of n rows each is looked at once, and each of its cells. Of a node that was lent an index of its subnodes
+/// (`Node::indexed`) the row matrix and each value in one is found in about log n steps, in whatever order their list has them.
+#[tactic(auto, using(crate::proofs::TcLaws::none_tc, crate::proofs::TcLaws::tc_none))]
 pub fn check_tc(node: Node<'_>) -> Result<Tc<'_>, Fault>
     // A table context, or the first fault.
     ensures exact { Checks result (tc_fault (table_of_node node.entry) (roots_of node.entry)) }
@@ -286,5 +248,6 @@ pub fn check_tc(node: Node<'_>) -> Result<Tc<'_>, Fault>
     ensures found { OnOk result (IsTc (table_of_node node.entry) (roots_of node.entry)) }
     ensures only { IsTc (table_of_node node.entry) (roots_of node.entry) → IsOk result }
 {
-    check_tc_by(node, &SubIndex::none())
+    let heap = check_all(node)?;
+    Ok(Tc::of(heap))
 }

@@ -15,7 +15,6 @@ use crate::tc::Tc;
 use pst_bth::{Bth, known_bth};
 use pst_bytes::{Image, Span};
 use pst_heap::Heap;
-use pst_ndb::SubIndex;
 
 /// TCINFO of a table context, looked up once.
 #[derive(Clone, Copy)]
@@ -108,7 +107,7 @@ impl<'a> Front<'a> {
     {
         let heap = self.heap();
         let image = heap.image();
-        match open_matrix(&heap, &SubIndex::none(), image.number32(self.item.at + 14)) {
+        match open_matrix(&heap, image.number32(self.item.at + 14)) {
             Some(matrix) => matrix,
             None => unreachable!(),
         }

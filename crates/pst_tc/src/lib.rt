@@ -27,10 +27,10 @@ mod row;
 mod rows;
 mod tc;
 
-pub use check::{check_tc, check_tc_by, known_tc};
+pub use check::{check_tc, known_tc};
 pub use check_with::check_tc_with;
 pub use columns::{Column, Columns};
-pub use laws::{tc_decides, tc_has_records, tc_ids_rise, tc_is_of_keys};
+pub use laws::{tc_decides, tc_has_records, tc_ids_rise, tc_is_of_keys, tc_look_ups};
 pub use row::Row;
 pub use rows::Rows;
 pub use tc::Tc;

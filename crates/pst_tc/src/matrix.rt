@@ -2,7 +2,7 @@
 
 ghost use Rattle.std.specs.Prelude.{◌≡◌, ℕ, ◌≤◌, ◌<◌, IfSome, is_some};
 ghost use Rattle.pst_bytes.specs.Image.{bytes_of, IsInside};
-ghost use Rattle.pst_ndb.specs.Views.{table_of_node, roots_of, IsIndexedBy};
+ghost use Rattle.pst_ndb.specs.Views.{table_of_node, roots_of};
 ghost use Rattle.pst_heap.specs.View.{node_of, data_of};
 ghost use Rattle.pst_value.specs.Values.{hnid_spans};
 ghost use Rattle.pst_tc.specs.Values.{row_of_span as span_row, row_of_matrix as named_row};
@@ -11,7 +11,7 @@ ghost use Rattle.pst_tc.specs.Matrix.{matrix_row, LiesIn};
 use crate::blocks::Blocks;
 use pst_bytes::{Image, Span};
 use pst_heap::Heap;
-use pst_ndb::SubIndex;
+use pst_value::{Hnid, hnid_of};
 
 // Where the rows of a table lie: nowhere, in an item of the heap, or in the blocks of a subnode.
 #[derive(Clone, Copy)]
@@ -40,10 +40,9 @@ fn row_of_span(image: Image, span: Span, size: u16, n: u32) -> Option<Span>
     })
 }
 
-/// The matrix that an HNID names, a subnode found by an index; None exactly where it names nothing.
+/// The matrix that an HNID names; None exactly where it names nothing.
 #[tactic(auto, unfolding(crate::specs::Values::row_of_matrix, pst_value::specs::Values::hnid_spans))]
-pub(crate) fn open_matrix<'a>(heap: &Heap<'a>, index: &SubIndex, hnid: u32) -> Option<Matrix<'a>>
-    requires { IsIndexedBy (node_of heap.now) index.now }
+pub(crate) fn open_matrix<'a>(heap: &Heap<'a>, hnid: u32) -> Option<Matrix<'a>>
     ensures there { let node = node_of heap.now in
         is_some result ≡ is_some (hnid_spans (table_of_node node) (roots_of node) hnid) }
     ensures inside { IfSome result (LiesIn (data_of heap.now).image) }
@@ -51,19 +50,17 @@ pub(crate) fn open_matrix<'a>(heap: &Heap<'a>, index: &SubIndex, hnid: u32) -> O
         (size n : ℕ) →
         IfSome result (λ m. matrix_row m size n ≡ named_row t (roots_of node) hnid size n) }
 {
-    if hnid == 0 {
-        return Some(Matrix::Nothing);
+    match hnid_of(hnid) {
+        Hnid::Nothing => Some(Matrix::Nothing),
+        Hnid::Item(hid) => match heap.item_span(hid) {
+            Some(item) => Some(Matrix::Item(item)),
+            None => None,
+        },
+        Hnid::Subnode(nid) => match heap.node().sub(nid) {
+            Some(sub) => Some(Matrix::Blocks(Blocks::of(sub))),
+            None => None,
+        },
     }
-    if hnid % 32 == 0 {
-        let Some(item) = heap.item_span(hnid) else {
-            return None;
-        };
-        return Some(Matrix::Item(item));
-    }
-    let Some(sub) = heap.node().sub_by(index, hnid) else {
-        return None;
-    };
-    Some(Matrix::Blocks(Blocks::of(sub)))
 }
 
 /// The row with a number, of rows of so many bytes.

@@ -11,9 +11,12 @@ use Rattle.pst_ndb.specs.pst_subnode.declared.sub.Sub.{Sub}
 use Rattle.pst_ndb.specs.pst_subnode.List.{sub_nid, subs_of}
 use Rattle.pst_ndb.proofs.pst_subnode.HeightLaws.{subs_same}
 use Rattle.pst_ndb.specs.Roots.{Roots, sub_roots, subnode_of}
-use Rattle.pst_heap.specs.Values.{HeapData, heap_at}
+use Rattle.pst_heap.specs.Values.{HeapData, heap_at, item_of}
 use Rattle.pst_ndb.specs.Alike.{Alike}
-use Rattle.pst_value.specs.Values.{held_of, data_under, hnid_spans, some_spans, held_spans, value_spans}
+use Rattle.pst_value.specs.declared.hnid.Hnid.{Hnid}
+use Rattle.pst_value.specs.declared.hnid.Hnid.TheVariants.{Nothing, Item, Subnode}
+use Rattle.pst_value.specs.Hnid.{hnid_of}
+use Rattle.pst_value.specs.Values.{held_of, one_span, data_under, spans_under, hnid_spans, some_spans, held_spans, value_spans}
 use Rattle.pst_value.specs.Fault.{missing_at, length_fault, hnid_fault, value_held_fault, value_fault}
 use Rattle.pst_value.specs.Laws.{AlikeValueLaw}
 
@@ -33,9 +36,14 @@ subnode_alike : (t : Table) (r s : Roots) (nid : ℕ) → Alike r s → option_m
 unfolding subnode_of
 subnode_alike t r s nid e = rw (subs_same t r.bid_sub s.bid_sub e.1) (data_under_same t r s (first_with sub_nid nid (subs_of t s.bid_sub)))
 
+under_alike : (t : Table) (r s : Roots) (h : Hnid) → Alike r s → spans_under t r h ≡ spans_under t s h
+under_alike t r s Nothing e = refl
+under_alike t r s (Item hid) e = ap (λ h. option_map one_span (item_of h hid)) (heap_alike t r s e)
+under_alike t r s (Subnode nid) e = subnode_alike t r s nid e
+
 hnid_alike : (t : Table) (r s : Roots) (hnid : ℕ) → Alike r s → hnid_spans t r hnid ≡ hnid_spans t s hnid
 unfolding hnid_spans
-hnid_alike t r s hnid e = rw (data_spans_same t r.bid_data s.bid_data e.0, subnode_alike t r s hnid e) refl
+hnid_alike t r s hnid e = under_alike t r s (hnid_of hnid) e
 
 spans_alike : (t : Table) (r s : Roots) (raw : Span) (held : Option ℕ) → Alike r s → held_spans t r raw held ≡ held_spans t s raw held
 spans_alike t r s raw None e = ap some_spans (hnid_alike t r s (num t.image raw.at 4) e)

@@ -1,5 +1,5 @@
 -- The grammar of values, and their first fault and spans, say the same.
-use Rattle.std.proofs.Common.{◌≡◌, ℕ, ◌%◌, ◌≤◌, Bool, true, List, Option, Some, None, refl, sym, ap, ◌↔◌, ◌⊎◌, inl, inr}
+use Rattle.std.proofs.Common.{◌≡◌, ℕ, ◌≤◌, Bool, true, List, Option, Some, None, refl, sym, ap, ◌↔◌, ◌⊎◌, inl, inr}
 use Rattle.std.specs.Prelude.{nat_eq, ◌||◌, option_map}
 use Rattle.std.proofs.lemmas.Bool.{le-leb, leb-true, eqb-true, eq-eqb, ne_eqb, cases_eq}
 use Rattle.pst_bytes.specs.declared.span.Span.{Span}
@@ -13,10 +13,13 @@ use Rattle.pst_datatree.specs.Data.{size_of}
 use Rattle.pst_ndb.specs.Roots.{Roots}
 use Rattle.pst_value.specs.declared.class.Class.{Class}
 use Rattle.pst_value.specs.declared.class.Class.TheVariants.{Inline, Eight, Guid, Object, Open, Multi, Opaque}
+use Rattle.pst_value.specs.declared.hnid.Hnid.{Hnid}
+use Rattle.pst_value.specs.declared.hnid.Hnid.TheVariants.{Nothing, Item, Subnode}
 use Rattle.pst_value.specs.Class.{class_of}
-use Rattle.pst_value.specs.Values.{held_of, one_span, data_under, hnid_spans, some_spans, held_spans, value_spans}
+use Rattle.pst_value.specs.Hnid.{hnid_of}
+use Rattle.pst_value.specs.Values.{held_of, one_span, data_under, spans_under, hnid_spans, some_spans, held_spans, value_spans}
 use Rattle.pst_value.specs.Fault.{missing_at, is_length_of, is_length, length_fault, hnid_fault, value_held_fault, value_fault}
-use Rattle.pst_value.specs.Grammar.{HasHnid, HasLength, HasValueAs, HasValue}
+use Rattle.pst_value.specs.Grammar.{HasSpansUnder, HasHnid, HasLength, HasValueAs, HasValue}
 use Rattle.pst_value.specs.Laws.{ValueLaw, PlaceLaw}
 
 mapped_law : {X : Type 0} (f : X → List Span) (o : Option X) (spans : List Span) → ((s : X) × (o ≡ Some s) × (spans ≡ f s)) ↔ (option_map f o ≡ Some spans)
@@ -26,24 +29,14 @@ mapped_law f (Some x) spans = (
   (λ e. (x, refl, sym (some_is _ _ e))),
 )
 
+named_law : (t : Table) (r : Roots) (h : Hnid) (spans : List Span) → HasSpansUnder t r h spans ↔ (spans_under t r h ≡ Some spans)
+named_law t r Nothing spans = ((λ e. ap Some (sym e)), (λ e. sym (some_is _ _ e)))
+named_law t r (Item hid) spans = mapped_law one_span _ spans
+named_law t r (Subnode nid) spans = mapped_law (data_under t) _ spans
+
 pub hnid_law : (t : Table) (r : Roots) (hnid : ℕ) (spans : List Span) → HasHnid t r hnid spans ↔ (hnid_spans t r hnid ≡ Some spans)
 unfolding hnid_spans
-hnid_law t r hnid spans = elim (cases_eq hnid 0) [
-  | inl e ↦ (
-    (λ w. elim w [ inl a ↦ rw (eq-eqb _ _ e) (ap Some (sym a.1)) | inr b ↦ elim b [ inl c ↦ absurd (c.0 e) | inr c ↦ absurd (c.0 e) ] ]),
-    (λ h. inl (e, sym (some_is _ _ (rw (eq-eqb _ _ e) at h)))),
-  )
-  | inr n ↦ elim (cases_eq (hnid % 32) 0) [
-    | inl z ↦ (
-      (λ w. elim w [ inl a ↦ absurd (n a.0) | inr b ↦ elim b [ inl c ↦ rw (ne_eqb _ _ n, eq-eqb _ _ z) ((mapped_law one_span _ spans).0 c.2) | inr c ↦ absurd (c.1 z) ] ]),
-      (λ h. inr (inl (n, z, (mapped_law one_span _ spans).1 (rw (ne_eqb _ _ n, eq-eqb _ _ z) at h)))),
-    )
-    | inr y ↦ (
-      (λ w. elim w [ inl a ↦ absurd (n a.0) | inr b ↦ elim b [ inl c ↦ absurd (y c.1) | inr c ↦ rw (ne_eqb _ _ n, ne_eqb _ _ y) ((mapped_law (data_under t) _ spans).0 c.2) ] ]),
-      (λ h. inr (inr (n, y, (mapped_law (data_under t) _ spans).1 (rw (ne_eqb _ _ n, ne_eqb _ _ y) at h)))),
-    )
-  ]
-]
+hnid_law t r hnid spans = named_law t r (hnid_of hnid) spans
 
 or_law : (n : ℕ) (b : Bool) (B : Type 0) → B ↔ (b ≡ true) → ((n ≡ 0) ⊎ B) ↔ ((nat_eq n 0 || b) ≡ true)
 or_law n b B law = elim (cases_eq n 0) [
@@ -75,11 +68,11 @@ there_law missing part (Some x) spans = (
   (λ w. (ap Some (sym w.1), w.2)),
 )
 
-named_law : (t : Table) (r : Roots) (kind place named : ℕ) (spans : List Span) →
+named_value_law : (t : Table) (r : Roots) (kind place named : ℕ) (spans : List Span) →
     (HasHnid t r (num t.image named 4) spans × HasLength (class_of kind) (size_of spans))
     ↔ ((hnid_fault t r kind place named ≡ None) × (spans ≡ some_spans (hnid_spans t r (num t.image named 4))))
 unfolding hnid_fault
-named_law t r kind place named spans =
+named_value_law t r kind place named spans =
     let hnid = num t.image named 4 in
     let law = there_law (missing_at named hnid) (length_fault kind place) (hnid_spans t r hnid) spans in (
       (λ w.
@@ -97,7 +90,7 @@ named_law t r kind place named spans =
 
 as_law : (t : Table) (r : Roots) (kind place : ℕ) (raw : Span) (spans : List Span) (o : Option ℕ) →
     HasValueAs t r kind raw spans o ↔ ((value_held_fault t r kind place raw o ≡ None) × (spans ≡ held_spans t r raw o))
-as_law t r kind place raw spans None = named_law t r kind place raw.at spans
+as_law t r kind place raw spans None = named_value_law t r kind place raw.at spans
 as_law t r kind place raw spans (Some width) = ((λ w. (refl, w)), (λ w. w.1))
 
 pub value_law : ValueLaw

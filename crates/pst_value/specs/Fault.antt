@@ -1,10 +1,11 @@
 -- The first fault of the value of a property or a cell: that its HNID names nothing, then that its length is not its type's. It
 -- is told of no node here: whoever checks a node's context sets it.
-use Rattle.std.specs.Prelude.{ℕ, ◌%◌, Bool, true, ◌||◌, nat_eq, nat_le, List, Option, Some, None, if◌then◌else◌}
+use Rattle.std.specs.Prelude.{ℕ, Bool, true, ◌||◌, nat_eq, nat_le, List, Option, Some, None}
 use Rattle.pst_bytes.specs.declared.span.Span.{Span}
 use Rattle.pst_bytes.specs.Image.{num}
 use Rattle.pst_fault.specs.declared.fault.Fault.{Fault}
-use Rattle.pst_fault.specs.declared.kind.Kind.TheVariants.{HeapId, Subnode, Property}
+use Rattle.pst_fault.specs.declared.kind.Kind.{Kind}
+use Rattle.pst_fault.specs.declared.kind.Kind.TheVariants.{HeapId, Subnode as BadSubnode, Property}
 use Rattle.pst_fault.specs.Each.{there_or}
 use Rattle.pst_fault.specs.Fault.{fault_at}
 use Rattle.pst_fault.specs.First.{holds_or}
@@ -13,14 +14,22 @@ use Rattle.pst_datatree.specs.Data.{size_of}
 use Rattle.pst_ndb.specs.Roots.{Roots}
 use Rattle.pst_value.specs.declared.class.Class.{Class}
 use Rattle.pst_value.specs.declared.class.Class.TheVariants.{Inline, Eight, Guid, Object, Open, Multi, Opaque}
+use Rattle.pst_value.specs.declared.hnid.Hnid.{Hnid}
+use Rattle.pst_value.specs.declared.hnid.Hnid.TheVariants.{Nothing, Item, Subnode}
 use Rattle.pst_value.specs.Class.{class_of}
+use Rattle.pst_value.specs.Hnid.{hnid_of}
 use Rattle.pst_value.specs.Values.{held_of, hnid_spans}
 
 -- ---- what an HNID names
 
--- it names nothing; told at its four bytes
+-- there is no such item or subnode; told at its four bytes
+abbrev pub missing_kind : Hnid → Kind
+missing_kind Nothing = HeapId
+missing_kind (Item hid) = HeapId
+missing_kind (Subnode nid) = BadSubnode
+
 abbrev pub missing_at : ℕ → ℕ → Fault
-missing_at named hnid = if nat_eq (hnid % 32) 0 then fault_at HeapId named else fault_at Subnode named
+missing_at named hnid = fault_at (missing_kind (hnid_of hnid)) named
 
 -- ---- lengths
 

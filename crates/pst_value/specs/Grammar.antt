@@ -1,6 +1,6 @@
 -- The grammar of values: which spans the value of a property or a cell has ([MS-PST] 2.3.3.2, 2.3.3.3, 2.3.4.4.1). It speaks of no
 -- fault.
-use Rattle.std.specs.Prelude.{◌≡◌, ◌≢◌, ℕ, ◌%◌, ◌≤◌, ⊤, ◌⊎◌, List, [], Option, Some, None}
+use Rattle.std.specs.Prelude.{◌≡◌, ℕ, ◌≤◌, ⊤, ◌⊎◌, List, [], Option, Some, None}
 use Rattle.pst_bytes.specs.declared.span.Span.{Span}
 use Rattle.pst_bytes.specs.Image.{num}
 use Rattle.pst_block.specs.Table.{Table}
@@ -9,7 +9,10 @@ use Rattle.pst_ndb.specs.Roots.{Roots, subnode_of}
 use Rattle.pst_heap.specs.Values.{item_of, heap_at}
 use Rattle.pst_value.specs.declared.class.Class.{Class}
 use Rattle.pst_value.specs.declared.class.Class.TheVariants.{Inline, Eight, Guid, Object, Open, Multi, Opaque}
+use Rattle.pst_value.specs.declared.hnid.Hnid.{Hnid}
+use Rattle.pst_value.specs.declared.hnid.Hnid.TheVariants.{Nothing, Item, Subnode}
 use Rattle.pst_value.specs.Class.{class_of}
+use Rattle.pst_value.specs.Hnid.{hnid_of}
 use Rattle.pst_value.specs.Values.{held_of, one_span, front_of, data_under}
 
 -- an HNID that names an item of the heap, and one that names a subnode
@@ -20,11 +23,13 @@ abbrev pub HasSubnodeData : Table → Roots → ℕ → List Span → Type 0
 HasSubnodeData t r hnid spans = (s : Roots) × (subnode_of t r hnid ≡ Some s) × (spans ≡ data_under t s)
 
 -- what an HNID names: nothing, the empty value; an item; the data of a subnode
+abbrev pub HasSpansUnder : Table → Roots → Hnid → List Span → Type 0
+HasSpansUnder t r Nothing spans = spans ≡ []
+HasSpansUnder t r (Item hid) spans = HasItem t r hid spans
+HasSpansUnder t r (Subnode nid) spans = HasSubnodeData t r nid spans
+
 abbrev pub HasHnid : Table → Roots → ℕ → List Span → Type 0
-HasHnid t r hnid spans =
-    ((hnid ≡ 0) × (spans ≡ []))
-    ⊎ (((hnid ≢ 0) × (hnid % 32 ≡ 0) × HasItem t r hnid spans)
-    ⊎ ((hnid ≢ 0) × (hnid % 32 ≢ 0) × HasSubnodeData t r hnid spans))
+HasHnid t r hnid spans = HasSpansUnder t r (hnid_of hnid) spans
 
 -- a length that a class allows
 abbrev pub HasLength : Class → ℕ → Type 0

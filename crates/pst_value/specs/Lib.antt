@@ -1,4 +1,5 @@
 pub mod Class
+pub mod Hnid
 pub mod Values
 pub mod Fault
 pub mod Grammar

@@ -1,8 +1,6 @@
 -- The spans of the value of a property or a cell ([MS-PST] 2.3.3.2, 2.3.3.3, 2.3.4.4.1): bytes of its raw span itself, or what the
 -- HNID there names. Where an HNID names nothing there are none: the first fault tells it.
---
--- HNID, 4 bytes: 0, the empty value; with the low 5 bits 0, an item of the heap (HID); else the data of a subnode (NID).
-use Rattle.std.specs.Prelude.{ℕ, ◌%◌, nat_eq, nat_le, List, [], ◌∷◌, Option, Some, None, option_map, if◌then◌else◌}
+use Rattle.std.specs.Prelude.{ℕ, nat_eq, nat_le, List, [], ◌∷◌, Option, Some, None, option_map, if◌then◌else◌}
 use Rattle.pst_bytes.specs.declared.span.Span.{Span}
 use Rattle.pst_bytes.specs.Image.{num}
 use Rattle.pst_block.specs.Table.{Table}
@@ -12,6 +10,9 @@ use Rattle.pst_heap.specs.Values.{item_of, heap_at}
 use Rattle.pst_value.specs.declared.class.Class.{Class}
 use Rattle.pst_value.specs.declared.class.Class.TheVariants.{Inline, Eight, Guid, Object, Open, Multi, Opaque}
 use Rattle.pst_value.specs.Class.{class_of}
+use Rattle.pst_value.specs.declared.hnid.Hnid.{Hnid}
+use Rattle.pst_value.specs.declared.hnid.Hnid.TheVariants.{Nothing, Item, Subnode}
+use Rattle.pst_value.specs.Hnid.{hnid_of}
 
 -- ---- values in the raw span itself
 
@@ -43,12 +44,14 @@ one_span s = s ∷ []
 abbrev pub data_under : Table → Roots → List Span
 data_under t s = data_spans t s.bid_data
 
--- its spans; none where it names nothing
+-- its spans; none where there is no such item or subnode
+abbrev pub spans_under : Table → Roots → Hnid → Option (List Span)
+spans_under t r Nothing = Some []
+spans_under t r (Item hid) = option_map one_span (item_of (heap_at t r) hid)
+spans_under t r (Subnode nid) = option_map (data_under t) (subnode_of t r nid)
+
 unfoldable pub hnid_spans : Table → Roots → ℕ → Option (List Span)
-hnid_spans t r hnid =
-    if nat_eq hnid 0 then Some []
-    else if nat_eq (hnid % 32) 0 then option_map one_span (item_of (heap_at t r) hnid)
-    else option_map (data_under t) (subnode_of t r hnid)
+hnid_spans t r hnid = spans_under t r (hnid_of hnid)
 
 -- ---- the value
 

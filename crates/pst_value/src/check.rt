@@ -3,8 +3,7 @@
 ghost use Rattle.std.specs.Prelude.{◌≡◌, ◌+◌, ◌≤◌, length, IfOk, IfSome, Some, None, option_map};
 ghost use Rattle.pst_bytes.specs.Image.{num, IsInside};
 ghost use Rattle.pst_fault.specs.First.{Checks};
-ghost use Rattle.pst_datatree.specs.Data.{size_of};
-ghost use Rattle.pst_ndb.specs.Views.{table_of_node, roots_of, IsIndexedBy};
+ghost use Rattle.pst_ndb.specs.Views.{table_of_node, roots_of};
 ghost use Rattle.pst_heap.specs.Fault.{told_of as told};
 ghost use Rattle.pst_heap.specs.View.{node_of, data_of, file_of_heap};
 ghost use Rattle.pst_heap.specs.Items.{heap_of_items, node_of_items, data_of_items};
@@ -13,13 +12,14 @@ ghost use Rattle.pst_value.specs.Values.{held_of, hnid_spans, value_spans};
 ghost use Rattle.pst_value.specs.View.{IsValue, IsValueOf};
 
 use crate::class::Class;
-use crate::named::{missing_at, value_named};
+use crate::hnid::missing_at;
+use crate::named::{named_len, value_named};
 use crate::prop_type::PropType;
 use pst_bytes::Span;
 use pst_datatree::{Value, value_at};
 use pst_fault::{Fault, Kind};
 use pst_heap::{Heap, Items, told_of};
-use pst_ndb::{Node, SubIndex};
+use pst_ndb::Node;
 
 // How many bytes of a raw span with so many are the value; None where an HNID stands there.
 #[tactic(auto, unfolding(crate::specs::Values::held_of))]
@@ -58,68 +58,35 @@ fn has_length(kind: PropType, len: u64) -> bool
 
 // The value that the HNID at `named` names, told of no node.
 #[tactic(auto, unfolding(crate::specs::Fault::hnid_fault))]
-fn hnid_value<'a>(
-    items: &mut Items<'a>,
-    index: &SubIndex,
-    kind: PropType,
-    place: u64,
-    named: u64,
-) -> Result<Value<'a>, Fault>
-    requires index { IsIndexedBy (node_of_items items.old) index.now }
-    requires inside { named + 4 ≤ length (data_of_items items.old).image }
+fn hnid_value<'a>(items: &mut Items<'a>, kind: PropType, named: u64) -> Result<Value<'a>, Fault>
+    requires { named + 4 ≤ length (data_of_items items.old).image }
     ensures exact { let node = node_of_items items.old in
-        Checks result (hnid_fault (table_of_node node) (roots_of node) kind.0 place named) }
+        Checks result (hnid_fault (table_of_node node) (roots_of node) kind.0 named named) }
     ensures value { let heap = heap_of_items items.old in let t = table_of_node (node_of heap) in
         let spans = hnid_spans t (roots_of (node_of heap)) (num t.image named 4) in
         IfOk result (λ v. IsValueOf (file_of_heap heap) spans (Some v)) }
     ensures heap { heap_of_items items.new ≡ heap_of_items items.old }
 {
     let hnid = items.heap().image().number32(named);
-    let Some(value) = value_named(items, index, hnid) else {
+    let Some(value) = value_named(items, hnid) else {
         return Err(missing_at(named, hnid));
     };
     if !has_length(kind, value.len()) {
-        return Err(Fault::at(Kind::Property, place));
+        return Err(Fault::at(Kind::Property, named));
     }
     Ok(value)
 }
 
-// How many bytes what an HNID names has; None exactly where it names nothing. No value is made of an item of the heap.
-#[tactic(auto, unfolding(crate::specs::Values::hnid_spans))]
-fn named_len(items: &mut Items, index: &SubIndex, hnid: u32) -> Option<u64>
-    requires { IsIndexedBy (node_of_items items.old) index.now }
-    ensures value { let node = node_of_items items.old in
-        result ≡ option_map size_of (hnid_spans (table_of_node node) (roots_of node) hnid) }
-    ensures heap { heap_of_items items.new ≡ heap_of_items items.old }
-{
-    if hnid == 0 {
-        return Some(0);
-    }
-    if hnid % 32 == 0 {
-        let span = items.item_span(hnid)?;
-        return Some(span.len);
-    }
-    let sub = items.heap().node().sub_by(index, hnid)?;
-    Some(sub.bytes().len())
-}
-
 // Checks the value that the HNID at `named` names, told of no node.
 #[tactic(auto, unfolding(crate::specs::Fault::hnid_fault))]
-fn check_hnid(
-    items: &mut Items,
-    index: &SubIndex,
-    kind: PropType,
-    place: u64,
-    named: u64,
-) -> Result<(), Fault>
-    requires index { IsIndexedBy (node_of_items items.old) index.now }
-    requires inside { named + 4 ≤ length (data_of_items items.old).image }
+fn check_hnid(items: &mut Items, kind: PropType, place: u64, named: u64) -> Result<(), Fault>
+    requires { named + 4 ≤ length (data_of_items items.old).image }
     ensures exact { let node = node_of_items items.old in
         Checks result (hnid_fault (table_of_node node) (roots_of node) kind.0 place named) }
     ensures heap { heap_of_items items.new ≡ heap_of_items items.old }
 {
     let hnid = items.heap().image().number32(named);
-    match named_len(items, index, hnid) {
+    match named_len(items, hnid) {
         None => Err(missing_at(named, hnid)),
         Some(len) if has_length(kind, len) => Ok(()),
         Some(_) => Err(Fault::at(Kind::Property, place)),
@@ -128,18 +95,11 @@ fn check_hnid(
 
 // The value of a type in a raw span, told of no node.
 #[tactic(auto, unfolding(crate::specs::Fault::value_fault, crate::specs::Values::value_spans))]
-fn raw_value<'a>(
-    heap: &Heap<'a>,
-    index: &SubIndex,
-    kind: PropType,
-    place: u64,
-    raw: Span,
-) -> Result<Value<'a>, Fault>
-    requires index { IsIndexedBy (node_of heap.now) index.now }
+fn raw_value<'a>(heap: &Heap<'a>, kind: PropType, raw: Span) -> Result<Value<'a>, Fault>
     requires inside { IsInside (data_of heap.now).image raw }
     requires hnid { held_of kind.0 raw.len ≡ None → 4 ≤ raw.len }
     ensures exact { let node = node_of heap.now in
-        Checks result (value_fault (table_of_node node) (roots_of node) kind.0 place raw) }
+        Checks result (value_fault (table_of_node node) (roots_of node) kind.0 raw.at raw) }
     ensures value { let node = node_of heap.now in
         let spans = value_spans (table_of_node node) (roots_of node) kind.0 raw in
         IfOk result (IsValue (file_of_heap heap.now) spans) }
@@ -154,48 +114,16 @@ fn raw_value<'a>(
         }
         None => {
             let mut items = Items::of(*heap);
-            hnid_value(&mut items, index, kind, place, raw.at)
+            hnid_value(&mut items, kind, raw.at)
         }
     }
 }
 
-/// The value of a type in a raw span, as `resolve_at` gives it, a subnode found by an index of the subnodes of the heap's node.
-pub fn resolve_by<'a>(
-    heap: &Heap<'a>,
-    index: &SubIndex,
-    kind: PropType,
-    place: u64,
-    raw: Span,
-) -> Result<Value<'a>, Fault>
-    requires index { IsIndexedBy (node_of heap.now) index.now }
-    requires inside { IsInside (data_of heap.now).image raw }
-    requires hnid { held_of kind.0 raw.len ≡ None → 4 ≤ raw.len }
-
-    // The value, or the first fault.
-    ensures exact { let node = node_of heap.now in
-        let first = value_fault (table_of_node node) (roots_of node) kind.0 place raw in
-        Checks result (option_map (told node) first) }
-    ensures value { let node = node_of heap.now in
-        let spans = value_spans (table_of_node node) (roots_of node) kind.0 raw in
-        IfOk result (IsValue (file_of_heap heap.now) spans) }
-{
-    match raw_value(heap, index, kind, place, raw) {
-        Ok(value) => Ok(value),
-        Err(fault) => Err(told_of(&heap.node(), fault)),
-    }
-}
-
-/// Checks the value of a type in a raw span as `resolve_by` does, of items of a heap that are kept, and gives none: a value that
-/// stands in the raw span itself costs no look-up, nor does one in the span of the heap in which an item was found last.
+/// Checks the value of a type in a raw span as `resolve` does, of items of a heap that are kept, and gives none: a value that
+/// stands in the raw span itself costs no look-up, nor does one in the span of the heap in which an item was found last. Property
+/// is told at `place`, where the record or the cell begins that has the raw span.
 #[tactic(auto, unfolding(crate::specs::Fault::value_fault))]
-pub fn check_value_by(
-    items: &mut Items,
-    index: &SubIndex,
-    kind: PropType,
-    place: u64,
-    raw: Span,
-) -> Result<(), Fault>
-    requires index { IsIndexedBy (node_of_items items.old) index.now }
+pub fn check_value(items: &mut Items, kind: PropType, place: u64, raw: Span) -> Result<(), Fault>
     requires inside { IsInside (data_of_items items.old).image raw }
     requires hnid { held_of kind.0 raw.len ≡ None → 4 ≤ raw.len }
     ensures exact { let node = node_of_items items.old in
@@ -206,32 +134,10 @@ pub fn check_value_by(
     if held(kind, raw.len).is_some() {
         return Ok(());
     }
-    match check_hnid(items, index, kind, place, raw.at) {
+    match check_hnid(items, kind, place, raw.at) {
         Ok(()) => Ok(()),
         Err(fault) => Err(told_of(&items.heap().node(), fault)),
     }
-}
-
-/// The value of a type in a raw span, as `resolve` gives it; Property is told at `place`, where the record or the cell begins
-/// that has the raw span.
-pub fn resolve_at<'a>(
-    heap: &Heap<'a>,
-    kind: PropType,
-    place: u64,
-    raw: Span,
-) -> Result<Value<'a>, Fault>
-    requires inside { IsInside (data_of heap.now).image raw }
-    requires hnid { held_of kind.0 raw.len ≡ None → 4 ≤ raw.len }
-
-    // The value, or the first fault.
-    ensures exact { let node = node_of heap.now in
-        let first = value_fault (table_of_node node) (roots_of node) kind.0 place raw in
-        Checks result (option_map (told node) first) }
-    ensures value { let node = node_of heap.now in
-        let spans = value_spans (table_of_node node) (roots_of node) kind.0 raw in
-        IfOk result (IsValue (file_of_heap heap.now) spans) }
-{
-    resolve_by(heap, &SubIndex::none(), kind, place, raw)
 }
 
 /// The value of a property or of a cell ([MS-PST] 2.3.3.3, 2.3.4.4.1), whose type and raw span are these, in the node whose heap
@@ -261,10 +167,14 @@ pub fn resolve<'a>(
         let spans = value_spans t (roots_of node.entry) kind.0 raw in
         IfOk result (IsValue (file_of_heap heap.now) spans) }
 {
-    resolve_at(heap, kind, raw.at, raw)
+    match raw_value(heap, kind, raw) {
+        Ok(value) => Ok(value),
+        Err(fault) => Err(told_of(&node, fault)),
+    }
 }
 
 /// The value of a type in a raw span that is known to have one.
+#[tactic(auto, using(crate::proofs::ValueLaws::place_law))]
 pub fn known_value<'a>(heap: &Heap<'a>, kind: PropType, raw: Span) -> Value<'a>
     requires inside { IsInside (data_of heap.now).image raw }
     requires hnid { held_of kind.0 raw.len ≡ None → 4 ≤ raw.len }
@@ -274,7 +184,7 @@ pub fn known_value<'a>(heap: &Heap<'a>, kind: PropType, raw: Span) -> Value<'a>
         let spans = value_spans (table_of_node node) (roots_of node) kind.0 raw in
         IsValue (file_of_heap heap.now) spans result }
 {
-    match raw_value(heap, &SubIndex::none(), kind, 0, raw) {
+    match raw_value(heap, kind, raw) {
         Ok(value) => value,
         Err(_) => unreachable!(),
     }

@@ -1,5 +1,6 @@
 pub mod CellLemmas
 pub mod HexLemmas
+pub mod PartLemmas
 pub mod PlainLemmas
 pub mod PropLemmas
 pub mod RowLemmas

@@ -1,13 +1,18 @@
 -- The rows of a table as a document, with the cells that they have ([MS-PST] 2.3.4).
-use Rattle.std.specs.Prelude.{ℕ, Bool, ◌%◌, nat_eq, List, [], ◌∷◌, ◌++◌, Option, Some, None, option_map, codes, if◌then◌else◌}
+use Rattle.std.specs.Prelude.{ℕ, Bool, ◌%◌, nat_eq, List, [], ◌∷◌, ◌++◌, Option, Some, None, option_map, map, codes, if◌then◌else◌}
 use Rattle.std.specs.List.{list_any}
 use Rattle.serde_json.specs.Data.{Data, string, object, member, no_members}
 use Rattle.pst_block.specs.Table.{Table}
 use Rattle.pst_datatree.specs.Spans.{joined_bytes}
 use Rattle.pst_ndb.specs.Roots.{Roots}
+use Rattle.pst_ndb.specs.Views.{table_of_node, roots_of}
 use Rattle.pst_value.specs.Class.{cell_width_of}
 use Rattle.pst_tc.specs.Info.{has_width}
+use Rattle.pst_tc.specs.Left.{tc_left, tc_rows_left}
+use Rattle.pst_tc.specs.Tc.{node_of_tc}
+use Rattle.pst_tc.specs.View.{column_of}
 use Rattle.pst_tc.specs.Values.{ColumnParts, RowParts, tc_cell, tc_columns}
+use Rattle.pst_value_json.specs.declared.cells.TableRows.{TableRows}
 use Rattle.pst_value_json.specs.Names.{nid_data, tag_text}
 use Rattle.pst_value_json.specs.Parts.{list_data}
 use Rattle.pst_value_json.specs.Value.{value_data, hex_data}
@@ -77,3 +82,9 @@ row_data t r columns x =
 -- a row of the table context of a node, with its cells in all columns that are shown
 abbrev pub table_row_data : Table → Roots → RowParts → Data
 table_row_data t r = row_data t r (distinct_columns (tc_columns t r))
+
+-- the rows that are left, with the cells in the columns that are shown
+unfoldable pub table_rows_left : TableRows → List Data
+table_rows_left x =
+    let node = node_of_tc (tc_left x.rows) in
+    map (row_data (table_of_node node) (roots_of node) (map column_of x.columns.items)) (tc_rows_left x.rows)

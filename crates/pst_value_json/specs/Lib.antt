@@ -6,5 +6,8 @@ pub mod Form
 pub mod Value
 pub mod Props
 pub mod Cells
+pub mod Rows
+pub mod Made
+pub mod Object
 pub use Rattle.pst_pc.specs as pst_pc
 pub use Rattle.pst_tc.specs as pst_tc

@@ -1,6 +1,8 @@
 -- The documents of properties.
-use Rattle.std.specs.Prelude.{codes}
+use Rattle.std.specs.Prelude.{List, map, codes}
 use Rattle.serde_json.specs.Data.{Data, string, object, member, no_members}
+use Rattle.pst_pc.specs.declared.props.Props.{Props}
+use Rattle.pst_pc.specs.Left.{props_left}
 use Rattle.pst_pc.specs.Values.{Property}
 use Rattle.pst_value_json.specs.Names.{id_text}
 use Rattle.pst_value_json.specs.Value.{value_data}
@@ -13,3 +15,7 @@ prop_data p =
     (member (codes "type") (string (id_text p.kind))
     (member (codes "value") (value_data p.kind p.bytes)
     no_members)))
+
+-- the properties that are left
+abbrev pub prop_rows : Props → List Data
+prop_rows props = map prop_data (props_left props)

@@ -1,22 +1,21 @@
 //! The rows of a table as documents, with the cells that they have.
 
-ghost use Rattle.std.specs.Prelude.{◌≡◌, ◌++◌, false, IfOk, OnOk, map, option_map};
+ghost use Rattle.std.specs.Prelude.{◌≡◌, ◌++◌, IfOk, OnOk, map, option_map};
 ghost use Rattle.serde_json.specs.View.{view};
 ghost use Rattle.pst_datatree.specs.Shown.{bytes_in};
 ghost use Rattle.pst_ndb.specs.Views.{table_of_node, roots_of};
 ghost use Rattle.pst_tc.specs.Left.{columns_left};
 ghost use Rattle.pst_tc.specs.Tc.{node_of_tc};
-ghost use Rattle.pst_tc.specs.Values.{tc_columns, tc_rows};
+ghost use Rattle.pst_tc.specs.Values.{tc_rows};
 ghost use Rattle.pst_tc.specs.View.{column_of, row_parts, tc_of_row};
-ghost use Rattle.pst_value_json.specs.Cells.{has_tag, distinct_columns, cell_with, cell_in, cell_bytes, cell_value, cell_data, cells_of, row_data, table_row_data};
-ghost use Rattle.pst_value_json.specs.Line.{rows_text};
+ghost use Rattle.pst_value_json.specs.Cells.{has_tag, distinct_columns, cell_with, cell_in, cell_bytes, cell_value, cell_data, cells_of, row_data, table_row_data, table_rows_left};
 ghost use Rattle.pst_value_json.specs.Parts.{list_data};
 
-use crate::compact::put_row;
+use crate::listing::{self, list_doc};
 use crate::names::{nid_text, tag_text};
 use crate::value::{hex_doc, value_doc};
 use pst_datatree::Value;
-use pst_tc::{Column, Columns, Row, Tc};
+use pst_tc::{Column, Columns, Row, Rows, Tc};
 use pst_value::PropType;
 use serde_json::{Value as Doc, json};
 use std::alloc::{AllocError, Global};
@@ -125,6 +124,38 @@ fn row_doc(alloc: Global, row: Row, columns: &[Column]) -> Result<Doc, AllocErro
     json!(in alloc; {"cells": cells, "row": id})
 }
 
+/// The rows of a table that are left, with the columns that are shown of each.
+#[derive(Drop)]
+pub struct TableRows<'a> {
+    rows: Rows<'a>,
+    columns: Vec<Column>,
+}
+
+/// All rows of a table.
+#[tactic(auto, unfolding(crate::specs::Cells::table_rows_left))]
+pub fn table_rows<'a>(alloc: Global, tc: &Tc<'a>) -> Result<TableRows<'a>, AllocError>
+    ensures { let node = node_of_tc tc.now in let t = table_of_node node in let r = roots_of node in
+        IfOk result (λ rows. table_rows_left rows ≡ map (table_row_data t r) (tc_rows t r)) }
+{
+    let columns = shown_columns(alloc, tc.columns())?;
+    Ok(TableRows {
+        rows: tc.rows(),
+        columns,
+    })
+}
+
+#[tactic(auto, unfolding(crate::specs::Cells::table_rows_left), using(crate::proofs::CellLemmas::row_has_none))]
+impl listing::Rows for TableRows<'_> {
+    ghost left = { table_rows_left };
+
+    fn next_doc(&mut self, alloc: Global) -> Result<Option<Doc>, AllocError> {
+        match self.rows.next() {
+            Some(row) => Ok(Some(row_doc(alloc, row, &self.columns)?)),
+            None => Ok(None),
+        }
+    }
+}
+
 /// The rows of a table as a JSON array of objects, in order of their identifiers, each with its cells, in order of the
 /// columns, and its identifier. Cells that a row has not, and columns whose tag an earlier one has, are left out. A cell
 /// has the tag of its column, and its value, as `value_doc` gives it, or, in a column that has not the width of its type,
@@ -133,28 +164,5 @@ pub fn table_doc(alloc: Global, tc: &Tc) -> Result<Doc, AllocError>
     ensures { let node = node_of_tc tc.now in let t = table_of_node node in let r = roots_of node in
         IfOk result (λ d. view d ≡ list_data (table_row_data t r) (tc_rows t r)) }
 {
-    let columns = shown_columns(alloc, tc.columns())?;
-    let mut docs = Vec::new(alloc);
-    for row in tc.rows() {
-        docs.push(row_doc(alloc, row, &columns)?)?;
-    }
-    Ok(Doc::from(docs))
-}
-
-/// Puts the rows of a table and the bracket that closes their list behind a text.
-#[tactic(auto, using(crate::proofs::RowLemmas::put_next, crate::proofs::RowLemmas::put_end, crate::proofs::CellLemmas::row_has_none))]
-pub fn put_table(alloc: Global, tc: &Tc, text: &mut Vec<u8>) -> Result<(), AllocError>
-    ensures { let node = node_of_tc tc.now in let t = table_of_node node in let r = roots_of node in
-        OnOk result (text.new.items ≡ text.old.items ++ rows_text (table_row_data t r) false
-        (tc_rows t r)) }
-{
-    let columns = shown_columns(alloc, tc.columns())?;
-    let mut later = false;
-    for row in tc.rows() {
-        let doc = row_doc(alloc, row, &columns)?;
-        put_row(alloc, &doc, later, text)?;
-        later = true;
-    }
-    text.push(b']')?;
-    Ok(())
+    list_doc(alloc, table_rows(alloc, tc)?)
 }

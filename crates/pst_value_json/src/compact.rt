@@ -4,10 +4,7 @@ ghost use Rattle.std.specs.Prelude.{◌≡◌, ◌++◌, IfOk, OnOk, false};
 ghost use Rattle.serde_json.specs.View.{view};
 ghost use Rattle.serde_json.specs.Written.{compact_text, comma_if, has_float};
 ghost use Rattle.pst_value_json.specs.Line.{line_of, row_text};
-ghost use Rattle.pst_value_json.specs.Names.{nid_data};
-ghost use Rattle.pst_value_json.specs.Parts.{natural};
 
-use crate::names::nid_text;
 use serde_json::Value as Doc;
 use std::alloc::{AllocError, Global};
 
@@ -23,7 +20,7 @@ pub fn text(alloc: Global, doc: &Doc) -> Result<Vec<u8>, AllocError>
 }
 
 /// The line that shows a document, which has no floating-point number.
-pub fn line(alloc: Global, doc: &Doc) -> Result<Vec<u8>, AllocError>
+pub fn line_text(alloc: Global, doc: &Doc) -> Result<Vec<u8>, AllocError>
     requires { has_float (view doc.now) ≡ false }
     ensures { IfOk result (λ t. t.items ≡ line_of (view doc.now)) }
 {
@@ -31,7 +28,7 @@ pub fn line(alloc: Global, doc: &Doc) -> Result<Vec<u8>, AllocError>
 }
 
 /// Puts a comma behind a text where something stands there.
-pub fn put_comma(later: bool, text: &mut Vec<u8>) -> Result<(), AllocError>
+pub(crate) fn put_comma(later: bool, text: &mut Vec<u8>) -> Result<(), AllocError>
     ensures { OnOk result (text.new.items ≡ text.old.items ++ comma_if later) }
 {
     if later {
@@ -41,7 +38,7 @@ pub fn put_comma(later: bool, text: &mut Vec<u8>) -> Result<(), AllocError>
 }
 
 /// Puts the text of a document behind a text.
-pub fn put_doc(alloc: Global, doc: &Doc, text: &mut Vec<u8>) -> Result<(), AllocError>
+pub(crate) fn put_doc(alloc: Global, doc: &Doc, text: &mut Vec<u8>) -> Result<(), AllocError>
     requires { has_float (view doc.now) ≡ false }
     ensures { OnOk result (text.new.items ≡ text.old.items ++ compact_text (view doc.now)) }
 {
@@ -50,24 +47,14 @@ pub fn put_doc(alloc: Global, doc: &Doc, text: &mut Vec<u8>) -> Result<(), Alloc
     Ok(())
 }
 
-/// Puts a number behind a text.
-pub fn put_natural(alloc: Global, n: u64, text: &mut Vec<u8>) -> Result<(), AllocError>
-    ensures { OnOk result (text.new.items ≡ text.old.items ++ compact_text (natural n)) }
-{
-    put_doc(alloc, &Doc::from(n), text)
-}
-
-/// Puts a node's identifier behind a text.
-pub fn put_nid(alloc: Global, nid: u32, text: &mut Vec<u8>) -> Result<(), AllocError>
-    ensures { OnOk result (text.new.items ≡ text.old.items ++ compact_text (nid_data nid)) }
-{
-    let doc = Doc::from(nid_text(alloc, nid)?);
-    put_doc(alloc, &doc, text)
-}
-
 /// Puts an item of a list behind a text, and a comma before it where others stand there.
 #[tactic(auto, unfolding(crate::specs::Line::row_text))]
-pub fn put_row(alloc: Global, doc: &Doc, later: bool, text: &mut Vec<u8>) -> Result<(), AllocError>
+pub(crate) fn put_row(
+    alloc: Global,
+    doc: &Doc,
+    later: bool,
+    text: &mut Vec<u8>,
+) -> Result<(), AllocError>
     requires { has_float (view doc.now) ≡ false }
     ensures { OnOk result (text.new.items ≡ text.old.items ++ row_text (view doc.now) later) }
 {

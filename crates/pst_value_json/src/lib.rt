@@ -1,31 +1,40 @@
-//! Values as JSON: of properties and of cells, the lists of both, and the texts that longer documents are put together of.
+//! Values as JSON: of properties and of cells, the lists of both, and the sinks that longer documents go to.
 //!
 //! Begin with `value_doc`, which gives the JSON value of a property's value, by its type; `pc_doc` gives the properties of a
-//! property context, and `table_doc` the rows of a table. `text` is the line of a document. A list whose text is not kept
-//! twice is put behind a text item by item, as `put_props` and `put_table` do:
+//! property context, and `table_doc` the rows of a table. A document of several lists is made once, of its parts, and becomes
+//! a tree or a line by the sink that it is made for:
 //!
 //! ```text
-//! let mut line = Vec::new(alloc);
-//! line.push(b'[')?;
-//! put_props(alloc, pc.props(), &mut line)?;
-//! line.push(b'\n')?;
+//! fn shown_node<S: Sink>(alloc: Global, nid: u32, pc: &Pc) -> Result<S::Out, AllocError> {
+//!     let parts = vec![in alloc;
+//!         Part::Value("nid", Made::Nid(Some(nid))),
+//!         Part::Rows("props", pc.props()),
+//!     ]?;
+//!     S::object(alloc, parts)
+//! }
 //! ```
 #![tactic(auto)]
 
 mod cells;
 mod compact;
 mod form;
+mod listing;
 mod names;
+mod parts;
 mod props;
 mod scalar;
+mod sinks;
 mod value;
 
-pub use cells::{put_table, table_doc};
-pub use compact::{line, put_comma, put_doc, put_natural, put_nid, put_row, text};
-pub use names::{nid_or_null_doc, nid_text};
-pub use props::{pc_doc, put_props};
-pub use pst_pc::{Pc, check_pc};
-pub use pst_tc::{Row, Rows, Tc, check_tc, tc_ids_rise};
+pub use cells::{TableRows, table_doc, table_rows};
+pub use compact::{line_text, text};
+pub use listing::Rows;
+pub use names::nid_text;
+pub use parts::{Made, Part};
+pub use props::pc_doc;
+pub use pst_pc::{Pc, Props, check_pc};
+pub use pst_tc::{Row, Rows as TcRows, Tc, check_tc, tc_ids_rise};
 pub use pst_value::PropType;
 pub use scalar::text_doc;
+pub use sinks::{Line, Sink, Tree, put_object};
 pub use value::{hex_doc, value_doc};

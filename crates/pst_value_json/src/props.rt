@@ -1,16 +1,14 @@
 //! Properties as documents.
 
-ghost use Rattle.std.specs.Prelude.{◌≡◌, ◌++◌, IfOk, OnOk, false};
+ghost use Rattle.std.specs.Prelude.{◌≡◌, IfOk};
 ghost use Rattle.serde_json.specs.View.{view};
 ghost use Rattle.pst_ndb.specs.Views.{table_of_node, roots_of};
-ghost use Rattle.pst_pc.specs.Left.{props_left};
 ghost use Rattle.pst_pc.specs.Values.{props_of};
 ghost use Rattle.pst_pc.specs.View.{node_of_pc, property_of};
-ghost use Rattle.pst_value_json.specs.Line.{rows_text};
 ghost use Rattle.pst_value_json.specs.Parts.{list_data};
-ghost use Rattle.pst_value_json.specs.Props.{prop_data};
+ghost use Rattle.pst_value_json.specs.Props.{prop_data, prop_rows};
 
-use crate::compact::put_row;
+use crate::listing::{Rows, list_doc};
 use crate::names::id_text;
 use crate::value::value_doc;
 use pst_pc::{Pc, Prop, Props};
@@ -28,15 +26,16 @@ fn prop_doc(alloc: Global, prop: Prop) -> Result<Doc, AllocError>
     json!(in alloc; {"id": id, "type": kind, "value": value})
 }
 
-// Properties as a list of objects.
-fn list_doc(alloc: Global, props: Props) -> Result<Doc, AllocError>
-    ensures { IfOk result (λ d. view d ≡ list_data prop_data (props_left props.entry)) }
-{
-    let mut docs = Vec::new(alloc);
-    for prop in props {
-        docs.push(prop_doc(alloc, prop)?)?;
+#[tactic(auto, using(crate::proofs::PropLemmas::prop_has_none))]
+impl Rows for Props<'_> {
+    ghost left = { prop_rows };
+
+    fn next_doc(&mut self, alloc: Global) -> Result<Option<Doc>, AllocError> {
+        match self.next() {
+            Some(prop) => Ok(Some(prop_doc(alloc, prop)?)),
+            None => Ok(None),
+        }
     }
-    Ok(Doc::from(docs))
 }
 
 /// The properties of a property context as a JSON array of objects, in order of their identifiers, each with its
@@ -47,20 +46,4 @@ pub fn pc_doc(alloc: Global, pc: &Pc) -> Result<Doc, AllocError>
         ≡ list_data prop_data (props_of (table_of_node node) (roots_of node))) }
 {
     list_doc(alloc, pc.props())
-}
-
-/// Puts properties and the bracket that closes their list behind a text.
-#[tactic(auto, using(crate::proofs::RowLemmas::put_next, crate::proofs::RowLemmas::put_end, crate::proofs::PropLemmas::prop_has_none))]
-pub fn put_props(alloc: Global, props: Props, text: &mut Vec<u8>) -> Result<(), AllocError>
-    ensures { OnOk result (text.new.items ≡
-        text.old.items ++ rows_text prop_data false (props_left props.entry)) }
-{
-    let mut later = false;
-    for prop in props {
-        let doc = prop_doc(alloc, prop)?;
-        put_row(alloc, &doc, later, text)?;
-        later = true;
-    }
-    text.push(b']')?;
-    Ok(())
 }

@@ -1,7 +1,8 @@
 //! The check of a whole file: whether it is a store.
 //!
 //! Begin with `verify`, and with pst_store's `specs/Grammar.antt`, the page that says what a store is. `verify` gives
-//! the store that bytes are, with what is reported of it, or their first fault:
+//! the store that bytes are, with what is reported of it, or their first fault; `look_ups_are_of_the_store` says what each later
+//! look-up answers then:
 //!
 //! ```
 //! let verified = verify(alloc, bytes)?;
@@ -12,9 +13,11 @@
 
 mod check;
 mod counts;
+mod laws;
 mod report;
 
 pub use check::{Verified, verify};
+pub use laws::look_ups_are_of_the_store;
 pub use pst_store::{
     Attachment, Attachments, FOLDER, Folder, Folders, Message, Store, is_message, is_type,
 };

@@ -6,16 +6,54 @@ use pst_ask::{Ask, Lack, NoOrder, Order, parse, read_nid};
 use std::process::Abort;
 use std::test::Fail;
 
-// Compares what words ask for.
+// Compares what words ask for, of a file as it is.
 fn is_asked<R: Abort + AllocGlobal>(
     rt: &R,
     words: &[&str],
     ask: Ask,
     file: &str,
 ) -> Result<(), Fail> {
+    let decode = false;
+    is_order(rt, words, Order { ask, decode, file })
+}
+
+// Compares what words ask for.
+fn is_order<R: Abort + AllocGlobal>(
+    rt: &R,
+    words: &[&str],
+    expected: Order<'_>,
+) -> Result<(), Fail> {
     let words = words_of(rt.alloc(), words)?;
     let order = parse(rt.alloc(), &words).map_err(|_| "refused")?;
-    is(rt, order, Order { ask, file });
+    is(rt, order, expected);
+    Ok(())
+}
+
+#[test]
+fn each_command_takes_a_file_that_is_decoded_first(rt: HostRuntime) -> Result<(), Fail> {
+    let (file, decode) = ("a.pst", true);
+    for (words, ask) in [
+        (&["check", "--decode", "a.pst"][..], Ask::Check(false)),
+        (
+            &["check", "a.pst", "--decode", "--strict"],
+            Ask::Check(true),
+        ),
+        (
+            &["check", "--strict", "--decode", "a.pst"],
+            Ask::Check(true),
+        ),
+        (&["head", "--decode", "a.pst"], Ask::Head),
+        (&["nodes", "a.pst", "--decode"], Ask::Nodes),
+        (&["folders", "--decode", "--", "a.pst"], Ask::Folders),
+        (
+            &["contents", "--decode", "a.pst", "0x8082"],
+            Ask::Contents(0x8082),
+        ),
+        (&["props", "a.pst", "--decode", "0x21"], Ask::Props(0x21)),
+        (&["props", "a.pst", "0x21", "--decode"], Ask::Props(0x21)),
+    ] {
+        is_order(&rt, words, Order { ask, decode, file })?;
+    }
     Ok(())
 }
 

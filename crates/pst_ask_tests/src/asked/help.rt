@@ -47,6 +47,7 @@ Arguments:
 
 Options:
       --strict  Ends with status 1 where space is lost, too
+      --decode  Decodes an encoded file first, in memory
   -h, --help    Print help
 
 Checks the whole file, and prints how many pages, blocks, nodes, folders and messages
@@ -66,13 +67,14 @@ Exit status:
         "head",
         "Shows the fields of the header
 
-Usage: pst_show head <FILE>
+Usage: pst_show head [OPTIONS] <FILE>
 
 Arguments:
   <FILE>  The file to read, or - for standard input
 
 Options:
-  -h, --help  Print help
+      --decode  Decodes an encoded file first, in memory
+  -h, --help    Print help
 
 Prints the fields of the header, and looks at nothing else.
 
@@ -88,13 +90,14 @@ Exit status:
         "nodes",
         "Lists the nodes
 
-Usage: pst_show nodes <FILE>
+Usage: pst_show nodes [OPTIONS] <FILE>
 
 Arguments:
   <FILE>  The file to read, or - for standard input
 
 Options:
-  -h, --help  Print help
+      --decode  Decodes an encoded file first, in memory
+  -h, --help    Print help
 
 Checks the header and both B-trees, but no block, and prints of each node its
 identifier, that of its parent, and those of the blocks of its data and its subnodes.
@@ -111,13 +114,14 @@ Exit status:
         "folders",
         "Lists the folders
 
-Usage: pst_show folders <FILE>
+Usage: pst_show folders [OPTIONS] <FILE>
 
 Arguments:
   <FILE>  The file to read, or - for standard input
 
 Options:
-  -h, --help  Print help
+      --decode  Decodes an encoded file first, in memory
+  -h, --help    Print help
 
 Checks the whole file, and prints of each folder its identifier and its name, the
 identifiers of its subfolders, how many messages are in it, and how many belong to the
@@ -135,14 +139,15 @@ Exit status:
         "contents",
         "Lists the messages of a folder
 
-Usage: pst_show contents <FILE> <NID>
+Usage: pst_show contents [OPTIONS] <FILE> <NID>
 
 Arguments:
   <FILE>  The file to read, or - for standard input
   <NID>   The identifier of a node, as 0x122
 
 Options:
-  -h, --help  Print help
+      --decode  Decodes an encoded file first, in memory
+  -h, --help    Print help
 
 Checks the whole file, and prints of each message in the folder NID its identifier,
 its class, its sender and its subject.
@@ -159,14 +164,15 @@ Exit status:
         "props",
         "Shows the properties of a node
 
-Usage: pst_show props <FILE> <NID>
+Usage: pst_show props [OPTIONS] <FILE> <NID>
 
 Arguments:
   <FILE>  The file to read, or - for standard input
   <NID>   The identifier of a node, as 0x122
 
 Options:
-  -h, --help  Print help
+      --decode  Decodes an encoded file first, in memory
+  -h, --help    Print help
 
 Checks the whole file, and prints of each property of the node NID its identifier, its
 type and its value; of a message also the attachments and the recipients.

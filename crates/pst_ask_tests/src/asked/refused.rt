@@ -96,7 +96,7 @@ const TOO_MANY: [Refused; 7] = [
         &["nodes", "a.pst", "b.pst"],
         "error: unexpected argument 'b.pst' found
 
-Usage: pst_show nodes <FILE>
+Usage: pst_show nodes [OPTIONS] <FILE>
 ",
     ),
     (
@@ -110,7 +110,7 @@ Usage: pst_show check [OPTIONS] <FILE>
         &["props", "a.pst", "0x21", "0x122"],
         "error: unexpected argument '0x122' found
 
-Usage: pst_show props <FILE> <NID>
+Usage: pst_show props [OPTIONS] <FILE> <NID>
 ",
     ),
     (
@@ -119,7 +119,7 @@ Usage: pst_show props <FILE> <NID>
 
   tip: to pass '--strict' as a value, use '-- --strict'
 
-Usage: pst_show head <FILE>
+Usage: pst_show head [OPTIONS] <FILE>
 ",
     ),
     (

@@ -124,10 +124,10 @@ fn pieces_are_read(rt: HostRuntime) -> Result<(), Fail> {
     let alloc = rt.alloc();
     let image = store(alloc)?;
     let heap = heap_in(alloc, &image, 0x21)?;
-    let whole = named_value(&heap, 0x41).expect(&rt, "no subnode");
+    let whole = named(&heap, 10)?;
     holds(&rt, matches!(whole, Value::Pieces(_)));
     parts_are_read(&rt, whole);
     guid_is_read(&rt, alloc, whole)?;
-    let texts = named_value(&heap, 0xa1).expect(&rt, "no subnode");
+    let texts = named(&heap, 13)?;
     texts_are_read(&rt, alloc, texts)
 }

@@ -24,13 +24,14 @@ fn are_answered<R: Abort + AllocGlobal>(
 
 const HELP: &str = "Shows the fields of the header
 
-Usage: pst_show head <FILE>
+Usage: pst_show head [OPTIONS] <FILE>
 
 Arguments:
   <FILE>  The file to read, or - for standard input
 
 Options:
-  -h, --help  Print help
+      --decode  Decodes an encoded file first, in memory
+  -h, --help    Print help
 
 Prints the fields of the header, and looks at nothing else.
 

@@ -1,10 +1,9 @@
-use Rattle.std.proofs.Common.{refl, arith}
-use Rattle.pst_encoding.proofs.CyclicLemmas.{cycled_on, cycled_all}
+use Rattle.std.proofs.Common.{◌%◌, ◌∙◌, refl, ap}
+use Rattle.pst_encoding.specs.Cyclic.{lowered, turned_each}
+use Rattle.pst_encoding.proofs.PassLemmas.{three_passes}
 use Rattle.pst_encoding.proofs.cyclic.cycle.Goals as goal
 
-pub loop-byte-preserved : goal.loop-byte-preserved
-loop-byte-preserved c =
-    cycled_on c.loop-byte.next _ c.loop-byte.byte-index c.cycled_byte.result c.loop-byte.bytes _ (omega (arith, c.loop-byte-test.true)) c.cycled_byte.ensures refl c.loop-byte.invariant
-
 pub returns : goal.returns
-returns c = cycled_all c.loop-byte.next c.loop-byte.byte-index c.loop-byte.bytes _ (omega (arith, c.loop-byte-test.false, c.loop-byte.auto.bytes)) c.loop-byte.invariant
+returns c =
+    let low = c.args.key % 256 in
+    c.lower.ensures ∙ ap (lowered low) (c.turn_each.ensures ∙ ap (turned_each c.args.key) c.raise.ensures) ∙ three_passes c.args.key low c.args.bytes.now refl

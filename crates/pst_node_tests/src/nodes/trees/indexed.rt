@@ -18,18 +18,18 @@ pub(super) const SAME_SUBNODES: Blocks<'static> = &[
     (22, LIST_OF_TWO, &[0x81, 0, 6, 0x61, 4, 0]),
 ];
 
-// A subnode's identifiers by an index, and by the node that is lent it.
-fn sub_by(node: &Node, index: &SubIndex, nid: u32) -> Option<Identifiers>
-    requires { IsIndexedBy node.now index.now }
-{
-    let sub = node.sub_by(index, nid)?;
-    Some(identifiers(&sub))
-}
-
+// A subnode's identifiers, by its node, which is lent an index: of its list's entry, and its own.
 fn sub_of_indexed<'a>(node: Node<'a>, index: &'a SubIndex, nid: u32) -> Option<Identifiers>
     requires { IsIndexedBy node index.now }
 {
     sub_of(&node.indexed(index), nid)
+}
+
+fn child_of_indexed<'a>(node: Node<'a>, index: &'a SubIndex, nid: u32) -> Option<Identifiers>
+    requires { IsIndexedBy node index.now }
+{
+    let entry = node.indexed(index).sub_entry(nid)?;
+    Some(identifiers(&node.child(entry)))
 }
 
 /// Stops the test where a node has not these subnodes, by its index.
@@ -39,11 +39,11 @@ pub(super) fn has_subnodes<R: Abort>(rt: &R, node: Node, index: &SubIndex)
     let top = node.nid();
     for (nid, bid_data, bid_sub) in [(0x61, 4, 0), (0x81, 0, 6)] {
         let wanted = Some((nid, top, bid_data, bid_sub));
-        is(rt, sub_by(&node, index, nid), wanted);
+        is(rt, child_of_indexed(node, index, nid), wanted);
         is(rt, sub_of_indexed(node, index, nid), wanted);
     }
     for nid in [0, 0x62, 0xa1] {
-        is(rt, sub_by(&node, index, nid), None);
+        is(rt, child_of_indexed(node, index, nid), None);
         is(rt, sub_of_indexed(node, index, nid), None);
     }
 }

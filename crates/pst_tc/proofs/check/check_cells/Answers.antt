@@ -2,7 +2,6 @@ use Rattle.std.proofs.Common.{◌≡◌, ◌<◌, ◌+◌, ◌*◌, ap, ℕ, ari
 use Rattle.std.proofs.lemmas.Result.{err_from_is_err_and}
 use Rattle.pst_ndb.specs.Views.{table_of_node}
 use Rattle.pst_ndb.specs.Views.{roots_of}
-use Rattle.pst_heap.specs.View.{node_of}
 use Rattle.pst_heap.specs.Items.{node_of_items}
 use Rattle.pst_tc.specs.Info.{column_count}
 use Rattle.pst_tc.proofs.InfoLemmas.{sound_column}

@@ -1,7 +1,6 @@
 use Rattle.std.proofs.Common.{◌≡◌, ℕ, None}
 use Rattle.pst_ndb.specs.Views.{table_of_node}
 use Rattle.pst_ndb.specs.Views.{roots_of}
-use Rattle.pst_heap.specs.View.{node_of}
 use Rattle.pst_heap.specs.Items.{heap_of_items, node_of_items}
 use Rattle.pst_fault.specs.First.{first_below}
 use Rattle.pst_tc.specs.Info.{column_place}

@@ -6,7 +6,7 @@ use Rattle.pst_make.specs.declared.plan.BlockPlan.{BlockPlan}
 use Rattle.pst_make.specs.declared.plan.NodePlan.{NodePlan}
 use Rattle.pst_make.specs.Layout.{tree_pages, IsPageBelow}
 use Rattle.pst_make.specs.Plan.{body_length, body_lengths}
-use Rattle.pst_make.proofs.LayoutLemmas.{fault_later, end_is, nodes_before, pages_before, blocks_before, still_below, tree_some, pages_forward, blocks_forward}
+use Rattle.pst_make.proofs.LayoutLemmas.{fault_later, end_is, nodes_before, pages_before, blocks_before, still_below, places_are, tree_some, pages_forward, blocks_forward}
 use Rattle.pst_make.proofs.layout.Layout.of.Goals as goal
 
 -- the counts of pages, in the plan's terms
@@ -72,3 +72,10 @@ returns-clause-placed c =
     let one = rw (c.free_from.ensures) at c.in_ok-node_pages.ensures.next in
     let three = rw (c.as_slice-blocks.ensures.value) at c.in_ok-placed.ensures.next in
     end_is _ _ _ _ _ _ _ nodes blocks one c.in_ok-block_pages.ensures.next three
+
+pub returns-clause-places : goal.returns-clause-places
+returns-clause-places c =
+    let nodes = node_count _ _ _ c.as_slice-nodes.ensures.value c.tree_pages-node_count.ensures in
+    let blocks = block_count _ _ _ c.as_slice-blocks.ensures.value c.tree_pages-block_count.ensures in
+    let one = rw (c.free_from.ensures) at c.in_ok-node_pages.ensures.next in
+    places_are c.args.plan.now _ _ _ _ c.as_slice-blocks.result.now _ c.as_slice-blocks.ensures.value nodes blocks one c.in_ok-block_pages.ensures.next c.in_ok-placed.ensures.places

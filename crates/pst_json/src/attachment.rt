@@ -1,0 +1,78 @@
+//! The attachments of a message, each as an object.
+
+ghost use Rattle.std.specs.Prelude.{◌≡◌, Some, IfOk};
+ghost use Rattle.pst_ndb.specs.Views.{table_of_node, roots_of};
+ghost use Rattle.pst_verify.specs.pst_msg.View.{node_of_attachment, attachment_shown};
+ghost use Rattle.pst_value_json.specs.Object.{parts_data, KeysRise};
+ghost use Rattle.pst_value_json.specs.Props.{prop_rows};
+ghost use Rattle.pst_json.specs.Node.{embedded_there, attachment_data};
+ghost use Rattle.pst_json.specs.Lists.{attachment_rows_left};
+
+use pst_value_json::{Made, Part, Props, Rows, Sink, Tree, put_object};
+use pst_verify::{Attachment, Attachments};
+use serde_json::Value as Doc;
+use std::alloc::{AllocError, Global};
+
+// The identifier of the message that an attachment embeds.
+#[tactic(auto, using(crate::proofs::FolderLemmas::embedded_there_is, crate::proofs::FolderLemmas::embedded_none))]
+fn embedded_nid(attachment: Attachment) -> Option<u32>
+    ensures { let node = node_of_attachment attachment.entry in
+        result ≡ embedded_there (table_of_node node) (Some (roots_of node)) }
+{
+    match attachment.embedded() {
+        Some(message) => Some(message.nid()),
+        None => None,
+    }
+}
+
+// What the object of an attachment is made of.
+#[tactic(auto, unfolding(crate::specs::Node::attachment_data))]
+fn attachment_parts<'a>(
+    alloc: Global,
+    attachment: Attachment<'a>,
+) -> Result<Vec<Part<Props<'a>>>, AllocError>
+    ensures shown { let t = table_of_node (node_of_attachment attachment.entry) in
+        let shown = attachment_shown attachment.entry in
+        IfOk result (λ parts. parts_data prop_rows parts.items ≡ attachment_data t shown) }
+    ensures keys { IfOk result (λ parts. KeysRise prop_rows parts.items) }
+{
+    let parts = vec![in alloc;
+        Part::Value("embedded", Made::Nid(embedded_nid(attachment))),
+        Part::Value("nid", Made::Nid(Some(attachment.nid()))),
+        Part::Rows("props", attachment.pc().props()),
+    ]?;
+    Ok(parts)
+}
+
+/// The attachments that are left.
+#[derive(Drop)]
+pub(crate) struct AttachmentRows<'a>(pub(crate) Attachments<'a>);
+
+#[tactic(auto, using(crate::proofs::NodeLemmas::attachment_has_none, pst_value_json::proofs::RowLemmas::puts_next))]
+impl Rows for AttachmentRows<'_> {
+    ghost left = { attachment_rows_left };
+
+    fn next_doc(&mut self, alloc: Global) -> Result<Option<Doc>, AllocError> {
+        match self.0.next() {
+            Some(attachment) => {
+                let parts = attachment_parts(alloc, attachment)?;
+                Ok(Some(Tree::object(alloc, parts)?))
+            }
+            None => Ok(None),
+        }
+    }
+
+    // The properties of an attachment go to the text one by one.
+    fn put_next(
+        &mut self,
+        alloc: Global,
+        later: bool,
+        text: &mut Vec<u8>,
+    ) -> Result<bool, AllocError> {
+        let Some(attachment) = self.0.next() else {
+            return Ok(false);
+        };
+        put_object(alloc, attachment_parts(alloc, attachment)?, later, text)?;
+        Ok(true)
+    }
+}

@@ -1,0 +1,80 @@
+//! The contexts of each node, by the calls that remember page maps, with an index of its subnodes.
+
+ghost use Rattle.pst_ndb.specs.Views.{table_of_ndb};
+ghost use Rattle.pst_heap.specs.Maps.{AreMapsTrue};
+
+use crate::refused::Refused;
+use pst_bytes::Image;
+use pst_fault::{Fault, Kind};
+use pst_heap::{Maps, check_heap_with};
+use pst_ndb::{Ndb, check_ndb};
+use pst_pc::check_pc_with;
+use pst_tc::check_tc_with;
+use std::alloc::Global;
+
+// A file, and what is remembered of its page maps: it is true, whatever was refused.
+#[derive(Drop)]
+struct Known<'a> {
+    ndb: Ndb<'a>,
+    maps: Maps,
+    ghost known: { AreMapsTrue (table_of_ndb ndb) maps },
+}
+
+// What a node's data is, is not asked: a fault of the file is no refusal.
+fn passed(fault: Option<Fault>) -> Result<(), Refused> {
+    match fault {
+        Some(fault) if fault.kind == Kind::NoMemory => Err(Refused::Memory),
+        _ => Ok(()),
+    }
+}
+
+// `check_heap_with` of a node.
+fn check_heap(known: &mut Known, nid: u32) -> Result<(), Refused> {
+    let Some(node) = known.ndb.node(nid) else {
+        return Ok(());
+    };
+    passed(check_heap_with(node, &mut known.maps).err())
+}
+
+// `check_pc_with` of a node, with nothing remembered.
+fn check_pc(alloc: Global, ndb: Ndb, nid: u32) -> Result<(), Refused> {
+    let Some(node) = ndb.node(nid) else {
+        return Ok(());
+    };
+    let index = node.index(alloc)?;
+    let mut maps = Maps::new(alloc);
+    passed(check_pc_with(node.indexed(&index), &mut maps).err())
+}
+
+// `check_tc_with` of a node, with nothing remembered.
+fn check_tc(alloc: Global, ndb: Ndb, nid: u32) -> Result<(), Refused> {
+    let Some(node) = ndb.node(nid) else {
+        return Ok(());
+    };
+    let index = node.index(alloc)?;
+    let mut maps = Maps::new(alloc);
+    passed(check_tc_with(node.indexed(&index), &mut maps).err())
+}
+
+// All three. Where memory is refused, a heap is checked again with all that is remembered by then.
+fn check_contexts(alloc: Global, known: &mut Known, nid: u32) -> Result<(), Refused> {
+    match check_heap(known, nid) {
+        Err(Refused::Memory) => check_heap(known, nid)?,
+        answer => answer?,
+    }
+    check_pc(alloc, known.ndb, nid)?;
+    check_tc(alloc, known.ndb, nid)
+}
+
+/// `Node::index`, `check_heap_with`, `check_pc_with` and `check_tc_with` of each node.
+pub(crate) fn contexts(alloc: Global, bytes: &[u8]) -> Result<(), Refused> {
+    let ndb = check_ndb(alloc, Image::new(bytes))?.ndb;
+    let mut known = Known {
+        ndb,
+        maps: Maps::new(alloc),
+    };
+    for node in ndb.nodes() {
+        check_contexts(alloc, &mut known, node.top())?;
+    }
+    Ok(())
+}

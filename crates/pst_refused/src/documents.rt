@@ -1,0 +1,80 @@
+//! The documents of a store: each as a tree, whose text is then its line.
+
+use crate::refused::{Refused, holds};
+use pst_bytes::Image;
+use pst_header::read_header;
+use pst_json::{
+    check_doc, check_line, contents_doc, contents_line, folders_doc, folders_line, head_doc,
+    head_line, hex_doc, nodes_doc, nodes_line, pc_doc, props_doc, props_line, read_nodes,
+    table_doc, text, value_doc, verify,
+};
+use pst_verify::Verified;
+use serde_json::Value as Doc;
+use std::alloc::Global;
+
+// The text of a tree is the line.
+fn is_line(alloc: Global, doc: &Doc, line: &[u8]) -> Result<(), Refused> {
+    holds(text(alloc, doc)?.as_slice() == line)
+}
+
+/// `verify`, and the documents of the header and of the report.
+pub(crate) fn report(alloc: Global, bytes: &[u8]) -> Result<(), Refused> {
+    let header = read_header(Image::new(bytes))?;
+    is_line(
+        alloc,
+        &head_doc(alloc, &header)?,
+        &head_line(alloc, &header)?,
+    )?;
+    let Verified { report, .. } = verify(alloc, bytes)?;
+    is_line(
+        alloc,
+        &check_doc(alloc, &report)?,
+        &check_line(alloc, &report)?,
+    )
+}
+
+/// The documents of the nodes and of the folders.
+pub(crate) fn lists(alloc: Global, bytes: &[u8]) -> Result<(), Refused> {
+    let tree = read_nodes(alloc, Image::new(bytes))?;
+    is_line(alloc, &nodes_doc(alloc, &tree)?, &nodes_line(alloc, &tree)?)?;
+    let store = verify(alloc, bytes)?.store;
+    is_line(
+        alloc,
+        &folders_doc(alloc, &store)?,
+        &folders_line(alloc, &store)?,
+    )
+}
+
+/// The contents of each folder, and the properties of each message and of the store.
+pub(crate) fn nodes(alloc: Global, bytes: &[u8]) -> Result<(), Refused> {
+    let store = verify(alloc, bytes)?.store;
+    for folder in store.folders() {
+        let nid = folder.node().nid();
+        if nid % 32 == 2 {
+            let doc = contents_doc(alloc, &store, nid)?;
+            is_line(alloc, &doc, &contents_line(alloc, &store, nid)?)?;
+        }
+    }
+    for message in store.messages() {
+        let nid = message.node().nid();
+        let doc = props_doc(alloc, &store, nid)?;
+        is_line(alloc, &doc, &props_line(alloc, &store, nid)?)?;
+    }
+    let doc = props_doc(alloc, &store, 0x21)?;
+    is_line(alloc, &doc, &props_line(alloc, &store, 0x21)?)
+}
+
+/// The values of the store's own properties, and the rows of the root folder's table.
+pub(crate) fn values(alloc: Global, bytes: &[u8]) -> Result<(), Refused> {
+    let store = verify(alloc, bytes)?.store;
+    let pc = store.props();
+    let _all = pc_doc(alloc, &pc)?;
+    for prop in pc.props() {
+        let _shown = value_doc(alloc, prop.kind, prop.value)?;
+        let _bytes = hex_doc(alloc, prop.value)?;
+    }
+    if let Some(table) = store.root().hierarchy() {
+        let _rows = table_doc(alloc, &table)?;
+    }
+    Ok(())
+}

@@ -1,0 +1,77 @@
+//! Lists, made row by row.
+
+ghost use Rattle.std.specs.Prelude.{◌≡◌, ◌++◌, List, IfOk, OnOk, IfSome, false};
+ghost use Rattle.serde_json.specs.Data.{Data, array};
+ghost use Rattle.serde_json.specs.View.{view, items_of};
+ghost use Rattle.serde_json.specs.Written.{compact_text, has_float};
+ghost use Rattle.pst_value_json.specs.Rows.{TakesNext, PutsNext};
+
+use crate::compact::put_row;
+use serde_json::Value as Doc;
+use std::alloc::{AllocError, Global};
+
+/// The rows of a list, which are made one at a time.
+pub trait Rows: Drop {
+    /// The documents of the rows that are left.
+    ghost left: { Self → List Data };
+
+    /// The document of the next row, if one is left.
+    fn next_doc(&mut self, alloc: Global) -> Result<Option<Doc>, AllocError>
+        ensures next { IfOk result (λ row. TakesNext row (left self.old) (left self.new)) }
+        ensures plain { IfOk result (λ row. IfSome row (λ d. has_float (view d) ≡ false)) };
+
+    /// Puts the next row behind a text, if one is left, and a comma before it where others stand there.
+    #[tactic(auto, using(crate::proofs::RowLemmas::puts_next))]
+    fn put_next(
+        &mut self,
+        alloc: Global,
+        later: bool,
+        text: &mut Vec<u8>,
+    ) -> Result<bool, AllocError>
+        ensures { IfOk result (λ more. PutsNext more later (left self.old) (left self.new)
+            text.old.items text.new.items) }
+    {
+        let Some(doc) = self.next_doc(alloc)? else {
+            return Ok(false);
+        };
+        put_row(alloc, &doc, later, text)?;
+        Ok(true)
+    }
+
+    /// About how many bytes the text of the rows takes, where that is known before they are made.
+    fn room(&self) -> usize {
+        0
+    }
+}
+
+/// A list as a tree.
+pub(crate) fn list_doc<R: Rows>(alloc: Global, rows: R) -> Result<Doc, AllocError>
+    ensures { IfOk result (λ d. view d ≡ array (items_of (R.left rows))) }
+{
+    let mut rows = rows;
+    let mut docs = Vec::new(alloc);
+    while let Some(doc) = rows.next_doc(alloc)? {
+        docs.push(doc)?;
+    }
+    Ok(Doc::from(docs))
+}
+
+/// Puts a list behind a text: beside the text, memory is taken for one row at a time.
+pub(crate) fn put_list<R: Rows>(
+    alloc: Global,
+    rows: R,
+    text: &mut Vec<u8>,
+) -> Result<(), AllocError>
+    ensures { OnOk result (text.new.items
+        ≡ text.old.items ++ compact_text (array (items_of (R.left rows)))) }
+{
+    text.reserve(rows.room())?;
+    text.push(b'[')?;
+    let mut rows = rows;
+    let mut later = false;
+    while rows.put_next(alloc, later, text)? {
+        later = true;
+    }
+    text.push(b']')?;
+    Ok(())
+}

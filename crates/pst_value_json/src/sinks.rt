@@ -1,0 +1,158 @@
+//! What a document becomes: a tree, or a line.
+
+ghost use Rattle.std.specs.Prelude.{◌≡◌, ◌++◌, IfOk, OnOk};
+ghost use Rattle.serde_json.specs.Data.{Data};
+ghost use Rattle.serde_json.specs.View.{view, members_view};
+ghost use Rattle.serde_json.specs.Written.{compact_text};
+ghost use Rattle.pst_value_json.specs.Line.{line_of, row_text};
+ghost use Rattle.pst_value_json.specs.Made.{made_data};
+ghost use Rattle.pst_value_json.specs.Object.{put_part, parts_data, KeysRise, key_text, part_text};
+
+use crate::compact::{put_comma, put_doc};
+use crate::listing::{Rows, list_doc, put_list};
+use crate::parts::{Made, Part, made_doc};
+use serde_json::{Map, Value as Doc};
+use std::alloc::{AllocError, Global};
+
+/// What a document becomes.
+pub trait Sink {
+    /// What shows a document.
+    type Out;
+
+    /// That it shows this one.
+    ghost Shows: { Self.Out → Data → Type 0 };
+
+    /// An object of these parts, whose keys stand in the order of their bytes.
+    fn object<R: Rows>(alloc: Global, parts: Vec<Part<R>>) -> Result<Self::Out, AllocError>
+        requires { KeysRise R.left parts.items }
+        ensures { IfOk result (λ out. Shows out (parts_data R.left parts.items)) };
+}
+
+/// A tree of JSON.
+pub struct Tree;
+
+/// The compact text of the tree, and a line feed; made row by row, with no tree of the whole.
+pub struct Line;
+
+// Puts a part into an object.
+fn put_member<R: Rows>(
+    alloc: Global,
+    part: Part<R>,
+    map: &mut Map<String, Doc>,
+) -> Result<(), AllocError>
+    ensures { OnOk result (members_view map.new.entries
+        ≡ put_part R.left (members_view map.old.entries) part) }
+{
+    match part {
+        Part::Value(key, made) => serde_json::put(map, alloc, key, made_doc(alloc, made)?),
+        Part::Rows(key, rows) => serde_json::put(map, alloc, key, list_doc(alloc, rows)?),
+    }
+}
+
+impl Sink for Tree {
+    type Out = Doc;
+
+    ghost Shows = { λ out d. view out ≡ d };
+
+    fn object<R: Rows>(alloc: Global, parts: Vec<Part<R>>) -> Result<Doc, AllocError> {
+        let mut map = Map::new(alloc);
+        for part in parts {
+            put_member(alloc, part, &mut map)?;
+        }
+        Ok(Doc::from(map))
+    }
+}
+
+// Puts a value that is made at once behind a text.
+#[tactic(auto, using(crate::proofs::PartLemmas::made_has_none))]
+fn put_made(alloc: Global, made: Made, text: &mut Vec<u8>) -> Result<(), AllocError>
+    ensures { OnOk result (text.new.items ≡ text.old.items ++ compact_text (made_data made)) }
+{
+    put_doc(alloc, &made_doc(alloc, made)?, text)
+}
+
+// Puts a key behind a text, and a comma before it where others stand there.
+fn put_key(
+    alloc: Global,
+    key: &'static str,
+    later: bool,
+    text: &mut Vec<u8>,
+) -> Result<(), AllocError>
+    ensures { OnOk result (text.new.items ≡ text.old.items ++ key_text later key.now) }
+{
+    put_comma(later, text)?;
+    put_made(alloc, Made::Word(key), text)?;
+    text.push(b':')?;
+    Ok(())
+}
+
+// Puts a part behind a text, and a comma before it where others stand there.
+#[tactic(auto, using(crate::proofs::PartLemmas::put_on))]
+fn put_text<R: Rows>(
+    alloc: Global,
+    part: Part<R>,
+    later: bool,
+    text: &mut Vec<u8>,
+) -> Result<(), AllocError>
+    ensures { OnOk result (text.new.items ≡ text.old.items ++ part_text R.left later part) }
+{
+    match part {
+        Part::Value(key, made) => {
+            put_key(alloc, key, later, text)?;
+            put_made(alloc, made, text)
+        }
+        Part::Rows(key, rows) => {
+            put_key(alloc, key, later, text)?;
+            put_list(alloc, rows, text)
+        }
+    }
+}
+
+// Puts an object of these parts behind a text, part by part.
+#[tactic(auto, using(crate::proofs::PartLemmas::part_next, crate::proofs::PartLemmas::part_end))]
+fn put_parts<R: Rows>(
+    alloc: Global,
+    parts: Vec<Part<R>>,
+    text: &mut Vec<u8>,
+) -> Result<(), AllocError>
+    ensures { OnOk result (text.new.items
+        ≡ text.old.items ++ compact_text (parts_data R.left parts.items)) }
+{
+    text.push(b'{')?;
+    let mut later = false;
+    for part in parts {
+        put_text(alloc, part, later, text)?;
+        later = true;
+    }
+    text.push(b'}')?;
+    Ok(())
+}
+
+/// Puts an object of these parts behind a text, part by part, and a comma before it where other items of a list stand there.
+#[tactic(auto, unfolding(crate::specs::Line::row_text))]
+pub fn put_object<R: Rows>(
+    alloc: Global,
+    parts: Vec<Part<R>>,
+    later: bool,
+    text: &mut Vec<u8>,
+) -> Result<(), AllocError>
+    ensures { OnOk result (text.new.items
+        ≡ text.old.items ++ row_text (parts_data R.left parts.items) later) }
+{
+    put_comma(later, text)?;
+    put_parts(alloc, parts, text)
+}
+
+#[tactic(auto, unfolding(crate::specs::Line::line_of))]
+impl Sink for Line {
+    type Out = Vec<u8>;
+
+    ghost Shows = { λ out d. out.items ≡ line_of d };
+
+    fn object<R: Rows>(alloc: Global, parts: Vec<Part<R>>) -> Result<Vec<u8>, AllocError> {
+        let mut text = Vec::new(alloc);
+        put_parts(alloc, parts, &mut text)?;
+        text.push(b'\n')?;
+        Ok(text)
+    }
+}
