@@ -7,11 +7,18 @@ import time
 MEGABYTE = 1_000_000
 BENCH = os.path.dirname(os.path.abspath(__file__))
 OUT = os.path.join(BENCH, "out")
-PROGRAM = os.path.join(BENCH, "..", "crates", "pst_show", "out", "pst_show")
+ROOT = os.path.dirname(BENCH)
+WHICH = 'root=$1; . "$1/tools/program.sh"; need_program; printf %s "$program"'
+
+
+def program():
+    """The program that ./pst_show runs, which proves and builds it where it has none."""
+    return subprocess.run(["sh", "-c", WHICH, "bench", ROOT], check=True, stdout=subprocess.PIPE, text=True).stdout
 
 
 class Cost:
-    """What the runs of one command cost: processor seconds and elapsed seconds of each, the greatest memory of any."""
+    """What the runs of one command cost: processor seconds and elapsed seconds of each, the greatest memory of
+    any."""
 
     def __init__(self):
         self.seconds, self.elapsed, self.peak, self.ending = [], [], 0, ""
@@ -48,10 +55,10 @@ class Bench:
         for name in ("run_alone", "read_and_sum", "encode_store"):
             subprocess.run(["cc", "-O2", "-o", f"{OUT}/{name}", f"{BENCH}/{name}.c"], check=True)
 
-    def store(self, name, *words):
-        """Makes a store."""
+    def store(self, name, *words, deep=False):
+        """Makes a store; a deep one has trees of as many levels as there may be."""
         path = os.path.join(OUT, "_".join((name, *map(str, words))) + ".pst")
-        subprocess.run([f"{BENCH}/make_store", name, path, *map(str, words)], check=True)
+        subprocess.run([f"{BENCH}/make_store", *["--deep"] * deep, name, path, *map(str, words)], check=True)
         return path
 
     def encoded(self, store, method):
@@ -65,14 +72,15 @@ class Bench:
         words = [self.program, command[0], os.devnull, *command[1:]]
         return subprocess.run(words, capture_output=True, check=False).returncode != 2
 
-    def costs(self, commands, turns=None):
-        """What each of these commands costs; they take turns. There are fewer turns where they take long."""
+    def costs(self, commands, turns=None, patience=None):
+        """What each of these commands costs; they take turns. There are fewer turns where they take longer than the
+        patience."""
         made = [Cost() for _ in commands]
         begin = time.monotonic()
         for _ in range(turns or self.turns):
             for command, cost in zip(commands, made):
                 cost.add(*self.run(command))
-            if time.monotonic() - begin > self.limit or any(cost.ending for cost in made):
+            if time.monotonic() - begin > (patience or self.limit) or any(cost.ending for cost in made):
                 break
         return made
 
@@ -105,5 +113,5 @@ def print_table(heads, rows):
     print("| " + " | ".join(heads) + " |")
     print("|" + "---|" * len(heads))
     for row in rows:
-        print("| " + " | ".join(map(str, row)) + " |")
+        print("| " + " | ".join(map(str, row)) + " |", flush=True)
     print(flush=True)

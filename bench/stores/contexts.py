@@ -44,6 +44,12 @@ class Heap:
         self.room -= len(item) + 2
         return (len(self.spans) - 1) << 16 | len(self.spans[-1]) << 5
 
+    def add_empty(self):
+        """Adds an item without bytes; answers its identifier."""
+        self.spans[-1].append(b"")
+        self.room -= 2
+        return (len(self.spans) - 1) << 16 | len(self.spans[-1]) << 5
+
     def replace(self, identifier, item):
         """Gives an item other bytes, as many as it had."""
         self.spans[identifier >> 16][(identifier >> 5) - 1 & 0x7FF] = item
@@ -75,13 +81,16 @@ class Heap:
         return body + struct.pack(f"<HH{len(places)}H", len(items), 0, *places)
 
 
-def add_bth(heap, key_size, data_size, records):
-    """Adds a BTH (2.3.2) of records, pairs of key and data whose keys rise; answers its header's identifier."""
+def add_bth(heap, key_size, data_size, records, in_a_leaf=None, empty=0):
+    """Adds a BTH (2.3.2) of records, pairs of key and data whose keys rise; answers its header's identifier. In a
+    leaf are so many, or as many as fit; and in front of all others so many leaves without records, which are one
+    item."""
     header = heap.add(struct.pack("<BBBBI", BTH_CLIENT, key_size, data_size, 0, 0))
     key_format, level, width = KEY_FORMATS[key_size], 0, key_size + data_size
+    nothing = struct.pack("<I", heap.add_empty()) if empty else b""
     while True:
-        per_item = LONGEST_ITEM // width
-        above = []
+        per_item = level == 0 and in_a_leaf or LONGEST_ITEM // width
+        above = [(number, nothing) for number in range(empty)] if level == 0 else []
         for first in range(0, len(records), per_item):
             mine = records[first:first + per_item]
             item = b"".join(struct.pack(key_format, key) + data for key, data in mine)
@@ -136,9 +145,9 @@ class PropertyContext(Context):
         """Sets a property by the number that stands in its record (2.3.3.3)."""
         self.records[identifier] = struct.pack("<HI", kind, raw)
 
-    def bodies(self):
-        """The spans of the heap; nothing is set any more."""
-        return self.heap.bodies(add_bth(self.heap, 2, 6, sorted(self.records.items())))
+    def bodies(self, in_a_leaf=None):
+        """The spans of the heap, with so many records in a leaf or as many as fit; nothing is set any more."""
+        return self.heap.bodies(add_bth(self.heap, 2, 6, sorted(self.records.items()), in_a_leaf))
 
     def write(self):
         """Writes the context; answers its data and the list of its subnodes."""
@@ -147,7 +156,7 @@ class PropertyContext(Context):
 
 class TableContext(Context):
     """A table (2.3.4): columns, pairs of property and type, and rows, which have an identifier and cells. So many
-    `doubles` are further columns that lie where the last one does."""
+    `doubles` are further columns that lie where these do, by turns."""
 
     def __init__(self, store, columns, doubles=0):
         super().__init__(store, TABLE_CLIENT)
@@ -164,7 +173,7 @@ class TableContext(Context):
             self.ends.append(place)
         self.ends.append(place + (len(self.places) + 7) // 8)
         for double in range(1, doubles + 1):
-            self.places[columns[-1][0] + double] = self.places[columns[-1][0]]
+            self.places[columns[-1][0] + double] = self.places[columns[double % len(columns)][0]]
 
     def add(self, identifier, cells):
         """Adds a row: a number for each cell that has one, else the value's bytes. Identifiers rise."""
@@ -201,18 +210,20 @@ class TableContext(Context):
         bodies[:-1] = [body.ljust(LONGEST_BODY, b"\0") for body in bodies[:-1]]
         return self.subnode(write_blocks(self.store, bodies))
 
-    def write(self, numbers=None, write_blocks=data_tree):
+    def write(self, numbers=None, period=1 << 32, write_blocks=data_tree, write_heap=data_tree, **leaves):
         """Writes the context; answers its data and the list of its subnodes. `numbers` are the rows' places in the
-        matrix, one after another in some order, from 0 in that of their identifiers where they are not given;
-        `write_blocks` writes the blocks of the matrix."""
+        matrix, in the order of their identifiers: one after another from 0 where they are not given. `write_blocks`
+        writes the blocks of the matrix, which have the rows in the order of their places, and come again after
+        `period` rows; `write_heap` writes the spans of the heap; `leaves` are `add_bth`'s words of the row
+        index."""
         numbers = numbers or range(len(self.rows))
         records = [(row[0], struct.pack("<I", number)) for row, number in zip(self.rows, numbers)]
-        index = add_bth(self.heap, 4, 4, records)
+        index = add_bth(self.heap, 4, 4, records, **leaves)
         columns = sorted(self.places.items())
-        rows = [row for _, (_, row) in sorted(zip(numbers, self.rows), key=lambda pair: pair[0])]
+        rows = [row for _, (_, row) in sorted(zip(numbers, self.rows), key=lambda pair: pair[0] % period)]
         matrix = self._matrix(rows, write_blocks)
         head = struct.pack("<BB4HIII", TABLE_CLIENT, len(columns), *self.ends, index, matrix, 0)
         for column, (kind, place, width, bit) in columns:
             head += struct.pack("<HHHBB", kind, column, place, width, bit)
         self.heap.replace(self.head, head)
-        return data_tree(self.store, self.heap.bodies(self.head)), self.subnode_list()
+        return write_heap(self.store, self.heap.bodies(self.head)), self.subnode_list()

@@ -11,6 +11,7 @@ LONGEST_BODY = 8176
 BLOCK_TREE, NODE_TREE, PAGE_MAP, ALLOCATION_MAP = 0x80, 0x81, 0x83, 0x84
 LEAF_SIZES = {BLOCK_TREE: 24, NODE_TREE: 32}
 PAGE_ENTRIES = 488
+DEEPEST = 16
 
 
 def check_value(data):
@@ -34,9 +35,9 @@ def page(body, kind, place, identifier):
 class NodeDatabase:
     """A store that is being written to a file open for writing.
 
-    `block` writes a block and answers its identifier, `node` names a node, `close` writes the rest. Before that may be
-    set: `fan_out`, how many entries a page of a tree has (as many as fit where it is None), `levels`, how many levels a
-    tree has at least, and `mark_every_other`, whether every other free unit is marked as allocated."""
+    `block` writes a block and answers its identifier, `node` names a node, `close` writes the rest. Before that may
+    be set: `fan_out`, how many entries a page of a tree has (as many as fit where it is None), `levels`, how many
+    levels a tree has at least, and `mark_every_other`, whether every other free unit is marked as allocated."""
 
     def __init__(self, file):
         self.file = file

@@ -43,8 +43,8 @@ def tree_of_trees(store):
 
 
 def growths(store):
-    """A store with a message in which twelve are embedded, a heap of 21 spans, a list of lists that do not rise, an XXBLOCK, a
-    folder of 20 messages and a lost run."""
+    """A store with a message in which twelve are embedded, a heap of 21 spans, a list of lists that do not rise, an
+    XXBLOCK, a folder of 20 messages and a lost run."""
     message_store(store)
     store.node(NESTED, *nested(store, 12), INBOX)
     store.node(LONG_HEAP, *long_heap(store), INBOX)

@@ -22,19 +22,30 @@ def _block_list(store, level, blocks, total):
     return store.block(head + struct.pack(f"<{len(blocks)}Q", *blocks), internal=True)
 
 
-def data_tree(store, bodies):
-    """The data tree over these bodies (2.2.2.8.3.2): none, one block, an XBLOCK, or an XXBLOCK over XBLOCKs."""
-    if not bodies:
-        return 0
-    blocks = [store.block(body) for body in bodies]
-    if len(blocks) == 1:
-        return blocks[0]
-    lists, total = [], 0
-    for first in range(0, len(blocks), BLOCKS_IN_A_LIST):
-        length = sum(len(body) for body in bodies[first:first + BLOCKS_IN_A_LIST])
-        lists.append(xblock(store, blocks[first:first + BLOCKS_IN_A_LIST], length))
-        total += length
-    return lists[0] if len(lists) == 1 else xxblock(store, lists, total)
+def data_tree(store, bodies, in_a_list=BLOCKS_IN_A_LIST):
+    """The data tree over these bodies (2.2.2.8.3.2): none, one block, an XBLOCK, or an XXBLOCK over XBLOCKs of so
+    many."""
+    if len(bodies) < 2:
+        return store.block(bodies[0]) if bodies else 0
+    lists = block_lists(store, bodies, in_a_list)
+    return lists[0] if len(lists) == 1 else xxblock(store, lists, sum(map(len, bodies)))
+
+
+def block_lists(store, bodies, in_a_list=BLOCKS_IN_A_LIST):
+    """XBLOCKs of so many blocks each over these bodies."""
+    blocks, lists = [store.block(body) for body in bodies], []
+    for first in range(0, len(blocks), in_a_list):
+        length = sum(map(len, bodies[first:first + in_a_list]))
+        lists.append(xblock(store, blocks[first:first + in_a_list], length))
+    return lists
+
+
+def far_tree(store, bodies):
+    """The data tree over these bodies, the first of which stands alone in front, and the others behind as many
+    XBLOCKs without entries as there is room for."""
+    front, behind = block_lists(store, bodies[:1]), block_lists(store, bodies[1:])
+    empty = [xblock(store, [], 0)] * (BLOCKS_IN_A_LIST - 1 - len(behind))
+    return xxblock(store, front + empty + behind, sum(map(len, bodies)))
 
 
 def data_of(store, data):
@@ -64,8 +75,8 @@ def list_over(store, leaves):
 
 
 def subnode_list(store, entries):
-    """The list of these subnodes in the order given: none, an SLBLOCK, or an SIBLOCK over SLBLOCKs. The standard wants
-    the identifiers to rise; the program takes them in any order."""
+    """The list of these subnodes in the order given: none, an SLBLOCK, or an SIBLOCK over SLBLOCKs. The standard
+    wants the identifiers to rise; the program takes them in any order."""
     leaves = leaf_lists(store, entries)
     if len(leaves) > 1:
         return list_over(store, leaves)

@@ -4,10 +4,8 @@ import struct
 from stores.contexts import BINARY, STRING, PropertyContext, TableContext, text
 from stores.database import LONGEST_BODY
 from stores.hostile import attachment_entries, identifiers, ordered, roots, small_message
-from stores.lists import BLOCKS_IN_A_LIST, leaf_list, subnode_list, xblock, xxblock
+from stores.lists import BLOCKS_IN_A_LIST, data_tree, leaf_list, subnode_list, xblock, xxblock
 from stores.mail import DISPLAY_NAME, RECIPIENTS
-
-FIRST_PROPERTY = 0x3000
 
 
 def attachments(store, count=40_000, order="rising"):
@@ -16,9 +14,9 @@ def attachments(store, count=40_000, order="rising"):
     store.node(0x200024, small_message(store), subnode_list(store, ordered(attachment_entries(store, count), order)))
 
 
-def wide_heap(store, spans=60_000):
-    """SPANS: a message whose heap has so many spans and a property in nearly each, of which none lies beside the
-    property before it."""
+def wide_heap(store, spans=60_000, in_a_list=BLOCKS_IN_A_LIST):
+    """SPANS LIST: a message whose heap has so many spans, so many in an XBLOCK, and a property in nearly each, of
+    which none lies beside the property before it."""
     roots(store)
     made = PropertyContext(store)
     places = []
@@ -27,7 +25,7 @@ def wide_heap(store, spans=60_000):
         places.append(made.name_of(struct.pack("<Q", number)))
     for number, place in enumerate(ordered(places, "shuffled")):
         made.set_raw(number + 1, BINARY, place)
-    store.node(0x200024, *made.write())
+    store.node(0x200024, data_tree(store, made.bodies(), in_a_list))
 
 
 def empty_spans(store, properties=600, ends=0):
@@ -42,7 +40,7 @@ def empty_spans(store, properties=600, ends=0):
     made = PropertyContext(store)
     place = made.subnode(xxblock(store, middle, 2 * ends))
     for number in range(properties):
-        made.set_raw(FIRST_PROPERTY + number, BINARY, place)
+        made.set_raw(number + 1, BINARY, place)
     store.node(0x200024, *made.write())
 
 
@@ -76,8 +74,9 @@ def wide_table(store, rows=20_000, order="shuffled"):
 
 
 def scattered_rows(store, rows=60_000, order="falling", lists=512):
-    """ROWS ORDER: a message with a table of so many recipients, whose rows are in the last of 522,752 blocks of a row
-    matrix of 4 GB; all others are one block. Their places are rising, falling or shuffled as their identifiers rise."""
+    """ROWS ORDER: a message with a table of so many recipients, whose rows are in the last of 522,752 blocks of a
+    row matrix of 4 GB; all others are one block. Their places are rising, falling or shuffled as their identifiers
+    rise."""
     roots(store)
     made = TableContext(store, [])
     for number in range(rows):
@@ -92,19 +91,20 @@ def scattered_rows(store, rows=60_000, order="falling", lists=512):
 
     first = lists * BLOCKS_IN_A_LIST * made.rows_in_a_block()
     numbers = [first + number for number in ordered(list(range(rows)), order)]
-    store.node(0x200024, small_message(store), leaf_list(store, [(RECIPIENTS, *made.write(numbers, write_blocks))]))
+    held = (RECIPIENTS, *made.write(numbers, write_blocks=write_blocks))
+    store.node(0x200024, small_message(store), leaf_list(store, [held]))
 
 
-def subnode_properties(store, count=40_000, order="falling"):
-    """COUNT ORDER: a message with so many properties, each in a subnode of its own; the list of these is rising,
-    falling or shuffled."""
+def subnode_properties(store, count=40_000, order="falling", kind=4):
+    """COUNT ORDER KIND: a node of a type, 4 of which is a message, with so many properties, each in a subnode of
+    its own; the list of these is rising, falling or shuffled."""
     roots(store)
     made = PropertyContext(store)
     value = store.block(text("value"))
     for number in range(count):
         made.set_raw(number + 1, BINARY, made.subnode(value))
     data, _ = made.write()
-    store.node(0x200024, data, subnode_list(store, ordered(sorted(made.subnodes), order)))
+    store.node(0x200020 | kind, data, subnode_list(store, ordered(sorted(made.subnodes), order)))
 
 
 def deep_trees(store, nodes=20_000):

@@ -70,8 +70,8 @@ def message_store(store):
 
 
 def folder(store, identifier, parent, name, subfolders=(), messages=()):
-    """A folder (2.4.4): its properties and three tables. Subfolders are triples of identifier, name and message count,
-    messages are rows of its contents table."""
+    """A folder (2.4.4): its properties and three tables. Subfolders are triples of identifier, name and message
+    count, messages are rows of its contents table."""
     store.node(identifier, *context(store, [
         (DISPLAY_NAME, STRING, text(name)), (CONTENT_COUNT, INTEGER32, len(messages)), (UNREAD_COUNT, INTEGER32, 0),
         (HAS_SUBFOLDERS, BOOLEAN, int(bool(subfolders)))]).write(), parent)
@@ -115,8 +115,8 @@ def embedded_attachment(store, message):
 
 
 def message(store, number, body, file=None, embedded=None):
-    """Writes a message (2.4.5) with one recipient, and a file's bytes and an embedded message where given; answers its
-    data and the list of its subnodes."""
+    """Writes a message (2.4.5) with one recipient, and a file's bytes and an embedded message where given; answers
+    its data and the list of its subnodes."""
     made = message_context(store, number, body, file is not None or embedded is not None)
     to = {RECIPIENT_TYPE: 1, DISPLAY_NAME: text("Reader"), ADDRESS_KIND: text("SMTP"),
           ADDRESS: text("reader@example.org"), OBJECT_TYPE: 6}
@@ -137,8 +137,9 @@ def message(store, number, body, file=None, embedded=None):
 
 
 def mail(store, messages=3, body=200, file=100):
-    """MESSAGES BODY FILE: so many messages in one folder, with bodies of so many characters; every other message has a
-    file of so many bytes attached, none has where that is 0. Of at most ten, the second has a message attached."""
+    """MESSAGES BODY FILE: so many messages in one folder, with bodies of so many characters; every other message
+    has a file of so many bytes attached, none has where that is 0. Of at most ten, the second has a message
+    attached."""
     chance = random.Random(1)
     pool = chance.randbytes(max(2 * file, POOL))
     words = " ".join(f"word{chance.randrange(9999)}" for _ in range(20_000 + body // 5))
