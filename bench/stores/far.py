@@ -4,7 +4,7 @@ import struct
 
 from stores.contexts import BINARY, INTEGER32, OBJECT, STRING, PropertyContext, TableContext, text
 from stores.database import LONGEST_BODY
-from stores.hostile import PLAIN, TEXTS, identifiers, named_folders, roots, small_message
+from stores.hostile import PLAIN, SEARCH_FOLDER, TEXTS, identifiers, named_folders, roots, small_message
 from stores.lists import BLOCKS_IN_A_LIST, data_tree, far_tree, leaf_list, subnode_list, xblock, xxblock
 from stores.mail import (ATTACHMENT_DATA, ATTACHMENT_METHOD, ATTACHMENTS, CONTENT_COUNT, CONTENTS, DISPLAY_NAME,
                          EMBEDDED_MESSAGE, RECIPIENTS, SUBJECT, context, table)
@@ -35,9 +35,10 @@ def far_values(store, properties=60_000):
     store.node(0x200024, far_tree(store, made.bodies()))
 
 
-def far_cells(store, rows=200, columns=255):
-    """ROWS COLUMNS: a message with a table of so many recipients and columns, whose cells are by turns two places
-    of a row, which name two items in two spans behind a thousand XBLOCKs without entries."""
+def far_cells(store, rows=200, columns=255, messages=1):
+    """ROWS COLUMNS MESSAGES: messages that share a table of so many recipients and columns, each under a list of
+    its own; its cells are by turns two places of a row, which name two items in two spans behind a thousand XBLOCKs
+    without entries."""
     roots(store)
     made = TableContext(store, [(DISPLAY_NAME, STRING), (DISPLAY_NAME + 0x1000, STRING)], doubles=columns - 4)
     items = far_items(made.heap)
@@ -45,7 +46,10 @@ def far_cells(store, rows=200, columns=255):
         made.add(number, {})
         made.set_raw(DISPLAY_NAME, items[0])
         made.set_raw(DISPLAY_NAME + 0x1000, items[1])
-    store.node(0x200024, small_message(store), leaf_list(store, [(RECIPIENTS, *made.write(write_heap=far_tree))]))
+    data, _ = made.write(write_heap=far_tree)
+    message = small_message(store)
+    for node in identifiers(messages + 1, 4)[1:]:
+        store.node(node, message, leaf_list(store, [(RECIPIENTS, data, leaf_list(store, made.subnodes))]))
 
 
 def far_names(store, count=2000):
@@ -58,6 +62,47 @@ def far_names(store, count=2000):
         made.set_raw(identifier, STRING, item)
     data = far_tree(store, made.bodies())
     named_folders(store, count, data, 0)
+
+
+def far_context(store, *properties):
+    """The data of a property context with a text and these further properties, all of which but the first span of
+    its heap lies behind a thousand XBLOCKs without entries."""
+    made = PropertyContext(store)
+    made.set_raw(SUBJECT, STRING, far_items(made.heap)[0])
+    for identifier, kind, value in properties:
+        made.set(identifier, kind, value)
+    return far_tree(store, made.bodies())
+
+
+def far_contexts(store, contexts=2000):
+    """CONTEXTS: search folders that share such a property context, each under a list of its own."""
+    roots(store)
+    data = far_context(store)
+    for node in identifiers(contexts, SEARCH_FOLDER):
+        store.node(node, data, leaf_list(store, []))
+
+
+def far_attachments(store, count=2000):
+    """COUNT: a message with so many attachments, which share such a property context."""
+    roots(store)
+    data, nids = far_context(store, (ATTACHMENT_METHOD, INTEGER32, 1)), identifiers(count, 5)
+    rows = (ATTACHMENTS, *table(store, [], [(row, {}) for row in nids]))
+    store.node(0x200024, small_message(store), subnode_list(store, [rows] + [(row, data, 0) for row in nids]))
+
+
+def far_listings(store, folders=2000):
+    """FOLDERS: folders that share a table of one message, all of which but the first span of its heap lies behind a
+    thousand XBLOCKs without entries."""
+    roots(store)
+    store.node(LAST_MESSAGE, small_message(store))
+    made = TableContext(store, [])
+    made.heap.begin_span()
+    made.add(LAST_MESSAGE, {})
+    data, _ = made.write(write_heap=far_tree)
+    properties = context(store, [(CONTENT_COUNT, INTEGER32, 1)]).write()
+    for node in identifiers(folders, 2):
+        store.node(node, *properties)
+        store.node(node & ~0x1F | CONTENTS, data)
 
 
 def far_objects(store, count=2000):
@@ -190,4 +235,5 @@ def few_maps(store, messages=3000):
         store.node(node, xblock(store, spans, len(*first) + 15 * len(body)))
 
 
-MAKERS = (far_values, far_cells, far_names, far_objects, shared_matrix, short_leaves, empty_leaves, many_leaves, far_rows, page_maps, few_maps)
+MAKERS = (far_values, far_cells, far_names, far_contexts, far_attachments, far_listings, far_objects, shared_matrix,
+          short_leaves, empty_leaves, many_leaves, far_rows, page_maps, few_maps)

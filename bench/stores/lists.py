@@ -4,6 +4,7 @@ import struct
 from stores.database import LONGEST_BODY
 
 BLOCKS_IN_A_LIST = 1021
+BLOCKS_ON_A_PAGE = 20
 SUBNODES_IN_A_LEAF = 340
 
 
@@ -42,10 +43,13 @@ def block_lists(store, bodies, in_a_list=BLOCKS_IN_A_LIST):
 
 def far_tree(store, bodies):
     """The data tree over these bodies, the first of which stands alone in front, and the others behind as many
-    XBLOCKs without entries as there is room for."""
+    XBLOCKs without entries as there is room for. These are one, whose entry is the last of its page of the block
+    B-tree, so that each look-up goes through all others there."""
+    while len(store.blocks) % BLOCKS_ON_A_PAGE != BLOCKS_ON_A_PAGE - 1:
+        store.block(b"")
+    empty = xblock(store, [], 0)
     front, behind = block_lists(store, bodies[:1]), block_lists(store, bodies[1:])
-    empty = [xblock(store, [], 0)] * (BLOCKS_IN_A_LIST - 1 - len(behind))
-    return xxblock(store, front + empty + behind, sum(map(len, bodies)))
+    return xxblock(store, front + [empty] * (BLOCKS_IN_A_LIST - 1 - len(behind)) + behind, sum(map(len, bodies)))
 
 
 def data_of(store, data):

@@ -1,12 +1,11 @@
 """Stores that are made to be slow: contexts that share their data, each under a list of subnodes of its own. A list
 takes some hundred bytes, so whoever goes through the data once more for each list takes the product of both."""
 from stores.contexts import BINARY, INTEGER32, STRING, PropertyContext, TableContext, text
-from stores.hostile import PLAIN, attachment_entries, embedding_context, identifiers, ordered, roots, small_message
+from stores.hostile import (PLAIN, SEARCH_FOLDER, attachment_entries, embedding_context, identifiers, ordered, roots,
+                            small_message)
 from stores.lists import data_tree, leaf_list, leaf_lists, list_over, subnode_list, xblock
-from stores.mail import (ATTACHMENTS, CONTENT_COUNT, CONTENTS, DISPLAY_NAME,
-                         EMBEDDED_MESSAGE, RECIPIENTS, SUBJECT, context, table)
-
-SEARCH_FOLDER = 3
+from stores.mail import (ATTACHMENTS, CONTENT_COUNT, CONTENTS, DISPLAY_NAME, EMBEDDED_MESSAGE, RECIPIENTS, SUBJECT,
+                         context, table)
 
 
 def own_records(store, contexts=2000, records=60_000, named=0):
