@@ -86,7 +86,8 @@ static void encode_tree(uint8_t *image, uint64_t place, int method) {
 }
 
 int main(int argc, char **argv) {
-  if (argc != 4 || (strcmp(argv[2], "1") && strcmp(argv[2], "2"))) return 2;
+  if (argc != 4 || (strcmp(argv[2], "1") && strcmp(argv[2], "2")))
+    return fputs("encode_store PLAIN METHOD ENCODED: METHOD is 1 or 2\n", stderr), 2;
   FILE *plain = fopen(argv[1], "rb"), *encoded = fopen(argv[3], "wb");
   if (!plain || !encoded || fseek(plain, 0, SEEK_END)) return 3;
   size_t size = ftell(plain);
