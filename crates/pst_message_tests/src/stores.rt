@@ -3,6 +3,7 @@
 mod attached;
 mod bodies;
 mod folders;
+mod reached;
 
 use bodies::{EMBEDS, PLAIN, list, table};
 use pst_bytes::Image;

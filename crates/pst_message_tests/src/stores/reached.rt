@@ -1,0 +1,74 @@
+//! The folders that the root folder reaches.
+
+use super::bodies::{PLAIN, table};
+use super::{add_block, node_of};
+use crate::told::is;
+use pst_bytes::Image;
+use pst_make::{build, m1_plan};
+use pst_msg::check_messaging;
+use pst_ndb::check_ndb;
+use pst_reach::{reach, ways_are_found};
+use std::alloc::Global;
+use std::test::Fail;
+
+// Folders beside those of the small store, whose root folder 0x122 names 0x142: that names 0x162 and 0x182, and these two have one
+// table, which names the search folder 0x163 and 0x1a2. That has the root folder's table, so that ways go in a circle. The folder
+// 0x1c2 has it too, and none names it.
+const NODES: [(u32, u64); 10] = [
+    (0x14d, 20),
+    (0x162, 16),
+    (0x163, 16),
+    (0x16d, 24),
+    (0x182, 16),
+    (0x18d, 24),
+    (0x1a2, 16),
+    (0x1ad, 12),
+    (0x1c2, 16),
+    (0x1cd, 12),
+];
+
+fn image(alloc: Global) -> Result<Vec<u8>, Fail> {
+    let mut plan = m1_plan(alloc)?;
+    add_block(&mut plan, 16, Vec::from_slice(alloc, &PLAIN)?)?;
+    add_block(&mut plan, 20, table(alloc, [0x162, 0x182])?)?;
+    add_block(&mut plan, 24, table(alloc, [0x163, 0x1a2])?)?;
+    for (nid, bid_data) in NODES {
+        plan.nodes.push(node_of(nid, bid_data, 0))?;
+    }
+    build(alloc, &plan).map_err(|_| Fail::from("not made"))
+}
+
+// Those that are reached, each with its parent and its depth, and how many of them were walked from, beside 7.
+fn reached_line(alloc: Global, image: &[u8]) -> Result<String, Fail> {
+    let Ok(checked) = check_ndb(alloc, Image::new(image)) else {
+        return Err(Fail::from("no node database"));
+    };
+    let ndb = checked.ndb;
+    let mut work = checked.work;
+    let mut line = String::new(alloc);
+    let mut walked = 7;
+    match check_messaging(alloc, &ndb, &mut work) {
+        Ok(()) => {
+            for folder in reach(alloc, &ndb, &mut walked)? {
+                let (nid, parent, depth) = (folder.nid, folder.parent, folder.depth);
+                let text = format!(in alloc; "{nid:x} {parent:x} {depth}, ")?;
+                line.push_str(&text)?;
+            }
+        }
+        Err(_) => return Err(Fail::from("refused")),
+    }
+    let text = format!(in alloc; "{walked}")?;
+    line.push_str(&text)?;
+    Ok(line)
+}
+
+#[test]
+fn folders_are_reached(rt: HostRuntime) -> Result<(), Fail> {
+    let alloc = rt.alloc();
+    let image = image(alloc)?;
+    let line = reached_line(alloc, &image)?;
+    let wanted = "122 0 0, 142 122 1, 162 142 2, 163 162 3, 182 142 2, 1a2 162 3, 12";
+    is(&rt, line.as_str(), wanted);
+    ways_are_found();
+    Ok(())
+}

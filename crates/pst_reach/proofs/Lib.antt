@@ -1,0 +1,9 @@
+pub mod SearchLemmas
+pub mod FolderLemmas
+pub mod LevelLemmas
+pub mod StoreLemmas
+pub mod LoopLemmas
+pub mod ListLemmas
+pub mod WayLaws
+pub mod ReachLaws
+pub mod CountLaws

@@ -1,0 +1,128 @@
+-- What hierarchy tables name are folders of the store; and the folders, one after another.
+use Rattle.std.proofs.Common.{◌≡◌, ℕ, zero, suc, ◌+◌, ◌<◌, ◌≤◌, Bool, true, false, cond, List, [], ◌∷◌, length, Option, Some, None, refl, sym, ap, ◌∙◌, arith}
+use Rattle.std.specs.Prelude.{nat_eq, map, option_map}
+use Rattle.std.specs.List.{Contains, list_any, slice_index_or}
+use Rattle.std.specs.Ordering.{nat_cmp}
+use Rattle.std.specs.BTreeMap.{is_at}
+use Rattle.std.specs.Cmp.{unsigned_tied}
+use Rattle.std.proofs.lemmas.Bool.{eqb-true}
+use Rattle.pst_fault.proofs.EachLemmas.{contains_here, contains_later}
+use Rattle.pst_fault.proofs.GeneralLemmas.{number_of_test, test_of_number, or_true}
+use Rattle.pst_page.specs.declared.entry.NodeEntry.{NodeEntry}
+use Rattle.pst_block.specs.Table.{Table}
+use Rattle.pst_btree.specs.Entries.{first_with, node_key, node_with}
+use Rattle.pst_btree.specs.Order.{Rises}
+use Rattle.pst_ndb.specs.Roots.{Roots, entry_roots, node_in, all_roots}
+use Rattle.pst_tc.specs.Values.{RowParts, tc_rows}
+use Rattle.pst_msg.specs.declared.items.Items.TheVariants.{Subfolders}
+use Rattle.pst_msg.specs.declared.nid.TheConstants.{FOLDER}
+use Rattle.pst_msg.specs.Nid.{type_of, is_type}
+use Rattle.pst_msg.specs.Shown.{rows_there, folder_table}
+use Rattle.pst_msg.specs.Values.{is_folder, listing_of}
+use Rattle.pst_store.specs.Grammar.{IsStore}
+use Rattle.pst_store.specs.Kind.{of_kind, node_of_kind}
+use Rattle.pst_store.specs.Parts.{StoreParts, table_in, entries_in}
+use Rattle.pst_reach.specs.Reach.{folder_ids, ids_of, subfolders_of}
+use Rattle.pst_reach.proofs.LevelLemmas.{is_folder_of, AllNamed}
+
+-- ---- nodes by their identifiers
+
+node_there : (nodes : List NodeEntry) (nid : ℕ) (r : Roots) → option_map entry_roots (node_with nid nodes) ≡ Some r → Contains (all_roots nodes) r × (r.top ≡ nid)
+unfolding first_with
+node_there [] nid r is = cc
+node_there (e ∷ rest) nid r is = by_test (nat_eq e.nid nid) refl (λ found. node_there rest nid r found) is
+  where
+    some_is : (x : Roots) → (let o : Option Roots = Some x in o ≡ Some r) → x ≡ r
+    some_is x e = cc
+
+    by_test : (v : Bool) → nat_eq e.nid nid ≡ v → (option_map entry_roots (node_with nid rest) ≡ Some r → Contains (all_roots rest) r × (r.top ≡ nid)) → option_map entry_roots (cond v (Some e) (node_with nid rest)) ≡ Some r → Contains (all_roots (e ∷ rest)) r × (r.top ≡ nid)
+    by_test true same more found =
+        let here : entry_roots e ≡ r = some_is (entry_roots e) found in
+        (rw (← here) (contains_here (entry_roots e) (all_roots rest)), sym (ap (λ (x : Roots). x.top) here) ∙ number_of_test e.nid nid same)
+    by_test false other more found =
+        let later = more found in
+        (contains_later (entry_roots e) r (all_roots rest) later.0, later.1)
+
+pub in_ids : (nodes : List NodeEntry) (nid : ℕ) (r : Roots) → option_map entry_roots (node_with nid nodes) ≡ Some r → is_folder nid ≡ true → is_folder_of nodes nid ≡ true
+unfolding first_with
+in_ids [] nid r is kind = cc
+in_ids (e ∷ rest) nid r is kind = by_test (nat_eq e.nid nid) refl (λ found. in_ids rest nid r found kind) is
+  where
+    tops : List Roots → List ℕ
+    tops xs = map (λ (x : Roots). x.top) xs
+
+    more : (b : Bool) → list_any (is_at (nat_cmp nid)) (tops (of_kind is_folder (all_roots rest))) ≡ true → list_any (is_at (nat_cmp nid)) (tops (cond b (entry_roots e ∷ of_kind is_folder (all_roots rest)) (of_kind is_folder (all_roots rest)))) ≡ true
+    more true later = rw later (or_true (is_at (nat_cmp nid) e.nid))
+    more false later = later
+
+    by_test : (v : Bool) → nat_eq e.nid nid ≡ v → (option_map entry_roots (node_with nid rest) ≡ Some r → is_folder_of rest nid ≡ true) → option_map entry_roots (cond v (Some e) (node_with nid rest)) ≡ Some r → is_folder_of (e ∷ rest) nid ≡ true
+    by_test true same later found =
+        let one : e.nid ≡ nid = number_of_test e.nid nid same in
+        rw (one, kind, unsigned_tied nid nid, test_of_number nid nid refl) refl
+    by_test false other later found = more (is_folder e.nid) (later found)
+
+-- ---- what hierarchy tables name
+
+row_of : (rows : List RowParts) (nid : ℕ) → Contains (ids_of rows) nid → (x : RowParts) × Contains rows x × (x.id ≡ nid)
+row_of [] nid w = absurd (omega (arith, w.1))
+row_of (x ∷ rows) nid w = by_place (λ v. row_of rows nid v) w.0 w.1 w.2
+  where
+    later : (y : RowParts) × Contains rows y × (y.id ≡ nid) → (y : RowParts) × Contains (x ∷ rows) y × (y.id ≡ nid)
+    later v = (v.0, contains_later x v.0 rows v.1, v.2)
+
+    by_place : (Contains (ids_of rows) nid → (y : RowParts) × Contains rows y × (y.id ≡ nid)) → (k : ℕ) → k < length (ids_of (x ∷ rows)) → slice_index_or (ids_of (x ∷ rows)) k nid ≡ nid → (y : RowParts) × Contains (x ∷ rows) y × (y.id ≡ nid)
+    by_place more zero lt is = (x, contains_here x rows, is)
+    by_place more (suc k) lt is = later (more (k, omega (arith, lt), is))
+
+nothing_named : (nid : ℕ) → Contains [] nid → ⊥
+nothing_named nid w = omega (arith, w.1)
+
+pub named_of_store : (I : List ℕ) (s : StoreParts) → IsStore I s → AllNamed (table_in I s) (entries_in I s)
+unfolding subfolders_of node_of_kind folder_table node_in
+named_of_store I s is parent nid named = by_node (is_folder parent) (node_in nodes parent) refl named
+  where
+    t : Table
+    t = table_in I s
+
+    nodes : List NodeEntry
+    nodes = entries_in I s
+
+    ids_there : Option Roots → List ℕ
+    ids_there table = ids_of (rows_there t table)
+
+    by_table : (r : Roots) → Contains (all_roots nodes) r → (v : Bool) → is_type FOLDER r.top ≡ v → (table : Option Roots) → listing_of nodes Subfolders r.top ≡ table → Contains (ids_there (cond v table None)) nid → is_folder_of nodes nid ≡ true
+    by_table r there false e table at w = absurd (nothing_named nid w)
+    by_table r there true e None at w = absurd (nothing_named nid w)
+    by_table r there true e (Some table) at w =
+        let x = row_of (tc_rows t table) nid w in
+        let lists = ((is.folders r (there, eqb-true (type_of r.top) FOLDER e)).subfolders table at).1 x.0 x.1 in
+        in_ids nodes nid lists.0.0 (rw x.2 at lists.0.1) (rw x.2 at lists.1)
+
+    ids_in : Option Roots → List ℕ
+    ids_in None = []
+    ids_in (Some r) = ids_there (cond (is_type FOLDER r.top) (listing_of nodes Subfolders r.top) None)
+
+    by_node : (v : Bool) (o : Option Roots) → node_in nodes parent ≡ o → Contains (ids_in (cond v o None)) nid → is_folder_of nodes nid ≡ true
+    by_node false o e w = absurd (nothing_named nid w)
+    by_node true None e w = absurd (nothing_named nid w)
+    by_node true (Some r) e w = by_table r (node_there nodes parent r e).0 (is_type FOLDER r.top) refl (listing_of nodes Subfolders r.top) refl w
+
+-- ---- the folders, one after another
+
+abbrev pub tops : List Roots → List ℕ
+tops nodes = map (λ (r : Roots). r.top) nodes
+
+pub lower : (a b : ℕ) (xs : List ℕ) → a ≤ b → Rises b None xs → Rises a None xs
+lower a b [] h r = tt
+lower a b (x ∷ xs) h r = (omega (arith, h, r.0), r.1, r.2)
+
+folders_rise : (low : ℕ) (nodes : List NodeEntry) → Rises low None (map node_key nodes) → Rises low None (tops (of_kind is_folder (all_roots nodes)))
+folders_rise low [] rises = tt
+folders_rise low (e ∷ rest) rises = by_kind (is_folder e.nid) (folders_rise (e.nid + 1) rest rises.2)
+  where
+    by_kind : (v : Bool) → Rises (e.nid + 1) None (tops (of_kind is_folder (all_roots rest))) → Rises low None (tops (cond v (entry_roots e ∷ of_kind is_folder (all_roots rest)) (of_kind is_folder (all_roots rest))))
+    by_kind true later = (rises.0, refl, later)
+    by_kind false later = lower low (e.nid + 1) (tops (of_kind is_folder (all_roots rest))) (omega (arith, rises.0)) later
+
+pub ids_rise : (nodes : List NodeEntry) → Rises 0 None (map node_key nodes) → Rises 0 None (folder_ids nodes)
+ids_rise nodes rises = folders_rise 0 nodes rises

@@ -1,0 +1,5 @@
+pub mod Reach
+pub mod Levels
+pub mod Search
+pub mod Laws
+pub use Rattle.pst_store.specs as pst_store

@@ -1,0 +1,203 @@
+//! The search, level by level from the root folder.
+
+ghost use Rattle.std.specs.Prelude.{◌≡◌, ℕ, ◌+◌, None, [], ◌∷◌, IfOk, OnOk, OnErr};
+ghost use Rattle.pst_ndb.specs.Counts.{capped};
+ghost use Rattle.pst_ndb.specs.Views.{table_of_ndb, nodes_of, roots_of};
+ghost use Rattle.pst_msg.specs.Fault.{messaging_fault};
+ghost use Rattle.pst_reach.specs.Levels.{reaches_of, folders_in, folders_at};
+ghost use Rattle.pst_reach.specs.Search.{table_key};
+
+use crate::reached::Reach;
+use crate::rows::take_rows;
+use pst_msg::{FOLDER, ROOT, is_type};
+use pst_ndb::{Ndb, Node};
+use pst_page::PageKind;
+use pst_store::Store;
+use std::alloc::{AllocError, Global};
+use std::collections::{BTreeMap, BTreeSet};
+
+// The key of a table.
+fn key_of(table: Node) -> (u64, u64)
+    ensures { result ≡ table_key (roots_of table.entry) }
+{
+    let data = PageKind::Bbt.key_of(table.bid_data());
+    (data, PageKind::Bbt.key_of(table.bid_sub()))
+}
+
+// A count of folders that are walked from, with one more, or with a search folder, which has no table to walk by.
+fn count_folder(walked: u64, nid: u32) -> u64
+    ensures { (before : ℕ) → walked ≡ capped before →
+        result ≡ capped (before + folders_at (nid ∷ [])) }
+{
+    if is_type(FOLDER, nid) {
+        walked.saturating_add(1)
+    } else {
+        walked
+    }
+}
+
+// The search, as it goes on.
+#[derive(Drop)]
+struct Search<'a> {
+    alloc: Global,
+    store: Store<'a>,
+    found: BTreeMap<u32, Reach>,
+    // The tables that were gone through, by the identifiers of their blocks without bit 0. What several folders have is gone
+    // through once: it names nothing new, and no lesser parent, where it is met again.
+    tables: BTreeSet<(u64, u64)>,
+    // How many folders were walked from.
+    walked: u64,
+}
+
+impl<'a> Search<'a> {
+    ghost use Rattle.std.specs.Prelude.{◌≡◌, ℕ, suc, ◌+◌, OnOk, IfOk, length};
+    ghost use Rattle.pst_ndb.specs.Counts.{capped};
+    ghost use Rattle.pst_store.specs.View.{table_of_store, nodes_of_store};
+    ghost use Rattle.pst_reach.specs.Levels.{steps_of, reaches_of, folders_in, folders_at};
+    ghost use Rattle.pst_reach.specs.Reach.{folder_ids};
+    ghost use Rattle.pst_reach.specs.Search.{Takes, AreTaken, IsWithin, IsLevel};
+
+    // The rows of the hierarchy table of a folder at the depth before.
+    fn take_folder(
+        &mut self,
+        next: &mut BTreeSet<u32>,
+        depth: u32,
+        parent: u32,
+    ) -> Result<(), AllocError>
+        requires taken { AreTaken (table_of_store self.old.store) self.old.tables self.old.found }
+        ensures store { self.new.store ≡ self.old.store }
+        ensures walked { self.new.walked ≡ self.old.walked }
+        ensures taken { let t = table_of_store self.old.store in
+            OnOk result (AreTaken t self.new.tables self.new.found) }
+        ensures takes { let t = table_of_store self.old.store in
+            let steps = steps_of t (nodes_of_store self.old.store) parent in
+            OnOk result (Takes depth steps self.old.found next.old self.new.found next.new) }
+    {
+        let Some(folder) = self.store.folder(parent) else {
+            return Ok(());
+        };
+        let Some(table) = folder.hierarchy() else {
+            return Ok(());
+        };
+        let key = key_of(table.node());
+        if self.tables.contains(&key) {
+            return Ok(());
+        }
+        take_rows(&mut self.found, next, depth, parent, table)?;
+        let _new = self.tables.insert(key)?;
+        Ok(())
+    }
+
+    // The folders at a depth, from those at the depth before.
+    fn take_level(&mut self, depth: u32, level: BTreeSet<u32>) -> Result<BTreeSet<u32>, AllocError>
+        requires taken { AreTaken (table_of_store self.old.store) self.old.tables self.old.found }
+        ensures store { self.new.store ≡ self.old.store }
+        ensures taken { let t = table_of_store self.old.store in
+            OnOk result (AreTaken t self.new.tables self.new.found) }
+        ensures within { let t = table_of_store self.old.store in
+            let nodes = nodes_of_store self.old.store in
+            (n : ℕ) → depth ≡ suc n → IsWithin t nodes n self.old.found → IsLevel t nodes n level →
+            OnOk result (IsWithin t nodes (suc n) self.new.found) }
+        ensures level { let t = table_of_store self.old.store in
+            let nodes = nodes_of_store self.old.store in
+            (n : ℕ) → depth ≡ suc n → IsWithin t nodes n self.old.found → IsLevel t nodes n level →
+            IfOk result (IsLevel t nodes (suc n)) }
+        ensures walked { (before : ℕ) → self.old.walked ≡ capped before →
+            OnOk result (self.new.walked ≡ capped (before + folders_at level.keys)) }
+    {
+        self.store.is_sound();
+        let mut level = level;
+        let mut next = BTreeSet::new(self.alloc);
+        while let Some(parent) = level.pop_first() {
+            self.walked = count_folder(self.walked, parent);
+            self.take_folder(&mut next, depth, parent)?;
+        }
+        next.len();
+        Ok(next)
+    }
+
+    // All levels. No way is as long as there are folders, unless it goes in a circle.
+    fn take_levels(&mut self, level: BTreeSet<u32>) -> Result<(), AllocError>
+        requires taken { AreTaken (table_of_store self.old.store) self.old.tables self.old.found }
+        requires within { let t = table_of_store self.old.store in
+            IsWithin t (nodes_of_store self.old.store) 0 self.old.found }
+        requires level { let t = table_of_store self.old.store in
+            IsLevel t (nodes_of_store self.old.store) 0 level }
+        ensures store { self.new.store ≡ self.old.store }
+        ensures within { let t = table_of_store self.old.store in
+            let nodes = nodes_of_store self.old.store in
+            OnOk result (IsWithin t nodes (length (folder_ids nodes)) self.new.found) }
+        ensures walked { let all = reaches_of (table_of_store self.old.store)
+            (nodes_of_store self.old.store) in
+            (before : ℕ) → self.old.walked ≡ capped before →
+            OnOk result (self.new.walked ≡ capped (before + folders_in all)) }
+    {
+        self.store.is_sound();
+        let mut level = level;
+        let mut depth = 0;
+        let mut rest = self.store.folders();
+        while let Some(folder) = rest.next() {
+            if level.is_empty() {
+                return Ok(());
+            }
+            let _nid = folder.nid();
+            depth += 1;
+            level = self.take_level(depth, level)?;
+        }
+        Ok(())
+    }
+
+    // What is found, the identifiers rising.
+    fn list(&self) -> Result<Vec<Reach>, AllocError>
+        requires within { let nodes = nodes_of_store self.now.store in
+            IsWithin (table_of_store self.now.store) nodes (length (folder_ids nodes)) self.now.found }
+        ensures { let t = table_of_store self.now.store in
+            IfOk result (λ v. v.items ≡ reaches_of t (nodes_of_store self.now.store)) }
+    {
+        let mut reached = Vec::new(self.alloc);
+        let mut rest = self.store.folders();
+        while let Some(folder) = rest.next() {
+            if let Some(reach) = self.found.get(&folder.nid()).copied() {
+                reached.push(reach)?;
+            }
+        }
+        Ok(reached)
+    }
+}
+
+// The search from the root folder of a store, where so many folders were walked from before.
+/// The folders and search folders that the root folder reaches, their identifiers rising, each with its depth and its parent, and
+/// a count of the folders that were walked from, which is raised by their number: each is walked from once, and a search folder,
+/// which has no table to walk by, is not. The count stays at its greatest value once it is there.
+///
+/// Each hierarchy table is gone through once, also one that several folders have, and a row of it takes about log n steps of n
+/// folders. It answers nothing but that memory is refused, and then the count stays.
+pub fn reach(alloc: Global, ndb: &Ndb, walked: &mut u64) -> Result<Vec<Reach>, AllocError>
+    requires { messaging_fault (table_of_ndb ndb.now) (nodes_of ndb.now) ≡ None }
+    ensures exact { let t = table_of_ndb ndb.now in
+        IfOk result (λ v. v.items ≡ reaches_of t (nodes_of ndb.now)) }
+    ensures walked { let all = reaches_of (table_of_ndb ndb.now) (nodes_of ndb.now) in
+        OnOk result (walked.new ≡ capped (walked.old + folders_in all)) }
+    ensures same { OnErr result (walked.new ≡ walked.old) }
+{
+    let mut found = BTreeMap::new(alloc);
+    let root = Reach {
+        nid: ROOT,
+        parent: 0,
+        depth: 0,
+    };
+    let _none = found.insert(ROOT, root)?;
+    let mut level = BTreeSet::new(alloc);
+    let _new = level.insert(ROOT)?;
+    let mut search = Search {
+        alloc,
+        store: Store::known(*ndb),
+        found,
+        tables: BTreeSet::new(alloc),
+        walked: *walked,
+    };
+    search.take_levels(level)?;
+    let reached = search.list()?;
+    *walked = search.walked;
+    Ok(reached)
+}
