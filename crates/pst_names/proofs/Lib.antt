@@ -1,0 +1,12 @@
+pub mod NumLemmas
+pub mod RestLemmas
+pub mod StretchLemmas
+pub mod EntryLemmas
+pub mod RunLemmas
+pub mod FaultLemmas
+pub mod WalkLemmas
+pub mod StreamLemmas
+pub mod EntryLaws
+pub mod FoundLemmas
+pub mod NamesLemmas
+pub mod NameLaws

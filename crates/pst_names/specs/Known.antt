@@ -1,0 +1,36 @@
+-- What is known of entries: runs of them, each by the place in the file where its first one begins, in which all are good. Only
+-- what is true is known, so what is passed over hides no fault.
+use Rattle.std.specs.Prelude.{◌≡◌, ℕ, ◌+◌, ◌*◌, ◌<◌, ◌≤◌, Bool, true, false, List, length, Option, Some, None}
+use Rattle.std.specs.Ordering.{nat_cmp}
+use Rattle.std.specs.BTreeMap.{get}
+use Rattle.pst_bytes.specs.Image.{bytes_at}
+use Rattle.pst_names.specs.declared.runs.Runs.{Runs}
+use Rattle.pst_names.specs.Entry.{entry_in, entry_bytes}
+use Rattle.pst_names.specs.Fault.{is_entry}
+
+-- 8 bytes are a good entry, wherever they lie
+unfoldable pub allows : ℕ → List ℕ → List ℕ → Bool
+allows guids strings bytes = is_entry guids strings (entry_in 0 bytes)
+
+-- a run that begins at a place is known to have so many good entries
+unfoldable pub run_at : Runs → ℕ → Option ℕ
+run_at r at = get nat_cmp r.runs at
+
+-- all entries are good, as many as are whole
+abbrev pub AreAllowed : ℕ → List ℕ → List ℕ → Type 0
+AreAllowed guids strings bytes = (j : ℕ) → 8 * j + 8 ≤ length bytes → allows guids strings (entry_bytes bytes j) ≡ true
+
+-- so many that begin at a place in the file
+abbrev pub IsRun : ℕ → List ℕ → List ℕ → ℕ → ℕ → Type 0
+IsRun guids strings I at n = (j : ℕ) → j < n → allows guids strings (bytes_at I (record { at = at + 8 * j; len = 8 })) ≡ true
+
+pub record AreRunsTrue (guids : ℕ) (strings I : List ℕ) (r : Runs) : Type 0 where
+  pub holds : (at n : ℕ) → run_at r at ≡ Some n → IsRun guids strings I at n
+
+-- the number of the first entry that is not good, of those in a run of bytes; none where all are good
+abbrev pub IsFirstBad : ℕ → List ℕ → List ℕ → Option ℕ → Type 0
+IsFirstBad guids strings bytes None = AreAllowed guids strings bytes
+IsFirstBad guids strings bytes (Some j) =
+    (8 * j + 8 ≤ length bytes)
+    × (allows guids strings (entry_bytes bytes j) ≡ false)
+    × ((k : ℕ) → k < j → allows guids strings (entry_bytes bytes k) ≡ true)

@@ -1,0 +1,12 @@
+pub mod Streams
+pub mod Entry
+pub mod Fault
+pub mod Grammar
+pub mod Name
+pub mod Laws
+pub mod View
+pub mod Behind
+pub mod Rest
+pub mod Known
+pub mod Stretch
+pub mod Strings
