@@ -1,4 +1,4 @@
-//! Tests of heaps, BTHs, values, and the contexts in them (pst_heap, pst_bth, pst_value, pst_pc, pst_tc), by their public calls. They stand apart, so that
+//! Tests of heaps, BTHs, values, the contexts in them, and the name map (pst_heap, pst_bth, pst_value, pst_pc, pst_names, pst_tc), by their public calls. They stand apart, so that
 //! the crates that they are about are proved once, and without them.
 #![tactic(auto)]
 
@@ -8,6 +8,8 @@ mod bths;
 mod heaps;
 #[cfg(test)]
 mod made;
+#[cfg(test)]
+mod names;
 #[cfg(test)]
 mod opened;
 #[cfg(test)]
