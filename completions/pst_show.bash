@@ -24,7 +24,7 @@ _pst_show() {
     if [[ $word == -* ]]; then
         local options='--help'
         case $command in
-            check) options='--help --strict --decode' ;;
+            check) options='--help --strict --digest --decode' ;;
             head) options='--help --decode' ;;
             nodes) options='--help --decode' ;;
             folders) options='--help --decode' ;;

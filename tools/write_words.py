@@ -19,7 +19,8 @@ STORE = "*.(#i)pst(-.)"
 
 
 class Command(NamedTuple):
-    """A command: its name, what it is for, its flags and its words, each with its help, and what it does, in lines."""
+    """A command: its name, what it is for, its flags and its words, each with its help (and of a word whether there may be
+    several), and what it does, in lines."""
     name: str
     about: str
     flags: list
@@ -27,7 +28,7 @@ class Command(NamedTuple):
     does: list
 
     def takes_file(self):
-        return any(name == "FILE" for name, _ in self.words)
+        return any(name == "FILE" for name, _, _ in self.words)
 
 
 def help_of(program, *words):
@@ -50,7 +51,7 @@ def command_of(program, name, about):
         return Command(name, "Shows help", [], [], ["Shows help, or that of a command."])
     lines = help_of(program, name)
     flags = [(flag.split()[-1], text) for flag, text in rows(lines, "Options:") if "--help" not in flag]
-    words = [(word.strip("<>[]."), text) for word, text in rows(lines, "Arguments:")]
+    words = [(word.strip("<>[]."), text, word.endswith("...")) for word, text in rows(lines, "Arguments:")]
     end = lines.index("Exit status:")
     start = max(index for index in range(end - 1) if lines[index] == "") + 1
     return Command(name, about, flags, words, lines[start:end - 1])
@@ -155,11 +156,11 @@ _pst_show "$@"
 """
 
 
-def zsh_word(place, name, text):
-    """What stands at a place: a store, or a word of which only the help is shown."""
+def zsh_word(place, name, text, is_many):
+    """What stands at a place, or from there on: a store, or a word of which only the help is shown."""
     if name == "FILE":
         return f"'{place}:store:_files -g \"{STORE}\"'"
-    return f"'{place}:{text}: '"
+    return f"'{'*' if is_many else place}:{text}: '"
 
 
 def zsh_case(command):
@@ -203,7 +204,8 @@ def fish(commands):
 def usage(command):
     lines = [f".B pst_show {command.name}"]
     lines += [f".RB [ {flag} ]".replace("-", "\\-") for flag, _ in command.flags]
-    return "\n".join([*lines, ".I " + " ".join(name for name, _ in command.words)])
+    words = [f"{name} ..." if is_many else name for name, _, is_many in command.words]
+    return "\n".join([*lines, ".I " + " ".join(words)])
 
 
 def shared_flags(commands):

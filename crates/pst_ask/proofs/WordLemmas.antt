@@ -1,16 +1,21 @@
 -- What the matches of the words ask for.
-use Rattle.std.proofs.Common.{◌≡◌, ◌+◌, ◌<◌, true, Bool, List, length, drop, get_or, Option, Some, None, refl, sym, ap, ◌∙◌}
-use Rattle.std.specs.Prelude.{option_map, find, ℕ, false}
-use Rattle.std.proofs.lemmas.List.{at_drop_more}
-use Rattle.clap.specs.Words.{App, Text, Row, first_of, first_value, found_of, rows_of, subcommand_name_of, subcommand_rows_of, is_simple, is_simple_and_free, HasMatchesOf}
+use Rattle.std.proofs.Common.{◌≡◌, ◌+◌, ◌<◌, true, Bool, List, [], ◌∷◌, ◌++◌, length, drop, get_or, Option, Some, None, Result, Ok, Err, inl, refl, sym, ap, ◌∙◌, append_assoc, append-nil, ◌≤◌}
+use Rattle.std.specs.Prelude.{IfErr, IfOk, option_map, find, map, ℕ, false}
+use Rattle.std.specs.Borrow.{Bor}
+use Rattle.std.proofs.lemmas.List.{at_drop_more, drop_all}
+use Rattle.clap.specs.Words.{App, Text, Row, fault_of, all_of, first_of, first_value, found_of, matched_of, raw_values, rows_of, subcommand_name_of, subcommand_rows_of, is_simple, is_simple_and_free, HasMatchesOf}
 use Rattle.clap.specs.declared.parser.matches.ArgMatches.{ArgMatches}
 use Rattle.clap.specs.declared.parser.matches.ArgMatches.TheViews.{out-ArgMatches}
 use Rattle.clap.proofs.OnLiterals.{clap_on_literals}
-use Rattle.clap.proofs.WalkLemmas.{first_value-rows}
-use Rattle.pst_ask.specs.Ask.{asked_in, asked_with}
+use Rattle.clap.proofs.WalkLemmas.{first_value-rows, raw_values-rows}
+use Rattle.pst_ask.specs.Ask.{Reads, asked_in, asked_with, nids_of, order_of, with_nid}
+use Rattle.pst_ask.specs.declared.ask.Order.{Order}
+use Rattle.pst_ask.specs.declared.words.NoOrder.{NoOrder}
+use Rattle.pst_ask.specs.declared.words.NoOrder.TheVariants.{Words, Lacks}
+use Rattle.pst_ask.specs.Nid.{nid_of_word}
 use Rattle.pst_ask.specs.Verbs.{verb_of}
 use Rattle.pst_ask.specs.declared.verb.Verb.{Verb}
-use Rattle.pst_ask.specs.Words.{asked, show_app, with_verb, with_verbs}
+use Rattle.pst_ask.specs.Words.{Declines, IsAsked, asked, show_app, with_verb, with_verbs}
 
 abbrev paired : {Z : Type 0} → (Z → Text) → (Z → List Row) → Z → Text × List Row
 paired f g b = (f b, g b)
@@ -28,6 +33,10 @@ command_is m n rows p q = both_of (out-ArgMatches m).subcommand _ _ n rows p q
 -- the value of an argument
 pub text_is : (m : ArgMatches) (id : Text) → first_value (found_of m) id ≡ first_of id (rows_of (found_of m))
 text_is m id = first_value-rows (found_of m) id
+
+-- all values of an argument
+pub texts_are : (m : ArgMatches) (id : Text) → option_map raw_values (matched_of (found_of m) id) ≡ all_of id (rows_of (found_of m))
+texts_are m id = raw_values-rows (found_of m) id
 
 pub is_free_show : is_simple_and_free show_app ≡ true
 unfolding clap_on_literals
@@ -61,3 +70,50 @@ pub verbs_next : (a b : App) (xs : List Verb) (i : ℕ) (d : Verb) (whole : App)
     → with_verbs a (drop i xs) ≡ whole → with_verbs b (drop (i + 1) xs) ≡ whole
 verbs_next a b xs i d whole inside is so_far =
     ap (λ x. with_verbs x (drop (i + 1) xs)) is ∙ sym (at_drop_more (with_verbs a) xs i d inside) ∙ so_far
+
+-- ---- nodes, one after another
+
+abbrev texts_of : List (Bor Text) → List Text
+texts_of = map (λ w. w.now)
+
+-- one node more
+pub nids_next : (words : List (Bor Text)) (i : ℕ) (d : Bor Text) (nid : ℕ) (so_far : List ℕ) (whole : Option (List ℕ)) → i < length words → Some nid ≡ nid_of_word (get_or words i d).now
+    → whole ≡ option_map (λ rest. so_far ++ rest) (nids_of (texts_of (drop i words)))
+    → whole ≡ option_map (λ rest. (so_far ++ nid ∷ []) ++ rest) (nids_of (texts_of (drop (i + 1) words)))
+unfolding nids_of
+nids_next words i d nid so_far whole inside named is =
+    let behind = nids_of (texts_of (drop (i + 1) words)) in
+    is ∙ ap (option_map (λ rest. so_far ++ rest)) (at_drop_more (λ l. nids_of (texts_of l)) words i d inside)
+    ∙ ap (λ o. option_map (λ rest. so_far ++ rest) (with_nid o behind)) (sym named) ∙ moved behind so_far nid
+  where
+    moved : (o : Option (List ℕ)) (a : List ℕ) (n : ℕ) → option_map (λ rest. a ++ rest) (option_map (λ nids. n ∷ nids) o) ≡ option_map (λ rest. (a ++ n ∷ []) ++ rest) o
+    moved None a n = refl
+    moved (Some rest) a n = ap (λ l. Some l) (sym (append_assoc a (n ∷ []) rest))
+
+-- a word that names none
+pub nids_none : (words : List (Bor Text)) (i : ℕ) (d : Bor Text) (so_far : List ℕ) (whole : Option (List ℕ)) → i < length words → None ≡ nid_of_word (get_or words i d).now
+    → whole ≡ option_map (λ rest. so_far ++ rest) (nids_of (texts_of (drop i words))) → whole ≡ None
+unfolding nids_of
+nids_none words i d so_far whole inside named is =
+    is ∙ ap (option_map (λ rest. so_far ++ rest)) (at_drop_more (λ l. nids_of (texts_of l)) words i d inside)
+    ∙ ap (λ o. option_map (λ rest. so_far ++ rest) (with_nid o (nids_of (texts_of (drop (i + 1) words))))) (sym named)
+
+-- no word is left
+pub nids_end : (words : List (Bor Text)) (i : ℕ) (so_far : List ℕ) (whole : Option (List ℕ)) → length words ≤ i
+    → whole ≡ option_map (λ rest. so_far ++ rest) (nids_of (texts_of (drop i words))) → whole ≡ Some so_far
+unfolding nids_of
+nids_end words i so_far whole outside is =
+    is ∙ ap (λ l. option_map (λ rest. so_far ++ rest) (nids_of (texts_of l))) (drop_all i words outside) ∙ ap (λ l. Some l) (append-nil so_far)
+
+-- ---- what is read of the words
+
+pub parsed_ok : (words : List Text) (m : ArgMatches) (r : Result Order NoOrder) → fault_of show_app words ≡ [] → HasMatchesOf show_app words m
+    → Reads order_of r (asked_in (subcommand_rows_of m)) → IfOk r (λ order. IsAsked words (order_of order))
+parsed_ok words m (Ok order) good has reads = record { accepted = good; is = asked_is words m has ∙ reads }
+parsed_ok words m (Err none) good has reads = tt
+
+pub parsed_err : (words : List Text) (m : ArgMatches) (r : Result Order NoOrder) → fault_of show_app words ≡ [] → HasMatchesOf show_app words m
+    → Reads order_of r (asked_in (subcommand_rows_of m)) → IfErr r (λ none. Declines words none)
+parsed_err words m (Ok order) good has reads = tt
+parsed_err words m (Err (Words e)) good has reads = inl reads
+parsed_err words m (Err (Lacks lack)) good has reads = (good, asked_is words m has ∙ reads)

@@ -1,7 +1,8 @@
 -- What the matches of the words ask for.
-use Rattle.std.specs.Prelude.{ℕ, Bool, false, List, Option, Some, None, Result, Ok, Err, codes}
+use Rattle.std.specs.Prelude.{◌≡◌, ℕ, Bool, false, List, [], ◌∷◌, Option, Some, None, option_map, Result, Ok, Err, codes, slice_index}
 use Rattle.std.specs.Str.{bytes_eq}
-use Rattle.clap.specs.Words.{Text, Row, first_of}
+use Rattle.clap.specs.Words.{Text, Row, all_of, first_of, kind_of}
+use Rattle.clap.specs.declared.error.kind.ErrorKind.TheVariants.{OutOfMemory}
 use Rattle.pst_ask.specs.declared.ask.Ask.{Ask}
 use Rattle.pst_ask.specs.declared.ask.Ask.TheVariants as ask
 use Rattle.pst_ask.specs.declared.ask.Lack.{Lack}
@@ -9,20 +10,54 @@ use Rattle.pst_ask.specs.declared.ask.Lack.TheVariants.{Nid, Nothing}
 use Rattle.pst_ask.specs.declared.ask.Order.{Order}
 use Rattle.pst_ask.specs.declared.verb.Verb.{Verb}
 use Rattle.pst_ask.specs.declared.verb.Verb.TheVariants.{Check, Head, Nodes, Folders, Contents, Props}
+use Rattle.pst_ask.specs.declared.words.NoOrder.{NoOrder}
+use Rattle.pst_ask.specs.declared.words.NoOrder.TheVariants.{Words, Lacks}
 use Rattle.pst_ask.specs.Nid.{nid_of_word}
 use Rattle.pst_ask.specs.Verbs.{verb_of}
 
+-- ---- what is to be shown
+
+pub data Wanted : Type 0 where
+  -- the report of a check: whether it is strict, and whether it has the digest of the file
+  report : Bool → Bool → Wanted
+  head : Wanted
+  nodes : Wanted
+  folders : Wanted
+  -- the messages of the folder with an identifier
+  contents : ℕ → Wanted
+  -- the properties of the nodes with these identifiers, one after another
+  props : List ℕ → Wanted
+
+abbrev pub wanted_of : Ask → Wanted
+wanted_of (ask.Check strict digest) = report strict digest
+wanted_of ask.Head = head
+wanted_of ask.Nodes = nodes
+wanted_of ask.Folders = folders
+wanted_of (ask.Contents nid) = contents nid
+wanted_of (ask.Props nids) = props nids.items
+
 -- what is to be shown, of which file, and whether that is decoded first
 pub record Asked : Type 0 where
-  pub ask : Ask
+  pub ask : Wanted
   pub decode : Bool
   pub file : Text
 
-abbrev pub asked_of : Ask → Bool → Text → Asked
+abbrev pub asked_of : Wanted → Bool → Text → Asked
 asked_of ask decode file = record { ask = ask; decode = decode; file = file }
 
 abbrev pub order_of : Order → Asked
-order_of order = asked_of order.ask order.decode order.file.now
+order_of order = asked_of (wanted_of order.ask) order.decode order.file.now
+
+-- nothing is done for want of memory
+abbrev pub IsForMemory : NoOrder → Type 0
+IsForMemory (Words e) = kind_of e ≡ OutOfMemory
+IsForMemory (Lacks lack) = ⊥
+
+-- what is read of the words is the answer, or the answer is this lack, unless memory ran out
+abbrev pub Reads : {X Y : Type 0} → (X → Y) → Result X NoOrder → Result Y Lack → Type 0
+Reads shown (Ok x) answer = answer ≡ Ok (shown x)
+Reads shown (Err (Words e)) answer = kind_of e ≡ OutOfMemory
+Reads shown (Err (Lacks lack)) answer = answer ≡ Err lack
 
 -- ---- by what stands behind the name of a command
 
@@ -43,31 +78,57 @@ abbrev pub node_named : Option Text → Result ℕ Lack
 node_named None = Err Nothing
 node_named (Some word) = node_in_word (nid_of_word word)
 
-abbrev pub of_node : (ℕ → Ask) → Result ℕ Lack → Result Ask Lack
-of_node make (Ok nid) = Ok (make nid)
-of_node make (Err lack) = Err lack
+-- the nodes that words name, where each names one
+abbrev pub with_nid : Option ℕ → Option (List ℕ) → Option (List ℕ)
+with_nid None rest = None
+with_nid (Some nid) rest = option_map (λ nids. nid ∷ nids) rest
+
+unfoldable pub nids_of : List Text → Option (List ℕ)
+nids_of [] = Some []
+nids_of (word ∷ rest) = with_nid (nid_of_word word) (nids_of rest)
+
+abbrev pub nodes_in_words : Option (List ℕ) → Result (List ℕ) Lack
+nodes_in_words None = Err Nid
+nodes_in_words (Some nids) = Ok nids
+
+abbrev pub nodes_named : Option (List Text) → Result (List ℕ) Lack
+nodes_named None = Err Nothing
+nodes_named (Some words) = nodes_in_words (nids_of words)
+
+abbrev pub asking : {X : Type 0} → (X → Wanted) → Result X Lack → Result Wanted Lack
+asking make (Ok x) = Ok (make x)
+asking make (Err lack) = Err lack
 
 -- what a command asks for by its matches
-abbrev pub ask_of : Verb → List Row → Result Ask Lack
-ask_of Check rows = Ok (ask.Check (is_used (codes "strict") rows))
-ask_of Head rows = Ok ask.Head
-ask_of Nodes rows = Ok ask.Nodes
-ask_of Folders rows = Ok ask.Folders
-ask_of Contents rows = of_node (λ nid. ask.Contents nid) (node_named (first_of (codes "NID") rows))
-ask_of Props rows = of_node (λ nid. ask.Props nid) (node_named (first_of (codes "NID") rows))
+abbrev pub ask_of : Verb → List Row → Result Wanted Lack
+ask_of Check rows = Ok (report (is_used (codes "strict") rows) (is_used (codes "digest") rows))
+ask_of Head rows = Ok head
+ask_of Nodes rows = Ok nodes
+ask_of Folders rows = Ok folders
+ask_of Contents rows = asking contents (node_named (first_of (codes "NID") rows))
+ask_of Props rows = asking props (nodes_named (all_of (codes "NID") rows))
 
--- what it asks for by its flag `--strict`, where it has that, and the node, where it takes one
-abbrev pub asks : Verb → Bool → ℕ → Ask
-asks Check strict nid = ask.Check strict
-asks Head strict nid = ask.Head
-asks Nodes strict nid = ask.Nodes
-asks Folders strict nid = ask.Folders
-asks Contents strict nid = ask.Contents nid
-asks Props strict nid = ask.Props nid
+-- which flags are used: `--strict`, `--digest`, `--decode`
+pub record Flags : Type 0 where
+  pub strict : Bool
+  pub digest : Bool
+  pub decode : Bool
+
+abbrev pub flags_of : Bool → Bool → Bool → Flags
+flags_of strict digest decode = record { strict = strict; digest = digest; decode = decode }
+
+-- what it asks for by its flags and the nodes behind its file; where it takes one, of the first
+abbrev pub asks : Verb → Flags → List ℕ → Wanted
+asks Check flags nids = report flags.strict flags.digest
+asks Head flags nids = head
+asks Nodes flags nids = nodes
+asks Folders flags nids = folders
+asks Contents flags nids = contents (slice_index nids 0)
+asks Props flags nids = props nids
 
 -- ---- with the file
 
-abbrev pub of_file : Result Ask Lack → Bool → Option Text → Result Asked Lack
+abbrev pub of_file : Result Wanted Lack → Bool → Option Text → Result Asked Lack
 of_file (Err lack) decode file = Err lack
 of_file (Ok ask) decode None = Err Nothing
 of_file (Ok ask) decode (Some file) = Ok (asked_of ask decode file)
@@ -83,7 +144,3 @@ asked_with (Some verb) rows = asked_by verb rows
 abbrev pub asked_in : Option (Text × List Row) → Result Asked Lack
 asked_in None = Err Nothing
 asked_in (Some p) = asked_with (verb_of p.0) p.1
-
-abbrev pub order_result : Result Order Lack → Result Asked Lack
-order_result (Ok order) = Ok (order_of order)
-order_result (Err lack) = Err lack

@@ -3,18 +3,19 @@ use Rattle.std.specs.Prelude.{List, [], ◌∷◌, Option, find, codes}
 use Rattle.std.specs.Str.{bytes_eq}
 use Rattle.clap.specs.Words.{Text}
 use Rattle.pst_ask.specs.declared.verb.Takes.{Takes}
-use Rattle.pst_ask.specs.declared.verb.Takes.TheVariants.{File, Strict, Node}
+use Rattle.pst_ask.specs.declared.verb.Takes.TheVariants.{File, Report, Node}
+use Rattle.pst_ask.specs.declared.verb.Takes.TheVariants as takes
 use Rattle.pst_ask.specs.declared.verb.Verb.{Verb}
 use Rattle.pst_ask.specs.declared.verb.Verb.TheVariants.{Check, Head, Nodes, Folders, Contents, Props}
 
 -- its name, and what stands behind that
 abbrev pub line_of_verb : Verb → Text × Takes
-line_of_verb Check = (codes "check", Strict)
+line_of_verb Check = (codes "check", Report)
 line_of_verb Head = (codes "head", File)
 line_of_verb Nodes = (codes "nodes", File)
 line_of_verb Folders = (codes "folders", File)
 line_of_verb Contents = (codes "contents", Node)
-line_of_verb Props = (codes "props", Node)
+line_of_verb Props = (codes "props", takes.Nodes)
 
 abbrev pub name_of : Verb → Text
 name_of v = (line_of_verb v).0

@@ -1,17 +1,18 @@
 -- What the words after the program's name ask for.
-use Rattle.std.specs.Prelude.{◌≡◌, ◌≢◌, ⊤, ℕ, true, false, List, [], ◌∷◌, map, ◌++◌, Bool, Some, Result, Ok, Err, codes, string_bytes, String}
+use Rattle.std.specs.Prelude.{◌≡◌, ◌≢◌, ⊤, ℕ, true, false, length, List, [], ◌∷◌, map, ◌++◌, Bool, Some, Result, Ok, Err, codes, string_bytes, String}
 use Rattle.std.specs.Global.{Global}
 use Rattle.clap.specs.Words.{App, Shape, AddsSubcommand, app_of, Rule, Text, new_app, new_rule, with_rule, with_subcommand, subcommand_of, fault_of, HasKind}
-use Rattle.clap.specs.declared.builder.action.ArgAction.TheVariants.{SetTrue}
+use Rattle.clap.specs.declared.builder.action.ArgAction.TheVariants.{Append, SetTrue}
 use Rattle.clap.specs.declared.builder.command.Command.{Command}
+use Rattle.clap.specs.declared.builder.command.Command.TheViews.{out-Command}
 use Rattle.pst_ask.specs.declared.ask.Lack.{Lack}
 use Rattle.pst_ask.specs.declared.verb.Takes.{Takes}
-use Rattle.pst_ask.specs.declared.verb.Takes.TheVariants.{File, Strict, Node}
+use Rattle.pst_ask.specs.declared.verb.Takes.TheVariants.{File, Report, Node}
+use Rattle.pst_ask.specs.declared.verb.Takes.TheVariants as takes
 use Rattle.pst_ask.specs.declared.verb.Verb.{Verb}
 use Rattle.pst_ask.specs.declared.words.NoOrder.{NoOrder}
 use Rattle.pst_ask.specs.declared.words.NoOrder.TheVariants.{Words, Lacks}
-use Rattle.pst_ask.specs.Ask.{Asked, asked_of, asked_in, asks}
-use Rattle.pst_ask.specs.Nid.{nid_of_word}
+use Rattle.pst_ask.specs.Ask.{Asked, Flags, asked_of, asked_in, asks, nids_of}
 use Rattle.pst_ask.specs.Verbs.{name_of, takes_of, verbs}
 
 abbrev pub texts : List (String Global) → List Text
@@ -27,9 +28,17 @@ file_rule = record (new_rule (codes "FILE")) { required = true }
 abbrev pub node_rule : Rule
 node_rule = record (new_rule (codes "NID")) { required = true }
 
+-- nodes, of which one has to be named at least
+abbrev pub nodes_rule : Rule
+nodes_rule = record (new_rule (codes "NID")) { required = true; action = Some Append }
+
 -- the flag `--strict`
 abbrev pub strict_rule : Rule
 strict_rule = record (new_rule (codes "strict")) { long = Some (codes "strict"); action = Some SetTrue }
+
+-- the flag `--digest`
+abbrev pub digest_rule : Rule
+digest_rule = record (new_rule (codes "digest")) { long = Some (codes "digest"); action = Some SetTrue }
 
 -- the flag `--decode`, which every command has
 abbrev pub decode_rule : Rule
@@ -39,14 +48,34 @@ decode_rule = record (new_rule (codes "decode")) { long = Some (codes "decode");
 abbrev pub with_file : App → App
 with_file a = with_rule (with_rule a decode_rule) file_rule
 
+-- with the flags that not every command has
+abbrev pub with_flags : Takes → App → App
+with_flags File a = a
+with_flags Report a = with_rule (with_rule a strict_rule) digest_rule
+with_flags Node a = a
+with_flags takes.Nodes a = a
+
+-- with what stands behind the file
+abbrev pub with_words : Takes → App → App
+with_words File a = a
+with_words Report a = a
+with_words Node a = with_rule a node_rule
+with_words takes.Nodes a = with_rule a nodes_rule
+
 -- a command of a name, and what stands behind that
 abbrev pub app_taking : Takes → Text → App
-app_taking File name = with_file (new_app name)
-app_taking Strict name = with_file (with_rule (new_app name) strict_rule)
-app_taking Node name = with_rule (with_file (new_app name)) node_rule
+app_taking takes name = with_words takes (with_file (with_flags takes (new_app name)))
 
 abbrev pub app_for : Verb → App
 app_for verb = app_taking (takes_of verb) (name_of verb)
+
+-- each argument of a command is its own alone
+abbrev pub IsAlone : Command → Type 0
+IsAlone command = (out-Command command).has_globals ≡ false
+
+-- a command is this one, and each of its arguments is its own alone
+abbrev pub IsOwn : App → Command → Type 0
+IsOwn a command = (app_of command ≡ a) × IsAlone command
 
 -- a command line that gains this command gains this shape
 abbrev pub AddsAs : Shape → Command → Type 0
@@ -84,39 +113,44 @@ IsNoOption [] = ⊤
 IsNoOption (b ∷ []) = ⊤
 IsNoOption (b ∷ c ∷ rest) = b ≢ 45
 
--- a command's words: its name, the flags that are used, a file, and of `contents` and `props` a node behind it
+-- a command's words: its name, the flags that are used, a file, and of `contents` and `props` nodes behind it
 abbrev pub flag_if : Bool → Text → List Text
 flag_if true flag = flag ∷ []
 flag_if false flag = []
 
-abbrev pub behind_file : Takes → Text → List Text
-behind_file File word = []
-behind_file Strict word = []
-behind_file Node word = word ∷ []
+abbrev pub behind_file : Takes → List Text → List Text
+behind_file File words = []
+behind_file Report words = []
+behind_file Node words = words
+behind_file takes.Nodes words = words
 
-abbrev pub words_for : Verb → Bool → Bool → Text → Text → List Text
-words_for v strict decode file word =
-    name_of v ∷ (flag_if strict (codes "--strict") ++ flag_if decode (codes "--decode")) ++ file ∷ behind_file (takes_of v) word
+abbrev pub flag_words : Flags → List Text
+flag_words f = flag_if f.strict (codes "--strict") ++ flag_if f.digest (codes "--digest") ++ flag_if f.decode (codes "--decode")
 
--- only `check` has the flag `--strict`
-abbrev pub MayUse : Takes → Bool → Type 0
-MayUse Strict strict = ⊤
-MayUse File strict = strict ≡ false
-MayUse Node strict = strict ≡ false
+abbrev pub words_for : Verb → Flags → Text → List Text → List Text
+words_for v flags file words = name_of v ∷ flag_words flags ++ file ∷ behind_file (takes_of v) words
 
--- the word behind the file is the identifier of a node, where the command takes one
-abbrev pub NamesNode : Takes → Text → ℕ → Type 0
-NamesNode File word nid = ⊤
-NamesNode Strict word nid = ⊤
-NamesNode Node word nid = nid_of_word word ≡ Some nid
+-- only `check` has the flags `--strict` and `--digest`
+abbrev pub MayUse : Takes → Flags → Type 0
+MayUse Report flags = ⊤
+MayUse File flags = (flags.strict ≡ false) × (flags.digest ≡ false)
+MayUse Node flags = (flags.strict ≡ false) × (flags.digest ≡ false)
+MayUse takes.Nodes flags = (flags.strict ≡ false) × (flags.digest ≡ false)
+
+-- the words behind the file are the identifiers of nodes: of one, or of one at least
+abbrev pub NamesNodes : Takes → List Text → List ℕ → Type 0
+NamesNodes File words nids = ⊤
+NamesNodes Report words nids = ⊤
+NamesNodes Node words nids = (nids_of words ≡ Some nids) × (length words ≡ 1)
+NamesNodes takes.Nodes words nids = (nids_of words ≡ Some nids) × (words ≢ [])
 
 -- The words of each command, with each of its flags or without, are accepted, and ask for what the command shows of the file
--- that they name, whatever its name, if it begins with no hyphen, or is one: decoded with `--decode`, and of `contents` and
--- `props` of the node that they name.
+-- that they name, whatever its name, if it begins with no hyphen, or is one: decoded with `--decode`, of `contents` of the node
+-- that they name, and of `props` of all of the nodes, however many.
 abbrev pub WordsLaw : Type 0
-WordsLaw = (v : Verb) (strict decode : Bool) (file word : Text) (nid : ℕ)
-    → MayUse (takes_of v) strict → IsNoOption file → NamesNode (takes_of v) word nid
-    → IsAsked (words_for v strict decode file word) (asked_of (asks v strict nid) decode file)
+WordsLaw = (v : Verb) (flags : Flags) (file : Text) (words : List Text) (nids : List ℕ)
+    → MayUse (takes_of v) flags → IsNoOption file → NamesNodes (takes_of v) words nids
+    → IsAsked (words_for v flags file words) (asked_of (asks v flags nids) flags.decode file)
 
 -- ---- where nothing is done
 

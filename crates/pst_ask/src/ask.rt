@@ -1,18 +1,25 @@
 //! What is asked for.
 
-ghost use Rattle.std.specs.Prelude.{◌≡◌, codes, option_map};
-ghost use Rattle.clap.specs.Words.{first_of, found_of, rows_of, subcommand_rows_of};
-ghost use Rattle.pst_ask.specs.Ask.{is_used, node_named, ask_of, asked_by, asked_in, order_result};
+ghost use Rattle.std.specs.Prelude.{◌≡◌, codes, map, option_map};
+ghost use Rattle.clap.specs.Words.{all_of, first_of, found_of, rows_of, subcommand_rows_of};
+ghost use Rattle.pst_ask.specs.Ask.{Reads, is_used, node_named, nodes_named, nids_of, nodes_in_words, order_of, wanted_of, ask_of, asked_by, asked_in};
 
 use crate::nid::read_nid;
 use crate::verb::Verb;
+use crate::words::NoOrder;
 use clap::ArgMatches;
+use std::alloc::Global;
 
 /// What a command shows of a file.
-#[derive(Clone, Copy, Debug, PartialEq, Eq)]
+#[derive(Debug, PartialEq, Eq, Drop)]
 pub enum Ask {
-    /// The report of its check; whether lost runs make the status 1.
-    Check(bool),
+    /// The report of its check.
+    Check {
+        /// Whether lost runs make the status 1.
+        strict: bool,
+        /// Whether it has the SHA-256 of the file.
+        digest: bool,
+    },
     /// The fields of its header.
     Head,
     /// The entries of its node B-tree.
@@ -21,12 +28,12 @@ pub enum Ask {
     Folders,
     /// The messages of the folder with an identifier.
     Contents(u32),
-    /// The properties of the node with an identifier.
-    Props(u32),
+    /// The properties of the nodes with these identifiers, one after another.
+    Props(Vec<u32>),
 }
 
 /// What a command line asks for: what to show, and of which file.
-#[derive(Clone, Copy, Debug, PartialEq, Eq)]
+#[derive(Debug, PartialEq, Eq, Drop)]
 pub struct Order<'a> {
     /// What to show.
     pub ask: Ask,
@@ -73,41 +80,71 @@ fn node_in(found: &ArgMatches) -> Result<u32, Lack>
     }
 }
 
+// The nodes that words name.
+#[tactic(auto, using(crate::proofs::WordLemmas::nids_next, crate::proofs::WordLemmas::nids_none, crate::proofs::WordLemmas::nids_end))]
+fn nodes_of(alloc: Global, words: &[&str]) -> Result<Vec<u32>, NoOrder>
+    ensures { Reads (λ v. v.items) result (nodes_in_words (nids_of (map (λ w. w.now) words.now))) }
+{
+    let mut nids = Vec::new(alloc);
+    for word in words {
+        match read_nid(word) {
+            Some(nid) => nids.push(nid)?,
+            None => return Err(NoOrder::Lacks(Lack::Nid)),
+        }
+    }
+    Ok(nids)
+}
+
+// The nodes that are named.
+#[tactic(auto, using(crate::proofs::WordLemmas::texts_are))]
+fn nodes_in(alloc: Global, found: &ArgMatches) -> Result<Vec<u32>, NoOrder>
+    ensures { Reads (λ v. v.items) result
+        (nodes_named (all_of (codes "NID") (rows_of (found_of found.now)))) }
+{
+    match found.get_strs("NID") {
+        Some(words) => nodes_of(alloc, words),
+        None => Err(NoOrder::Lacks(Lack::Nothing)),
+    }
+}
+
 // What a command asks for.
-fn ask_in(verb: Verb, found: &ArgMatches) -> Result<Ask, Lack>
-    ensures { result ≡ ask_of verb (rows_of (found_of found.now)) }
+fn ask_in(alloc: Global, verb: Verb, found: &ArgMatches) -> Result<Ask, NoOrder>
+    ensures { Reads wanted_of result (ask_of verb (rows_of (found_of found.now))) }
 {
     match verb {
-        Verb::Check => Ok(Ask::Check(is_given(found, "strict"))),
+        Verb::Check => Ok(Ask::Check {
+            strict: is_given(found, "strict"),
+            digest: is_given(found, "digest"),
+        }),
         Verb::Head => Ok(Ask::Head),
         Verb::Nodes => Ok(Ask::Nodes),
         Verb::Folders => Ok(Ask::Folders),
         Verb::Contents => Ok(Ask::Contents(node_in(found)?)),
-        Verb::Props => Ok(Ask::Props(node_in(found)?)),
+        Verb::Props => Ok(Ask::Props(nodes_in(alloc, found)?)),
     }
 }
 
 // What a command asks for, of which file, and whether that is decoded first.
-fn order_by<'a>(verb: Verb, found: &ArgMatches<'a>) -> Result<Order<'a>, Lack>
-    ensures { order_result result ≡ asked_by verb (rows_of (found_of found.now)) }
+fn order_by<'a>(alloc: Global, verb: Verb, found: &ArgMatches<'a>) -> Result<Order<'a>, NoOrder>
+    ensures { Reads order_of result (asked_by verb (rows_of (found_of found.now))) }
 {
-    let ask = ask_in(verb, found)?;
+    let ask = ask_in(alloc, verb, found)?;
     let decode = is_given(found, "decode");
     match text_in(found, "FILE") {
         Some(file) => Ok(Order { ask, decode, file }),
-        None => Err(Lack::Nothing),
+        None => Err(NoOrder::Lacks(Lack::Nothing)),
     }
 }
 
 /// What the words were taken for.
-pub fn order_in<'a>(matches: &ArgMatches<'a>) -> Result<Order<'a>, Lack>
-    ensures { order_result result ≡ asked_in (subcommand_rows_of matches.now) }
+pub fn order_in<'a>(alloc: Global, matches: &ArgMatches<'a>) -> Result<Order<'a>, NoOrder>
+    ensures { Reads order_of result (asked_in (subcommand_rows_of matches.now)) }
 {
     let Some((name, found)) = matches.subcommand() else {
-        return Err(Lack::Nothing);
+        return Err(NoOrder::Lacks(Lack::Nothing));
     };
     let Some(verb) = Verb::named(name) else {
-        return Err(Lack::Nothing);
+        return Err(NoOrder::Lacks(Lack::Nothing));
     };
-    order_by(verb, found)
+    order_by(alloc, verb, found)
 }

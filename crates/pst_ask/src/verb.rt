@@ -8,10 +8,12 @@ ghost use Rattle.pst_ask.specs.Verbs.{name_of, takes_of, verb_of};
 pub enum Takes {
     /// A file.
     File,
-    /// A file, and `--strict` before or behind it or not.
-    Strict,
+    /// A file, and `--strict` and `--digest` before or behind it or not.
+    Report,
     /// A file, and the identifier of a node.
     Node,
+    /// A file, and the identifiers of nodes, one at least.
+    Nodes,
 }
 
 /// A command: it shows something of a file.
@@ -27,7 +29,7 @@ pub enum Verb {
     Folders,
     /// The messages of a folder.
     Contents,
-    /// The properties of a node.
+    /// The properties of nodes.
     Props,
 }
 
@@ -48,12 +50,12 @@ impl Verb {
         ensures takes { result.2 ≡ takes_of self }
     {
         match self {
-            Verb::Check => ("check", "Checks whether it is a store", Takes::Strict),
+            Verb::Check => ("check", "Checks whether it is a store", Takes::Report),
             Verb::Head => ("head", "Shows the fields of the header", Takes::File),
             Verb::Nodes => ("nodes", "Lists the nodes", Takes::File),
             Verb::Folders => ("folders", "Lists the folders", Takes::File),
             Verb::Contents => ("contents", "Lists the messages of a folder", Takes::Node),
-            Verb::Props => ("props", "Shows the properties of a node", Takes::Node),
+            Verb::Props => ("props", "Shows the properties of nodes", Takes::Nodes),
         }
     }
 

@@ -4,14 +4,15 @@ mod help;
 
 ghost use Rattle.std.specs.Prelude.{◌≡◌, IfOk, IfErr, false};
 ghost use Rattle.clap.specs.Words.{FailsBy, HasMatchesOf, app_of, fault_of, rule_of};
-ghost use Rattle.pst_ask.specs.Ask.{order_of};
-ghost use Rattle.pst_ask.specs.Words.{AddsAs, decode_rule, file_rule, node_rule, strict_rule, app_for, base, with_verb, show_app, texts, IsAsked, Declines};
+ghost use Rattle.pst_ask.specs.Ask.{IsForMemory, order_of};
+ghost use Rattle.pst_ask.specs.declared.words.NoOrder.TheVariants.{Lacks};
+ghost use Rattle.pst_ask.specs.Words.{AddsAs, IsAlone, IsOwn, decode_rule, digest_rule, file_rule, node_rule, nodes_rule, strict_rule, app_for, base, with_flags, with_verb, with_words, show_app, texts, IsAsked, Declines};
 
 use crate::ask::{Lack, Order, order_in};
 use crate::verb::{Takes, Verb};
 use crate::words::help::{PROGRAM, ending_of};
 use clap::{Arg, ArgAction, ArgMatches, Command, Error};
-use std::alloc::{AllocError, Global};
+use std::alloc::{AllocError, AllocFailed, Global};
 
 // What `--version` prints after the program's name.
 const VERSION: &str = "0.1.0";
@@ -23,6 +24,22 @@ pub enum NoOrder {
     Words(Error),
     /// The words are accepted, and ask for nothing that can be done.
     Lacks(Lack),
+}
+
+impl From<Lack> for NoOrder {
+    ghost from_gives = { λ lack none. none ≡ Lacks lack };
+
+    fn from(lack: Lack) -> NoOrder {
+        NoOrder::Lacks(lack)
+    }
+}
+
+impl<T: Drop> From<AllocFailed<T>> for NoOrder {
+    ghost from_gives = { λ _ none. IsForMemory none };
+
+    fn from(error: AllocFailed<T>) -> NoOrder {
+        NoOrder::Words(Error::from(error))
+    }
 }
 
 // The argument that names the file.
@@ -45,6 +62,17 @@ fn node_arg<'a>(alloc: Global) -> Arg<'a>
         .required(true)
 }
 
+// The argument that names nodes.
+fn nodes_arg<'a>(alloc: Global) -> Arg<'a>
+    ensures rule { rule_of result ≡ nodes_rule }
+    ensures local { result.global ≡ false }
+{
+    Arg::new(alloc, "NID")
+        .help("The identifiers of nodes, as 0x122")
+        .required(true)
+        .action(ArgAction::Append)
+}
+
 // The flag of a strict check.
 fn strict_arg<'a>(alloc: Global) -> Arg<'a>
     ensures rule { rule_of result ≡ strict_rule }
@@ -53,6 +81,17 @@ fn strict_arg<'a>(alloc: Global) -> Arg<'a>
     Arg::new(alloc, "strict")
         .long("strict")
         .help("Ends with status 1 where space is lost, too")
+        .action(ArgAction::SetTrue)
+}
+
+// The flag of a report that has the digest of the file.
+fn digest_arg<'a>(alloc: Global) -> Arg<'a>
+    ensures rule { rule_of result ≡ digest_rule }
+    ensures local { result.global ≡ false }
+{
+    Arg::new(alloc, "digest")
+        .long("digest")
+        .help("Adds the SHA-256 of the file as it is stored")
         .action(ArgAction::SetTrue)
 }
 
@@ -67,6 +106,37 @@ fn decode_arg<'a>(alloc: Global) -> Arg<'a>
         .action(ArgAction::SetTrue)
 }
 
+// A command with the flags that not every one has.
+fn with_flags<'a>(
+    alloc: Global,
+    command: Command<'a>,
+    takes: Takes,
+) -> Result<Command<'a>, AllocError>
+    requires { IsAlone command }
+    ensures { IfOk result (IsOwn (with_flags takes (app_of command.entry))) }
+{
+    match takes {
+        Takes::Report => command.arg(strict_arg(alloc))?.arg(digest_arg(alloc)),
+        Takes::File | Takes::Node | Takes::Nodes => Ok(command),
+    }
+}
+
+// A command with what stands behind its file.
+fn with_words<'a>(
+    alloc: Global,
+    command: Command<'a>,
+    takes: Takes,
+) -> Result<Command<'a>, AllocError>
+    requires { IsAlone command }
+    ensures { IfOk result (IsOwn (with_words takes (app_of command.entry))) }
+{
+    match takes {
+        Takes::Node => command.arg(node_arg(alloc)),
+        Takes::Nodes => command.arg(nodes_arg(alloc)),
+        Takes::File | Takes::Report => Ok(command),
+    }
+}
+
 // A command.
 fn command_for<'a>(alloc: Global, verb: Verb) -> Result<Command<'a>, AllocError>
     ensures { IfOk result (AddsAs (app_for verb).top) }
@@ -75,15 +145,9 @@ fn command_for<'a>(alloc: Global, verb: Verb) -> Result<Command<'a>, AllocError>
     let command = Command::new(alloc, name)
         .about(about)
         .after_help(ending_of(verb));
-    let command = match takes {
-        Takes::Strict => command.arg(strict_arg(alloc))?,
-        Takes::File | Takes::Node => command,
-    };
+    let command = with_flags(alloc, command, takes)?;
     let command = command.arg(decode_arg(alloc))?.arg(file_arg(alloc))?;
-    match takes {
-        Takes::Node => command.arg(node_arg(alloc)),
-        Takes::File | Takes::Strict => Ok(command),
-    }
+    with_words(alloc, command, takes)
 }
 
 // The program, and a command.
@@ -137,10 +201,7 @@ pub fn parse<'a>(alloc: Global, words: &'a [String]) -> Result<Order<'a>, NoOrde
     ensures err { IfErr result (λ none. Declines (texts words.entry.now) none) }
 {
     match matches_of(alloc, words) {
-        Ok(matches) => match order_in(&matches) {
-            Ok(order) => Ok(order),
-            Err(lack) => Err(NoOrder::Lacks(lack)),
-        },
+        Ok(matches) => order_in(alloc, &matches),
         Err(error) => Err(NoOrder::Words(error)),
     }
 }

@@ -1,6 +1,6 @@
 -- The report of a check as a document, and its line.
-use Rattle.std.specs.Prelude.{ℕ, List, map, drop, codes}
-use Rattle.serde_json.specs.Data.{Data, string, object, member, no_members}
+use Rattle.std.specs.Prelude.{ℕ, Option, Some, None, List, map, drop, codes}
+use Rattle.serde_json.specs.Data.{Data, Members, string, object, member, no_members}
 use Rattle.pst_bytes.specs.declared.span.Span.{Span}
 use Rattle.pst_amap.specs.declared.report.BitOrder.{BitOrder}
 use Rattle.pst_amap.specs.declared.report.BitOrder.TheVariants.{High, Low}
@@ -8,6 +8,7 @@ use Rattle.pst_verify.specs.declared.report.Report.{Report}
 use Rattle.pst_json.specs.declared.check.LostRows.{LostRows}
 use Rattle.pst_value_json.specs.Parts.{natural, list_data}
 use Rattle.pst_value_json.specs.Line.{line_of}
+use Rattle.pst_value_json.specs.Value.{hex_data}
 
 -- ---- what is shown of a report
 
@@ -41,9 +42,14 @@ order_data Low = string (codes "low")
 abbrev pub yes_data : Data
 yes_data = string (codes "yes")
 
+-- the SHA-256 of the file, where it is told, before the members behind it
+abbrev pub with_digest : Option (List ℕ) → Members → Members
+with_digest None behind = behind
+with_digest (Some digest) behind = member (codes "sha256") (hex_data digest) behind
+
 -- the members stand in the order of their keys' bytes
-unfoldable pub check_data : ReportParts → Data
-check_data r =
+unfoldable pub check_data : ReportParts → Option (List ℕ) → Data
+check_data r digest =
     object
     (member (codes "blocks") (natural r.blocks)
     (member (codes "folders") (natural r.folders)
@@ -52,9 +58,10 @@ check_data r =
     (member (codes "nodes") (natural r.nodes)
     (member (codes "order") (order_data r.order)
     (member (codes "pages") (natural r.pages)
+    (with_digest digest
     (member (codes "verdict") yes_data
-    no_members))))))))
+    no_members)))))))))
 
 -- the line that shows a report
-unfoldable pub check_line : ReportParts → List ℕ
-check_line r = line_of (check_data r)
+unfoldable pub check_line : ReportParts → Option (List ℕ) → List ℕ
+check_line r digest = line_of (check_data r digest)

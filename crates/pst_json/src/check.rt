@@ -55,14 +55,18 @@ fn order_word(order: BitOrder) -> &'static str
 
 // The document.
 #[tactic(auto, unfolding(crate::specs::Check::check_data))]
-fn shown_report<S: Sink>(alloc: Global, report: &Report) -> Result<S::Out, AllocError>
-    ensures { IfOk result (λ out. S.Shows out (check_data (report_parts report.now))) }
+fn shown_report<S: Sink>(
+    alloc: Global,
+    report: &Report,
+    digest: Option<[u8; 32]>,
+) -> Result<S::Out, AllocError>
+    ensures { IfOk result (λ out. S.Shows out (check_data (report_parts report.now) digest)) }
 {
     let lost = LostRows {
         runs: &report.lost,
         at: 0,
     };
-    let parts = vec![in alloc;
+    let mut parts = vec![in alloc;
         Part::Value("blocks", Made::Natural(report.blocks)),
         Part::Value("folders", Made::Natural(report.folders)),
         Part::Rows("lost", lost),
@@ -70,25 +74,36 @@ fn shown_report<S: Sink>(alloc: Global, report: &Report) -> Result<S::Out, Alloc
         Part::Value("nodes", Made::Natural(report.nodes)),
         Part::Value("order", Made::Word(order_word(report.order))),
         Part::Value("pages", Made::Natural(report.pages)),
-        Part::Value("verdict", Made::Word("yes")),
     ]?;
+    if let Some(digest) = digest {
+        parts.push(Part::Value("sha256", Made::Digest(digest)))?;
+    }
+    parts.push(Part::Value("verdict", Made::Word("yes")))?;
     S::object(alloc, parts)
 }
 
 /// The report of a check as a JSON object, whose keys stand in the order of their bytes: how many blocks, folders,
-/// messages, nodes and pages there are, the lost runs, the order of the bits of the allocation maps, and the verdict,
-/// which is `yes`.
-pub fn check_doc(alloc: Global, report: &Report) -> Result<Doc, AllocError>
-    ensures { IfOk result (λ d. view d ≡ check_data (report_parts report.now)) }
+/// messages, nodes and pages there are, the lost runs, the order of the bits of the allocation maps, the SHA-256 of the
+/// file, where it is to be told, and the verdict, which is `yes`.
+pub fn check_doc(
+    alloc: Global,
+    report: &Report,
+    digest: Option<[u8; 32]>,
+) -> Result<Doc, AllocError>
+    ensures { IfOk result (λ d. view d ≡ check_data (report_parts report.now) digest) }
 {
-    shown_report::<Tree>(alloc, report)
+    shown_report::<Tree>(alloc, report, digest)
 }
 
 /// The line that shows the report of a check: the compact text of its document, and a line feed. It is made run by run:
 /// beside the text, memory is taken for one lost run at a time.
 #[tactic(auto, unfolding(crate::specs::Check::check_line))]
-pub fn check_line(alloc: Global, report: &Report) -> Result<Vec<u8>, AllocError>
-    ensures { IfOk result (λ t. t.items ≡ line_of_check (report_parts report.now)) }
+pub fn check_line(
+    alloc: Global,
+    report: &Report,
+    digest: Option<[u8; 32]>,
+) -> Result<Vec<u8>, AllocError>
+    ensures { IfOk result (λ t. t.items ≡ line_of_check (report_parts report.now) digest) }
 {
-    shown_report::<Line>(alloc, report)
+    shown_report::<Line>(alloc, report, digest)
 }

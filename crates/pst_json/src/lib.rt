@@ -32,4 +32,4 @@ pub use nodes::{nodes_doc, nodes_line};
 pub use output::{EmitFault, emit};
 pub use pst_ndb::read_nodes;
 pub use pst_value_json::{hex_doc, pc_doc, table_doc, text, value_doc};
-pub use pst_verify::verify;
+pub use pst_verify::{Store, verify};

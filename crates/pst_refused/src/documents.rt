@@ -12,6 +12,9 @@ use pst_verify::Verified;
 use serde_json::Value as Doc;
 use std::alloc::Global;
 
+// What stands for the digest of a file.
+const DIGEST: [u8; 32] = [0x5a; 32];
+
 // The text of a tree is the line.
 fn is_line(alloc: Global, doc: &Doc, line: &[u8]) -> Result<(), Refused> {
     holds(text(alloc, doc)?.as_slice() == line)
@@ -28,8 +31,8 @@ pub(crate) fn report(alloc: Global, bytes: &[u8]) -> Result<(), Refused> {
     let Verified { report, .. } = verify(alloc, bytes)?;
     is_line(
         alloc,
-        &check_doc(alloc, &report)?,
-        &check_line(alloc, &report)?,
+        &check_doc(alloc, &report, Some(DIGEST))?,
+        &check_line(alloc, &report, Some(DIGEST))?,
     )
 }
 

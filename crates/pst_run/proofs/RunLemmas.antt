@@ -1,5 +1,5 @@
 -- What a run does for words that ask for something, and what it says.
-use Rattle.std.proofs.Common.{◌≡◌, ◌∙◌, ap, subst, ℕ, List, [], ◌∷◌, ◌++◌, Option, Some, None, inl}
+use Rattle.std.proofs.Common.{◌≡◌, ◌∙◌, ap, subst, ℕ, List, [], ◌∷◌, ◌++◌, Option, Some, None}
 use Rattle.std.specs.Prelude.{IfSome}
 use Rattle.std.specs.Fmt.{WritesText, with_newline}
 use Rattle.std.proofs.lemmas.Fmt.{contents_after_writes}
@@ -10,19 +10,12 @@ use Rattle.pst_ask.specs.declared.ask.Order.{Order}
 use Rattle.pst_ask.specs.Words.{IsAsked}
 use Rattle.pst_json.specs.Output.{AppendsFront}
 use Rattle.pst_run.specs.Refusal.{line_of_text}
-use Rattle.pst_run.specs.Answer.{answer_to, bytes_for}
-use Rattle.pst_run.specs.Run.{Answers, CarriesOut, Outputs, SaysLine}
+use Rattle.pst_run.specs.Run.{SaysLine}
 
 -- words ask for one thing: what is done for it is done for all that they ask for
 pub done_as_asked : (words : List Text) (done : Asked → Type 0) (order : Order) → IsAsked words (order_of order) → done (order_of order)
     → (a : Asked) → IsAsked words a → done a
 done_as_asked words done order is held a asks = let same : order_of order ≡ a = cc in subst done same held
-
--- the answer to bytes that were made of those that came is that of a run over these
-pub is_carried_out : (a : Asked) (known : Option (List ℕ)) (bytes made : List ℕ) (status : ℕ) (old new : Outputs) → IfSome known (λ all. bytes ≡ all)
-    → made ≡ bytes_for a.decode bytes → Answers (answer_to a.ask made) status old new → CarriesOut a known status old new
-is_carried_out a known bytes made status old new all is answered =
-    inl (bytes, all, subst (λ x. Answers (answer_to a.ask x) status old new) is answered)
 
 -- a front of a line that was made of a text is a front of that text's line
 pub front_is : (text : Option (List ℕ)) (made : List ℕ) (old new : Option (List ℕ)) → IfSome text (λ line. made ≡ line_of_text line)

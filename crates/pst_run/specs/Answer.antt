@@ -1,5 +1,5 @@
 -- What each command answers to the bytes of a file.
-use Rattle.std.specs.Prelude.{◌≡◌, ℕ, ◌+◌, Bool, false, ◌&&◌, ◌==◌, not, if◌then◌else◌, List, length, Option, Some, None, Result, Ok, Err}
+use Rattle.std.specs.Prelude.{◌≡◌, ℕ, ◌+◌, Bool, true, false, ◌&&◌, ◌==◌, not, if◌then◌else◌, List, [], ◌∷◌, ◌++◌, length, Option, Some, None, Result, Ok, Err}
 use Rattle.pst_fault.specs.declared.fault.Fault.{Fault}
 use Rattle.pst_fault.specs.First.{answer}
 use Rattle.pst_header.specs.Header.{header_fault, fields}
@@ -22,9 +22,9 @@ use Rattle.pst_json.specs.Head.{head_line}
 use Rattle.pst_json.specs.Node.{props_line}
 use Rattle.pst_json.specs.Nodes.{nodes_line}
 use Rattle.pst_plain.specs.Twin.{twin_of}
+use Rattle.sha2.specs.Sha256.{sha256}
 use Rattle.pst_run.specs.declared.answers.Shown.{Shown}
-use Rattle.pst_ask.specs.declared.ask.Ask.{Ask}
-use Rattle.pst_ask.specs.declared.ask.Ask.TheVariants.{Check, Head, Nodes, Folders, Contents, Props}
+use Rattle.pst_ask.specs.Ask.{Asked, Wanted, report, head, nodes, folders, contents, props}
 use Rattle.pst_run.specs.declared.refusal.Refusal.{Refusal}
 use Rattle.pst_run.specs.declared.refusal.Refusal.TheVariants as refusal
 use Rattle.pst_run.specs.Refusal.{refusal_of, refusal_for}
@@ -34,6 +34,11 @@ use Rattle.pst_run.specs.Refusal.{refusal_of, refusal_for}
 -- the bytes of which a command shows something: those of the file, or of its plain twin where it is to be decoded
 abbrev pub bytes_for : Bool → List ℕ → List ℕ
 bytes_for decode bytes = if decode then twin_of bytes else bytes
+
+-- the digest that is told: that of the bytes as they lie in the file, where it is asked for
+abbrev pub digest_for : Wanted → List ℕ → Option (List ℕ)
+digest_for (report strict true) bytes = Some (sha256 bytes)
+digest_for ask bytes = None
 
 -- ---- what is shown: a text, and whether the run ends with status 1 all the same
 
@@ -74,8 +79,8 @@ report_in I = let s = store_in I in record {
 }
 
 -- a strict check fails where there are lost runs
-abbrev pub report_told : Bool → ReportParts → Told
-report_told strict r = record { text = check_line r; fails = strict && not (length r.lost == 0) }
+abbrev pub report_told : Bool → Option (List ℕ) → ReportParts → Told
+report_told strict digest r = record { text = check_line r digest; fails = strict && not (length r.lost == 0) }
 
 -- its blocks, and the entries of its node B-tree
 abbrev pub table_of_file : List ℕ → Table
@@ -89,18 +94,37 @@ abbrev pub line_of_node : ℕ → Result (List ℕ) DocFault → Result Told Ref
 line_of_node nid (Ok line) = Ok (plain line)
 line_of_node nid (Err f) = Err (refusal_for nid f)
 
+-- a text before the answer
+abbrev pub behind : List ℕ → Result Told Refusal → Result Told Refusal
+behind text (Ok told) = Ok (record told { text = text ++ told.text })
+behind text (Err r) = Err r
+
+abbrev pub in_front : Result Told Refusal → Result Told Refusal → Result Told Refusal
+in_front (Ok told) rest = behind told.text rest
+in_front (Err r) rest = Err r
+
+-- the lines of nodes, one after another; where one has none, the first of these
+unfoldable pub lines_of_nodes : (ℕ → Result (List ℕ) DocFault) → List ℕ → Result Told Refusal
+lines_of_nodes line [] = Ok (plain [])
+lines_of_nodes line (nid ∷ rest) = in_front (line_of_node nid (line nid)) (lines_of_nodes line rest)
+
 -- ---- all of them
 
--- The text that a command shows of these bytes, and whether it fails; or why it refuses them. `head` shows the fields of a good
--- header, and else answers its first fault. `nodes` shows the nodes of two trees without fault, and else answers the first fault
--- of the header and of both walks. The others show a store, and else answer the first fault of the bytes as one.
-unfoldable pub answer_to : Ask → List ℕ → Result Told Refusal
-answer_to (Check strict) I = of_store (store_fault I) (Ok (report_told strict (report_in I)))
-answer_to Head I = line_or_fault head_line (answer (header_fault I) (fields I))
-answer_to Nodes I = line_or_fault nodes_line (listed_nodes I)
-answer_to Folders I = of_store (store_fault I) (Ok (plain (folders_line (table_of_file I) (entries_of_file I))))
-answer_to (Contents nid) I = of_store (store_fault I) (line_of_node nid (contents_line (table_of_file I) (entries_of_file I) nid))
-answer_to (Props nid) I = of_store (store_fault I) (line_of_node nid (props_line (table_of_file I) (entries_of_file I) nid))
+-- The text that a command shows of these bytes, with this digest, and whether it fails; or why it refuses them. `head` shows
+-- the fields of a good header, and else answers its first fault. `nodes` shows the nodes of two trees without fault, and else
+-- answers the first fault of the header and of both walks. The others show a store, and else answer the first fault of the bytes
+-- as one.
+unfoldable pub answer_with : Wanted → Option (List ℕ) → List ℕ → Result Told Refusal
+answer_with (report strict digested) digest I = of_store (store_fault I) (Ok (report_told strict digest (report_in I)))
+answer_with head digest I = line_or_fault head_line (answer (header_fault I) (fields I))
+answer_with nodes digest I = line_or_fault nodes_line (listed_nodes I)
+answer_with folders digest I = of_store (store_fault I) (Ok (plain (folders_line (table_of_file I) (entries_of_file I))))
+answer_with (contents nid) digest I = of_store (store_fault I) (line_of_node nid (contents_line (table_of_file I) (entries_of_file I) nid))
+answer_with (props nids) digest I = of_store (store_fault I) (lines_of_nodes (props_line (table_of_file I) (entries_of_file I)) nids)
+
+-- The same of the bytes of a file: it is of its plain twin where that is asked for, and the digest is of the file as it is.
+abbrev pub answer_to : Asked → List ℕ → Result Told Refusal
+answer_to a bytes = answer_with a.ask (digest_for a.ask bytes) (bytes_for a.decode bytes)
 
 -- what is returned is the answer, unless memory ran out
 abbrev pub Gives : Result Shown Refusal → Result Told Refusal → Type 0

@@ -14,7 +14,7 @@ use Rattle.pst_ask.specs.declared.words.NoOrder.{NoOrder}
 use Rattle.pst_ask.specs.declared.words.NoOrder.TheVariants.{Words, Lacks}
 use Rattle.pst_run.specs.declared.refusal.Refusal.{Refusal}
 use Rattle.pst_run.specs.declared.refusal.Refusal.TheVariants as refusal
-use Rattle.pst_run.specs.Answer.{Told, answer_to, bytes_for}
+use Rattle.pst_run.specs.Answer.{Told, answer_to}
 use Rattle.pst_run.specs.Refusal.{line_of_text, refusal_line, status_of}
 
 -- what both outputs hold, where they tell it
@@ -72,11 +72,10 @@ IsUnread status old new =
     ((status ≡ 3) × Keeps old.out new.out × Says refusal.Input old.err new.err)
     ⊎ ((status ≡ 4) × Keeps old.out new.out × Says refusal.Memory old.err new.err)
 
--- The answer to some bytes, which are those of the reader where it tells them, decoded where that is asked for; or these did
--- not come.
+-- The answer to some bytes, which are those of the reader where it tells them; or these did not come.
 abbrev pub CarriesOut : Asked → Option (List ℕ) → ℕ → Outputs → Outputs → Type 0
 CarriesOut a known status old new =
-    ((bytes : List ℕ) × IfSome known (λ all. bytes ≡ all) × Answers (answer_to a.ask (bytes_for a.decode bytes)) status old new)
+    ((bytes : List ℕ) × IfSome known (λ all. bytes ≡ all) × Answers (answer_to a bytes) status old new)
     ⊎ IsUnread status old new
 
 -- ---- where nothing is done

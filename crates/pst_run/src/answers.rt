@@ -1,15 +1,21 @@
 //! What each command answers to the bytes of a file.
 
-ghost use Rattle.pst_run.specs.Answer.{Gives, answer_to};
+ghost use Rattle.std.specs.Prelude.{◌≡◌, ◌++◌, ℕ, Bool, List, Option, IfOk};
+ghost use Rattle.pst_ask.specs.Ask.{report, head, nodes, folders, contents, props, wanted_of};
+ghost use Rattle.pst_json.specs.Node.{props_line as line_of_props};
+ghost use Rattle.pst_json.specs.pst_ndb.Views.{table_of_ndb, nodes_of};
+ghost use Rattle.pst_json.specs.pst_store.View.{ndb_of_store};
+ghost use Rattle.pst_run.specs.Answer.{Gives, answer_with, lines_of_nodes};
 
 use crate::refusal::Refusal;
 use pst_ask::Ask;
 use pst_bytes::Image;
 use pst_header::read_header;
 use pst_json::{
-    check_line, contents_line, folders_line, head_line, nodes_line, props_line, read_nodes, verify,
+    Store, check_line, contents_line, folders_line, head_line, nodes_line, props_line, read_nodes,
+    verify,
 };
-use std::alloc::Global;
+use std::alloc::{AllocError, Global};
 
 /// What a command shows.
 #[derive(Drop)]
@@ -22,19 +28,24 @@ pub struct Shown {
 
 // `check`: the report of the check.
 #[tactic(auto, using(crate::proofs::AnswerLemmas::check_told, crate::proofs::AnswerLemmas::check_refused))]
-fn check_answer(alloc: Global, strict: bool, bytes: &[u8]) -> Result<Shown, Refusal>
-    ensures { Gives result (answer_to (Ask.Check strict) bytes.now) }
+fn check_answer(
+    alloc: Global,
+    strict: bool,
+    digest: Option<[u8; 32]>,
+    bytes: &[u8],
+) -> Result<Shown, Refusal>
+    ensures { (digested : Bool) → Gives result (answer_with (report strict digested) digest bytes.now) }
 {
     let verified = verify(alloc, bytes)?;
-    let text = check_line(alloc, &verified.report)?;
+    let text = check_line(alloc, &verified.report, digest)?;
     let fails = strict && !verified.report.lost.is_empty();
     Ok(Shown { text, fails })
 }
 
 // `head`: the fields of the header.
-#[tactic(auto, unfolding(crate::specs::Answer::answer_to))]
+#[tactic(auto, unfolding(crate::specs::Answer::answer_with))]
 fn head_answer(alloc: Global, bytes: &[u8]) -> Result<Shown, Refusal>
-    ensures { Gives result (answer_to Ask.Head bytes.now) }
+    ensures { (digest : Option (List ℕ)) → Gives result (answer_with head digest bytes.now) }
 {
     let header = read_header(Image::new(bytes))?;
     let text = head_line(alloc, &header)?;
@@ -42,9 +53,9 @@ fn head_answer(alloc: Global, bytes: &[u8]) -> Result<Shown, Refusal>
 }
 
 // `nodes`: the entries of the node B-tree.
-#[tactic(auto, unfolding(crate::specs::Answer::answer_to))]
+#[tactic(auto, unfolding(crate::specs::Answer::answer_with))]
 fn nodes_answer(alloc: Global, bytes: &[u8]) -> Result<Shown, Refusal>
-    ensures { Gives result (answer_to Ask.Nodes bytes.now) }
+    ensures { (digest : Option (List ℕ)) → Gives result (answer_with nodes digest bytes.now) }
 {
     let tree = read_nodes(alloc, Image::new(bytes))?;
     let text = nodes_line(alloc, &tree)?;
@@ -52,9 +63,9 @@ fn nodes_answer(alloc: Global, bytes: &[u8]) -> Result<Shown, Refusal>
 }
 
 // `folders`: the folders of a store.
-#[tactic(auto, unfolding(crate::specs::Answer::answer_to))]
+#[tactic(auto, unfolding(crate::specs::Answer::answer_with))]
 fn folders_answer(alloc: Global, bytes: &[u8]) -> Result<Shown, Refusal>
-    ensures { Gives result (answer_to Ask.Folders bytes.now) }
+    ensures { (digest : Option (List ℕ)) → Gives result (answer_with folders digest bytes.now) }
 {
     let store = verify(alloc, bytes)?.store;
     store.is_sound();
@@ -63,9 +74,9 @@ fn folders_answer(alloc: Global, bytes: &[u8]) -> Result<Shown, Refusal>
 }
 
 // `contents`: the messages of a folder.
-#[tactic(auto, unfolding(crate::specs::Answer::answer_to))]
+#[tactic(auto, unfolding(crate::specs::Answer::answer_with))]
 fn contents_answer(alloc: Global, nid: u32, bytes: &[u8]) -> Result<Shown, Refusal>
-    ensures { Gives result (answer_to (Ask.Contents nid) bytes.now) }
+    ensures { (digest : Option (List ℕ)) → Gives result (answer_with (contents nid) digest bytes.now) }
 {
     let store = verify(alloc, bytes)?.store;
     store.is_sound();
@@ -75,30 +86,59 @@ fn contents_answer(alloc: Global, nid: u32, bytes: &[u8]) -> Result<Shown, Refus
     }
 }
 
-// `props`: the properties of a node.
-#[tactic(auto, unfolding(crate::specs::Answer::answer_to))]
-fn props_answer(alloc: Global, nid: u32, bytes: &[u8]) -> Result<Shown, Refusal>
-    ensures { Gives result (answer_to (Ask.Props nid) bytes.now) }
+// A line behind a text.
+fn joined(mut text: Vec<u8>, line: Vec<u8>) -> Result<Vec<u8>, AllocError>
+    ensures { IfOk result (λ v. v.items ≡ text.items ++ line.items) }
+{
+    if text.is_empty() {
+        return Ok(line);
+    }
+    text.extend_from_slice(&line)?;
+    Ok(text)
+}
+
+// The properties of nodes, a line for each.
+#[tactic(auto, using(crate::proofs::AnswerLemmas::line_first, crate::proofs::AnswerLemmas::line_more))]
+fn props_lines(alloc: Global, nids: &[u32], store: &Store) -> Result<Shown, Refusal>
+    ensures { let ndb = ndb_of_store store.now in
+        Gives result (lines_of_nodes (line_of_props (table_of_ndb ndb) (nodes_of ndb)) nids.now) }
+{
+    let mut text = Vec::new(alloc);
+    for nid in nids {
+        match props_line(alloc, store, *nid) {
+            Ok(line) => text = joined(text, line)?,
+            Err(fault) => return Err(Refusal::of_document(*nid, fault)),
+        }
+    }
+    Ok(Shown { text, fails: false })
+}
+
+// `props`: the properties of nodes, one after another.
+#[tactic(auto, unfolding(crate::specs::Answer::answer_with))]
+fn props_answer(alloc: Global, nids: &[u32], bytes: &[u8]) -> Result<Shown, Refusal>
+    ensures { (digest : Option (List ℕ)) → Gives result (answer_with (props nids.now) digest bytes.now) }
 {
     let store = verify(alloc, bytes)?.store;
     store.is_sound();
-    match props_line(alloc, &store, nid) {
-        Ok(text) => Ok(Shown { text, fails: false }),
-        Err(fault) => Err(Refusal::of_document(nid, fault)),
-    }
+    props_lines(alloc, nids, &store)
 }
 
-/// What a command shows of a file with these bytes, or why it refuses them. The fault NoMemory comes as want of memory, and
-/// not as a refusal of the file.
-pub fn answer(alloc: Global, ask: Ask, bytes: &[u8]) -> Result<Shown, Refusal>
-    ensures { Gives result (answer_to ask bytes.now) }
+/// What a command shows of a file with these bytes, and with this digest where it shows one; or why it refuses them. The fault
+/// NoMemory comes as want of memory, and not as a refusal of the file.
+pub fn answer(
+    alloc: Global,
+    ask: &Ask,
+    digest: Option<[u8; 32]>,
+    bytes: &[u8],
+) -> Result<Shown, Refusal>
+    ensures { Gives result (answer_with (wanted_of ask.now) digest bytes.now) }
 {
     match ask {
-        Ask::Check(strict) => check_answer(alloc, strict, bytes),
+        Ask::Check { strict, .. } => check_answer(alloc, *strict, digest, bytes),
         Ask::Head => head_answer(alloc, bytes),
         Ask::Nodes => nodes_answer(alloc, bytes),
         Ask::Folders => folders_answer(alloc, bytes),
-        Ask::Contents(nid) => contents_answer(alloc, nid, bytes),
-        Ask::Props(nid) => props_answer(alloc, nid, bytes),
+        Ask::Contents(nid) => contents_answer(alloc, *nid, bytes),
+        Ask::Props(nids) => props_answer(alloc, nids, bytes),
     }
 }

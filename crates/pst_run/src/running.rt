@@ -1,11 +1,11 @@
 //! One run of the program.
 
 ghost use Rattle.std.specs.Prelude.{◌≡◌, ◌≢◌, ◌⊎◌, [], Err, IfOk, IfSome};
-ghost use Rattle.pst_ask.specs.Ask.{Asked, order_of};
+ghost use Rattle.pst_ask.specs.Ask.{Asked, order_of, wanted_of};
 ghost use Rattle.pst_ask.specs.Words.{IsAsked, asked, show_app, texts};
 ghost use Rattle.pst_ask.specs.clap.Words.{fault_of, kind_of};
 ghost use Rattle.pst_ask.specs.declared.words.NoOrder.TheVariants.{Lacks};
-ghost use Rattle.pst_run.specs.Answer.{answer_to, bytes_for};
+ghost use Rattle.pst_run.specs.Answer.{answer_to, bytes_for, digest_for};
 ghost use Rattle.pst_run.specs.declared.refusal.Refusal.TheVariants as refused;
 ghost use Rattle.pst_run.specs.Refusal.{line_of_text, status_of};
 ghost use Rattle.pst_run.specs.Run.{Answers, CarriesOut, Ends, IsLacking, IsRefused, IsStatusOf, MatchNone, Says, SaysLine, lack_text, outputs};
@@ -17,6 +17,7 @@ use arrayvec::ArrayString;
 use pst_ask::{Ask, ErrorKind, Lack, NoOrder, Order, parse};
 use pst_json::{EmitFault, emit};
 use pst_plain::plain;
+use sha2::{Digest, Sha256};
 use std::alloc::{AllocError, Global};
 use std::fmt::{Display, Write as _};
 use std::io::{Read, Write};
@@ -47,6 +48,16 @@ fn say<D: Display + Drop, E: Write>(text: D, err: &mut E)
     }
 }
 
+// The SHA-256 of the bytes as they lie in the file, where it is asked for.
+fn digest_if(ask: &Ask, bytes: &[u8]) -> Option<[u8; 32]>
+    ensures { result ≡ digest_for (wanted_of ask.now) bytes.now }
+{
+    match ask {
+        Ask::Check { digest: true, .. } => Some(Sha256::digest(bytes)),
+        _ => None,
+    }
+}
+
 // Decodes an encoded file in the memory into which it was read, where that is asked for.
 fn decode_if(alloc: Global, decode: bool, mut bytes: Vec<u8>) -> Result<Vec<u8>, AllocError>
     ensures { IfOk result (λ v. v.items ≡ bytes_for decode bytes.items) }
@@ -57,16 +68,20 @@ fn decode_if(alloc: Global, decode: bool, mut bytes: Vec<u8>) -> Result<Vec<u8>,
     Ok(bytes)
 }
 
-// Writes what a command answers to these bytes, and tells whether the run fails all the same.
+// Writes what a command answers to these bytes of a file, and tells whether the run fails all the same. The digest is taken
+// before anything is decoded.
 fn write_answer<W: Write>(
     alloc: Global,
-    ask: Ask,
-    bytes: &[u8],
+    order: &Order,
+    bytes: Vec<u8>,
     out: &mut W,
 ) -> Result<bool, Refusal>
-    ensures { Ends result (answer_to ask bytes.now) (W.contents out.old) (W.contents out.new) }
+    ensures { Ends result (answer_to (order_of order.now) bytes.items)
+        (W.contents out.old) (W.contents out.new) }
 {
-    let shown = answer(alloc, ask, bytes)?;
+    let digest = digest_if(&order.ask, &bytes);
+    let bytes = decode_if(alloc, order.decode, bytes)?;
+    let shown = answer(alloc, &order.ask, digest, &bytes)?;
     emit(&shown.text, out)?;
     Ok(shown.fails)
 }
@@ -117,26 +132,26 @@ pub fn decline<W: Write, E: Write>(none: NoOrder, out: &mut W, err: &mut E) -> u
     }
 }
 
-/// Shows what is asked for of the bytes of a file, and gives the status with which the program ends: 0 where it is shown, 1
+/// Shows what is asked for of these bytes of a file, and gives the status with which the program ends: 0 where it is shown, 1
 /// where the file is refused, or has no such folder or node, or has lost space and the check is strict, 3 where the output
 /// cannot be written, 4 where memory is refused. Each other status than 0 comes with a line on `err`, but for lost space and an
 /// output that is closed; a fault of `err` changes nothing.
 pub fn answer_out<W: Write, E: Write>(
     alloc: Global,
-    ask: Ask,
-    bytes: &[u8],
+    order: &Order,
+    bytes: Vec<u8>,
     out: &mut W,
     err: &mut E,
 ) -> u8
-    // The status, what is written and what is said are the answer to the bytes.
-    ensures answered { Answers (answer_to ask bytes.now) result
+    // The status, what is written and what is said are the answer to the bytes, decoded where that is asked for.
+    ensures answered { Answers (answer_to (order_of order.now) bytes.items) result
         (outputs (W.contents out.old) (E.contents err.old))
         (outputs (W.contents out.new) (E.contents err.new)) }
 
     // It is not that of words that are refused.
     ensures accepted { result ≢ 2 }
 {
-    match write_answer(alloc, ask, bytes, out) {
+    match write_answer(alloc, order, bytes, out) {
         Ok(false) => 0,
         Ok(true) => 1,
         Err(refusal) => refuse(refusal, err),
@@ -162,10 +177,7 @@ pub fn carry_out<R: Read, W: Write, E: Write>(
     ensures accepted { result ≢ 2 }
 {
     match load_counted(alloc, input, expected).0 {
-        Ok(bytes) => match decode_if(alloc, order.decode, bytes) {
-            Ok(bytes) => answer_out(alloc, order.ask, &bytes, out, err),
-            Err(_) => refuse(Refusal::Memory, err),
-        },
+        Ok(bytes) => answer_out(alloc, order, bytes, out, err),
         Err(fault) => refuse(Refusal::from(fault), err),
     }
 }

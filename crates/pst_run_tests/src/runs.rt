@@ -9,6 +9,7 @@ mod check_kinds;
 mod check_messages;
 mod check_nodes;
 mod check_order;
+mod digests;
 mod documents;
 mod encoded;
 mod folders;

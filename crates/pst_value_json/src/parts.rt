@@ -17,6 +17,8 @@ pub enum Made {
     Nid(Option<u32>),
     /// A word.
     Word(&'static str),
+    /// A digest, in lower-case hexadecimal.
+    Digest([u8; 32]),
 }
 
 /// A member of an object: its key, and its value.
@@ -36,5 +38,6 @@ pub(crate) fn made_doc(alloc: Global, made: Made) -> Result<Doc, AllocError>
         Made::Natural(n) => Ok(Doc::from(n)),
         Made::Nid(nid) => nid_or_null_doc(alloc, nid),
         Made::Word(word) => Ok(Doc::from(String::from_str(alloc, word)?)),
+        Made::Digest(digest) => Ok(Doc::from(hex::encode(alloc, digest)?)),
     }
 }

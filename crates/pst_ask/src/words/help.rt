@@ -20,9 +20,9 @@ macro_rules! ending {
 
 /// The end of the help of the program.
 pub(super) const PROGRAM: &str =
-    "The answer is one line of JSON on standard output. Where there is none, one line on
-standard error says why. FILE is the name of a file, or - for standard input; the
-program only reads it.
+    "The answer is one line of JSON on standard output, and of props one for each node.
+Where there is none, one line on standard error says why. FILE is the name of a file,
+or - for standard input; the program only reads it.
 
 Exit status:
   0    The answer is printed; of check: the file is a store
@@ -36,7 +36,8 @@ Exit status:
 const CHECK: &str = ending!(
     "Checks the whole file, and prints how many pages, blocks, nodes, folders and messages
 there are, the order of the bits in the allocation maps, and the lost runs: space that
-is marked as used, and that nothing uses.",
+is marked as used, and that nothing uses. With --digest it also prints the SHA-256 of
+the file as it is stored, before anything is decoded.",
     "The file is a store",
     "It breaks a rule of the format: standard error tells the first fault; or, with
      --strict, there are lost runs"
@@ -72,7 +73,8 @@ its class, its sender and its subject.",
 
 const PROPS: &str = ending!(
     "Checks the whole file, and prints of each property of the node NID its identifier, its
-type and its value; of a message also the attachments and the recipients.",
+type and its value; of a message also the attachments and the recipients. Of several
+nodes it prints a line for each, in their order; and none where one of them has none.",
     "The properties are printed",
     "The file breaks a rule of the format, or has no such node, or that has no properties:
      standard error tells which"

@@ -6,6 +6,26 @@ use pst_ask::{Ask, Lack, NoOrder, Order, parse, read_nid};
 use std::process::Abort;
 use std::test::Fail;
 
+const CHECK: Ask = Ask::Check {
+    strict: false,
+    digest: false,
+};
+
+const STRICT: Ask = Ask::Check {
+    strict: true,
+    digest: false,
+};
+
+const DIGEST: Ask = Ask::Check {
+    strict: false,
+    digest: true,
+};
+
+const BOTH: Ask = Ask::Check {
+    strict: true,
+    digest: true,
+};
+
 // Compares what words ask for, of a file as it is.
 fn is_asked<R: Abort + AllocGlobal>(
     rt: &R,
@@ -25,7 +45,41 @@ fn is_order<R: Abort + AllocGlobal>(
 ) -> Result<(), Fail> {
     let words = words_of(rt.alloc(), words)?;
     let order = parse(rt.alloc(), &words).map_err(|_| "refused")?;
-    is(rt, order, expected);
+    is(rt, &order, &expected);
+    Ok(())
+}
+
+// Compares of which nodes words ask for the properties.
+fn are_nodes<R: Abort + AllocGlobal>(
+    rt: &R,
+    words: &[&str],
+    decode: bool,
+    nids: &[u32],
+) -> Result<(), Fail> {
+    let ask = Ask::Props(Vec::from_slice(rt.alloc(), nids)?);
+    let file = "a.pst";
+    is_order(rt, words, Order { ask, decode, file })
+}
+
+#[test]
+fn props_takes_nodes_in_their_order(rt: HostRuntime) -> Result<(), Fail> {
+    for (words, decode, nids) in [
+        (&["props", "a.pst", "0x12D"][..], false, &[0x12d][..]),
+        (&["props", "a.pst", "--decode", "0x21"], true, &[0x21]),
+        (&["props", "a.pst", "0x21", "--decode"], true, &[0x21]),
+        (
+            &["props", "a.pst", "0x122", "0x21", "0x122"],
+            false,
+            &[0x122, 0x21, 0x122],
+        ),
+        (
+            &["props", "a.pst", "0x21", "--decode", "0x61"],
+            true,
+            &[0x21, 0x61],
+        ),
+    ] {
+        are_nodes(&rt, words, decode, nids)?;
+    }
     Ok(())
 }
 
@@ -33,15 +87,10 @@ fn is_order<R: Abort + AllocGlobal>(
 fn each_command_takes_a_file_that_is_decoded_first(rt: HostRuntime) -> Result<(), Fail> {
     let (file, decode) = ("a.pst", true);
     for (words, ask) in [
-        (&["check", "--decode", "a.pst"][..], Ask::Check(false)),
-        (
-            &["check", "a.pst", "--decode", "--strict"],
-            Ask::Check(true),
-        ),
-        (
-            &["check", "--strict", "--decode", "a.pst"],
-            Ask::Check(true),
-        ),
+        (&["check", "--decode", "a.pst"][..], CHECK),
+        (&["check", "a.pst", "--decode", "--strict"], STRICT),
+        (&["check", "--strict", "--decode", "a.pst"], STRICT),
+        (&["check", "--decode", "--digest", "a.pst"], DIGEST),
         (&["head", "--decode", "a.pst"], Ask::Head),
         (&["nodes", "a.pst", "--decode"], Ask::Nodes),
         (&["folders", "--decode", "--", "a.pst"], Ask::Folders),
@@ -49,8 +98,6 @@ fn each_command_takes_a_file_that_is_decoded_first(rt: HostRuntime) -> Result<()
             &["contents", "--decode", "a.pst", "0x8082"],
             Ask::Contents(0x8082),
         ),
-        (&["props", "a.pst", "--decode", "0x21"], Ask::Props(0x21)),
-        (&["props", "a.pst", "0x21", "--decode"], Ask::Props(0x21)),
     ] {
         is_order(&rt, words, Order { ask, decode, file })?;
     }
@@ -59,20 +106,26 @@ fn each_command_takes_a_file_that_is_decoded_first(rt: HostRuntime) -> Result<()
 
 #[test]
 fn each_command_is_asked_for(rt: HostRuntime) -> Result<(), Fail> {
-    is_asked(&rt, &["check", "a.pst"], Ask::Check(false), "a.pst")?;
+    is_asked(&rt, &["check", "a.pst"], CHECK, "a.pst")?;
+    is_asked(&rt, &["check", "a.pst", "--digest"], DIGEST, "a.pst")?;
+    is_asked(
+        &rt,
+        &["check", "--digest", "--strict", "a.pst"],
+        BOTH,
+        "a.pst",
+    )?;
     for words in [
         &["check", "--strict", "a.pst"][..],
         &["check", "a.pst", "--strict"],
         &["check", "--strict", "--", "a.pst"],
     ] {
-        is_asked(&rt, words, Ask::Check(true), "a.pst")?;
+        is_asked(&rt, words, STRICT, "a.pst")?;
     }
     is_asked(&rt, &["head", "-"], Ask::Head, "-")?;
     is_asked(&rt, &["nodes", ""], Ask::Nodes, "")?;
     is_asked(&rt, &["folders", "--", "-h"], Ask::Folders, "-h")?;
-    let (contents, props) = (Ask::Contents(0x8082), Ask::Props(0x12d));
-    is_asked(&rt, &["contents", "a b", "0x8082"], contents, "a b")?;
-    is_asked(&rt, &["props", "a.pst", "0x12D"], props, "a.pst")
+    let contents = Ask::Contents(0x8082);
+    is_asked(&rt, &["contents", "a b", "0x8082"], contents, "a b")
 }
 
 #[test]
@@ -104,8 +157,12 @@ fn other_words_name_no_node(rt: HostRuntime) -> Result<(), Fail> {
         "١",
     ] {
         is_at(&rt, word, read_nid(word), None);
-        for command in ["contents", "props"] {
-            let words = words_of(rt.alloc(), &[command, "a.pst", word])?;
+        for words in [
+            &["contents", "a.pst", word][..],
+            &["props", "a.pst", word],
+            &["props", "a.pst", "0x21", word],
+        ] {
+            let words = words_of(rt.alloc(), words)?;
             let asked = parse(rt.alloc(), &words);
             holds_at(&rt, word, matches!(asked, Err(NoOrder::Lacks(Lack::Nid))));
         }

@@ -13,16 +13,16 @@ Commands:
   nodes     Lists the nodes
   folders   Lists the folders
   contents  Lists the messages of a folder
-  props     Shows the properties of a node
+  props     Shows the properties of nodes
   help      Print this message or the help of the given subcommand(s)
 
 Options:
   -h, --help     Print help
   -V, --version  Print version
 
-The answer is one line of JSON on standard output. Where there is none, one line on
-standard error says why. FILE is the name of a file, or - for standard input; the
-program only reads it.
+The answer is one line of JSON on standard output, and of props one for each node.
+Where there is none, one line on standard error says why. FILE is the name of a file,
+or - for standard input; the program only reads it.
 
 Exit status:
   0    The answer is printed; of check: the file is a store
@@ -47,12 +47,14 @@ Arguments:
 
 Options:
       --strict  Ends with status 1 where space is lost, too
+      --digest  Adds the SHA-256 of the file as it is stored
       --decode  Decodes an encoded file first, in memory
   -h, --help    Print help
 
 Checks the whole file, and prints how many pages, blocks, nodes, folders and messages
 there are, the order of the bits in the allocation maps, and the lost runs: space that
-is marked as used, and that nothing uses.
+is marked as used, and that nothing uses. With --digest it also prints the SHA-256 of
+the file as it is stored, before anything is decoded.
 
 Exit status:
   0  The file is a store
@@ -162,20 +164,21 @@ Exit status:
     ),
     (
         "props",
-        "Shows the properties of a node
+        "Shows the properties of nodes
 
-Usage: pst_show props [OPTIONS] <FILE> <NID>
+Usage: pst_show props [OPTIONS] <FILE> <NID>...
 
 Arguments:
-  <FILE>  The file to read, or - for standard input
-  <NID>   The identifier of a node, as 0x122
+  <FILE>    The file to read, or - for standard input
+  <NID>...  The identifiers of nodes, as 0x122
 
 Options:
       --decode  Decodes an encoded file first, in memory
   -h, --help    Print help
 
 Checks the whole file, and prints of each property of the node NID its identifier, its
-type and its value; of a message also the attachments and the recipients.
+type and its value; of a message also the attachments and the recipients. Of several
+nodes it prints a line for each, in their order; and none where one of them has none.
 
 Exit status:
   0  The properties are printed

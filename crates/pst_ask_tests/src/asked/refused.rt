@@ -84,9 +84,9 @@ Usage: pst_show contents <FILE> <NID>
         &["props"],
         "error: the following required arguments were not provided:
   <FILE>
-  <NID>
+  <NID>...
 
-Usage: pst_show props <FILE> <NID>
+Usage: pst_show props <FILE> <NID>...
 ",
     ),
 ];
@@ -107,10 +107,10 @@ Usage: pst_show check [OPTIONS] <FILE>
 ",
     ),
     (
-        &["props", "a.pst", "0x21", "0x122"],
-        "error: unexpected argument '0x122' found
+        &["contents", "a.pst", "0x122", "0x21"],
+        "error: unexpected argument '0x21' found
 
-Usage: pst_show props [OPTIONS] <FILE> <NID>
+Usage: pst_show contents [OPTIONS] <FILE> <NID>
 ",
     ),
     (

@@ -7,7 +7,7 @@ use pst_make::Change::{Block, Flip, Set};
 use std::test::Fail;
 
 // The lines of M0 and M1 are those of another program.
-const M0: [Asked<'static>; 9] = [
+const M0: [Asked<'static>; 12] = [
     (
         &["folders", "store.pst"],
         Yes(
@@ -33,9 +33,25 @@ const M0: [Asked<'static>; 9] = [
     (&["props", "store.pst", "0x12D"], No("no node 0x12d\n")),
     (&["contents", "store.pst", "0x999"], No("no folder 0x999\n")),
     (&["props", "store.pst", "0x999"], No("no node 0x999\n")),
+    (
+        &["props", "store.pst", "0x21", "0x122"],
+        Yes(
+            "{\"nid\":\"0x21\",\"props\":[{\"id\":\"3001\",\"type\":\"001F\",\"value\":\"M0\"}]}\n{\"nid\":\"0x122\",\"props\":[{\"id\":\"3602\",\"type\":\"0003\",\"value\":5}]}\n",
+        ),
+    ),
+    (
+        &["props", "store.pst", "0x122", "0x21", "0x122"],
+        Yes(
+            "{\"nid\":\"0x122\",\"props\":[{\"id\":\"3602\",\"type\":\"0003\",\"value\":5}]}\n{\"nid\":\"0x21\",\"props\":[{\"id\":\"3001\",\"type\":\"001F\",\"value\":\"M0\"}]}\n{\"nid\":\"0x122\",\"props\":[{\"id\":\"3602\",\"type\":\"0003\",\"value\":5}]}\n",
+        ),
+    ),
+    (
+        &["props", "store.pst", "0x21", "0x999", "0x998"],
+        No("no node 0x999\n"),
+    ),
 ];
 
-const M1: [Asked<'static>; 9] = [
+const M1: [Asked<'static>; 10] = [
     (
         &["folders", "store.pst"],
         Yes(
@@ -64,6 +80,10 @@ const M1: [Asked<'static>; 9] = [
     ),
     (&["contents", "store.pst", "0x999"], No("no folder 0x999\n")),
     (&["props", "store.pst", "0x999"], No("no node 0x999\n")),
+    (
+        &["props", "store.pst", "0x21", "0x12D", "0x999"],
+        No("no: 21 Heap at 0x4c80 bid 0xc nid 0x12d\n"),
+    ),
 ];
 
 const M2: [Asked<'static>; 4] = [

@@ -10,16 +10,16 @@ use std::test::Fail;
 const FOLDERS: &str =
     "{\"folders\":[{\"associated\":0,\"messages\":0,\"name\":null,\"nid\":\"0x122\",\"subfolders\":[\"0x142\"]},{\"associated\":0,\"messages\":0,\"name\":null,\"nid\":\"0x142\",\"subfolders\":[]}]}\n";
 
-// M1, encoded by a method.
-fn encoded(alloc: Global, method: Method) -> Result<Vec<u8>, Fail> {
+/// M1, encoded by a method.
+pub(super) fn encoded(alloc: Global, method: Method) -> Result<Vec<u8>, Fail> {
     let plan = m1_plan(alloc)?;
     let mut image = build(alloc, &plan).map_err(|_| "no store")?;
     encode(alloc, &mut image, &plan, method).map_err(|_| "not encoded")?;
     Ok(image)
 }
 
-// Runs words over bytes.
-fn is_run<R: Abort + AllocGlobal>(
+/// Runs words over bytes.
+pub(super) fn is_run<R: Abort + AllocGlobal>(
     rt: &R,
     words: &[&str],
     bytes: &[u8],
