@@ -32,7 +32,7 @@ pub(crate) struct Asked {
     asks: BTreeMap<Key, Asks>,
     // Which subnode the row matrix is, by the data of the table.
     matrices: BTreeMap<u64, u32>,
-    // How many subnodes are asked for by all that are kept.
+    // How many subnodes are asked for by all that are kept, and by the first one for which there was no room.
     count: u64,
 }
 
@@ -146,11 +146,19 @@ impl Asked {
     {
         let block = cleared(node.bid_data());
         let matrix = self.learn_matrix(block, asks.matrix())?;
-        self.count = self.count.saturating_add(asks.len() as u64);
         let _new = self
             .asks
             .insert(((block, matrix), role_number(role)), asks)?;
         Ok(())
+    }
+
+    // Whether there is room for so many subnodes more; where there is not, there is none from then on.
+    #[tactic(auto, using(crate::proofs::AskedLemmas::asks_same))]
+    fn takes(&mut self, more: usize, room: u64) -> bool
+        ensures { (t : Table) → AreAskedTrue t self.old → AreAskedTrue t self.new }
+    {
+        self.count = self.count.saturating_add(more as u64);
+        self.count <= room
     }
 
     /// Remembers what the context of a node asks, which has no fault, where that pays and there is room for it; or memory is refused.
@@ -160,12 +168,12 @@ impl Asked {
         ensures known { AreAskedTrue (table_of_node node.entry) self.new }
         ensures memory { IfErr result (λ f. f ≡ no_memory) }
     {
-        if !is_worth(role, node) {
+        let room = node.image().len() / SHARE;
+        if self.count > room || !is_worth(role, node) {
             return Ok(());
         }
         let asks = asks_of(alloc, role, node)?;
-        let count = self.count.saturating_add(asks.len() as u64);
-        if count > node.image().len() / SHARE {
+        if !self.takes(asks.len(), room) {
             return Ok(());
         }
         self.put(role, node, asks)

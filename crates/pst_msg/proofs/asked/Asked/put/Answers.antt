@@ -10,7 +10,7 @@ use Rattle.pst_msg.proofs.asked.Asked.put.Goals as goal
 pub returns-in_err-_new-clause-known : goal.returns-in_err-_new-clause-known
 returns-in_err-_new-clause-known c =
     let t = table_of_node c.args.node in
-    asks_same t c.learn_matrix.new.self (record { asks = c.insert.new.self; matrices = c.learn_matrix.new.self.matrices; count = c.saturating_add-self.result }) c.in_err-_new.ensures.err (c.learn_matrix.ensures.known t c.requires.known)
+    asks_same t c.learn_matrix.new.self (record { asks = c.insert.new.self; matrices = c.learn_matrix.new.self.matrices; count = c.learn_matrix.new.self.count }) c.in_err-_new.ensures.err (c.learn_matrix.ensures.known t c.requires.known)
 
 pub returns-clause-known : goal.returns-clause-known
 returns-clause-known c =
@@ -18,5 +18,5 @@ returns-clause-known c =
     let r = roots_of c.args.node in
     let block : c.cleared-block.result ≡ bid_key r.bid_data = search rules in
     let number : c.role_number.result ≡ role_number c.args.role = search rules in
-    let new : Asked = record { asks = c.insert.new.self; matrices = c.learn_matrix.new.self.matrices; count = c.saturating_add-self.result } in
+    let new : Asked = record { asks = c.insert.new.self; matrices = c.learn_matrix.new.self.matrices; count = c.learn_matrix.new.self.count } in
     asks_put t c.args.role r ((c.cleared-block.result, c.in_ok-matrix.matrix), c.role_number.result) c.args.asks c.learn_matrix.new.self new (c.learn_matrix.ensures.known t c.requires.known) c.requires.holds block number c.in_ok-_new.ensures.updates.0
