@@ -9,6 +9,7 @@ use Rattle.pst_ndb.specs.Views.{table_of_node, roots_of}
 use Rattle.pst_ndb.specs.Roots.{Roots}
 use Rattle.pst_pc.specs.pst_heap.declared.maps.Maps.{Maps}
 use Rattle.pst_pc.specs.pst_heap.Maps.{AreMapsTrue}
+use Rattle.pst_msg.specs.declared.asked.Asked.{Asked}
 use Rattle.pst_msg.specs.declared.items.Items.TheVariants.{Subfolders, Messages, Associated}
 use Rattle.pst_msg.specs.declared.keys.Keys.{Keys}
 use Rattle.pst_msg.specs.declared.known.Known.{Known}
@@ -20,6 +21,7 @@ use Rattle.pst_msg.specs.declared.nid.TheConstants.{ATTACHMENTS, RECIPIENTS}
 use Rattle.pst_msg.specs.declared.role.Role.{Role}
 use Rattle.pst_msg.specs.declared.role.Role.TheVariants.{Properties, Listed, Recipients, Attachments}
 use Rattle.pst_ndb.specs.Alike.{Alike}
+use Rattle.pst_msg.specs.Asked.{AreAskedTrue}
 use Rattle.pst_msg.specs.Keys.{Key, key, list_key, holds, has}
 use Rattle.pst_msg.specs.Roles.{role_number, role_fault}
 use Rattle.pst_msg.specs.Fault.{held_fault, below_message, message_at, attachment_at, message_fault, attachment_fault}
@@ -121,8 +123,8 @@ known_list t keys limit node same holds is sound =
 from_none : (keys : Keys) (P : Type 0) (q : Key) → ((k : Key) → holds keys k ≡ false) → holds keys q ≡ true → P
 from_none keys P q none there = absurd (false≢true (sym (none q) ∙ there))
 
-pub nothing_known : (t : Table) (k : Known) → ((q : Key) → holds k.contexts q ≡ false) → ((q : Key) → holds k.messages q ≡ false) → ((q : Key) → holds k.attachments q ≡ false) → ((q : Key) → holds k.lists q ≡ false) → IsIndexIn t k.index → AreIndexes t k.indexes → AreMapsTrue t k.maps → IsTrueOf t k
-nothing_known t k contexts messages attachments lists index indexes maps = record {
+pub nothing_known : (t : Table) (k : Known) → ((q : Key) → holds k.contexts q ≡ false) → ((q : Key) → holds k.messages q ≡ false) → ((q : Key) → holds k.attachments q ≡ false) → ((q : Key) → holds k.lists q ≡ false) → IsIndexIn t k.index → AreIndexes t k.indexes → AreMapsTrue t k.maps → AreAskedTrue t k.asked → IsTrueOf t k
+nothing_known t k contexts messages attachments lists index indexes maps asked = record {
   contexts = λ role s there. from_none k.contexts _ _ contexts there;
   messages = λ s there. from_none k.messages _ _ messages there;
   attachments = λ s there. from_none k.attachments _ _ attachments there;
@@ -130,15 +132,16 @@ nothing_known t k contexts messages attachments lists index indexes maps = recor
   index = index;
   indexes = indexes;
   maps = maps;
+  asked = asked;
   messages_in = λ s there. from_none k.messages _ _ messages there;
   attachments_in = λ s there. from_none k.attachments _ _ attachments there;
   lists_in = λ s there. from_none k.lists _ _ lists there;
 }
 
--- ---- other indexes, and more page maps
+-- ---- other indexes, more page maps, and more that was asked
 
-pub aids_turned : (t : Table) (k : Known) (index : ListIndex) (maps : Maps) → IsTrueOf t k → IsIndexIn t index → AreMapsTrue t maps → IsTrueOf t (record k { index = index; maps = maps })
-aids_turned t k index maps is turned more = record {
+pub aids_turned : (t : Table) (k : Known) (index : ListIndex) (maps : Maps) (asked : Asked) → IsTrueOf t k → IsIndexIn t index → AreMapsTrue t maps → AreAskedTrue t asked → IsTrueOf t (record k { index = index; maps = maps; asked = asked })
+aids_turned t k index maps asked is turned more kept = record {
   contexts = is.contexts;
   messages = is.messages;
   attachments = is.attachments;
@@ -146,6 +149,7 @@ aids_turned t k index maps is turned more = record {
   index = turned;
   indexes = is.indexes;
   maps = more;
+  asked = kept;
   messages_in = λ s there. message_later t k _ s (λ q h. h) (λ q h. h) (is.messages_in s there);
   attachments_in = λ s there. attachment_later t k _ s (λ q h. h) (λ q h. h) (is.attachments_in s there);
   lists_in = λ s there. held_later t k _ s (λ q h. h) (λ q h. h) (is.lists_in s there);
@@ -160,6 +164,7 @@ indexes_turned t k indexes is turned = record {
   index = is.index;
   indexes = turned;
   maps = is.maps;
+  asked = is.asked;
   messages_in = λ s there. message_later t k _ s (λ q h. h) (λ q h. h) (is.messages_in s there);
   attachments_in = λ s there. attachment_later t k _ s (λ q h. h) (λ q h. h) (is.attachments_in s there);
   lists_in = λ s there. held_later t k _ s (λ q h. h) (λ q h. h) (is.lists_in s there);
@@ -182,6 +187,7 @@ context_remembered t role r k new count is none more kept = record {
   index = is.index;
   indexes = is.indexes;
   maps = is.maps;
+  asked = is.asked;
   messages_in = λ s there. message_later t k _ s kept (λ q h. h) (is.messages_in s there);
   attachments_in = λ s there. attachment_later t k _ s kept (λ q h. h) (is.attachments_in s there);
   lists_in = λ s there. held_later t k _ s kept (λ q h. h) (is.lists_in s there);
@@ -200,6 +206,7 @@ message_remembered t known new limit node same is sound none inside more kept =
       index = is.index;
       indexes = is.indexes;
       maps = is.maps;
+      asked = is.asked;
       messages_in = λ s in_new. message_later t known _ s (λ q h. h) (λ q h. h) (elim (more (key 0 s) in_new) [ inl was ↦ is.messages_in s was | inr e ↦ message_in_alike t known r s (alike_of_key 0 0 r s e).1 inside ]);
       attachments_in = λ s there. attachment_later t known _ s (λ q h. h) kept (is.attachments_in s there);
       lists_in = λ s there. held_later t known _ s (λ q h. h) (λ q h. h) (is.lists_in s there);
@@ -218,6 +225,7 @@ attachment_remembered t known new limit node same is sound none inside more kept
       index = is.index;
       indexes = is.indexes;
       maps = is.maps;
+      asked = is.asked;
       messages_in = λ s there. message_later t known _ s (λ q h. h) kept (is.messages_in s there);
       attachments_in = λ s in_new. attachment_later t known _ s (λ q h. h) (λ q h. h) (elim (more (key 0 s) in_new) [ inl was ↦ is.attachments_in s was | inr e ↦ attachment_in_alike t known r s (alike_of_key 0 0 r s e).1 inside ]);
       lists_in = λ s there. held_later t known _ s (λ q h. h) kept (is.lists_in s there);
@@ -236,6 +244,7 @@ list_remembered t known new limit node same is sound none inside more kept =
       index = is.index;
       indexes = is.indexes;
       maps = is.maps;
+      asked = is.asked;
       messages_in = λ s there. message_later t known _ s (λ q h. h) (λ q h. h) (is.messages_in s there);
       attachments_in = λ s there. attachment_later t known _ s (λ q h. h) (λ q h. h) (is.attachments_in s there);
       lists_in = λ s in_new. held_later t known _ s (λ q h. h) (λ q h. h) (elim (more (list_key s) in_new) [ inl was ↦ is.lists_in s was | inr e ↦ held_in_alike t known r s (same_list r s e) inside ]);

@@ -11,6 +11,7 @@ pub mod KeyLemmas
 pub mod IndexLemmas
 pub mod HeldLemmas
 pub mod KnownLemmas
+pub mod AskedLemmas
 pub mod ListingLemmas
 pub mod CountLemmas
 pub mod GrowLemmas

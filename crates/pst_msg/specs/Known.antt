@@ -17,6 +17,7 @@ use Rattle.pst_msg.specs.declared.nid.TheConstants.{ATTACHMENTS, RECIPIENTS}
 use Rattle.pst_msg.specs.declared.object.Object.{Object}
 use Rattle.pst_msg.specs.declared.role.Role.{Role}
 use Rattle.pst_msg.specs.declared.role.Role.TheVariants.{Properties, Listed, Recipients, Attachments}
+use Rattle.pst_msg.specs.Asked.{AreAskedTrue}
 use Rattle.pst_msg.specs.Keys.{holds, has, list_key}
 use Rattle.pst_msg.specs.ListIndex.{IsIndexIn}
 use Rattle.pst_msg.specs.Indexes.{AreIndexes}
@@ -85,6 +86,7 @@ pub record IsTrueOf (t : Table) (k : Known) : Type 0 where
   pub index : IsIndexIn t k.index
   pub indexes : AreIndexes t k.indexes
   pub maps : AreMapsTrue t k.maps
+  pub asked : AreAskedTrue t k.asked
   -- it is closed
   pub messages_in : (r : Roots) → WholeIn k.messages r → MessageIn t k r
   pub attachments_in : (r : Roots) → WholeIn k.attachments r → AttachmentIn t k r

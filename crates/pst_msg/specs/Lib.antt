@@ -7,6 +7,7 @@ pub mod Keys
 pub mod Roles
 pub mod ListIndex
 pub mod Indexes
+pub mod Asked
 pub mod Known
 pub mod Counts
 pub mod Growth

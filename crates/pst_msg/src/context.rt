@@ -3,16 +3,53 @@
 ghost use Rattle.std.specs.Prelude.{◌≡◌, OnOk};
 ghost use Rattle.pst_fault.specs.First.{Tells};
 ghost use Rattle.pst_ndb.specs.Views.{table_of_node, roots_of};
+ghost use Rattle.pst_pc.specs.pst_heap.Maps.{AreMapsTrue};
+ghost use Rattle.pst_msg.specs.Asked.{AreAskedTrue};
+ghost use Rattle.pst_msg.specs.ListIndex.{IsIndexIn};
 ghost use Rattle.pst_msg.specs.Roles.{role_fault};
 ghost use Rattle.pst_msg.specs.Known.{ContextIn, IsTrueOf};
 ghost use Rattle.pst_msg.specs.Counts.{Names};
 ghost use Rattle.pst_msg.specs.Growth.{Grows};
 
+use crate::asked::Asked;
 use crate::keys::key_of;
 use crate::known::Known;
+use crate::list_index::ListIndex;
 use crate::role::{Role, check_context, role_number};
 use pst_fault::Fault;
 use pst_ndb::Node;
+use pst_pc::Maps;
+use std::alloc::Global;
+
+// Checks the context of a node, unless its data is known, by another list that was asked for the same, to have no fault.
+fn check_by(
+    alloc: Global,
+    role: Role,
+    node: Node,
+    index: &mut ListIndex,
+    maps: &mut Maps,
+    asked: &mut Asked,
+) -> Result<(), Fault>
+    requires index { IsIndexIn (table_of_node node) index.old }
+    requires maps { AreMapsTrue (table_of_node node) maps.old }
+    requires asked { AreAskedTrue (table_of_node node) asked.old }
+    ensures index { IsIndexIn (table_of_node node.entry) index.new }
+    ensures maps { AreMapsTrue (table_of_node node.entry) maps.new }
+    ensures asked { AreAskedTrue (table_of_node node.entry) asked.new }
+    ensures exact { let t = table_of_node node.entry in
+        Tells result (role_fault t role (roots_of node.entry)) tt }
+{
+    if asked.are_many(role, node) {
+        index.turn(alloc, node)?;
+    }
+    if asked.answers(role, index.lend(node)) {
+        return Ok(());
+    }
+    index.turn(alloc, node)?;
+    let lent = index.lend(node);
+    check_context(role, lent, maps)?;
+    asked.remember(alloc, role, lent)
+}
 
 /// Checks the context of a node in a role, and counts it, unless it is remembered in that role.
 pub(crate) fn once(known: &mut Known, role: Role, node: Node) -> Result<(), Fault>
@@ -28,8 +65,15 @@ pub(crate) fn once(known: &mut Known, role: Role, node: Node) -> Result<(), Faul
     if known.contexts.has(taken) {
         return Ok(());
     }
-    known.index.turn(known.alloc, node)?;
-    check_context(role, known.index.lend(node), &mut known.maps)?;
+    let alloc = known.alloc;
+    check_by(
+        alloc,
+        role,
+        node,
+        &mut known.index,
+        &mut known.maps,
+        &mut known.asked,
+    )?;
     known.contexts.put(taken)?;
     known.count = known.count.saturating_add(1);
     Ok(())

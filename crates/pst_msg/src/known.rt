@@ -1,5 +1,6 @@
 //! What is known of the parts of messages.
 
+use crate::asked::Asked;
 use crate::indexes::Indexes;
 use crate::keys::Keys;
 use crate::list_index::ListIndex;
@@ -23,6 +24,8 @@ pub(crate) struct Known {
     pub(crate) indexes: Indexes,
     /// The page maps of the data that contexts share.
     pub(crate) maps: Maps,
+    /// What contexts asked of their lists of subnodes.
+    pub(crate) asked: Asked,
     /// How many contexts were checked, from the first on. It stays at its greatest value once it is there.
     pub(crate) count: u64,
 }
@@ -50,6 +53,7 @@ impl Known {
             index: ListIndex::none(),
             indexes: Indexes::new(alloc),
             maps: Maps::new(alloc),
+            asked: Asked::new(alloc),
             count,
         }
     }

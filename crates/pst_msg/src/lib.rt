@@ -16,6 +16,7 @@
 //! ```
 #![tactic(auto)]
 
+mod asked;
 mod attachment_view;
 mod attachments;
 mod check;

@@ -24,7 +24,7 @@ use Rattle.pst_pc.specs.Values.{pc_client, pc_sizes, pc_records, record_place, k
 
 -- ---- the properties
 
-abbrev records_in : HeapData → List (ℕ × Span)
+abbrev pub records_in : HeapData → List (ℕ × Span)
 records_in h = bth_records h pc_sizes (user_root_of h)
 
 property_alike : (t : Table) (r s : Roots) → Alike r s → (x : ℕ × Span) → property_at t r x ≡ property_at t s x
@@ -42,7 +42,7 @@ part_alike : (t : Table) (r s : Roots) → Alike r s → (x : ℕ × Span) → p
 unfolding property_fault
 part_alike t r s e x = fault_alike t r s (kind_in t.image x.1) (record_place x.1) (raw_in x.1) e
 
-abbrev fault_with : HeapData → Option Fault → Option Fault
+abbrev pub fault_with : HeapData → Option Fault → Option Fault
 fault_with h records =
     heap_fault h then client_fault pc_client h then bth_fault h pc_sizes (user_root_place h) (user_root_of h) then records
 

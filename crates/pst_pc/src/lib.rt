@@ -10,6 +10,7 @@
 //! ```
 #![tactic(auto)]
 
+mod ask;
 mod check;
 mod laws;
 mod pc;

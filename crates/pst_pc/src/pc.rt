@@ -69,7 +69,7 @@ impl<'a> Pc<'a> {
     }
 
     // The heap in which it is.
-    fn heap(&self) -> Heap<'a>
+    pub(crate) fn heap(&self) -> Heap<'a>
         ensures { node_of result ≡ node_of_pc self.now }
     {
         self.heap

@@ -132,7 +132,7 @@ records_fault_alike t r s i e =
     ap (first_of (row_record_fault t r i)) (records_alike t r s i e)
     ∙ first_of_same (row_record_fault t r i) (row_record_fault t s i) (record_alike t r s i e) (tc_records t s i)
 
-abbrev body_with : List ℕ → Span → HeapData → Option Fault → Option Fault → Option Fault
+abbrev pub body_with : List ℕ → Span → HeapData → Option Fault → Option Fault → Option Fault
 body_with I i h matrix rows = info_fault I i then bth_fault h tc_sizes (index_place i) (index_hid I i) then matrix then rows
 
 body_alike : (t : Table) (r s : Roots) → Alike r s → (i : Span) → tc_body_fault t r i ≡ tc_body_fault t s i
@@ -142,7 +142,7 @@ body_alike t r s e i =
     ∙ ap (λ (m : Option Fault). body_with t.image i (heap_at t s) m (first_of (row_record_fault t r i) (tc_records t r i))) (named_alike t r s i e)
     ∙ ap (body_with t.image i (heap_at t s) (matrix_fault t s i)) (records_fault_alike t r s i e)
 
-abbrev fault_with : HeapData → (Span → Option Fault) → Option Fault
+abbrev pub fault_with : HeapData → (Span → Option Fault) → Option Fault
 fault_with h body = heap_fault h then client_fault tc_client h then item_or (user_root_place h) body (item_of h (user_root_of h))
 
 untold_alike : (t : Table) (r s : Roots) → Alike r s → untold_tc_fault t r ≡ untold_tc_fault t s

@@ -7,3 +7,4 @@ pub mod RowLemmas
 pub mod AlikeLaws
 pub mod LookUpLaws
 pub mod BlockLemmas
+pub mod AskLemmas

@@ -11,3 +11,4 @@ pub mod View
 pub mod Left
 pub mod LookUps
 pub mod Blocks
+pub mod Asks

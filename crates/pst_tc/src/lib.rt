@@ -13,6 +13,7 @@
 //! ```
 #![tactic(auto)]
 
+mod ask;
 mod blocks;
 mod cell;
 mod check;

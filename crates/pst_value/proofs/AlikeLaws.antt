@@ -20,7 +20,7 @@ use Rattle.pst_value.specs.Values.{held_of, one_span, data_under, spans_under, h
 use Rattle.pst_value.specs.Fault.{missing_at, length_fault, hnid_fault, value_held_fault, value_fault}
 use Rattle.pst_value.specs.Laws.{AlikeValueLaw}
 
-abbrev heap_with : List ℕ → List Span → HeapData
+abbrev pub heap_with : List ℕ → List Span → HeapData
 heap_with I spans = record { image = I; spans = spans }
 
 -- their data is the same heap

@@ -4,4 +4,5 @@ pub mod ElementLemmas
 pub mod CursorLemmas
 pub mod ValueLaws
 pub mod AlikeLaws
+pub mod AskLemmas
 pub mod NextLemmas

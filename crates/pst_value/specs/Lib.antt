@@ -3,6 +3,8 @@ pub mod Hnid
 pub mod Values
 pub mod Fault
 pub mod Grammar
+pub mod Asks
+pub mod Met
 pub mod Laws
 pub mod View
 pub mod Read

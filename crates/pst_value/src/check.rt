@@ -23,7 +23,7 @@ use pst_ndb::Node;
 
 // How many bytes of a raw span with so many are the value; None where an HNID stands there.
 #[tactic(auto, unfolding(crate::specs::Values::held_of))]
-fn held(kind: PropType, len: u64) -> Option<u64>
+pub(crate) fn held(kind: PropType, len: u64) -> Option<u64>
     ensures value { result ≡ held_of kind.0 len }
     ensures fits { IfSome result (λ width. width ≤ len) }
 {
@@ -42,7 +42,7 @@ fn held(kind: PropType, len: u64) -> Option<u64>
 
 // Whether the value that an HNID names has a length that its type allows.
 #[tactic(auto, unfolding(crate::specs::Fault::is_length))]
-fn has_length(kind: PropType, len: u64) -> bool
+pub(crate) fn has_length(kind: PropType, len: u64) -> bool
     ensures { result ≡ is_length kind.0 len }
 {
     if len == 0 {

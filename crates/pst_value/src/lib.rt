@@ -10,6 +10,8 @@
 //! ```
 #![tactic(auto)]
 
+mod ask;
+mod asks;
 mod check;
 mod class;
 mod cursor;
@@ -24,6 +26,8 @@ mod read;
 mod several;
 mod units;
 
+pub use ask::ask_value;
+pub use asks::Asks;
 pub use check::{check_value, known_value, resolve};
 pub use class::Class;
 pub use elements::{elements_from, multi};

@@ -3,4 +3,4 @@ use Rattle.pst_msg.proofs.KnownLemmas.{nothing_known}
 use Rattle.pst_msg.proofs.known.Known.new.Goals as goal
 
 pub returns-clause-known : goal.returns-clause-known
-returns-clause-known c = λ t. nothing_known t _ (search rules) (search rules) (search rules) (search rules) (search rules) (c.new-5.ensures t) (search rules)
+returns-clause-known c = λ t. nothing_known t _ (search rules) (search rules) (search rules) (search rules) (search rules) (c.new-5.ensures t) (search rules) (search rules)
