@@ -2,6 +2,7 @@
 
 ghost use Rattle.pst_ndb.specs.Views.{IsIndexedBy};
 
+mod asked;
 mod lent;
 mod small;
 
@@ -268,4 +269,9 @@ fn values_are_lent(rt: HostRuntime) -> Result<(), Fail> {
     lent::guid(&rt, alloc, &pc)?;
     lent::body(&rt, &pc);
     Ok(())
+}
+
+#[test]
+fn lists_are_asked(rt: HostRuntime) -> Result<(), Fail> {
+    asked::lists(&rt, rt.alloc())
 }

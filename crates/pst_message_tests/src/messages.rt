@@ -1,5 +1,6 @@
 //! The check of the messaging of small stores: its first fault, and how many contexts it counts.
 
+mod apart;
 mod attachments;
 mod folders;
 mod makers;

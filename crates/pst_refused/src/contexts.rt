@@ -36,24 +36,30 @@ fn check_heap(known: &mut Known, nid: u32) -> Result<(), Refused> {
     passed(check_heap_with(node, &mut known.maps).err())
 }
 
-// `check_pc_with` of a node, with nothing remembered.
+// `check_pc_with` of a node, with nothing remembered, and `Pc::asks`.
 fn check_pc(alloc: Global, ndb: Ndb, nid: u32) -> Result<(), Refused> {
     let Some(node) = ndb.node(nid) else {
         return Ok(());
     };
     let index = node.index(alloc)?;
     let mut maps = Maps::new(alloc);
-    passed(check_pc_with(node.indexed(&index), &mut maps).err())
+    match check_pc_with(node.indexed(&index), &mut maps) {
+        Ok(pc) => passed(pc.asks(alloc).err()),
+        Err(fault) => passed(Some(fault)),
+    }
 }
 
-// `check_tc_with` of a node, with nothing remembered.
+// `check_tc_with` of a node, with nothing remembered, and `Tc::asks`.
 fn check_tc(alloc: Global, ndb: Ndb, nid: u32) -> Result<(), Refused> {
     let Some(node) = ndb.node(nid) else {
         return Ok(());
     };
     let index = node.index(alloc)?;
     let mut maps = Maps::new(alloc);
-    passed(check_tc_with(node.indexed(&index), &mut maps).err())
+    match check_tc_with(node.indexed(&index), &mut maps) {
+        Ok(tc) => passed(tc.asks(alloc).err()),
+        Err(fault) => passed(Some(fault)),
+    }
 }
 
 // All three. Where memory is refused, a heap is checked again with all that is remembered by then.
@@ -66,7 +72,7 @@ fn check_contexts(alloc: Global, known: &mut Known, nid: u32) -> Result<(), Refu
     check_tc(alloc, known.ndb, nid)
 }
 
-/// `Node::index`, `check_heap_with`, `check_pc_with` and `check_tc_with` of each node.
+/// `Node::index`, `check_heap_with`, `check_pc_with` and `check_tc_with` of each node, and what the contexts ask.
 pub(crate) fn contexts(alloc: Global, bytes: &[u8]) -> Result<(), Refused> {
     let ndb = check_ndb(alloc, Image::new(bytes))?.ndb;
     let mut known = Known {

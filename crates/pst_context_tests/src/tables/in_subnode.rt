@@ -1,5 +1,6 @@
 //! Tables whose row matrix is the data of a subnode: no row lies in two blocks.
 
+mod asked;
 mod rows;
 
 use super::is_answered;
@@ -93,4 +94,9 @@ fn are_answered<R: Abort>(rt: &R, alloc: Global, rows: &[Row]) -> Result<(), Fai
 fn tables_in_subnodes(rt: HostRuntime) -> Result<(), Fail> {
     are_answered(&rt, rt.alloc(), &IN_TWO_BLOCKS)?;
     are_answered(&rt, rt.alloc(), &OF_ALL_LENGTHS)
+}
+
+#[test]
+fn lists_are_asked(rt: HostRuntime) -> Result<(), Fail> {
+    asked::lists(&rt, rt.alloc())
 }
