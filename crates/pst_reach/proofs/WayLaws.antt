@@ -13,7 +13,7 @@ use Rattle.pst_btree.specs.Entries.{first_with}
 use Rattle.pst_btree.specs.Order.{Rises}
 use Rattle.pst_msg.specs.declared.nid.TheConstants.{ROOT}
 use Rattle.pst_reach.specs.declared.reached.Reach.{Reach}
-use Rattle.pst_reach.specs.Reach.{folder_ids, subfolders_of, IsWay, IsDepth, MayBeParent, IsParent, IsReach, AreReached}
+use Rattle.pst_reach.specs.Reach.{folder_ids, subfolders_of, IsWay, IsDepth, MayBeParent, IsParent, IsReach, AreAllReached}
 use Rattle.pst_reach.specs.Levels.{Step, step_nid, step_from, steps_named, steps_from, reached_by, by_rows, root_reach, is_new, found, level, reaches_of}
 use Rattle.pst_reach.proofs.LevelLemmas.{is_folder_of, AllNamed, named_is_folder}
 use Rattle.pst_reach.proofs.ListLemmas.{in_none, in_more, at_most_or_more, in_filter, of_filter, filter_rises, least_first, in_map, of_map, map_rises, how_many, not_more, one_passes, one_more}
@@ -329,7 +329,7 @@ module _ (t : Table) (nodes : List NodeEntry) (named : AllNamed t nodes) (rises 
       let few = not_more (is_found by.depth) (folder_ids nodes) in
       is_there (suc by.depth) all nid (omega (arith, many, few)) (leads_on by.depth way.0 nid by.there way.2)
 
-  pub are_reached : AreReached t nodes (reaches_of t nodes)
+  pub are_reached : AreAllReached t nodes (reaches_of t nodes)
   unfolding reaches_of
   are_reached = record {
     rise = map_rises (at all) (is_own all) 0 (folder_ids nodes) rises;

@@ -54,7 +54,7 @@ pub record IsReach (t : Table) (nodes : List NodeEntry) (x : Reach) : Type 0 whe
   pub parent : IsParent t nodes x.nid x.depth x.parent
 
 -- These are all folders that are reached, each once, their identifiers rising.
-pub record AreReached (t : Table) (nodes : List NodeEntry) (xs : List Reach) : Type 0 where
+pub record AreAllReached (t : Table) (nodes : List NodeEntry) (xs : List Reach) : Type 0 where
   pub rise : Rises 0 None (map (λ (x : Reach). x.nid) xs)
   pub sound : (x : Reach) → Contains xs x → IsReach t nodes x
   pub all : (nid n : ℕ) → IsWay t nodes nid n → (x : Reach) × Contains xs x × (x.nid ≡ nid)
