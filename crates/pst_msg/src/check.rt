@@ -148,6 +148,7 @@ pub fn check_messaging(alloc: Global, ndb: &Ndb, work: &mut Work) -> Result<(), 
     ensures pages { work.new.pages ≡ work.old.pages }
     ensures sums { work.new.sums ≡ work.old.sums }
     ensures expansions { work.new.expansions ≡ work.old.expansions }
+    ensures walked { work.new.walked ≡ work.old.walked }
 {
     let mut known = Known::new(alloc, work.contexts);
     let mut listings = Keys::new(alloc);

@@ -2,9 +2,11 @@
 use Rattle.std.specs.Prelude.{ℕ, ◌+◌, ◌*◌, ◌-◌, nat_eq, if◌then◌else◌, List, [], ◌∷◌, slice_range, Option, Some, None, option_map}
 use Rattle.pst_bytes.specs.Image.{num}
 use Rattle.uuid.specs.Parts.{swap_fields}
+use Rattle.pst_page.specs.declared.entry.NodeEntry.{NodeEntry}
 use Rattle.pst_block.specs.Table.{Table}
 use Rattle.pst_btree.specs.Entries.{first_with}
-use Rattle.pst_ndb.specs.Roots.{Roots}
+use Rattle.pst_ndb.specs.Roots.{Roots, node_in}
+use Rattle.pst_names.specs.declared.name_map.TheConstants.{NAME_MAP}
 use Rattle.pst_names.specs.declared.streams.TheConstants.{GUIDS}
 use Rattle.pst_names.specs.Streams.{stream_of, stream_bytes}
 use Rattle.pst_names.specs.Entry.{Entry, is_text, guid_index, prop_id}
@@ -58,3 +60,12 @@ naming_entry t r id = first_with prop_id id (all_entries t r)
 -- what it is called; none exactly where no entry names it
 unfoldable pub name_of : Table → Roots → ℕ → Option NameParts
 name_of t r id = option_map (name_in (stream_bytes (stream_of t r GUIDS)) (strings_of t r)) (naming_entry t r id)
+
+-- the same by a name map that may not be there
+abbrev pub name_there : Table → Option Roots → ℕ → Option NameParts
+name_there t None id = None
+name_there t (Some r) id = name_of t r id
+
+-- what it is called in a store with these blocks and nodes
+unfoldable pub store_name : Table → List NodeEntry → ℕ → Option NameParts
+store_name t nodes id = name_there t (node_in nodes NAME_MAP) id

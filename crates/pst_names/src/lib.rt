@@ -27,4 +27,4 @@ mod strings;
 pub use check::{check_names, known_names};
 pub use laws::names_decide;
 pub use name::{Name, NameKind};
-pub use name_map::NameMap;
+pub use name_map::{NAME_MAP, NameMap};

@@ -24,6 +24,9 @@ const PS_PUBLIC_STRINGS: [u8; 16] = [
     0x00, 0x02, 0x03, 0x29, 0x00, 0x00, 0x00, 0x00, 0xC0, 0x00, 0x00, 0x00, 0x00, 0x00, 0x00, 0x46,
 ];
 
+/// The node whose properties are the streams of the name map ([MS-PST] 2.4.1).
+pub const NAME_MAP: u32 = 0x61;
+
 /// A name map without fault ([MS-PST] 2.4.7): what the properties of a store from 0x8000 on are called.
 #[derive(Clone, Copy)]
 pub struct NameMap<'a> {

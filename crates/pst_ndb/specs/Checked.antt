@@ -23,8 +23,9 @@ pub record IsCheckedOf (file : Image) (h : Header) (c : Checked) : Type 0 where
   pub report : IsReport (bytes_of file) h (space_claimed (bytes_of file) h) c.map
   pub marks : MapsMark (bytes_of file) h c.map
   -- the work: each page of the trees and each block once, and each internal block once to which chains of identifiers lead from
-  -- the nodes; no context was looked at
+  -- the nodes; no context was looked at, and no folder walked from
   pub pages : c.work.pages ≡ page_total (bytes_of file) h
   pub sums : c.work.sums ≡ length (block_list (bytes_of file) h)
   pub expansions : AreExpanded (table_of_ndb c.ndb) (nodes_of c.ndb) c.work.expansions
   pub contexts : c.work.contexts ≡ 0
+  pub walked : c.work.walked ≡ 0

@@ -36,6 +36,8 @@ pub struct Work {
     pub expansions: u64,
     /// How many contexts were checked.
     pub contexts: u64,
+    /// How many folders were walked from, to find which folders the root folder reaches.
+    pub walked: u64,
 }
 
 /// What a check finds in a file without fault.
@@ -65,6 +67,7 @@ fn check_file<'a>(alloc: Global, image: Image<'a>, header: &Header) -> Result<Ch
         sums: space.sums,
         expansions,
         contexts: 0,
+        walked: 0,
     };
     Ok(Checked { ndb, map, work })
 }
