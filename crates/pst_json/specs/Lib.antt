@@ -9,6 +9,7 @@ pub mod Nodes
 pub mod Check
 pub mod Told
 pub mod Folders
+pub mod FolderRows
 pub mod Contents
 pub mod Node
 pub mod Found

@@ -4,7 +4,7 @@
 //! that tree and a line feed, made row by row. Begin with `nodes_doc` and `nodes_line`; `emit` writes a text:
 //!
 //! ```text
-//! let line = folders_line(alloc, &store)?;
+//! let line = folders_line(alloc, &verified)?;
 //! emit(&line, &mut out)?;
 //! ```
 #![tactic(auto)]
@@ -13,6 +13,7 @@ mod attachment;
 mod check;
 mod contents;
 mod fault;
+mod folder_rows;
 mod folders;
 mod head;
 mod index;

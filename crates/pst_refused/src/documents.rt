@@ -40,11 +40,11 @@ pub(crate) fn report(alloc: Global, bytes: &[u8]) -> Result<(), Refused> {
 pub(crate) fn lists(alloc: Global, bytes: &[u8]) -> Result<(), Refused> {
     let tree = read_nodes(alloc, Image::new(bytes))?;
     is_line(alloc, &nodes_doc(alloc, &tree)?, &nodes_line(alloc, &tree)?)?;
-    let store = verify(alloc, bytes)?.store;
+    let verified = verify(alloc, bytes)?;
     is_line(
         alloc,
-        &folders_doc(alloc, &store)?,
-        &folders_line(alloc, &store)?,
+        &folders_doc(alloc, &verified)?,
+        &folders_line(alloc, &verified)?,
     )
 }
 

@@ -67,9 +67,9 @@ fn nodes_answer(alloc: Global, bytes: &[u8]) -> Result<Shown, Refusal>
 fn folders_answer(alloc: Global, bytes: &[u8]) -> Result<Shown, Refusal>
     ensures { (digest : Option (List ℕ)) → Gives result (answer_with folders digest bytes.now) }
 {
-    let store = verify(alloc, bytes)?.store;
-    store.is_sound();
-    let text = folders_line(alloc, &store)?;
+    let verified = verify(alloc, bytes)?;
+    verified.store.is_sound();
+    let text = folders_line(alloc, &verified)?;
     Ok(Shown { text, fails: false })
 }
 

@@ -18,6 +18,7 @@ mod heaps;
 mod loading;
 mod messages;
 mod nodes;
+mod outlook;
 mod reading;
 mod values;
 mod words;

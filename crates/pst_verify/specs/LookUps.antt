@@ -28,7 +28,7 @@ use Rattle.pst_store.specs.LookUps.{GivesNode, GivesStoreProps, GivesRoot, Gives
 use Rattle.pst_store.specs.Parts.{StoreParts, table_in, entries_in}
 use Rattle.pst_store.specs.Values.{store_in}
 use Rattle.pst_store.specs.View.{ndb_of_store, image_of_store, folders_left, folders_ndb, messages_left, messages_ndb, TakesFolder, TakesMessage}
-use Rattle.pst_verify.specs.declared.check.Verified.{Verified}
+use Rattle.pst_verify.specs.declared.verified.Verified.{Verified}
 use Rattle.pst_verify.specs.Verified.{IsVerified}
 
 -- a folder, and a message, of a store with these blocks and nodes
