@@ -11,7 +11,6 @@ use Rattle.pst_names.specs.declared.name.NameKind.TheVariants.{Num, Text}
 use Rattle.pst_names.specs.declared.name_map.NameMap.{NameMap}
 use Rattle.pst_names.specs.declared.streams.TheConstants.{STRINGS}
 use Rattle.pst_names.specs.Streams.{stream_spans}
-use Rattle.pst_names.specs.Entry.{Entry, entry_in}
 use Rattle.pst_names.specs.Name.{KindParts, by_number, by_text, NameParts}
 
 -- the node whose properties its streams are
@@ -25,11 +24,6 @@ kind_parts (Text v) = by_text (bytes_in v)
 
 abbrev pub name_parts : Name → NameParts
 name_parts n = record { set = n.set; kind = kind_parts n.kind }
-
--- the entry that was found, by its 8 bytes
-abbrev pub IsFound : Option Entry → Option (List ℕ) → Type 0
-IsFound found None = found ≡ None
-IsFound found (Some bytes) = (at : ℕ) × (found ≡ Some (entry_in at bytes))
 
 -- A string is a part of the string stream, in the file's own memory.
 abbrev pub IsTextOf : Node → Value → Type 0
