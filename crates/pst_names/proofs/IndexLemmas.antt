@@ -41,18 +41,21 @@ noted_already i f there id = by_test (nat_eq (0x8000 + f.index) id) refl (noted 
         let here : is_some (noted i id) ≡ true = rw (← number_of_test (0x8000 + f.index) id e) there in
         let bad : false ≡ true = (rw at at here) in cc
 
-pub put_nothing : (i : NameIndex) (f : Fields) → is_some (get nat_cmp i.entries (0x8000 + f.index)) ≡ true → (id : ℕ) → noted i id ≡ option_or (noted i id) (if_names f id)
+pub put_nothing : (i : NameIndex) (f : Fields) (n : ℕ) → n ≡ f.index → is_some (get nat_cmp i.entries (0x8000 + n)) ≡ true → (id : ℕ) → noted i id ≡ option_or (noted i id) (if_names f id)
 unfolding noted
-put_nothing i f there id = noted_already i f there id
+put_nothing i f n same there id = noted_already i f (rw same at there) id
 
 -- nothing is noted of it: the entry is put in
-pub put_new : (old new : NameIndex) (f : Fields) → is_some (get nat_cmp old.entries (0x8000 + f.index)) ≡ false
-    → ((q : ℕ) → get nat_cmp new.entries q ≡ cond (is_at (nat_cmp (0x8000 + f.index)) q) (Some f) (get nat_cmp old.entries q)) → (id : ℕ) → noted new id ≡ option_or (noted old id) (if_names f id)
+pub put_new : (old new : NameIndex) (f : Fields) (n : ℕ) → n ≡ f.index → is_some (get nat_cmp old.entries (0x8000 + n)) ≡ false
+    → ((q : ℕ) → get nat_cmp new.entries q ≡ cond (is_at (nat_cmp (0x8000 + n)) q) (Some f) (get nat_cmp old.entries q)) → (id : ℕ) → noted new id ≡ option_or (noted old id) (if_names f id)
 unfolding noted
-put_new old new f none puts id =
-    puts id ∙ ap (λ b. cond b (Some f) (get nat_cmp old.entries id)) (unsigned_tied (0x8000 + f.index) id)
+put_new old new f n same unmet puts id =
+    puts id ∙ ap (λ k. cond (is_at (nat_cmp (0x8000 + k)) id) (Some f) (get nat_cmp old.entries id)) same ∙ ap (λ b. cond b (Some f) (get nat_cmp old.entries id)) (unsigned_tied (0x8000 + f.index) id)
     ∙ by_test (nat_eq (0x8000 + f.index) id) refl (get nat_cmp old.entries id) refl
   where
+    none : is_some (get nat_cmp old.entries (0x8000 + f.index)) ≡ false
+    none = rw same at unmet
+
     by_test : (v : Bool) → nat_eq (0x8000 + f.index) id ≡ v → (o : Option Fields) → get nat_cmp old.entries id ≡ o → cond v (Some f) o ≡ option_or o (if v then Some f else None)
     by_test true e None at = refl
     by_test false e None at = refl
@@ -105,26 +108,26 @@ next_left entry k count lt = let n : count - k ≡ suc (count - (k + 1)) = omega
 
 pub none_noted : (i : NameIndex) (bytes : List ℕ) → HasNoted i i bytes 0
 none_noted i bytes = record {
-    known = λ entry n count id are le. let here : n + 0 ≡ n = omega arith in rw here refl;
-    keeps = λ e there. there;
-    there = λ j lt. absurd (omega (arith, lt));
+  known = λ entry n count id are le. let here : n + 0 ≡ n = omega arith in rw here refl;
+  keeps = λ e there. there;
+  there = λ j lt. absurd (omega (arith, lt));
 }
 
 -- one more
 pub more_noted : (old mid new : NameIndex) (bytes : List ℕ) (n : ℕ) → HasNoted old mid bytes n → ((id : ℕ) → noted new id ≡ option_or (noted mid id) (if_names (fields_in (entry_in 0 (entry_bytes bytes n))) id)) → HasNoted old new bytes (n + 1)
 more_noted old mid new bytes n so_far put = record {
-    known = λ entry i count id are le.
-        let last = entry (i + n) in
-        let is : fields_in last ≡ fields_in (entry_in 0 (entry_bytes bytes n)) = are n (omega arith) in
-        let next : i + (n + 1) ≡ i + n + 1 = omega arith in
-        let left = entries_from entry (i + n + 1) (count - (i + n + 1)) in
-        let own : noted new id ≡ option_or (noted mid id) (if_names (fields_in last) id) = put id ∙ ap (λ f. option_or (noted mid id) (if_names f id)) (sym is) in
-        ap (λ k. known_of new id (entries_from entry k (count - k))) next
-        ∙ put_known mid new last left id own
-        ∙ ap (known_of mid id) (sym (next_left entry (i + n) count (omega (arith, le))))
-        ∙ so_far.known entry i count id (λ j lt. are j (omega (arith, lt))) (omega (arith, le));
-    keeps = λ e there. put_keeps mid new (fields_in (entry_in 0 (entry_bytes bytes n))) put e (so_far.keeps e there);
-    there = λ j lt. by_test j (nat_eq j n) refl lt;
+  known = λ entry i count id are le.
+      let last = entry (i + n) in
+      let is : fields_in last ≡ fields_in (entry_in 0 (entry_bytes bytes n)) = are n (omega arith) in
+      let next : i + (n + 1) ≡ i + n + 1 = omega arith in
+      let left = entries_from entry (i + n + 1) (count - (i + n + 1)) in
+      let own : noted new id ≡ option_or (noted mid id) (if_names (fields_in last) id) = put id ∙ ap (λ f. option_or (noted mid id) (if_names f id)) (sym is) in
+      ap (λ k. known_of new id (entries_from entry k (count - k))) next
+      ∙ put_known mid new last left id own
+      ∙ ap (known_of mid id) (sym (next_left entry (i + n) count (omega (arith, le))))
+      ∙ so_far.known entry i count id (λ j lt. are j (omega (arith, lt))) (omega (arith, le));
+  keeps = λ e there. put_keeps mid new (fields_in (entry_in 0 (entry_bytes bytes n))) put e (so_far.keeps e there);
+  there = λ j lt. by_test j (nat_eq j n) refl lt;
 }
   where
     by_test : (j : ℕ) (v : Bool) → nat_eq j n ≡ v → j < n + 1 → is_noted new (entry_bytes bytes j) ≡ true

@@ -77,12 +77,14 @@ fn put_front(rest: &Rest, runs: &mut Runs, index: &mut NameIndex) -> Result<(), 
         OnOk result (HasNoted index.old index.new front (length front / 8)) }
 {
     let front = rest.front();
+    let at = rest.at();
     let count = front.len() as u64 / 8;
-    if runs.knows(rest.at(), count) {
+    if runs.knows(at, count) {
         return Ok(());
     }
     index.put_all(front)?;
-    runs.put(rest.at(), count)
+    runs.put(at, count)?;
+    Ok(())
 }
 
 /// The index of the name map that the properties of a node have. Entries that lie side by side in a block are gone through once,

@@ -29,6 +29,6 @@ mod strings;
 
 pub use check::{check_names, known_names};
 pub use index::NameIndex;
-pub use laws::names_decide;
+pub use laws::{names_decide, names_look_ups};
 pub use name::{Name, NameKind};
 pub use name_map::{NAME_MAP, NameMap};

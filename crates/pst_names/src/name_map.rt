@@ -1,6 +1,7 @@
 //! The name map as a view.
 
 ghost use Rattle.std.specs.Prelude.{◌≡◌, None, IfSome};
+ghost use Rattle.std.proofs.Props.{props};
 ghost use Rattle.pst_ndb.specs.Views.{table_of_node, roots_of};
 ghost use Rattle.pst_pc.specs.View.{node_of_pc};
 ghost use Rattle.pst_names.specs.Fault.{names_fault};
@@ -37,12 +38,12 @@ pub struct NameMap<'a> {
     // An index of it, where it was lent one.
     index: Option<&'a NameIndex>,
     ghost sound: { names_fault (table_of_node (node_of_pc pc)) (roots_of (node_of_pc pc)) ≡ None },
-    ghost indexed: { IfSome index (λ i. NamesBy (node_of_pc pc) i.now) },
+    ghost indexed: { IfSome index (λ i. NamesBy (node_of_pc pc) i.now) } by { Prim.hlevel props },
 }
 
 impl<'a> NameMap<'a> {
     ghost use Rattle.std.specs.Prelude.{◌≡◌, ◌+◌, ◌%◌, ◌<◌, None, IfSome, IfOk, option_map};
-    ghost use Rattle.pst_ndb.specs.Views.{table_of_node, roots_of};
+    ghost use Rattle.pst_ndb.specs.Views.{image_of_node, table_of_node, roots_of};
     ghost use Rattle.pst_pc.specs.View.{node_of_pc};
     ghost use Rattle.pst_names.specs.declared.streams.TheConstants.{GUIDS};
     ghost use Rattle.pst_names.specs.Streams.{stream_of, stream_bytes};
@@ -124,10 +125,10 @@ impl<'a> NameMap<'a> {
         ensures { let node = node_of_names self.now in
             result ≡ naming_fields (table_of_node node) (roots_of node) id }
     {
-        match self.index {
-            Some(index) => index.fields(id),
-            None => self.scanned(id),
+        if let Some(index) = self.index {
+            return index.fields(id);
         }
+        self.scanned(id)
     }
 
     // The set with an index.
@@ -163,7 +164,8 @@ impl<'a> NameMap<'a> {
         ensures value { (e : Entry) → e.id ≡ fields.id → e.word ≡ fields.word →
             let node = node_of_names self.now in
             kind_parts result ≡ name_kind (strings_of (table_of_node node) (roots_of node)) e }
-        ensures lent { IsKindLent (node_of_names self.now) result }
+        ensures lent { let node = node_of_names self.now in
+            IsKindLent (image_of_node node) (table_of_node node) (roots_of node) result }
     {
         if !fields.is_text() {
             return NameKind::Num(fields.id);
@@ -178,7 +180,8 @@ impl<'a> NameMap<'a> {
     pub fn name(&self, id: u16) -> Option<Name<'a>>
         ensures value { let node = node_of_names self.now in
             option_map name_parts result ≡ name_of (table_of_node node) (roots_of node) id }
-        ensures lent { IfSome result (IsLent (node_of_names self.now)) }
+        ensures lent { let node = node_of_names self.now in
+            IfSome result (IsLent (image_of_node node) (table_of_node node) (roots_of node)) }
     {
         let Some(fields) = self.entry(id) else {
             return None;
