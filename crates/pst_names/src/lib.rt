@@ -25,6 +25,6 @@ mod string_index;
 mod strings;
 
 pub use check::{check_names, known_names};
-pub use laws::names_decide;
+pub use laws::{names_decide, names_look_ups};
 pub use name::{Name, NameKind};
 pub use name_map::{NAME_MAP, NameMap};

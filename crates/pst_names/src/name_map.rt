@@ -36,7 +36,7 @@ pub struct NameMap<'a> {
 
 impl<'a> NameMap<'a> {
     ghost use Rattle.std.specs.Prelude.{◌≡◌, ◌+◌, ◌%◌, ◌<◌, None, IfSome, option_map};
-    ghost use Rattle.pst_ndb.specs.Views.{table_of_node, roots_of};
+    ghost use Rattle.pst_ndb.specs.Views.{image_of_node, table_of_node, roots_of};
     ghost use Rattle.pst_pc.specs.View.{node_of_pc};
     ghost use Rattle.pst_names.specs.declared.streams.TheConstants.{GUIDS};
     ghost use Rattle.pst_names.specs.Streams.{stream_of, stream_bytes};
@@ -122,7 +122,8 @@ impl<'a> NameMap<'a> {
         ensures value { (e : Entry) → e.id ≡ fields.id → e.word ≡ fields.word →
             let node = node_of_names self.now in
             kind_parts result ≡ name_kind (strings_of (table_of_node node) (roots_of node)) e }
-        ensures lent { IsKindLent (node_of_names self.now) result }
+        ensures lent { let node = node_of_names self.now in
+            IsKindLent (image_of_node node) (table_of_node node) (roots_of node) result }
     {
         if !fields.is_text() {
             return NameKind::Num(fields.id);
@@ -136,7 +137,8 @@ impl<'a> NameMap<'a> {
     pub fn name(&self, id: u16) -> Option<Name<'a>>
         ensures value { let node = node_of_names self.now in
             option_map name_parts result ≡ name_of (table_of_node node) (roots_of node) id }
-        ensures lent { IfSome result (IsLent (node_of_names self.now)) }
+        ensures lent { let node = node_of_names self.now in
+            IfSome result (IsLent (image_of_node node) (table_of_node node) (roots_of node)) }
     {
         let Some(bytes) = self.entry(id) else {
             return None;
