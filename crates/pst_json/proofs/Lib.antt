@@ -1,4 +1,5 @@
 pub mod CheckLemmas
 pub mod FolderLemmas
 pub mod HeadLemmas
+pub mod NameLemmas
 pub mod NodeLemmas

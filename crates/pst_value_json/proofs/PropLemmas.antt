@@ -4,7 +4,7 @@ use Rattle.serde_json.specs.Written.{has_float}
 use Rattle.pst_names.specs.Name.{KindParts, by_number, by_text, NameParts}
 use Rattle.pst_pc.specs.Values.{Property}
 use Rattle.pst_value_json.specs.Plain.{IsPlain}
-use Rattle.pst_value_json.specs.Props.{kind_data, set_data, prop_data, named_prop_data}
+use Rattle.pst_value_json.specs.Props.{kind_data, set_data, shown_prop, prop_data, named_prop_data}
 use Rattle.pst_value_json.proofs.ValueLemmas.{value_is_plain}
 
 kind_is_plain : (kind : KindParts) → IsPlain (kind_data kind)
@@ -16,7 +16,7 @@ set_is_plain None = record { no_float = refl }
 set_is_plain (Some guid) = record { no_float = refl }
 
 pub prop_is_plain : (name : Option NameParts) (p : Property) → IsPlain (prop_data name p)
-unfolding prop_data
+unfolding shown_prop
 prop_is_plain None p = record { no_float = rw (IsPlain.no_float (value_is_plain p.kind p.bytes)) refl }
 prop_is_plain (Some name) p =
     record { no_float = rw (IsPlain.no_float (kind_is_plain name.kind), IsPlain.no_float (set_is_plain name.set), IsPlain.no_float (value_is_plain p.kind p.bytes)) refl }

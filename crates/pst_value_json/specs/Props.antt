@@ -1,6 +1,8 @@
 -- The documents of properties.
-use Rattle.std.specs.Prelude.{ℕ, Option, Some, None, List, map, codes}
+use Rattle.std.specs.Prelude.{ℕ, ◌×◌, Option, Some, None, option_map, List, map, codes}
 use Rattle.serde_json.specs.Data.{Data, null, string, object, Members, member, no_members}
+use Rattle.serde_json.specs.View.{view}
+use Rattle.serde_json.specs.declared.value.Value.{Value}
 use Rattle.pst_ndb.specs.Views.{table_of_node, roots_of}
 use Rattle.pst_names.specs.declared.name_map.NameMap.{NameMap}
 use Rattle.pst_names.specs.Name.{KindParts, by_number, by_text, NameParts, name_of}
@@ -22,21 +24,27 @@ abbrev pub set_data : Option (List ℕ) → Data
 set_data None = null
 set_data (Some guid) = guid_data guid
 
--- the members that tell what a property is called, where it has a name, before the others
-abbrev pub name_members : Option NameParts → Members → Members
+abbrev pub name_data : NameParts → Data × Data
+name_data name = (kind_data name.kind, set_data name.set)
+
+-- the members that show it, where there is one, before the others
+abbrev pub name_members : Option (Data × Data) → Members → Members
 name_members None others = others
-name_members (Some name) others = member (codes "name") (kind_data name.kind) (member (codes "set") (set_data name.set) others)
+name_members (Some name) others = member (codes "name") name.0 (member (codes "set") name.1 others)
 
 -- ---- a property: its identifier, its name and set where it has a name, its type and its value
 
-unfoldable pub prop_data : Option NameParts → Property → Data
-prop_data name p =
+unfoldable pub shown_prop : Option (Data × Data) → Property → Data
+shown_prop name p =
     object
     (member (codes "id") (string (id_text p.id))
     (name_members name
     (member (codes "type") (string (id_text p.kind))
     (member (codes "value") (value_data p.kind p.bytes)
     no_members))))
+
+abbrev pub prop_data : Option NameParts → Property → Data
+prop_data name p = shown_prop (option_map name_data name) p
 
 -- of properties that are called so
 abbrev pub named_prop_data : (ℕ → Option NameParts) → Property → Data
@@ -46,6 +54,10 @@ named_prop_data names p = prop_data (names p.id) p
 abbrev pub names_told : Option NameMap → ℕ → Option NameParts
 names_told None id = None
 names_told (Some map) id = name_of (table_of_node (node_of_names map)) (roots_of (node_of_names map)) id
+
+-- a name as documents
+abbrev pub name_view : Value × Value → Data × Data
+name_view docs = (view docs.0, view docs.1)
 
 -- the properties that are left
 unfoldable pub prop_rows_left : PropRows → List Data

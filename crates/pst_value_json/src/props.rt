@@ -7,7 +7,7 @@ ghost use Rattle.pst_ndb.specs.Views.{table_of_node, roots_of};
 ghost use Rattle.pst_pc.specs.Values.{props_of};
 ghost use Rattle.pst_pc.specs.View.{node_of_pc, property_of};
 ghost use Rattle.pst_value_json.specs.Parts.{list_data};
-ghost use Rattle.pst_value_json.specs.Props.{kind_data, set_data, prop_data, named_prop_data, names_told, prop_rows_left};
+ghost use Rattle.pst_value_json.specs.Props.{kind_data, set_data, name_data, name_view, shown_prop, named_prop_data, names_told, prop_rows_left};
 
 use crate::listing::{Rows, list_doc};
 use crate::names::id_text;
@@ -39,31 +39,6 @@ fn set_doc(alloc: Global, set: Option<Uuid>) -> Result<Doc, AllocError>
     }
 }
 
-// A property that has a name, as an object.
-#[tactic(auto, unfolding(crate::specs::Props::prop_data))]
-fn named_doc(alloc: Global, name: Name, prop: Prop) -> Result<Doc, AllocError>
-    ensures { IfOk result (λ d.
-        view d ≡ prop_data (Some (name_parts name.entry)) (property_of prop.entry)) }
-{
-    let id = id_text(alloc, prop.id)?;
-    let called = kind_doc(alloc, name.kind)?;
-    let set = set_doc(alloc, name.set)?;
-    let kind = id_text(alloc, prop.kind.0)?;
-    let value = value_doc(alloc, prop.kind, prop.value)?;
-    json!(in alloc; {"id": id, "name": called, "set": set, "type": kind, "value": value})
-}
-
-// One that has none.
-#[tactic(auto, unfolding(crate::specs::Props::prop_data))]
-fn unnamed_doc(alloc: Global, prop: Prop) -> Result<Doc, AllocError>
-    ensures { IfOk result (λ d. view d ≡ prop_data None (property_of prop.entry)) }
-{
-    let id = id_text(alloc, prop.id)?;
-    let kind = id_text(alloc, prop.kind.0)?;
-    let value = value_doc(alloc, prop.kind, prop.value)?;
-    json!(in alloc; {"id": id, "type": kind, "value": value})
-}
-
 // What a property is called; None where it has no name, or where there is no name map.
 fn name_in<'a>(names: Option<NameMap<'a>>, id: u16) -> Option<Name<'a>>
     ensures { option_map name_parts result ≡ names_told names.entry id }
@@ -74,13 +49,55 @@ fn name_in<'a>(names: Option<NameMap<'a>>, id: u16) -> Option<Name<'a>>
     }
 }
 
+// The same as documents: the name, and its set.
+fn name_docs(
+    alloc: Global,
+    names: Option<NameMap>,
+    id: u16,
+) -> Result<Option<(Doc, Doc)>, AllocError>
+    ensures { IfOk result (λ docs.
+        option_map name_view docs ≡ option_map name_data (names_told names.entry id)) }
+{
+    match name_in(names, id) {
+        Some(name) => {
+            let called = kind_doc(alloc, name.kind)?;
+            let set = set_doc(alloc, name.set)?;
+            Ok(Some((called, set)))
+        }
+        None => Ok(None),
+    }
+}
+
+// A property that has a name, as an object.
+#[tactic(auto, unfolding(crate::specs::Props::shown_prop))]
+fn named_doc(alloc: Global, name: Doc, set: Doc, prop: Prop) -> Result<Doc, AllocError>
+    ensures { let shown = Some (view name.entry, view set.entry) in
+        IfOk result (λ d. view d ≡ shown_prop shown (property_of prop.entry)) }
+{
+    let id = id_text(alloc, prop.id)?;
+    let kind = id_text(alloc, prop.kind.0)?;
+    let value = value_doc(alloc, prop.kind, prop.value)?;
+    json!(in alloc; {"id": id, "name": name, "set": set, "type": kind, "value": value})
+}
+
+// One that has none.
+#[tactic(auto, unfolding(crate::specs::Props::shown_prop))]
+fn unnamed_doc(alloc: Global, prop: Prop) -> Result<Doc, AllocError>
+    ensures { IfOk result (λ d. view d ≡ shown_prop None (property_of prop.entry)) }
+{
+    let id = id_text(alloc, prop.id)?;
+    let kind = id_text(alloc, prop.kind.0)?;
+    let value = value_doc(alloc, prop.kind, prop.value)?;
+    json!(in alloc; {"id": id, "type": kind, "value": value})
+}
+
 // A property as an object.
 fn prop_doc(alloc: Global, names: Option<NameMap>, prop: Prop) -> Result<Doc, AllocError>
     ensures { IfOk result (λ d.
         view d ≡ named_prop_data (names_told names.entry) (property_of prop.entry)) }
 {
-    match name_in(names, prop.id) {
-        Some(name) => named_doc(alloc, name, prop),
+    match name_docs(alloc, names, prop.id)? {
+        Some((name, set)) => named_doc(alloc, name, set, prop),
         None => unnamed_doc(alloc, prop),
     }
 }
