@@ -4,7 +4,7 @@ use Rattle.serde_json.specs.Written.{has_float}
 use Rattle.pst_names.specs.Name.{KindParts, by_number, by_text, NameParts}
 use Rattle.pst_pc.specs.Values.{Property}
 use Rattle.pst_value_json.specs.Plain.{IsPlain}
-use Rattle.pst_value_json.specs.Props.{kind_data, set_data, shown_prop, prop_data, named_prop_data}
+use Rattle.pst_value_json.specs.Props.{kind_data, set_data, shown_prop, prop_data}
 use Rattle.pst_value_json.proofs.ValueLemmas.{value_is_plain}
 
 kind_is_plain : (kind : KindParts) → IsPlain (kind_data kind)
@@ -21,5 +21,5 @@ prop_is_plain None p = record { no_float = rw (IsPlain.no_float (value_is_plain 
 prop_is_plain (Some name) p =
     record { no_float = rw (IsPlain.no_float (kind_is_plain name.kind), IsPlain.no_float (set_is_plain name.set), IsPlain.no_float (value_is_plain p.kind p.bytes)) refl }
 
-pub prop_has_none : (names : ℕ → Option NameParts) (p : Property) → has_float (named_prop_data names p) ≡ false
-prop_has_none names p = IsPlain.no_float (prop_is_plain (names p.id) p)
+pub prop_has_none : (name : Option NameParts) (p : Property) → has_float (prop_data name p) ≡ false
+prop_has_none name p = IsPlain.no_float (prop_is_plain name p)

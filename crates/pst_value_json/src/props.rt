@@ -71,8 +71,8 @@ fn name_docs(
 // A property that has a name, as an object.
 #[tactic(auto, unfolding(crate::specs::Props::shown_prop))]
 fn named_doc(alloc: Global, name: Doc, set: Doc, prop: Prop) -> Result<Doc, AllocError>
-    ensures { let shown = Some (view name.entry, view set.entry) in
-        IfOk result (λ d. view d ≡ shown_prop shown (property_of prop.entry)) }
+    ensures { IfOk result (λ d. view d
+        ≡ shown_prop (Some (view name, view set)) (property_of prop.entry)) }
 {
     let id = id_text(alloc, prop.id)?;
     let kind = id_text(alloc, prop.kind.0)?;
