@@ -18,7 +18,7 @@ pub fn names_index(alloc: Global, store: &Store) -> Result<NameIndex, AllocError
         IfOk result (IsNamesIndex (table_of_ndb ndb) (nodes_of ndb)) }
 {
     match store.names() {
-        Some(map) => map.index(alloc),
+        Some(map) => Ok(map.index(alloc)?),
         None => Ok(NameIndex::new(alloc)),
     }
 }
