@@ -1,5 +1,5 @@
 -- The documents of properties.
-use Rattle.std.specs.Prelude.{ℕ, ◌×◌, Option, Some, None, option_map, List, map, codes}
+use Rattle.std.specs.Prelude.{ℕ, Option, Some, None, option_map, List, map, codes}
 use Rattle.serde_json.specs.Data.{Data, null, string, object, Members, member, no_members}
 use Rattle.serde_json.specs.View.{view}
 use Rattle.serde_json.specs.declared.value.Value.{Value}
