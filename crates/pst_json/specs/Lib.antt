@@ -11,6 +11,7 @@ pub mod Told
 pub mod Folders
 pub mod FolderRows
 pub mod Contents
+pub mod Names
 pub mod Node
 pub mod Found
 pub mod Lists

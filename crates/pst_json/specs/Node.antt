@@ -5,6 +5,7 @@ use Rattle.pst_fault.specs.declared.fault.Fault.{Fault}
 use Rattle.pst_page.specs.declared.entry.NodeEntry.{NodeEntry}
 use Rattle.pst_block.specs.Table.{Table}
 use Rattle.pst_ndb.specs.Roots.{Roots, node_in, subnode_of}
+use Rattle.pst_value_json.specs.pst_names.Name.{NameParts, store_name}
 use Rattle.pst_value_json.specs.pst_pc.Fault.{pc_fault}
 use Rattle.pst_value_json.specs.pst_pc.Values.{Property, props_of}
 use Rattle.pst_value_json.specs.pst_tc.Values.{tc_rows}
@@ -16,12 +17,12 @@ use Rattle.pst_json.specs.declared.fault.DocFault.TheVariants.{NoNode, Bad}
 use Rattle.pst_value_json.specs.Cells.{table_row_data}
 use Rattle.pst_value_json.specs.Names.{nid_data, nid_or_null}
 use Rattle.pst_value_json.specs.Parts.{list_data}
-use Rattle.pst_value_json.specs.Props.{prop_data}
+use Rattle.pst_value_json.specs.Props.{named_prop_data}
 use Rattle.pst_json.specs.Told.{lined}
 
--- the properties of a node
-abbrev pub props_data : Table → Roots → Data
-props_data t r = list_data prop_data (props_of t r)
+-- the properties of a node, which are called so
+abbrev pub props_data : (ℕ → Option NameParts) → Table → Roots → Data
+props_data names t r = list_data (named_prop_data names) (props_of t r)
 
 -- of a subnode, where that is there
 abbrev pub props_there : Table → Option Roots → List Property
@@ -37,16 +38,16 @@ embedded_there t None = None
 embedded_there t (Some r) = option_map nid_of_object (embedded_of t r)
 
 -- an attachment: the message that it embeds, its identifier, and its properties
-unfoldable pub attachment_data : Table → Shown → Data
-attachment_data t s =
+unfoldable pub attachment_data : (ℕ → Option NameParts) → Table → Shown → Data
+attachment_data names t s =
     object
     (member (codes "embedded") (nid_or_null (embedded_there t s.roots))
     (member (codes "nid") (nid_data s.nid)
-    (member (codes "props") (list_data prop_data (props_there t s.roots))
+    (member (codes "props") (list_data (named_prop_data names) (props_there t s.roots))
     no_members)))
 
-abbrev pub attachments_data : Table → Roots → Data
-attachments_data t r = list_data (attachment_data t) (map (row_shown t r) (attachment_rows t r))
+abbrev pub attachments_data : (ℕ → Option NameParts) → Table → Roots → Data
+attachments_data names t r = list_data (attachment_data names t) (map (row_shown t r) (attachment_rows t r))
 
 -- the identifier of the recipient table among the subnodes of a message
 abbrev pub recipient_nid : ℕ
@@ -58,32 +59,32 @@ recipients_there t None = array no_items
 recipients_there t (Some x) = list_data (table_row_data t x) (tc_rows t x)
 
 -- a message, under the identifier of its node
-unfoldable pub message_data : Table → Roots → ℕ → Data
-message_data t r nid =
+unfoldable pub message_data : (ℕ → Option NameParts) → Table → Roots → ℕ → Data
+message_data names t r nid =
     object
-    (member (codes "attachments") (attachments_data t r)
+    (member (codes "attachments") (attachments_data names t r)
     (member (codes "nid") (nid_data nid)
-    (member (codes "props") (props_data t r)
+    (member (codes "props") (props_data names t r)
     (member (codes "recipients") (recipients_there t (subnode_of t r recipient_nid))
     no_members))))
 
 -- any other property context
-unfoldable pub node_props_data : Table → Roots → ℕ → Data
-node_props_data t r nid = object (member (codes "nid") (nid_data nid) (member (codes "props") (props_data t r) no_members))
+unfoldable pub node_props_data : (ℕ → Option NameParts) → Table → Roots → ℕ → Data
+node_props_data names t r nid = object (member (codes "nid") (nid_data nid) (member (codes "props") (props_data names t r) no_members))
 
 abbrev pub unless_bad : Option Fault → Data → Result Data DocFault
 unless_bad None d = Ok d
 unless_bad (Some f) d = Err (Bad f)
 
-abbrev pub node_there : Table → ℕ → Option Roots → Result Data DocFault
-node_there t nid None = Err NoNode
-node_there t nid (Some r) =
-    if is_message nid then Ok (message_data t r nid) else unless_bad (pc_fault t r) (node_props_data t r nid)
+abbrev pub node_there : (ℕ → Option NameParts) → Table → ℕ → Option Roots → Result Data DocFault
+node_there names t nid None = Err NoNode
+node_there names t nid (Some r) =
+    if is_message nid then Ok (message_data names t r nid) else unless_bad (pc_fault t r) (node_props_data names t r nid)
 
 -- The document of a node: of a message or of another property context. There is none where there is no such node, or where
--- it is neither.
+-- it is neither. Its properties, and those of attachments, are called as the store's name map says.
 unfoldable pub props_told : Table → List NodeEntry → ℕ → Result Data DocFault
-props_told t nodes nid = node_there t nid (node_in nodes nid)
+props_told t nodes nid = node_there (store_name t nodes) t nid (node_in nodes nid)
 
 -- the line that shows it
 unfoldable pub props_line : Table → List NodeEntry → ℕ → Result (List ℕ) DocFault

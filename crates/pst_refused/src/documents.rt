@@ -5,8 +5,8 @@ use pst_bytes::Image;
 use pst_header::read_header;
 use pst_json::{
     check_doc, check_line, contents_doc, contents_line, folders_doc, folders_line, head_doc,
-    head_line, hex_doc, nodes_doc, nodes_line, pc_doc, props_doc, props_line, read_nodes,
-    table_doc, text, value_doc, verify,
+    head_line, hex_doc, names_index, nodes_doc, nodes_line, pc_doc, props_doc, props_line,
+    read_nodes, table_doc, text, value_doc, verify,
 };
 use pst_verify::Verified;
 use serde_json::Value as Doc;
@@ -51,6 +51,7 @@ pub(crate) fn lists(alloc: Global, bytes: &[u8]) -> Result<(), Refused> {
 /// The contents of each folder, and the properties of each message and of the store.
 pub(crate) fn nodes(alloc: Global, bytes: &[u8]) -> Result<(), Refused> {
     let store = verify(alloc, bytes)?.store;
+    let index = names_index(alloc, &store)?;
     for folder in store.folders() {
         let nid = folder.node().nid();
         if nid % 32 == 2 {
@@ -60,18 +61,18 @@ pub(crate) fn nodes(alloc: Global, bytes: &[u8]) -> Result<(), Refused> {
     }
     for message in store.messages() {
         let nid = message.node().nid();
-        let doc = props_doc(alloc, &store, nid)?;
-        is_line(alloc, &doc, &props_line(alloc, &store, nid)?)?;
+        let doc = props_doc(alloc, &store, &index, nid)?;
+        is_line(alloc, &doc, &props_line(alloc, &store, &index, nid)?)?;
     }
-    let doc = props_doc(alloc, &store, 0x21)?;
-    is_line(alloc, &doc, &props_line(alloc, &store, 0x21)?)
+    let doc = props_doc(alloc, &store, &index, 0x21)?;
+    is_line(alloc, &doc, &props_line(alloc, &store, &index, 0x21)?)
 }
 
 /// The values of the store's own properties, and the rows of the root folder's table.
 pub(crate) fn values(alloc: Global, bytes: &[u8]) -> Result<(), Refused> {
     let store = verify(alloc, bytes)?.store;
     let pc = store.props();
-    let _all = pc_doc(alloc, &pc)?;
+    let _all = pc_doc(alloc, &pc, store.names())?;
     for prop in pc.props() {
         let _shown = value_doc(alloc, prop.kind, prop.value)?;
         let _bytes = hex_doc(alloc, prop.value)?;

@@ -12,8 +12,8 @@ use pst_ask::Ask;
 use pst_bytes::Image;
 use pst_header::read_header;
 use pst_json::{
-    Store, check_line, contents_line, folders_line, head_line, nodes_line, props_line, read_nodes,
-    verify,
+    Store, check_line, contents_line, folders_line, head_line, names_index, nodes_line,
+    props_line, read_nodes, verify,
 };
 use std::alloc::{AllocError, Global};
 
@@ -97,15 +97,16 @@ fn joined(mut text: Vec<u8>, line: Vec<u8>) -> Result<Vec<u8>, AllocError>
     Ok(text)
 }
 
-// The properties of nodes, a line for each.
+// The properties of nodes, a line for each. The index of their names is made once for all.
 #[tactic(auto, using(crate::proofs::AnswerLemmas::line_first, crate::proofs::AnswerLemmas::line_more))]
 fn props_lines(alloc: Global, nids: &[u32], store: &Store) -> Result<Shown, Refusal>
     ensures { let ndb = ndb_of_store store.now in
         Gives result (lines_of_nodes (line_of_props (table_of_ndb ndb) (nodes_of ndb)) nids.now) }
 {
+    let index = names_index(alloc, store)?;
     let mut text = Vec::new(alloc);
     for nid in nids {
-        match props_line(alloc, store, *nid) {
+        match props_line(alloc, store, &index, *nid) {
             Ok(line) => text = joined(text, line)?,
             Err(fault) => return Err(Refusal::of_document(*nid, fault)),
         }

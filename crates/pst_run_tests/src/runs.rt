@@ -17,6 +17,7 @@ mod head;
 mod heaps;
 mod loading;
 mod messages;
+mod names;
 mod nodes;
 mod outlook;
 mod reading;

@@ -102,8 +102,8 @@ fn check_exactly<'a>(alloc: Global, bytes: &'a [u8]) -> Result<Verified<'a>, Fau
 /// 4. of the blocks, in order of their keys;
 /// 5. of the allocation maps;
 /// 6. node by node, their identifiers rising, of the data tree and then of the subnodes;
-/// 7. of messaging: of the nodes of the message store and of the root folder, and then of each node that is a folder or a message, their
-///    identifiers rising.
+/// 7. of messaging: of the nodes of the message store and of the root folder, then of the name map, where it is there, and then of
+///    each node that is a folder or a message, their identifiers rising.
 ///
 /// Which folders the root folder reaches is reported and is no fault. In each phase the fault is that of the call that checks it:
 /// `check_ndb` has 1 to 6, `check_messaging` the seventh. What is shared and was

@@ -107,7 +107,9 @@ const M2: [Asked<'static>; 4] = [
     ),
     (
         &["props", "store.pst", "0x122"],
-        Yes("{\"nid\":\"0x122\",\"props\":[{\"id\":\"8000\",\"type\":\"0003\",\"value\":5}]}\n"),
+        Yes(
+            "{\"nid\":\"0x122\",\"props\":[{\"id\":\"8000\",\"name\":\"Hi\",\"set\":\"33221100-5544-7766-8899-aabbccddeeff\",\"type\":\"0003\",\"value\":5}]}\n",
+        ),
     ),
 ];
 
