@@ -5,6 +5,8 @@ use Rattle.serde_json.specs.Data.{Data}
 use Rattle.pst_ndb.specs.Roots.{Roots, all_roots}
 use Rattle.pst_verify.specs.pst_msg.Values.{is_folder}
 use Rattle.pst_verify.specs.pst_reach.declared.reached.Reach.{Reach}
+use Rattle.pst_verify.specs.pst_reach.Levels.{reaches_of}
+use Rattle.pst_verify.specs.pst_store.declared.store.Store.{Store}
 use Rattle.pst_verify.specs.pst_store.Kind.{of_kind}
 use Rattle.pst_verify.specs.pst_store.View.{table_of_store, nodes_of_store, folders_left}
 use Rattle.pst_verify.specs.declared.verified.Verified.{Verified}
@@ -14,12 +16,9 @@ use Rattle.pst_json.specs.Folders.{is_shown, shown_folders, folder_data}
 abbrev pub verified_of : FolderRows → Verified
 verified_of rows = rows.verified.now
 
--- the folders that are reached, and all of them as they are shown
+-- the folders that are reached
 abbrev pub reached_in : Verified → List Reach
 reached_in v = v.report.reached.items
-
-abbrev pub all_shown : Verified → List Roots
-all_shown v = shown_folders (nodes_of_store v.store) (reached_in v)
 
 -- those that are left: where the first part is behind, of the others
 abbrev left_of : Bool → Verified → List Roots → List Roots
@@ -35,3 +34,10 @@ abbrev pub folder_rows : FolderRows → List Data
 folder_rows rows =
     let v = rows.verified.now in
     map (folder_data (table_of_store v.store) (nodes_of_store v.store) (reached_in v)) (rows_left rows)
+
+-- all of a store
+abbrev pub all_rows : Store → List Data
+all_rows s =
+    let t = table_of_store s in
+    let nodes = nodes_of_store s in
+    map (folder_data t nodes (reaches_of t nodes)) (shown_folders nodes (reaches_of t nodes))

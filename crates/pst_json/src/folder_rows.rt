@@ -25,7 +25,11 @@ fn is_wanted(reached: &[Reach], lost: bool, nid: u32) -> bool
     ensures { (r : Roots) → r.top ≡ nid → result ≡ is_shown lost reached.now r }
 {
     let found = find_reach(reached, nid);
-    if lost { found.is_none() } else { found.is_some() }
+    if lost {
+        found.is_none()
+    } else {
+        found.is_some()
+    }
 }
 
 // The next folder that the root folder reaches, or does not.
@@ -63,16 +67,17 @@ impl<'a> FolderRows<'a> {
     ghost use Rattle.pst_ndb.specs.Views.{table_of_ndb, nodes_of};
     ghost use Rattle.pst_verify.specs.pst_msg.View.{ndb_of_folder, folder_roots};
     ghost use Rattle.pst_verify.specs.pst_store.View.{table_of_store, nodes_of_store};
-    ghost use Rattle.pst_json.specs.FolderRows.{all_shown, verified_of, rows_left};
+    ghost use Rattle.pst_json.specs.FolderRows.{all_rows, folder_rows, verified_of, rows_left};
 
     /// All folders of a store.
     pub(crate) fn of(verified: &'a Verified<'a>) -> FolderRows<'a>
-        ensures verified { verified_of result ≡ verified.now }
-        ensures all { rows_left result ≡ all_shown verified.now }
+        ensures { folder_rows result ≡ all_rows verified.now.store }
     {
+        verified.is_sound();
+        let rest = verified.store.folders();
         FolderRows {
             verified,
-            rest: verified.store.folders(),
+            rest,
             lost: false,
         }
     }

@@ -83,7 +83,11 @@ fn path_doc(alloc: Global, reached: &[Reach], nid: u32) -> Result<Doc, AllocErro
 
 /// A folder as an object.
 #[tactic(auto, unfolding(crate::specs::Folders::folder_data))]
-pub(crate) fn folder_doc(alloc: Global, folder: Folder, reached: &[Reach]) -> Result<Doc, AllocError>
+pub(crate) fn folder_doc(
+    alloc: Global,
+    folder: Folder,
+    reached: &[Reach],
+) -> Result<Doc, AllocError>
     requires rise { Rises 0 None (map reach_nid reached.now) }
     ensures { let ndb = ndb_of_folder folder.entry in
         IfOk result (λ d. view d ≡ folder_data (table_of_ndb ndb) (nodes_of ndb) reached.now

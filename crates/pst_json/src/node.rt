@@ -173,12 +173,7 @@ fn shown_found<S: Sink>(
 /// message that it embeds or null, its own, and its properties; and its recipients, as `table_doc` gives them. NoNode where the
 /// store has no such node; Bad with the fault of `check_pc` where it is neither a message nor a property context. The index of
 /// names is that of `names_index`, made once however many nodes are shown.
-pub fn props_doc(
-    alloc: Global,
-    store: &Store,
-    index: &NameIndex,
-    nid: u32,
-) -> Result<Doc, DocFault>
+pub fn props_doc(alloc: Global, store: &Store, index: &NameIndex, nid: u32) -> Result<Doc, DocFault>
     requires { let ndb = ndb_of_store store.now in
         IsNamesIndex (table_of_ndb ndb) (nodes_of ndb) index.now }
     ensures { let ndb = ndb_of_store store.now in

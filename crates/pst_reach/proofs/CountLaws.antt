@@ -8,8 +8,8 @@ use Rattle.pst_page.specs.declared.entry.NodeEntry.{NodeEntry}
 use Rattle.pst_block.specs.Table.{Table}
 use Rattle.pst_btree.specs.Entries.{first_with}
 use Rattle.pst_btree.specs.Order.{Rises}
-use Rattle.pst_msg.specs.declared.nid.TheConstants.{ROOT, FOLDER}
-use Rattle.pst_msg.specs.Nid.{is_type}
+use Rattle.pst_store.specs.pst_msg.declared.nid.TheConstants.{ROOT, FOLDER}
+use Rattle.pst_store.specs.pst_msg.Nid.{is_type}
 use Rattle.pst_reach.specs.declared.reached.Reach.{Reach}
 use Rattle.pst_reach.specs.Reach.{folder_ids}
 use Rattle.pst_reach.specs.Levels.{Step, step_nid, steps_from, reached_by, root_reach, is_new, found, level, reaches_of, folders_at, folders_below, folders_in}

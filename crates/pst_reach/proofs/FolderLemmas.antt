@@ -13,11 +13,11 @@ use Rattle.pst_btree.specs.Entries.{first_with}
 use Rattle.pst_ndb.specs.Roots.{Roots}
 use Rattle.pst_tc.specs.Values.{RowParts, tc_rows}
 use Rattle.pst_tc.proofs.AlikeLaws.{rows_alike}
-use Rattle.pst_msg.specs.Keys.{pair_cmp}
-use Rattle.pst_msg.proofs.KeyOrderLemmas.{pairs_exact}
-use Rattle.pst_msg.specs.declared.items.Items.TheVariants.{Subfolders}
-use Rattle.pst_msg.specs.Shown.{folder_table}
-use Rattle.pst_msg.specs.Values.{is_folder}
+use Rattle.pst_store.specs.pst_msg.Keys.{pair_cmp}
+use Rattle.pst_store.proofs.pst_msg.KeyOrderLemmas.{pairs_exact}
+use Rattle.pst_store.specs.pst_msg.declared.items.Items.TheVariants.{Subfolders}
+use Rattle.pst_store.specs.pst_msg.Shown.{folder_table}
+use Rattle.pst_store.specs.pst_msg.Values.{is_folder}
 use Rattle.pst_store.specs.Kind.{node_of_kind}
 use Rattle.pst_reach.specs.declared.reached.Reach.{Reach}
 use Rattle.pst_reach.specs.Reach.{ids_of, subfolders_of}

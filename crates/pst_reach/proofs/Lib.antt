@@ -8,3 +8,4 @@ pub mod PathLemmas
 pub mod WayLaws
 pub mod ReachLaws
 pub mod CountLaws
+pub use Rattle.pst_store.proofs as pst_store

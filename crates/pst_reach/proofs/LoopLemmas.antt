@@ -12,10 +12,10 @@ use Rattle.pst_block.specs.Table.{Table}
 use Rattle.pst_btree.specs.Order.{Rises}
 use Rattle.pst_ndb.specs.Counts.{capped}
 use Rattle.pst_ndb.specs.Roots.{Roots}
-use Rattle.pst_msg.proofs.CountLemmas.{one_more}
-use Rattle.pst_msg.specs.declared.nid.TheConstants.{ROOT, FOLDER, SEARCH_FOLDER}
-use Rattle.pst_msg.specs.Nid.{type_of, is_type}
-use Rattle.pst_msg.specs.Values.{is_folder}
+use Rattle.pst_store.proofs.pst_msg.CountLemmas.{one_more}
+use Rattle.pst_store.specs.pst_msg.declared.nid.TheConstants.{ROOT, FOLDER, SEARCH_FOLDER}
+use Rattle.pst_store.specs.pst_msg.Nid.{type_of, is_type}
+use Rattle.pst_store.specs.pst_msg.Values.{is_folder}
 use Rattle.pst_reach.specs.declared.reached.Reach.{Reach}
 use Rattle.pst_reach.specs.Reach.{folder_ids}
 use Rattle.pst_reach.specs.Levels.{root_reach, found, level, reaches_of, folders_at, folders_below, folders_in}

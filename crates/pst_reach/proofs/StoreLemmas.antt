@@ -14,11 +14,11 @@ use Rattle.pst_btree.specs.Entries.{first_with, node_key, node_with}
 use Rattle.pst_btree.specs.Order.{Rises}
 use Rattle.pst_ndb.specs.Roots.{Roots, entry_roots, node_in, all_roots}
 use Rattle.pst_tc.specs.Values.{RowParts, tc_rows}
-use Rattle.pst_msg.specs.declared.items.Items.TheVariants.{Subfolders}
-use Rattle.pst_msg.specs.declared.nid.TheConstants.{FOLDER}
-use Rattle.pst_msg.specs.Nid.{type_of, is_type}
-use Rattle.pst_msg.specs.Shown.{rows_there, folder_table}
-use Rattle.pst_msg.specs.Values.{is_folder, listing_of}
+use Rattle.pst_store.specs.pst_msg.declared.items.Items.TheVariants.{Subfolders}
+use Rattle.pst_store.specs.pst_msg.declared.nid.TheConstants.{FOLDER}
+use Rattle.pst_store.specs.pst_msg.Nid.{type_of, is_type}
+use Rattle.pst_store.specs.pst_msg.Shown.{rows_there, folder_table}
+use Rattle.pst_store.specs.pst_msg.Values.{is_folder, listing_of}
 use Rattle.pst_store.specs.Grammar.{IsStore}
 use Rattle.pst_store.specs.Kind.{of_kind, node_of_kind}
 use Rattle.pst_store.specs.Parts.{StoreParts, table_in, entries_in}

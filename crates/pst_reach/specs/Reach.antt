@@ -7,10 +7,10 @@ use Rattle.pst_block.specs.Table.{Table}
 use Rattle.pst_btree.specs.Order.{Rises}
 use Rattle.pst_ndb.specs.Roots.{Roots, all_roots}
 use Rattle.pst_tc.specs.Values.{RowParts}
-use Rattle.pst_msg.specs.declared.items.Items.TheVariants.{Subfolders}
-use Rattle.pst_msg.specs.declared.nid.TheConstants.{ROOT}
-use Rattle.pst_msg.specs.Shown.{rows_there, folder_table}
-use Rattle.pst_msg.specs.Values.{is_folder}
+use Rattle.pst_store.specs.pst_msg.declared.items.Items.TheVariants.{Subfolders}
+use Rattle.pst_store.specs.pst_msg.declared.nid.TheConstants.{ROOT}
+use Rattle.pst_store.specs.pst_msg.Shown.{rows_there, folder_table}
+use Rattle.pst_store.specs.pst_msg.Values.{is_folder}
 use Rattle.pst_store.specs.Kind.{of_kind, node_of_kind}
 use Rattle.pst_reach.specs.declared.reached.Reach.{Reach}
 

@@ -12,7 +12,7 @@ use Rattle.pst_btree.specs.Entries.{first_with}
 use Rattle.pst_ndb.specs.Counts.{capped}
 use Rattle.pst_ndb.specs.Roots.{Roots}
 use Rattle.pst_tc.specs.Values.{RowParts, tc_rows}
-use Rattle.pst_msg.specs.Keys.{pair_cmp}
+use Rattle.pst_store.specs.pst_msg.Keys.{pair_cmp}
 use Rattle.pst_reach.specs.declared.reached.Reach.{Reach}
 use Rattle.pst_reach.specs.Levels.{Step, step_nid, by_rows, found, level, folders_at}
 

@@ -2,7 +2,7 @@
 
 ghost use Rattle.std.specs.Prelude.{◌≡◌, None, IfOk};
 ghost use Rattle.pst_ndb.specs.Views.{table_of_ndb, nodes_of};
-ghost use Rattle.pst_msg.specs.Fault.{messaging_fault};
+ghost use Rattle.pst_store.specs.pst_msg.Fault.{messaging_fault};
 ghost use Rattle.pst_reach.specs.Levels.{reaches_of};
 ghost use Rattle.pst_reach.specs.Path.{unreached_of};
 

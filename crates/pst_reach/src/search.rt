@@ -4,17 +4,16 @@ ghost use Rattle.std.specs.Prelude.{◌≡◌, ℕ, ◌+◌, None, [], ◌∷◌
 ghost use Rattle.pst_btree.specs.Order.{Rises};
 ghost use Rattle.pst_ndb.specs.Counts.{capped};
 ghost use Rattle.pst_ndb.specs.Views.{table_of_ndb, nodes_of, roots_of};
-ghost use Rattle.pst_msg.specs.Fault.{messaging_fault};
+ghost use Rattle.pst_store.specs.pst_msg.Fault.{messaging_fault};
 ghost use Rattle.pst_reach.specs.Levels.{reaches_of, folders_in, folders_at};
 ghost use Rattle.pst_reach.specs.Path.{reach_nid};
 ghost use Rattle.pst_reach.specs.Search.{table_key};
 
 use crate::reached::Reach;
 use crate::rows::take_rows;
-use pst_msg::{FOLDER, ROOT, is_type};
 use pst_ndb::{Ndb, Node, Work};
 use pst_page::PageKind;
-use pst_store::Store;
+use pst_store::{FOLDER, ROOT, Store, is_type};
 use std::alloc::{AllocError, Global};
 use std::collections::{BTreeMap, BTreeSet};
 

@@ -6,7 +6,7 @@ use Rattle.std.specs.Borrow.{Bor}
 use Rattle.pst_fault.specs.declared.fault.Fault.{Fault}
 use Rattle.pst_json.specs.pst_store.Fault.{store_fault}
 use Rattle.pst_json.specs.pst_store.Values.{store_in}
-use Rattle.pst_json.specs.pst_verify.declared.check.Verified.{Verified}
+use Rattle.pst_json.specs.pst_verify.declared.verified.Verified.{Verified}
 use Rattle.pst_json.specs.pst_verify.declared.report.Report.{Report}
 use Rattle.pst_json.specs.pst_verify.Report.{IsReportOf}
 use Rattle.pst_json.specs.pst_verify.Verified.{IsVerified}

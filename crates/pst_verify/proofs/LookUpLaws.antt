@@ -3,20 +3,20 @@ use Rattle.std.proofs.Common.{◌≡◌, Option, Some, None, refl, ap, ◌∙◌
 use Rattle.std.specs.Prelude.{IfSome}
 use Rattle.pst_ndb.specs.declared.node.Node.{Node}
 use Rattle.pst_ndb.specs.Views.{image_of_node, image_of_ndb, header_of, table_of_node, table_of_ndb, nodes_of}
-use Rattle.pst_store.specs.pst_msg.pst_names.declared.name_map.NameMap.{NameMap}
-use Rattle.pst_store.specs.pst_msg.pst_names.LookUps.{NameMapLookUps}
-use Rattle.pst_store.specs.pst_msg.pst_names.View.{node_of_names, names_roots}
-use Rattle.pst_store.specs.pst_msg.declared.folder_view.Folder.{Folder}
-use Rattle.pst_store.specs.pst_msg.declared.message_view.Message.{Message}
-use Rattle.pst_store.specs.pst_msg.NodeLookUps.{NodeLookUps}
-use Rattle.pst_store.specs.pst_msg.LookUps.{FolderLookUps, ViewLookUps}
-use Rattle.pst_store.specs.pst_msg.View.{ndb_of_folder, node_of_message}
-use Rattle.pst_store.proofs.pst_msg.LookUpLaws.{folder_law, views_law}
-use Rattle.pst_store.specs.declared.store.Store.{Store}
-use Rattle.pst_store.specs.Parts.{table_in, entries_in}
-use Rattle.pst_store.specs.Values.{store_in}
-use Rattle.pst_store.specs.View.{ndb_of_store, memory_of_store, bytes_of_store, image_of_store, table_of_store, nodes_of_store}
-use Rattle.pst_store.proofs.StoreLemmas.{table_is, entries_are}
+use Rattle.pst_reach.specs.pst_store.pst_msg.pst_names.declared.name_map.NameMap.{NameMap}
+use Rattle.pst_reach.specs.pst_store.pst_msg.pst_names.LookUps.{NameMapLookUps}
+use Rattle.pst_reach.specs.pst_store.pst_msg.pst_names.View.{node_of_names, names_roots}
+use Rattle.pst_reach.specs.pst_store.pst_msg.declared.folder_view.Folder.{Folder}
+use Rattle.pst_reach.specs.pst_store.pst_msg.declared.message_view.Message.{Message}
+use Rattle.pst_reach.specs.pst_store.pst_msg.NodeLookUps.{NodeLookUps}
+use Rattle.pst_reach.specs.pst_store.pst_msg.LookUps.{FolderLookUps, ViewLookUps}
+use Rattle.pst_reach.specs.pst_store.pst_msg.View.{ndb_of_folder, node_of_message}
+use Rattle.pst_reach.proofs.pst_store.pst_msg.LookUpLaws.{folder_law, views_law}
+use Rattle.pst_reach.specs.pst_store.declared.store.Store.{Store}
+use Rattle.pst_reach.specs.pst_store.Parts.{table_in, entries_in}
+use Rattle.pst_reach.specs.pst_store.Values.{store_in}
+use Rattle.pst_reach.specs.pst_store.View.{ndb_of_store, memory_of_store, bytes_of_store, image_of_store, table_of_store, nodes_of_store}
+use Rattle.pst_reach.proofs.pst_store.StoreLemmas.{table_is, entries_are}
 use Rattle.pst_verify.specs.LookUps.{IsFolderIn, IsMessageIn, StoreLookUps, LookUps, LookUpsLaw}
 
 -- ---- what a look-up found

@@ -19,16 +19,16 @@ use Rattle.pst_ndb.specs.Entries.{page_total, block_table, block_list, node_list
 use Rattle.pst_ndb.specs.Fault.{ndb_fault}
 use Rattle.pst_ndb.specs.Roots.{all_roots}
 use Rattle.pst_ndb.specs.Space.{space_claimed}
-use Rattle.pst_store.specs.pst_msg.Counts.{IsRaised}
-use Rattle.pst_store.specs.pst_msg.Fault.{messaging_fault}
-use Rattle.pst_store.specs.pst_msg.Values.{is_folder, is_message}
-use Rattle.pst_store.specs.Fault.{store_fault}
-use Rattle.pst_store.specs.Grammar.{IsStore}
-use Rattle.pst_store.specs.Parts.{StoreParts, table_in, entries_in}
-use Rattle.pst_store.specs.Values.{store_in}
-use Rattle.pst_store.specs.View.{memory_of_store}
-use Rattle.pst_store.proofs.StoreLaws.{store_law, sound_store, table_is, entries_are, lost_is}
-use Rattle.pst_store.proofs.StoreLemmas.{is_store}
+use Rattle.pst_reach.specs.pst_store.pst_msg.Counts.{IsRaised}
+use Rattle.pst_reach.specs.pst_store.pst_msg.Fault.{messaging_fault}
+use Rattle.pst_reach.specs.pst_store.pst_msg.Values.{is_folder, is_message}
+use Rattle.pst_reach.specs.pst_store.Fault.{store_fault}
+use Rattle.pst_reach.specs.pst_store.Grammar.{IsStore}
+use Rattle.pst_reach.specs.pst_store.Parts.{StoreParts, table_in, entries_in}
+use Rattle.pst_reach.specs.pst_store.Values.{store_in}
+use Rattle.pst_reach.specs.pst_store.View.{memory_of_store}
+use Rattle.pst_reach.proofs.pst_store.StoreLaws.{store_law, sound_store, table_is, entries_are, lost_is}
+use Rattle.pst_reach.proofs.pst_store.StoreLemmas.{is_store}
 use Rattle.pst_reach.specs.declared.reached.Reach.{Reach}
 use Rattle.pst_reach.specs.Path.{unreached_of}
 use Rattle.pst_reach.specs.Levels.{reaches_of, folders_in}

@@ -10,30 +10,30 @@ use Rattle.pst_block.specs.Table.{Table}
 use Rattle.pst_ndb.specs.declared.node.Node.{Node}
 use Rattle.pst_ndb.specs.Roots.{node_in, all_roots}
 use Rattle.pst_ndb.specs.Views.{nid_of, roots_of}
-use Rattle.pst_store.specs.pst_msg.pst_pc.declared.pc.Pc.{Pc}
-use Rattle.pst_store.specs.pst_msg.pst_pc.View.{node_of_pc}
-use Rattle.pst_store.specs.pst_msg.pst_pc.LookUps.{PcLookUps}
-use Rattle.pst_store.specs.pst_msg.pst_names.declared.name.Name.{Name}
-use Rattle.pst_store.specs.pst_msg.pst_names.declared.name_map.NameMap.{NameMap}
-use Rattle.pst_store.specs.pst_msg.pst_names.declared.name_map.TheConstants.{NAME_MAP}
-use Rattle.pst_store.specs.pst_msg.pst_names.LookUps.{NameMapLookUps}
-use Rattle.pst_store.specs.pst_msg.pst_names.Name.{store_name}
-use Rattle.pst_store.specs.pst_msg.pst_names.View.{names_roots, name_parts, IsLentIn}
-use Rattle.pst_store.specs.pst_msg.declared.folder_view.Folder.{Folder}
-use Rattle.pst_store.specs.pst_msg.declared.message_view.Message.{Message}
-use Rattle.pst_store.specs.pst_msg.declared.nid.TheConstants.{STORE, ROOT}
-use Rattle.pst_store.specs.pst_msg.NodeLookUps.{IsNodeOf, NodeLookUps}
-use Rattle.pst_store.specs.pst_msg.LookUps.{FolderLookUps, MessageLookUps, ViewLookUps}
-use Rattle.pst_store.specs.pst_msg.Values.{is_folder, is_message}
-use Rattle.pst_store.specs.pst_msg.View.{node_of_folder, folder_roots, node_of_message, message_roots}
-use Rattle.pst_store.specs.declared.store.Store.{Store}
-use Rattle.pst_store.specs.declared.folders.Folders.{Folders}
-use Rattle.pst_store.specs.declared.messages.Messages.{Messages}
-use Rattle.pst_store.specs.Kind.{of_kind, node_of_kind}
-use Rattle.pst_store.specs.LookUps.{GivesNode, GivesStoreProps, GivesNames, GivesName, GivesRoot, GivesFolder, GivesFolders, GivesMessage, GivesMessages}
-use Rattle.pst_store.specs.Parts.{StoreParts, table_in, entries_in}
-use Rattle.pst_store.specs.Values.{store_in}
-use Rattle.pst_store.specs.View.{ndb_of_store, image_of_store, folders_left, folders_ndb, messages_left, messages_ndb, TakesFolder, TakesMessage}
+use Rattle.pst_reach.specs.pst_store.pst_msg.pst_pc.declared.pc.Pc.{Pc}
+use Rattle.pst_reach.specs.pst_store.pst_msg.pst_pc.View.{node_of_pc}
+use Rattle.pst_reach.specs.pst_store.pst_msg.pst_pc.LookUps.{PcLookUps}
+use Rattle.pst_reach.specs.pst_store.pst_msg.pst_names.declared.name.Name.{Name}
+use Rattle.pst_reach.specs.pst_store.pst_msg.pst_names.declared.name_map.NameMap.{NameMap}
+use Rattle.pst_reach.specs.pst_store.pst_msg.pst_names.declared.name_map.TheConstants.{NAME_MAP}
+use Rattle.pst_reach.specs.pst_store.pst_msg.pst_names.LookUps.{NameMapLookUps}
+use Rattle.pst_reach.specs.pst_store.pst_msg.pst_names.Name.{store_name}
+use Rattle.pst_reach.specs.pst_store.pst_msg.pst_names.View.{names_roots, name_parts, IsLentIn}
+use Rattle.pst_reach.specs.pst_store.pst_msg.declared.folder_view.Folder.{Folder}
+use Rattle.pst_reach.specs.pst_store.pst_msg.declared.message_view.Message.{Message}
+use Rattle.pst_reach.specs.pst_store.pst_msg.declared.nid.TheConstants.{STORE, ROOT}
+use Rattle.pst_reach.specs.pst_store.pst_msg.NodeLookUps.{IsNodeOf, NodeLookUps}
+use Rattle.pst_reach.specs.pst_store.pst_msg.LookUps.{FolderLookUps, MessageLookUps, ViewLookUps}
+use Rattle.pst_reach.specs.pst_store.pst_msg.Values.{is_folder, is_message}
+use Rattle.pst_reach.specs.pst_store.pst_msg.View.{node_of_folder, folder_roots, node_of_message, message_roots}
+use Rattle.pst_reach.specs.pst_store.declared.store.Store.{Store}
+use Rattle.pst_reach.specs.pst_store.declared.folders.Folders.{Folders}
+use Rattle.pst_reach.specs.pst_store.declared.messages.Messages.{Messages}
+use Rattle.pst_reach.specs.pst_store.Kind.{of_kind, node_of_kind}
+use Rattle.pst_reach.specs.pst_store.LookUps.{GivesNode, GivesStoreProps, GivesNames, GivesName, GivesRoot, GivesFolder, GivesFolders, GivesMessage, GivesMessages}
+use Rattle.pst_reach.specs.pst_store.Parts.{StoreParts, table_in, entries_in}
+use Rattle.pst_reach.specs.pst_store.Values.{store_in}
+use Rattle.pst_reach.specs.pst_store.View.{ndb_of_store, image_of_store, folders_left, folders_ndb, messages_left, messages_ndb, TakesFolder, TakesMessage}
 use Rattle.pst_verify.specs.declared.verified.Verified.{Verified}
 use Rattle.pst_verify.specs.Verified.{IsVerified}
 

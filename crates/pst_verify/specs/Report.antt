@@ -1,12 +1,12 @@
 -- What is reported of a store.
 use Rattle.std.specs.Prelude.{◌≡◌, ℕ, ◌+◌, List, length}
 use Rattle.pst_btree.specs.Tree.{pages_of}
-use Rattle.pst_store.specs.pst_msg.Counts.{IsRaised}
-use Rattle.pst_store.specs.pst_msg.Values.{is_folder, is_message}
+use Rattle.pst_reach.specs.pst_store.pst_msg.Counts.{IsRaised}
+use Rattle.pst_reach.specs.pst_store.pst_msg.Values.{is_folder, is_message}
 use Rattle.pst_ndb.specs.Counts.{AreExpanded, capped}
 use Rattle.pst_ndb.specs.Database.{blocks_in}
 use Rattle.pst_ndb.specs.Roots.{all_roots}
-use Rattle.pst_store.specs.Parts.{StoreParts, table_in, entries_in}
+use Rattle.pst_reach.specs.pst_store.Parts.{StoreParts, table_in, entries_in}
 use Rattle.pst_reach.specs.Reach.{AreAllReached, AreAllUnreached}
 use Rattle.pst_reach.specs.Levels.{reaches_of, folders_in}
 use Rattle.pst_reach.specs.Path.{unreached_of}

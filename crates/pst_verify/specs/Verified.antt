@@ -1,9 +1,9 @@
 -- What an answer of the check of a whole file says.
 use Rattle.std.specs.Prelude.{◌≡◌, ℕ, List}
 use Rattle.std.specs.Borrow.{Bor}
-use Rattle.pst_store.specs.Grammar.{IsStore}
-use Rattle.pst_store.specs.Values.{store_in}
-use Rattle.pst_store.specs.View.{memory_of_store}
+use Rattle.pst_reach.specs.pst_store.Grammar.{IsStore}
+use Rattle.pst_reach.specs.pst_store.Values.{store_in}
+use Rattle.pst_reach.specs.pst_store.View.{memory_of_store}
 use Rattle.pst_verify.specs.declared.verified.Verified.{Verified}
 use Rattle.pst_verify.specs.Report.{IsReportOf}
 

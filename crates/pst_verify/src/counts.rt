@@ -3,11 +3,11 @@
 ghost use Rattle.std.specs.Prelude.{◌≡◌, length};
 ghost use Rattle.pst_ndb.specs.Roots.{all_roots};
 ghost use Rattle.pst_ndb.specs.Views.{nodes_of};
-ghost use Rattle.pst_store.specs.pst_msg.Values.{is_folder as folder_kind, is_message as message_kind};
+ghost use Rattle.pst_reach.specs.pst_store.pst_msg.Values.{is_folder as folder_kind, is_message as message_kind};
 ghost use Rattle.pst_verify.specs.Counts.{count_of};
 
 use pst_ndb::Ndb;
-use pst_store::{is_folder, is_message};
+use pst_reach::{is_folder, is_message};
 
 /// How many nodes there are, and how many of them are folders and messages.
 #[derive(Clone, Copy, Debug, PartialEq, Eq)]

@@ -1,11 +1,11 @@
 //! What is found in a file that is a store.
 
-ghost use Rattle.pst_store.specs.Values.{store_in};
-ghost use Rattle.pst_store.specs.View.{bytes_of_store};
+ghost use Rattle.pst_reach.specs.pst_store.Values.{store_in};
+ghost use Rattle.pst_reach.specs.pst_store.View.{bytes_of_store};
 ghost use Rattle.pst_verify.specs.Report.{IsToldOf};
 
 use crate::report::Report;
-use pst_store::Store;
+use pst_reach::Store;
 
 /// What is found in a file that is a store. Its report is of this store: nobody can put another one beside it.
 #[derive(Drop)]
@@ -20,7 +20,7 @@ pub struct Verified<'a> {
 impl<'a> Verified<'a> {
     ghost use Rattle.std.specs.Prelude.{◌≡◌, None, map};
     ghost use Rattle.pst_btree.specs.Order.{Rises};
-    ghost use Rattle.pst_store.specs.View.{table_of_store, nodes_of_store};
+    ghost use Rattle.pst_reach.specs.pst_store.View.{table_of_store, nodes_of_store};
     ghost use Rattle.pst_reach.specs.Levels.{reaches_of};
     ghost use Rattle.pst_reach.specs.Path.{reach_nid, unreached_of};
 

@@ -1,5 +1,5 @@
 use Rattle.pst_verify.proofs.VerifyLemmas.{answered, not_refused, tells}
-use Rattle.pst_store.specs.Fault.{store_fault}
+use Rattle.pst_reach.specs.pst_store.Fault.{store_fault}
 use Rattle.pst_verify.proofs.check.verify.Goals as goal
 
 pub returns-clause-yes : goal.returns-clause-yes

@@ -1,7 +1,7 @@
 use Rattle.std.proofs.Common.{length, arith}
 use Rattle.pst_ndb.specs.Roots.{all_roots}
 use Rattle.pst_ndb.specs.Views.{nodes_of, roots_left}
-use Rattle.pst_store.specs.pst_msg.Values.{is_folder, is_message}
+use Rattle.pst_reach.specs.pst_store.pst_msg.Values.{is_folder, is_message}
 use Rattle.pst_verify.specs.Counts.{count_of}
 use Rattle.pst_verify.proofs.CountLemmas.{counted_at_first, rises_at_first}
 use Rattle.pst_verify.proofs.counts.count_nodes.Goals as goal

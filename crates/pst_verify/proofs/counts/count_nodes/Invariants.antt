@@ -2,7 +2,7 @@ use Rattle.std.proofs.Common.{◌≡◌, ◌+◌, ◌≤◌, None, length}
 use Rattle.pst_btree.specs.Order.{Rises}
 use Rattle.pst_ndb.specs.Roots.{all_roots}
 use Rattle.pst_ndb.specs.Views.{nodes_of, roots_left}
-use Rattle.pst_store.specs.pst_msg.Values.{is_folder, is_message}
+use Rattle.pst_reach.specs.pst_store.pst_msg.Values.{is_folder, is_message}
 use Rattle.pst_verify.specs.Counts.{count_of}
 use Rattle.pst_verify.proofs.CountLemmas.{tops}
 use Rattle.pst_verify.proofs.counts.count_nodes.Given as goal

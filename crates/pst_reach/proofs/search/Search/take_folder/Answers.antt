@@ -2,7 +2,7 @@ use Rattle.std.proofs.Common.{sym, ap, ◌∙◌}
 use Rattle.pst_ndb.specs.Views.{table_of_ndb, nodes_of, table_of_node, roots_of}
 use Rattle.pst_tc.specs.Tc.{node_of_tc}
 use Rattle.pst_tc.specs.Values.{tc_rows}
-use Rattle.pst_msg.specs.View.{ndb_of_folder, folder_roots}
+use Rattle.pst_store.specs.pst_msg.View.{ndb_of_folder, folder_roots}
 use Rattle.pst_store.specs.View.{table_of_store, nodes_of_store}
 use Rattle.pst_reach.specs.Levels.{steps_named}
 use Rattle.pst_reach.specs.Reach.{ids_of}

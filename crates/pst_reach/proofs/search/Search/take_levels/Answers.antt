@@ -1,7 +1,7 @@
 use Rattle.std.proofs.Common.{◌≡◌, ◌+◌, suc, arith, length, refl, sym, subst, ◌∙◌}
 use Rattle.pst_ndb.specs.Roots.{all_roots}
-use Rattle.pst_msg.specs.Values.{is_folder}
-use Rattle.pst_msg.specs.View.{folder_roots}
+use Rattle.pst_store.specs.pst_msg.Values.{is_folder}
+use Rattle.pst_store.specs.pst_msg.View.{folder_roots}
 use Rattle.pst_store.specs.Kind.{of_kind}
 use Rattle.pst_store.specs.Values.{store_in}
 use Rattle.pst_store.specs.View.{bytes_of_store, table_of_store, nodes_of_store, folders_left}
