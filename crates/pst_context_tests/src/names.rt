@@ -73,7 +73,11 @@ fn line_of<R: Abort>(rt: &R, alloc: Global, pc: &Pc) -> Result<String, Fail> {
     let names = known_names(pc);
     let line = told(alloc, names)?;
     let index = names.index(alloc)?;
-    is(rt, told(alloc, names.indexed(&index))?.as_str(), line.as_str());
+    is(
+        rt,
+        told(alloc, names.indexed(&index))?.as_str(),
+        line.as_str(),
+    );
     Ok(line)
 }
 

@@ -11,7 +11,7 @@ use Rattle.pst_value_json.specs.pst_names.Index.{NamesBy}
 use Rattle.pst_value_json.specs.pst_names.Name.{name_of, name_there, store_name}
 use Rattle.pst_value_json.specs.pst_names.View.{node_of_names, names_roots}
 use Rattle.pst_value_json.specs.Props.{names_told}
-use Rattle.pst_json.specs.Names.{IsNamesIndex}
+use Rattle.pst_json.specs.NamesIndex.{IsNamesIndex}
 
 -- ---- what they are called
 

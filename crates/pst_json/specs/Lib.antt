@@ -11,7 +11,7 @@ pub mod Told
 pub mod Folders
 pub mod FolderRows
 pub mod Contents
-pub mod Names
+pub mod NamesIndex
 pub mod Node
 pub mod Found
 pub mod Lists

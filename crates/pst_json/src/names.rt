@@ -5,7 +5,7 @@ ghost use Rattle.pst_ndb.specs.Views.{table_of_ndb, nodes_of};
 ghost use Rattle.pst_value_json.specs.pst_names.Name.{store_name};
 ghost use Rattle.pst_value_json.specs.Props.{names_told};
 ghost use Rattle.pst_verify.specs.pst_store.View.{ndb_of_store};
-ghost use Rattle.pst_json.specs.Names.{IsNamesIndex};
+ghost use Rattle.pst_json.specs.NamesIndex.{IsNamesIndex};
 
 use pst_value_json::{NameIndex, NameMap};
 use pst_verify::Store;

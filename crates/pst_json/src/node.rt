@@ -12,7 +12,7 @@ ghost use Rattle.pst_verify.specs.pst_msg.View.{node_of_message};
 ghost use Rattle.pst_verify.specs.pst_store.View.{ndb_of_store};
 ghost use Rattle.pst_json.specs.Found.{node_of_found, found_data};
 ghost use Rattle.pst_json.specs.Lists.{list_left};
-ghost use Rattle.pst_json.specs.Names.{IsNamesIndex};
+ghost use Rattle.pst_json.specs.NamesIndex.{IsNamesIndex};
 ghost use Rattle.pst_json.specs.Node.{recipient_nid, recipients_there, message_data, node_props_data, props_told, props_line as line_of_props};
 ghost use Rattle.pst_json.specs.Told.{TellsDoc};
 
@@ -59,11 +59,11 @@ fn shown_lists<'a, S: Sink>(
 }
 
 // The document of a message, under the identifier of its node.
-fn shown_message<S: Sink>(
+fn shown_message<'a, S: Sink>(
     alloc: Global,
     nid: u32,
-    message: Message,
-    names: Option<NameMap>,
+    message: Message<'a>,
+    names: Option<NameMap<'a>>,
 ) -> Result<S::Out, AllocError>
     ensures { let node = node_of_message message.entry in let told = names_told names.entry in
         IfOk result (λ out. S.Shows out (message_data told (table_of_node node) (roots_of node) nid)) }
@@ -80,11 +80,11 @@ fn shown_message<S: Sink>(
 
 // The document of a node that is no message.
 #[tactic(auto, unfolding(crate::specs::Node::node_props_data))]
-fn shown_node<S: Sink>(
+fn shown_node<'a, S: Sink>(
     alloc: Global,
     nid: u32,
-    pc: &Pc,
-    names: Option<NameMap>,
+    pc: &Pc<'a>,
+    names: Option<NameMap<'a>>,
 ) -> Result<S::Out, AllocError>
     ensures { let node = node_of_pc pc.now in let told = names_told names.entry in
         IfOk result (λ out.
@@ -153,11 +153,11 @@ impl<'a> Found<'a> {
 }
 
 // The document of what has one.
-fn shown_found<S: Sink>(
+fn shown_found<'a, S: Sink>(
     alloc: Global,
     nid: u32,
-    found: Found,
-    names: Option<NameMap>,
+    found: Found<'a>,
+    names: Option<NameMap<'a>>,
 ) -> Result<S::Out, AllocError>
     ensures { IfOk result (λ out. S.Shows out (found_data (names_told names.entry) nid found.entry)) }
 {
@@ -173,7 +173,12 @@ fn shown_found<S: Sink>(
 /// message that it embeds or null, its own, and its properties; and its recipients, as `table_doc` gives them. NoNode where the
 /// store has no such node; Bad with the fault of `check_pc` where it is neither a message nor a property context. The index of
 /// names is that of `names_index`, made once however many nodes are shown.
-pub fn props_doc(alloc: Global, store: &Store, index: &NameIndex, nid: u32) -> Result<Doc, DocFault>
+pub fn props_doc<'a>(
+    alloc: Global,
+    store: &Store<'a>,
+    index: &'a NameIndex,
+    nid: u32,
+) -> Result<Doc, DocFault>
     requires { let ndb = ndb_of_store store.now in
         IsNamesIndex (table_of_ndb ndb) (nodes_of ndb) index.now }
     ensures { let ndb = ndb_of_store store.now in
@@ -186,10 +191,10 @@ pub fn props_doc(alloc: Global, store: &Store, index: &NameIndex, nid: u32) -> R
 /// The line that shows the properties of a node: the compact text of their document, and a line feed; or why there is none.
 /// It is made property by property, and row by row: beside the text, memory is taken for one at a time.
 #[tactic(auto, unfolding(crate::specs::Node::props_line))]
-pub fn props_line(
+pub fn props_line<'a>(
     alloc: Global,
-    store: &Store,
-    index: &NameIndex,
+    store: &Store<'a>,
+    index: &'a NameIndex,
     nid: u32,
 ) -> Result<Vec<u8>, DocFault>
     requires { let ndb = ndb_of_store store.now in

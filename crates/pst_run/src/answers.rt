@@ -12,8 +12,8 @@ use pst_ask::Ask;
 use pst_bytes::Image;
 use pst_header::read_header;
 use pst_json::{
-    Store, check_line, contents_line, folders_line, head_line, names_index, nodes_line,
-    props_line, read_nodes, verify,
+    Store, check_line, contents_line, folders_line, head_line, names_index, nodes_line, props_line,
+    read_nodes, verify,
 };
 use std::alloc::{AllocError, Global};
 

@@ -76,11 +76,7 @@ const NAMES: Body<'static> = Body::Properties(&[
         0x0102,
         Held::Item(&[5, 0, 0, 0, 4, 0, 0, 0, 0, 0, 0, 0, 1, 0, 1, 0]),
     ),
-    (
-        0x0004,
-        0x0102,
-        Held::Item(&[4, 0, 0, 0, b'H', 0, b'i', 0]),
-    ),
+    (0x0004, 0x0102, Held::Item(&[4, 0, 0, 0, b'H', 0, b'i', 0])),
 ]);
 
 // Message 0x200044 has a recipient and an attachment.
@@ -105,10 +101,7 @@ const MESSAGE: Store<'static> = Store::Wider(
         (28, NAMES),
         (
             34,
-            Body::Names(
-                LIST_OF_THREE,
-                &[0x671, 12, 0, 0x692, 24, 0, 0x8025, 16, 0],
-            ),
+            Body::Names(LIST_OF_THREE, &[0x671, 12, 0, 0x692, 24, 0, 0x8025, 16, 0]),
         ),
     ],
     &[(0x61, 28, 0), (0x200044, 20, 34)],
