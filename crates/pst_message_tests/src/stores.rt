@@ -3,6 +3,7 @@
 mod attached;
 mod bodies;
 mod folders;
+mod names;
 mod reached;
 
 use bodies::{EMBEDS, PLAIN, list, table};

@@ -1,5 +1,7 @@
 //! Whole files: what is reported of them, and their first faults.
 
+mod names;
+
 use crate::told::is;
 use pst_amap::BitOrder;
 use pst_make::{Change, NodePlan, Plan, build, m0, m0_plan, m1, m1_plan, set};

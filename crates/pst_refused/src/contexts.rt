@@ -7,6 +7,7 @@ use crate::refused::Refused;
 use pst_bytes::Image;
 use pst_fault::{Fault, Kind};
 use pst_heap::{Maps, check_heap_with};
+use pst_names::check_names;
 use pst_ndb::{Ndb, check_ndb};
 use pst_pc::check_pc_with;
 use pst_tc::check_tc_with;
@@ -36,7 +37,7 @@ fn check_heap(known: &mut Known, nid: u32) -> Result<(), Refused> {
     passed(check_heap_with(node, &mut known.maps).err())
 }
 
-// `check_pc_with` of a node, with nothing remembered, and `Pc::asks`.
+// `check_pc_with` of a node, with nothing remembered, `Pc::asks`, and `check_names`.
 fn check_pc(alloc: Global, ndb: Ndb, nid: u32) -> Result<(), Refused> {
     let Some(node) = ndb.node(nid) else {
         return Ok(());
@@ -44,7 +45,10 @@ fn check_pc(alloc: Global, ndb: Ndb, nid: u32) -> Result<(), Refused> {
     let index = node.index(alloc)?;
     let mut maps = Maps::new(alloc);
     match check_pc_with(node.indexed(&index), &mut maps) {
-        Ok(pc) => passed(pc.asks(alloc).err()),
+        Ok(pc) => {
+            passed(pc.asks(alloc).err())?;
+            passed(check_names(alloc, &pc).err())
+        }
         Err(fault) => passed(Some(fault)),
     }
 }
@@ -72,7 +76,7 @@ fn check_contexts(alloc: Global, known: &mut Known, nid: u32) -> Result<(), Refu
     check_tc(alloc, known.ndb, nid)
 }
 
-/// `Node::index`, `check_heap_with`, `check_pc_with` and `check_tc_with` of each node, and what the contexts ask.
+/// `Node::index`, `check_heap_with`, `check_pc_with` and `check_tc_with` of each node, what the contexts ask, and `check_names`.
 pub(crate) fn contexts(alloc: Global, bytes: &[u8]) -> Result<(), Refused> {
     let ndb = check_ndb(alloc, Image::new(bytes))?.ndb;
     let mut known = Known {

@@ -120,7 +120,7 @@ fn folders(rt: HostRuntime) -> Result<(), Fail> {
     let alloc = rt.alloc();
     is_answered(&rt, alloc, &m0_plan(alloc)?, "yes 2")?;
     is_answered(&rt, alloc, &m1_plan(alloc)?, "yes 3")?;
-    is_answered(&rt, alloc, &m2_plan(alloc)?, "yes 2")?;
+    is_answered(&rt, alloc, &m2_plan(alloc)?, "yes 3")?;
     for (row, nodes, line) in REQUIRED_ROWS {
         is_answered(&rt, alloc, &with_row(alloc, row, nodes)?, line)?;
     }

@@ -1,0 +1,63 @@
+//! What the properties of a store are called.
+
+use super::{Name, NameKind, store_of};
+use crate::told::{holds, is};
+use pst_make::{m0, m2};
+use std::alloc::Global;
+use std::test::Fail;
+
+// The set of a name, and the number or the bytes of the string; or that there is none.
+fn line_of_name(alloc: Global, found: Option<Name>) -> Result<String, Fail> {
+    let mut line = String::new(alloc);
+    let Some(name) = found else {
+        line.push_str("none")?;
+        return Ok(line);
+    };
+    if let Some(set) = name.set {
+        for byte in set.as_bytes() {
+            let digits = format!(in alloc; "{byte:02x}")?;
+            line.push_str(&digits)?;
+        }
+    }
+    match name.kind {
+        NameKind::Num(number) => {
+            let text = format!(in alloc; " {number}")?;
+            line.push_str(&text)?;
+        }
+        NameKind::Text(value) => {
+            for at in 0..value.len() {
+                let byte = value.byte(at).ok_or("no byte")?;
+                let digits = format!(in alloc; " {byte:02x}")?;
+                line.push_str(&digits)?;
+            }
+        }
+    }
+    Ok(line)
+}
+
+const NAMES: [(u16, &str); 4] = [
+    (0x8000, "33221100554477668899aabbccddeeff 48 00 69 00"),
+    (0x8001, "0002032900000000c000000000000046 34049"),
+    (0x8002, "none"),
+    (0x0001, "none"),
+];
+
+#[test]
+fn properties_are_called(rt: HostRuntime) -> Result<(), Fail> {
+    let alloc = rt.alloc();
+    let image = m2(alloc)?;
+    let store = store_of(alloc, &image)?;
+    let names = store.names().expect(&rt, "no name map");
+    is(&rt, names.node().nid(), 0x61);
+    for (id, line) in NAMES {
+        let told = line_of_name(alloc, store.name(id))?;
+        is(&rt, told.as_str(), line);
+        let told = line_of_name(alloc, names.name(id))?;
+        is(&rt, told.as_str(), line);
+    }
+    let image = m0(alloc)?;
+    let store = store_of(alloc, &image)?;
+    holds(&rt, store.names().is_none());
+    holds(&rt, store.name(0x8000).is_none());
+    Ok(())
+}

@@ -1,0 +1,199 @@
+//! Whole files with a name map: what is reported of them, and their first faults.
+
+use super::line_of;
+use crate::told::is;
+use pst_make::Change::Set;
+use pst_make::{BlockPlan, Change, NodePlan, Plan, build, change_all, m2_plan};
+use std::alloc::Global;
+use std::process::Abort;
+use std::test::Fail;
+
+// Whether a plan's file is answered with a line.
+fn is_answered<R: Abort>(rt: &R, alloc: Global, plan: &Plan, line: &str) -> Result<(), Fail> {
+    let image = build(alloc, plan).expect(rt, "not made");
+    let told = line_of(alloc, &image)?;
+    is(rt, told.as_str(), line);
+    Ok(())
+}
+
+// Changes one of a plan's blocks.
+fn change_block(plan: &mut Plan, block: usize, changes: &[Change]) -> Result<(), Fail> {
+    let found = plan.blocks.get_mut(block).ok_or("no block")?;
+    change_all(&mut found.body, changes)?;
+    Ok(())
+}
+
+// The store with a name map, whose block lies at 0x4c80, with bytes of it and of the root folder's block changed.
+fn changed(alloc: Global, folder: &[Change], map: &[Change]) -> Result<Plan, Fail> {
+    let mut plan = m2_plan(alloc)?;
+    change_block(&mut plan, 1, folder)?;
+    change_block(&mut plan, 2, map)?;
+    Ok(plan)
+}
+
+// Changes to the root folder and to the map, and what is answered. The map has its GUID at 0x4cac, two entries at 0x4cbc and a
+// string at 0x4ccc.
+type Row<'a> = (&'a [Change<'a>], &'a [Change<'a>], &'a str);
+
+const ROWS: [Row<'static>; 12] = [
+    (&[], &[], "yes: 2 3 3 1 0 high, 0 3"),
+    // The types of the three streams.
+    (
+        &[],
+        &[Set(0x16, &[0x1f, 0])],
+        "no: 24 Property at 0x4cac bid 0xc nid 0x61",
+    ),
+    (
+        &[],
+        &[Set(0x1e, &[0x1f, 0])],
+        "no: 24 Property at 0x4cbc bid 0xc nid 0x61",
+    ),
+    (
+        &[],
+        &[Set(0x26, &[0x1f, 0])],
+        "no: 24 Property at 0x4ccc bid 0xc nid 0x61",
+    ),
+    // 12 bytes of GUIDs, and of entries.
+    (
+        &[],
+        &[Set(0x5e, &[0x38])],
+        "no: 24 Property at 0x4cac bid 0xc nid 0x61",
+    ),
+    (
+        &[],
+        &[Set(0x60, &[0x48])],
+        "no: 24 Property at 0x4cbc bid 0xc nid 0x61",
+    ),
+    // A set that is not there, of a string and of a number.
+    (
+        &[],
+        &[Set(0x40, &[9, 0])],
+        "no: 24 Property at 0x4cbc bid 0xc nid 0x61",
+    ),
+    (
+        &[],
+        &[Set(0x48, &[8, 0])],
+        "no: 24 Property at 0x4cc4 bid 0xc nid 0x61",
+    ),
+    // A string that is longer than the stream, and one that begins behind it.
+    (
+        &[],
+        &[Set(0x4c, &[5, 0, 0, 0])],
+        "no: 24 Property at 0x4cbc bid 0xc nid 0x61",
+    ),
+    (
+        &[],
+        &[Set(0x3c, &[5])],
+        "no: 24 Property at 0x4cbc bid 0xc nid 0x61",
+    ),
+    // No properties, of which it is told first; and before it of the root folder.
+    (
+        &[],
+        &[Set(0x10, &[0xe0]), Set(0x40, &[9, 0])],
+        "no: 22 HeapId at 0x4c90 bid 0xc nid 0x61",
+    ),
+    (
+        &[Set(0x10, &[0x60])],
+        &[Set(0x40, &[9, 0])],
+        "no: 22 HeapId at 0x4c50 bid 0x8 nid 0x122",
+    ),
+];
+
+#[test]
+fn small_maps(rt: HostRuntime) -> Result<(), Fail> {
+    let alloc = rt.alloc();
+    for (folder, map, line) in ROWS {
+        is_answered(&rt, alloc, &changed(alloc, folder, map)?, line)?;
+    }
+    Ok(())
+}
+
+// The same with a hierarchy table, whose data is that of the map and no table.
+const BEFORE_THE_NODES: [Row<'static>; 2] = [
+    (&[], &[], "no: 21 Heap at 0x4c80 bid 0xc nid 0x12d"),
+    (
+        &[],
+        &[Set(0x40, &[9, 0])],
+        "no: 24 Property at 0x4cbc bid 0xc nid 0x61",
+    ),
+];
+
+#[test]
+fn a_map_comes_before_the_nodes(rt: HostRuntime) -> Result<(), Fail> {
+    let alloc = rt.alloc();
+    for (folder, map, line) in BEFORE_THE_NODES {
+        let mut plan = changed(alloc, folder, map)?;
+        plan.nodes.push(NodePlan {
+            nid: 0x12d,
+            bid_data: 12,
+            bid_sub: 0,
+            parent: 0,
+        })?;
+        is_answered(&rt, alloc, &plan, line)?;
+    }
+    Ok(())
+}
+
+// A map without streams, which has the same data as the root folder: one context.
+#[test]
+fn a_map_without_streams(rt: HostRuntime) -> Result<(), Fail> {
+    let alloc = rt.alloc();
+    let mut plan = m2_plan(alloc)?;
+    plan.nodes.get_mut(1).ok_or("no node")?.bid_data = 8;
+    is_answered(&rt, alloc, &plan, "yes: 2 3 3 1 0 high, 0 2")
+}
+
+// A property context with the entry stream alone, which is the data of a subnode: an XBLOCK that names two blocks twice, of 12
+// and of 4 bytes.
+const STREAM: [u8; 38] = [
+    28, 0, 0xec, 0xbc, 0x20, 0, 0, 0, 0, 0, 0, 0, //
+    0xb5, 2, 6, 0, 0x40, 0, 0, 0, //
+    3, 0, 2, 1, 0x41, 0, 0, 0, //
+    2, 0, 0, 0, 12, 0, 20, 0, 28, 0,
+];
+
+const XBLOCK: [u8; 40] = [
+    1, 1, 4, 0, 32, 0, 0, 0, 16, 0, 0, 0, 0, 0, 0, 0, 20, 0, 0, 0, 0, 0, 0, 0, 16, 0, 0, 0, 0, 0,
+    0, 0, 20, 0, 0, 0, 0, 0, 0, 0,
+];
+
+const SUBNODES: [u8; 32] = [
+    2, 0, 1, 0, 0, 0, 0, 0, 0x41, 0, 0, 0, 0, 0, 0, 0, //
+    26, 0, 0, 0, 0, 0, 0, 0, 0, 0, 0, 0, 0, 0, 0, 0,
+];
+
+// The two blocks, and what is answered: an entry that begins in the one, at 0x4cc8, and ends in the other is told where it begins.
+const PIECES: [([u8; 12], [u8; 4], &str); 2] = [
+    (
+        [17, 0, 0, 0, 2, 0, 0, 0, 34, 0, 0, 0],
+        [4, 0, 1, 0],
+        "yes: 2 7 3 1 0 high, 2 3",
+    ),
+    (
+        [17, 0, 0, 0, 2, 0, 0, 0, 34, 0, 0, 0],
+        [6, 0, 1, 0],
+        "no: 24 Property at 0x4cc8 bid 0xc nid 0x61",
+    ),
+];
+
+#[test]
+fn entries_in_pieces(rt: HostRuntime) -> Result<(), Fail> {
+    let alloc = rt.alloc();
+    for (first, second, line) in PIECES {
+        let mut plan = m2_plan(alloc)?;
+        plan.nodes.get_mut(1).ok_or("no node")?.bid_sub = 30;
+        plan.blocks.get_mut(2).ok_or("no block")?.body = Vec::from_slice(alloc, &STREAM)?;
+        let bodies: [(u64, &[u8]); 4] = [
+            (16, &first),
+            (20, &second),
+            (26, &XBLOCK),
+            (30, &SUBNODES),
+        ];
+        for (bid, body) in bodies {
+            let body = Vec::from_slice(alloc, body)?;
+            plan.blocks.push(BlockPlan { bid, body })?;
+        }
+        is_answered(&rt, alloc, &plan, line)?;
+    }
+    Ok(())
+}
