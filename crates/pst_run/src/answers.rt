@@ -2,6 +2,7 @@
 
 ghost use Rattle.std.specs.Prelude.{◌≡◌, ◌++◌, ℕ, Bool, List, Option, IfOk};
 ghost use Rattle.pst_ask.specs.Ask.{report, head, nodes, folders, contents, props, wanted_of};
+ghost use Rattle.pst_json.specs.NamesIndex.{IsNamesIndex};
 ghost use Rattle.pst_json.specs.Node.{props_line as line_of_props};
 ghost use Rattle.pst_json.specs.pst_ndb.Views.{table_of_ndb, nodes_of};
 ghost use Rattle.pst_json.specs.pst_store.View.{ndb_of_store};
@@ -12,8 +13,8 @@ use pst_ask::Ask;
 use pst_bytes::Image;
 use pst_header::read_header;
 use pst_json::{
-    Store, check_line, contents_line, folders_line, head_line, names_index, nodes_line, props_line,
-    read_nodes, verify,
+    NameIndex, Store, check_line, contents_line, folders_line, head_line, names_index, nodes_line,
+    props_line, read_nodes, verify,
 };
 use std::alloc::{AllocError, Global};
 
@@ -97,16 +98,22 @@ fn joined(mut text: Vec<u8>, line: Vec<u8>) -> Result<Vec<u8>, AllocError>
     Ok(text)
 }
 
-// The properties of nodes, a line for each. The index of their names is made once for all.
+// The properties of nodes, a line for each. The index of their names is made once for all of them.
 #[tactic(auto, using(crate::proofs::AnswerLemmas::line_first, crate::proofs::AnswerLemmas::line_more))]
-fn props_lines(alloc: Global, nids: &[u32], store: &Store) -> Result<Shown, Refusal>
+fn props_lines<'a>(
+    alloc: Global,
+    nids: &[u32],
+    store: &Store<'a>,
+    index: &'a NameIndex,
+) -> Result<Shown, Refusal>
+    requires { let ndb = ndb_of_store store.now in
+        IsNamesIndex (table_of_ndb ndb) (nodes_of ndb) index.now }
     ensures { let ndb = ndb_of_store store.now in
         Gives result (lines_of_nodes (line_of_props (table_of_ndb ndb) (nodes_of ndb)) nids.now) }
 {
-    let index = names_index(alloc, store)?;
     let mut text = Vec::new(alloc);
     for nid in nids {
-        match props_line(alloc, store, &index, *nid) {
+        match props_line(alloc, store, index, *nid) {
             Ok(line) => text = joined(text, line)?,
             Err(fault) => return Err(Refusal::of_document(*nid, fault)),
         }
@@ -121,7 +128,8 @@ fn props_answer(alloc: Global, nids: &[u32], bytes: &[u8]) -> Result<Shown, Refu
 {
     let store = verify(alloc, bytes)?.store;
     store.is_sound();
-    props_lines(alloc, nids, &store)
+    let index = names_index(alloc, &store)?;
+    props_lines(alloc, nids, &store, &index)
 }
 
 /// What a command shows of a file with these bytes, and with this digest where it shows one; or why it refuses them. The fault
