@@ -76,7 +76,11 @@ fn stores_are_reported(rt: HostRuntime) -> Result<(), Fail> {
     let told = line_of(alloc, &image)?;
     is(&rt, told.as_str(), "yes: 2 3 4 2 0 high, 0 3 2");
     let told = with_node(alloc, 0x162, 8)?;
-    is(&rt, told.as_str(), "yes: 2 3 5 3 0 high, 0 3 2, unreached 162");
+    is(
+        &rt,
+        told.as_str(),
+        "yes: 2 3 5 3 0 high, 0 3 2, unreached 162",
+    );
     let told = with_node(alloc, 0x14d, 12)?;
     is(&rt, told.as_str(), "yes: 2 3 5 2 0 high, 0 3 2");
     Ok(())

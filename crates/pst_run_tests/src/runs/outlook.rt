@@ -30,8 +30,7 @@ const PROPERTIES: [u8; 344] = [
     0xf3, 0x00, 0x0b, 0x01, 0x23, 0x01, 0x3b, 0x01,
 ];
 
-const OUTLOOK: Store<'static> =
-    Store::Wider(&[(12, Body::Bytes(&PROPERTIES))], &[(0x221, 12, 0)]);
+const OUTLOOK: Store<'static> = Store::Wider(&[(12, Body::Bytes(&PROPERTIES))], &[(0x221, 12, 0)]);
 
 // The line is that of another program.
 const ROWS: [Asked<'static>; 1] = [(
