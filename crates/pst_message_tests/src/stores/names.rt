@@ -3,17 +3,14 @@
 use super::{Name, NameKind, store_of};
 use crate::told::{holds, is};
 use pst_make::{m0, m2};
+use pst_value::bytes_from;
 use std::alloc::Global;
 use std::test::Fail;
 
-// The set of a name, and the number or the bytes of the string; or that there is none.
-fn line_of_name(alloc: Global, found: Option<Name>) -> Result<String, Fail> {
-    let mut line = String::new(alloc);
-    let Some(name) = found else {
-        line.push_str("none")?;
-        return Ok(line);
-    };
+// A name: the GUID of its set, and the number or the bytes of the string.
+fn put_name(alloc: Global, line: &mut String, name: Name) -> Result<(), Fail> {
     if let Some(set) = name.set {
+        line.push_str(" ")?;
         for byte in set.as_bytes() {
             let digits = format!(in alloc; "{byte:02x}")?;
             line.push_str(&digits)?;
@@ -25,21 +22,34 @@ fn line_of_name(alloc: Global, found: Option<Name>) -> Result<String, Fail> {
             line.push_str(&text)?;
         }
         NameKind::Text(value) => {
-            for at in 0..value.len() {
-                let byte = value.byte(at).ok_or("no byte")?;
-                let digits = format!(in alloc; " {byte:02x}")?;
+            line.push_str(" text ")?;
+            for byte in bytes_from(value) {
+                let digits = format!(in alloc; "{byte:02x}")?;
                 line.push_str(&digits)?;
             }
         }
+    }
+    Ok(())
+}
+
+// The same, or that there is none.
+fn line_of_name(alloc: Global, found: Option<Name>) -> Result<String, Fail> {
+    let mut line = format!(in alloc; "called")?;
+    match found {
+        Some(name) => put_name(alloc, &mut line, name)?,
+        None => line.push_str(" nothing")?,
     }
     Ok(line)
 }
 
 const NAMES: [(u16, &str); 4] = [
-    (0x8000, "33221100554477668899aabbccddeeff 48 00 69 00"),
-    (0x8001, "0002032900000000c000000000000046 34049"),
-    (0x8002, "none"),
-    (0x0001, "none"),
+    (
+        0x8000,
+        "called 33221100554477668899aabbccddeeff text 48006900",
+    ),
+    (0x8001, "called 0002032900000000c000000000000046 34049"),
+    (0x8002, "called nothing"),
+    (0x0001, "called nothing"),
 ];
 
 #[test]

@@ -36,7 +36,7 @@ fn changed(alloc: Global, folder: &[Change], map: &[Change]) -> Result<Plan, Fai
 type Row<'a> = (&'a [Change<'a>], &'a [Change<'a>], &'a str);
 
 const ROWS: [Row<'static>; 12] = [
-    (&[], &[], "yes: 2 3 3 1 0 high, 0 3"),
+    (&[], &[], "yes: 2 3 3 1 0 high, 0 3 1"),
     // The types of the three streams.
     (
         &[],
@@ -140,7 +140,7 @@ fn a_map_without_streams(rt: HostRuntime) -> Result<(), Fail> {
     let alloc = rt.alloc();
     let mut plan = m2_plan(alloc)?;
     plan.nodes.get_mut(1).ok_or("no node")?.bid_data = 8;
-    is_answered(&rt, alloc, &plan, "yes: 2 3 3 1 0 high, 0 2")
+    is_answered(&rt, alloc, &plan, "yes: 2 3 3 1 0 high, 0 2 1")
 }
 
 // A property context with the entry stream alone, which is the data of a subnode: an XBLOCK that names two blocks twice, of 12
@@ -167,7 +167,7 @@ const PIECES: [([u8; 12], [u8; 4], &str); 2] = [
     (
         [17, 0, 0, 0, 2, 0, 0, 0, 34, 0, 0, 0],
         [4, 0, 1, 0],
-        "yes: 2 7 3 1 0 high, 2 3",
+        "yes: 2 7 3 1 0 high, 2 3 1",
     ),
     (
         [17, 0, 0, 0, 2, 0, 0, 0, 34, 0, 0, 0],
