@@ -1,6 +1,6 @@
 //! What the properties of a store are called.
 
-use super::{Name, NameKind, store_of};
+use super::{Name, NameKind, NameMap, Store, store_of};
 use crate::told::{holds, is};
 use pst_make::{m0, m2};
 use pst_value::bytes_from;
@@ -32,12 +32,20 @@ fn put_name(alloc: Global, line: &mut String, name: Name) -> Result<(), Fail> {
     Ok(())
 }
 
-// The same, or that there is none.
-fn line_of_name(alloc: Global, found: Option<Name>) -> Result<String, Fail> {
+// What a property is called by the store.
+fn called(alloc: Global, store: &Store, id: u16) -> Result<String, Fail> {
     let mut line = format!(in alloc; "called")?;
-    match found {
-        Some(name) => put_name(alloc, &mut line, name)?,
-        None => line.push_str(" nothing")?,
+    if let Some(name) = store.name(id) {
+        put_name(alloc, &mut line, name)?;
+    }
+    Ok(line)
+}
+
+// The same by its name map.
+fn called_in(alloc: Global, names: NameMap, id: u16) -> Result<String, Fail> {
+    let mut line = format!(in alloc; "called")?;
+    if let Some(name) = names.name(id) {
+        put_name(alloc, &mut line, name)?;
     }
     Ok(line)
 }
@@ -48,8 +56,8 @@ const NAMES: [(u16, &str); 4] = [
         "called 33221100554477668899aabbccddeeff text 48006900",
     ),
     (0x8001, "called 0002032900000000c000000000000046 34049"),
-    (0x8002, "called nothing"),
-    (0x0001, "called nothing"),
+    (0x8002, "called"),
+    (0x0001, "called"),
 ];
 
 #[test]
@@ -60,9 +68,9 @@ fn properties_are_called(rt: HostRuntime) -> Result<(), Fail> {
     let names = store.names().expect(&rt, "no name map");
     is(&rt, names.node().nid(), 0x61);
     for (id, line) in NAMES {
-        let told = line_of_name(alloc, store.name(id))?;
+        let told = called(alloc, &store, id)?;
         is(&rt, told.as_str(), line);
-        let told = line_of_name(alloc, names.name(id))?;
+        let told = called_in(alloc, names, id)?;
         is(&rt, told.as_str(), line);
     }
     let image = m0(alloc)?;
