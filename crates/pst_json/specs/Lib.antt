@@ -10,6 +10,7 @@ pub mod Check
 pub mod Told
 pub mod Folders
 pub mod Contents
+pub mod Path
 pub mod Node
 pub mod Found
 pub mod Lists

@@ -1,22 +1,23 @@
 -- The properties of a node as a document ([MS-PST] 2.3.3), and of a message also its attachments and recipients (2.4.5).
-use Rattle.std.specs.Prelude.{ℕ, Option, Some, None, option_map, List, [], Result, Ok, Err, map, codes, if◌then◌else◌}
+use Rattle.std.specs.Prelude.{ℕ, Option, Some, None, option_map, List, [], Result, Ok, Err, map, codes}
 use Rattle.serde_json.specs.Data.{Data, array, no_items, object, member, no_members}
 use Rattle.pst_fault.specs.declared.fault.Fault.{Fault}
 use Rattle.pst_page.specs.declared.entry.NodeEntry.{NodeEntry}
 use Rattle.pst_block.specs.Table.{Table}
-use Rattle.pst_ndb.specs.Roots.{Roots, node_in, subnode_of}
+use Rattle.pst_ndb.specs.Roots.{Roots, subnode_of}
 use Rattle.pst_value_json.specs.pst_pc.Fault.{pc_fault}
 use Rattle.pst_value_json.specs.pst_pc.Values.{Property, props_of}
 use Rattle.pst_value_json.specs.pst_tc.Values.{tc_rows}
 use Rattle.pst_verify.specs.pst_msg.declared.object.Object.{Object}
 use Rattle.pst_verify.specs.pst_msg.Shown.{Shown, row_shown, attachment_rows}
-use Rattle.pst_verify.specs.pst_msg.Values.{is_message, embedded_of}
+use Rattle.pst_verify.specs.pst_msg.Values.{embedded_of}
 use Rattle.pst_json.specs.declared.fault.DocFault.{DocFault}
 use Rattle.pst_json.specs.declared.fault.DocFault.TheVariants.{NoNode, Bad}
 use Rattle.pst_value_json.specs.Cells.{table_row_data}
 use Rattle.pst_value_json.specs.Names.{nid_data, nid_or_null}
 use Rattle.pst_value_json.specs.Parts.{list_data}
 use Rattle.pst_value_json.specs.Props.{prop_data}
+use Rattle.pst_json.specs.Path.{Place, message, attachment, other, place_at}
 use Rattle.pst_json.specs.Told.{lined}
 
 -- the properties of a node
@@ -75,16 +76,21 @@ abbrev pub unless_bad : Option Fault → Data → Result Data DocFault
 unless_bad None d = Ok d
 unless_bad (Some f) d = Err (Bad f)
 
-abbrev pub node_there : Table → ℕ → Option Roots → Result Data DocFault
-node_there t nid None = Err NoNode
-node_there t nid (Some r) =
-    if is_message nid then Ok (message_data t r nid) else unless_bad (pc_fault t r) (node_props_data t r nid)
+-- the document of a place
+abbrev pub place_told : Table → Place → Result Data DocFault
+place_told t (message nid r) = Ok (message_data t r nid)
+place_told t (attachment nid r) = Ok (attachment_data t (record { nid = nid; roots = Some r }))
+place_told t (other nid r) = unless_bad (pc_fault t r) (node_props_data t r nid)
 
--- The document of a node: of a message or of another property context. There is none where there is no such node, or where
--- it is neither.
-unfoldable pub props_told : Table → List NodeEntry → ℕ → Result Data DocFault
-props_told t nodes nid = node_there t nid (node_in nodes nid)
+abbrev pub place_or_none : Table → Option Place → Result Data DocFault
+place_or_none t None = Err NoNode
+place_or_none t (Some place) = place_told t place
+
+-- The document of what a path leads to: a message, an attachment or another property context. There is none where it leads nowhere,
+-- or to a node that is neither.
+unfoldable pub props_told : Table → List NodeEntry → List ℕ → Result Data DocFault
+props_told t nodes path = place_or_none t (place_at t nodes path)
 
 -- the line that shows it
-unfoldable pub props_line : Table → List NodeEntry → ℕ → Result (List ℕ) DocFault
-props_line t nodes nid = lined (props_told t nodes nid)
+unfoldable pub props_line : Table → List NodeEntry → List ℕ → Result (List ℕ) DocFault
+props_line t nodes path = lined (props_told t nodes path)

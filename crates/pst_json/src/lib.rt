@@ -14,6 +14,7 @@ mod check;
 mod contents;
 mod fault;
 mod folders;
+mod found;
 mod head;
 mod index;
 mod lists;

@@ -1,13 +1,14 @@
 //! One run of the program.
 
-ghost use Rattle.std.specs.Prelude.{◌≡◌, ◌≢◌, ◌⊎◌, [], Err, IfOk, IfSome};
+ghost use Rattle.std.specs.Prelude.{◌≡◌, ◌≢◌, ◌⊎◌, true, [], Err, IfOk, IfSome, MatchOption};
+ghost use Rattle.std.specs.Io.KnownBytes.{Appends, Keeps};
 ghost use Rattle.pst_ask.specs.Ask.{Asked, order_of, wanted_of};
 ghost use Rattle.pst_ask.specs.Words.{IsAsked, asked, show_app, texts};
 ghost use Rattle.pst_ask.specs.clap.Words.{fault_of, kind_of};
 ghost use Rattle.pst_ask.specs.declared.words.NoOrder.TheVariants.{Lacks};
 ghost use Rattle.pst_run.specs.Answer.{answer_to, bytes_for, digest_for};
-ghost use Rattle.pst_run.specs.declared.refusal.Refusal.TheVariants as refused;
-ghost use Rattle.pst_run.specs.Refusal.{line_of_text, status_of};
+ghost use Rattle.pst_run.specs.Refusal.{document, memory, output, line_of_text, nid_text, refused_of, status_of};
+ghost use Rattle.pst_json.specs.Output.{AppendsFront};
 ghost use Rattle.pst_run.specs.Run.{Answers, CarriesOut, Ends, IsLacking, IsRefused, IsStatusOf, MatchNone, Says, SaysLine, lack_text, outputs};
 
 use crate::answers::answer;
@@ -15,7 +16,7 @@ use crate::input::load_counted;
 use crate::refusal::Refusal;
 use arrayvec::ArrayString;
 use pst_ask::{Ask, ErrorKind, Lack, NoOrder, Order, parse};
-use pst_json::{EmitFault, emit};
+use pst_json::{DocFault, EmitFault, emit};
 use pst_plain::plain;
 use sha2::{Digest, Sha256};
 use std::alloc::{AllocError, Global};
@@ -70,12 +71,12 @@ fn decode_if(alloc: Global, decode: bool, mut bytes: Vec<u8>) -> Result<Vec<u8>,
 
 // Writes what a command answers to these bytes of a file, and tells whether the run fails all the same. The digest is taken
 // before anything is decoded.
-fn write_answer<W: Write>(
+fn write_answer<'a, W: Write>(
     alloc: Global,
-    order: &Order,
+    order: &'a Order,
     bytes: Vec<u8>,
     out: &mut W,
-) -> Result<bool, Refusal>
+) -> Result<bool, Refusal<'a>>
     ensures { Ends result (answer_to (order_of order.now) bytes.items)
         (W.contents out.old) (W.contents out.new) }
 {
@@ -86,15 +87,73 @@ fn write_answer<W: Write>(
     Ok(shown.fails)
 }
 
+// What names a node, behind a mark, where there is room for it.
+fn nid_piece(mark: &'static str, nid: u32) -> Option<ArrayString<LINE>>
+    ensures { IfSome result (λ made. made.bytes ≡ nid_text mark.now nid) }
+{
+    let mut piece = ArrayString::<LINE>::new();
+    match write!(piece, "{mark}0x{nid:x}") {
+        Ok(()) => Some(piece),
+        Err(_) => None,
+    }
+}
+
+// A text, where there is room for it.
+fn piece_of<D: Display + Drop>(text: D) -> Option<ArrayString<LINE>>
+    ensures { IfSome result (λ made. IfSome (D.output text) (λ bytes. made.bytes ≡ bytes)) }
+{
+    let mut piece = ArrayString::<LINE>::new();
+    match write!(piece, "{text}") {
+        Ok(()) => Some(piece),
+        Err(_) => None,
+    }
+}
+
+// Writes a piece, and tells whether all of it was written.
+fn put<E: Write>(piece: Option<ArrayString<LINE>>, err: &mut E) -> bool
+    ensures front { MatchOption piece (Keeps (E.contents err.old) (E.contents err.new))
+        (λ made. AppendsFront (E.contents err.old) (E.contents err.new) made.bytes) }
+    ensures all { result ≡ true →
+        IfSome piece (λ made. Appends (E.contents err.old) (E.contents err.new) made.bytes) }
+{
+    match piece {
+        Some(piece) => emit(piece.as_str().as_bytes(), err).is_ok(),
+        None => false,
+    }
+}
+
+// Says on the error output that there is no document of a folder, or at a path. A path may be long, so the line is written piece
+// by piece.
+fn say_none<E: Write>(fault: DocFault, path: &[u32], err: &mut E)
+    ensures { Says (document path.now fault) (E.contents err.old) (E.contents err.new) }
+{
+    if !put(piece_of(fault), err) {
+        return;
+    }
+    let mut mark = " ";
+    for nid in path {
+        if !put(nid_piece(mark, *nid), err) {
+            return;
+        }
+        mark = "/";
+    }
+    let _ = emit(b"\n", err);
+}
+
 /// Says on the error output why nothing is shown, and gives the status for it. A line that cannot be written changes
 /// nothing. Of an output that is closed nothing is said.
 pub fn refuse<E: Write>(refusal: Refusal, err: &mut E) -> u8
-    ensures status { result ≡ status_of refusal }
-    ensures said { Says refusal (E.contents err.old) (E.contents err.new) }
-    ensures closed { refusal ≡ refused.Output EmitFault.Closed → err.new ≡ err.old }
+    ensures status { result ≡ status_of (refused_of refusal.entry) }
+    ensures said { Says (refused_of refusal.entry) (E.contents err.old) (E.contents err.new) }
+    ensures closed { refused_of refusal.entry ≡ output EmitFault.Closed → err.new ≡ err.old }
 {
-    if refusal != Refusal::Output(EmitFault::Closed) {
-        say(refusal, err);
+    match refusal {
+        Refusal::Fault(fault) => say(fault, err),
+        Refusal::Document(path, fault) => say_none(fault, path, err),
+        Refusal::Input => say("cannot read the file", err),
+        Refusal::Output(EmitFault::Closed) => {}
+        Refusal::Output(fault) => say(fault, err),
+        Refusal::Memory => say("out of memory", err),
     }
     refusal.status()
 }
@@ -105,7 +164,7 @@ pub fn decline<W: Write, E: Write>(none: NoOrder, out: &mut W, err: &mut E) -> u
     ensures lacking { (lack : Lack) → none ≡ Lacks lack →
         SaysLine (lack_text lack) (E.contents err.old) (E.contents err.new) }
     ensures quiet { (result ≡ 2) ⊎ (result ≡ 4) → out.new ≡ out.old }
-    ensures memory { result ≡ 4 → Says refused.Memory (E.contents err.old) (E.contents err.new) }
+    ensures memory { result ≡ 4 → Says memory (E.contents err.old) (E.contents err.new) }
 {
     match none {
         NoOrder::Words(error) => {
