@@ -6,7 +6,7 @@ use Rattle.pst_block.specs.Table.{Table}
 use Rattle.pst_json.specs.Path.{Place, step, step_from}
 
 -- from nowhere no step leads anywhere
-nowhere : (t : Table) (steps : List ℕ) → fold (step t) None steps ≡ None
+pub nowhere : (t : Table) (steps : List ℕ) → fold (step t) None steps ≡ None
 nowhere t [] = refl
 nowhere t (nid ∷ rest) = nowhere t rest
 

@@ -1,24 +1,21 @@
 -- The properties of a node as a document ([MS-PST] 2.3.3), and of a message also its attachments and recipients (2.4.5).
-use Rattle.std.specs.Prelude.{ℕ, Option, Some, None, option_map, List, [], Result, Ok, Err, map, codes}
+use Rattle.std.specs.Prelude.{ℕ, Option, Some, None, option_map, List, [], Result, map, codes}
 use Rattle.serde_json.specs.Data.{Data, array, no_items, object, member, no_members}
-use Rattle.pst_fault.specs.declared.fault.Fault.{Fault}
 use Rattle.pst_page.specs.declared.entry.NodeEntry.{NodeEntry}
 use Rattle.pst_block.specs.Table.{Table}
 use Rattle.pst_ndb.specs.Roots.{Roots, subnode_of}
-use Rattle.pst_value_json.specs.pst_pc.Fault.{pc_fault}
 use Rattle.pst_value_json.specs.pst_pc.Values.{Property, props_of}
 use Rattle.pst_value_json.specs.pst_tc.Values.{tc_rows}
 use Rattle.pst_verify.specs.pst_msg.declared.object.Object.{Object}
 use Rattle.pst_verify.specs.pst_msg.Shown.{Shown, row_shown, attachment_rows}
 use Rattle.pst_verify.specs.pst_msg.Values.{embedded_of}
 use Rattle.pst_json.specs.declared.fault.DocFault.{DocFault}
-use Rattle.pst_json.specs.declared.fault.DocFault.TheVariants.{NoNode, Bad}
 use Rattle.pst_value_json.specs.Cells.{table_row_data}
 use Rattle.pst_value_json.specs.Names.{nid_data, nid_or_null}
 use Rattle.pst_value_json.specs.Parts.{list_data}
 use Rattle.pst_value_json.specs.Props.{prop_data}
-use Rattle.pst_json.specs.Path.{Place, message, attachment, other, place_at}
-use Rattle.pst_json.specs.Told.{lined}
+use Rattle.pst_json.specs.Path.{Place, message, attachment, other, found_at}
+use Rattle.pst_json.specs.Told.{lined, told_of}
 
 -- the properties of a node
 abbrev pub props_data : Table → Roots → Data
@@ -72,24 +69,15 @@ message_data t r nid =
 unfoldable pub node_props_data : Table → Roots → ℕ → Data
 node_props_data t r nid = object (member (codes "nid") (nid_data nid) (member (codes "props") (props_data t r) no_members))
 
-abbrev pub unless_bad : Option Fault → Data → Result Data DocFault
-unless_bad None d = Ok d
-unless_bad (Some f) d = Err (Bad f)
-
 -- the document of a place
-abbrev pub place_told : Table → Place → Result Data DocFault
-place_told t (message nid r) = Ok (message_data t r nid)
-place_told t (attachment nid r) = Ok (attachment_data t (record { nid = nid; roots = Some r }))
-place_told t (other nid r) = unless_bad (pc_fault t r) (node_props_data t r nid)
+abbrev pub place_data : Table → Place → Data
+place_data t (message nid r) = message_data t r nid
+place_data t (attachment nid r) = attachment_data t (record { nid = nid; roots = Some r })
+place_data t (other nid r) = node_props_data t r nid
 
-abbrev pub place_or_none : Table → Option Place → Result Data DocFault
-place_or_none t None = Err NoNode
-place_or_none t (Some place) = place_told t place
-
--- The document of what a path leads to: a message, an attachment or another property context. There is none where it leads nowhere,
--- or to a node that is neither.
+-- The document of what a path leads to: of a message, an attachment or another property context.
 unfoldable pub props_told : Table → List NodeEntry → List ℕ → Result Data DocFault
-props_told t nodes path = place_or_none t (place_at t nodes path)
+props_told t nodes path = told_of (place_data t) (found_at t nodes path)
 
 -- the line that shows it
 unfoldable pub props_line : Table → List NodeEntry → List ℕ → Result (List ℕ) DocFault

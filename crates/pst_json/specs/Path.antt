@@ -1,12 +1,16 @@
 -- What a path leads to, through messages and their attachments ([MS-PST] 2.4.5, 2.4.6).
-use Rattle.std.specs.Prelude.{ℕ, ◌==◌, Option, Some, None, option_map, List, [], ◌∷◌, fold, if◌then◌else◌}
+use Rattle.std.specs.Prelude.{ℕ, ◌==◌, Option, Some, None, option_map, Result, Ok, Err, List, [], ◌∷◌, fold, if◌then◌else◌}
+use Rattle.pst_fault.specs.declared.fault.Fault.{Fault}
 use Rattle.pst_page.specs.declared.entry.NodeEntry.{NodeEntry}
 use Rattle.pst_block.specs.Table.{Table}
 use Rattle.pst_btree.specs.Entries.{first_with}
 use Rattle.pst_ndb.specs.Roots.{Roots, node_in}
+use Rattle.pst_value_json.specs.pst_pc.Fault.{pc_fault}
 use Rattle.pst_value_json.specs.pst_tc.Values.{row_id_of}
 use Rattle.pst_verify.specs.pst_msg.Shown.{Shown, row_shown, object_shown, attachment_rows}
 use Rattle.pst_verify.specs.pst_msg.Values.{is_message, embedded_of}
+use Rattle.pst_json.specs.declared.fault.DocFault.{DocFault}
+use Rattle.pst_json.specs.declared.fault.DocFault.TheVariants.{NoNode, Bad}
 
 -- a place, by its identifier and what it is read from: a message, an attachment of one, or any other node
 pub data Place : Type 0 where
@@ -52,3 +56,22 @@ first_place nodes nid = option_map (place_of_node nid) (node_in nodes nid)
 unfoldable pub place_at : Table → List NodeEntry → List ℕ → Option Place
 place_at t nodes [] = None
 place_at t nodes (nid ∷ steps) = fold (step t) (first_place nodes nid) steps
+
+-- ---- places that have properties: messages, attachments, and other nodes that are property contexts
+
+abbrev pub unless_bad : Option Fault → Place → Result Place DocFault
+unless_bad None place = Ok place
+unless_bad (Some f) place = Err (Bad f)
+
+abbrev pub with_properties : Table → Place → Result Place DocFault
+with_properties t (message nid r) = Ok (message nid r)
+with_properties t (attachment nid r) = Ok (attachment nid r)
+with_properties t (other nid r) = unless_bad (pc_fault t r) (other nid r)
+
+abbrev pub or_no_node : Table → Option Place → Result Place DocFault
+or_no_node t None = Err NoNode
+or_no_node t (Some place) = with_properties t place
+
+-- What a path leads to that has properties. There is none where it leads nowhere, or to a node that is something else.
+unfoldable pub found_at : Table → List NodeEntry → List ℕ → Result Place DocFault
+found_at t nodes path = or_no_node t (place_at t nodes path)

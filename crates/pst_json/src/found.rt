@@ -1,12 +1,11 @@
 //! What a path leads to.
 
-ghost use Rattle.std.specs.Prelude.{◌≡◌, IfSome, option_map, fold, Some};
+ghost use Rattle.std.specs.Prelude.{◌≡◌, IfOk, IfSome, option_map, fold, Some};
 ghost use Rattle.pst_ndb.specs.Views.{table_of_ndb, nodes_of, table_of_node, roots_of};
 ghost use Rattle.pst_verify.specs.pst_msg.View.{node_of_attachment, node_of_message};
 ghost use Rattle.pst_verify.specs.pst_store.View.{ndb_of_store};
-ghost use Rattle.pst_json.specs.Found.{node_of_reached, place_of, found_data};
-ghost use Rattle.pst_json.specs.Node.{props_told};
-ghost use Rattle.pst_json.specs.Path.{message, attachment, place_of_shown, attachment_with, embedded_with, first_place, place_at, step, step_from};
+ghost use Rattle.pst_json.specs.Found.{node_of_reached, place_of, node_of_found, place_of_found};
+ghost use Rattle.pst_json.specs.Path.{message, attachment, place_of_shown, attachment_with, embedded_with, first_place, found_at, place_at, step, step_from};
 ghost use Rattle.pst_json.specs.Told.{TellsDoc};
 
 use crate::fault::DocFault;
@@ -25,7 +24,7 @@ enum Reached<'a> {
     Node(NodeView<'a>),
 }
 
-/// What has a document of its properties.
+/// What has properties.
 #[derive(Clone, Copy)]
 pub(crate) enum Found<'a> {
     /// A message.
@@ -99,7 +98,7 @@ fn next(from: Reached<'_>, nid: u32) -> Option<Reached<'_>>
 }
 
 // One step after another.
-#[tactic(auto, using(crate::proofs::PathLemmas::step_on, crate::proofs::PathLemmas::step_nowhere, crate::proofs::PathLemmas::steps_end))]
+#[tactic(auto, using(crate::proofs::PathLemmas::step_on, crate::proofs::PathLemmas::steps_end))]
 fn walk<'a>(from: Reached<'a>, steps: &[u32]) -> Option<Reached<'a>>
     ensures place { let t = table_of_node (node_of_reached from.entry) in
         option_map place_of result ≡ fold (step t) (Some (place_of from.entry)) steps.now }
@@ -116,6 +115,20 @@ fn walk<'a>(from: Reached<'a>, steps: &[u32]) -> Option<Reached<'a>>
     Some(at)
 }
 
+// Steps from a node on.
+fn walk_from<'a>(store: &Store<'a>, nid: u32, steps: &[u32]) -> Option<Reached<'a>>
+    ensures place { let t = table_of_ndb (ndb_of_store store.now) in
+        let nodes = nodes_of (ndb_of_store store.now) in
+        option_map place_of result ≡ fold (step t) (first_place nodes nid) steps.now }
+    ensures table { let t = table_of_ndb (ndb_of_store store.now) in
+        IfSome result (λ r. table_of_node (node_of_reached r) ≡ t) }
+{
+    match first(store, nid) {
+        Some(reached) => walk(reached, steps),
+        None => None,
+    }
+}
+
 // What a path leads to.
 #[tactic(auto, unfolding(crate::specs::Path::place_at))]
 fn reached_by<'a>(store: &Store<'a>, path: &[u32]) -> Option<Reached<'a>>
@@ -125,17 +138,16 @@ fn reached_by<'a>(store: &Store<'a>, path: &[u32]) -> Option<Reached<'a>>
         IfSome result (λ r. table_of_node (node_of_reached r) ≡ t) }
 {
     let (nid, steps) = path.split_first()?;
-    match first(store, *nid) {
-        Some(reached) => walk(reached, steps),
-        None => None,
-    }
+    walk_from(store, *nid, steps)
 }
 
-/// What a path leads to that has a document, or why there is none.
-#[tactic(auto, unfolding(crate::specs::Node::props_told))]
+/// What a path leads to that has properties, or why there is none.
+#[tactic(auto, unfolding(crate::specs::Path::found_at))]
 pub(crate) fn found_in<'a>(store: &Store<'a>, path: &[u32]) -> Result<Found<'a>, DocFault>
-    ensures { let ndb = ndb_of_store store.now in
-        TellsDoc found_data result (props_told (table_of_ndb ndb) (nodes_of ndb) path.now) }
+    ensures place { let ndb = ndb_of_store store.now in
+        TellsDoc place_of_found result (found_at (table_of_ndb ndb) (nodes_of ndb) path.now) }
+    ensures table { let t = table_of_ndb (ndb_of_store store.now) in
+        IfOk result (λ f. table_of_node (node_of_found f) ≡ t) }
 {
     match reached_by(store, path) {
         Some(Reached::Message(message)) => Ok(Found::Message(message)),

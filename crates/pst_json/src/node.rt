@@ -8,9 +8,9 @@ ghost use Rattle.pst_ndb.specs.Views.{table_of_ndb, nodes_of, table_of_node, roo
 ghost use Rattle.pst_value_json.specs.pst_pc.View.{node_of_pc};
 ghost use Rattle.pst_verify.specs.pst_msg.View.{node_of_attachment, attachment_shown, node_of_message};
 ghost use Rattle.pst_verify.specs.pst_store.View.{ndb_of_store};
-ghost use Rattle.pst_json.specs.Found.{found_data};
+ghost use Rattle.pst_json.specs.Found.{node_of_found, place_of_found};
 ghost use Rattle.pst_json.specs.Lists.{list_left};
-ghost use Rattle.pst_json.specs.Node.{recipient_nid, recipients_there, attachment_data, message_data, node_props_data, props_told, props_line as line_of_props};
+ghost use Rattle.pst_json.specs.Node.{recipient_nid, recipients_there, attachment_data, message_data, node_props_data, place_data, props_told, props_line as line_of_props};
 ghost use Rattle.pst_json.specs.Told.{TellsDoc};
 
 use crate::attachment::{AttachmentRows, attachment_parts};
@@ -87,7 +87,8 @@ fn shown_attachment<S: Sink>(alloc: Global, attachment: Attachment) -> Result<S:
 
 // The document of what has one.
 fn shown_found<S: Sink>(alloc: Global, found: Found) -> Result<S::Out, AllocError>
-    ensures { IfOk result (λ out. S.Shows out (found_data found.entry)) }
+    ensures { let t = table_of_node (node_of_found found.entry) in
+        IfOk result (λ out. S.Shows out (place_data t (place_of_found found.entry))) }
 {
     match found {
         Found::Message(message) => {
@@ -107,6 +108,7 @@ fn shown_found<S: Sink>(alloc: Global, found: Found) -> Result<S::Out, AllocErro
 /// or null, its own, and its properties; and its recipients, as `table_doc` gives them; of an attachment that same object. A path
 /// is a node, and behind a message an attachment of it, behind an attachment the message that it embeds: NoNode where a step leads
 /// nowhere; Bad with the fault of `check_pc` where the node is neither a message nor a property context.
+#[tactic(auto, using(crate::proofs::FoundLemmas::told_found, crate::proofs::FoundLemmas::told_refused), unfolding(crate::specs::Node::props_told))]
 pub fn props_doc(alloc: Global, store: &Store, path: &[u32]) -> Result<Doc, DocFault>
     ensures { let ndb = ndb_of_store store.now in
         TellsDoc view result (props_told (table_of_ndb ndb) (nodes_of ndb) path.now) }
@@ -117,7 +119,7 @@ pub fn props_doc(alloc: Global, store: &Store, path: &[u32]) -> Result<Doc, DocF
 
 /// The line that shows the properties of what a path leads to: the compact text of their document, and a line feed; or why there is
 /// none. It is made property by property, and row by row: beside the text, memory is taken for one at a time.
-#[tactic(auto, unfolding(crate::specs::Node::props_line))]
+#[tactic(auto, using(crate::proofs::FoundLemmas::line_found, crate::proofs::FoundLemmas::line_refused), unfolding(crate::specs::Node::props_line, crate::specs::Node::props_told))]
 pub fn props_line(alloc: Global, store: &Store, path: &[u32]) -> Result<Vec<u8>, DocFault>
     ensures { let ndb = ndb_of_store store.now in
         TellsDoc (λ t. t.items) result (line_of_props (table_of_ndb ndb) (nodes_of ndb) path.now) }

@@ -26,8 +26,7 @@ use Rattle.sha2.specs.Sha256.{sha256}
 use Rattle.pst_run.specs.declared.answers.Shown.{Shown}
 use Rattle.pst_ask.specs.Ask.{Asked, Wanted, report, head, nodes, folders, contents, props}
 use Rattle.pst_run.specs.declared.refusal.Refusal.{Refusal}
-use Rattle.pst_run.specs.declared.refusal.Refusal.TheVariants as refusal
-use Rattle.pst_run.specs.Refusal.{Refused, fault, document, refusal_of, refusal_for}
+use Rattle.pst_run.specs.Refusal.{Refused, fault, document, input, output, memory, refused_of, refusal_of, refusal_for}
 
 -- ---- of which bytes
 
@@ -126,11 +125,15 @@ answer_with (props paths) digest I = of_store (store_fault I) (lines_of_paths (p
 abbrev pub answer_to : Asked → List ℕ → Result Told Refused
 answer_to a bytes = answer_with a.ask (digest_for a.ask bytes) (bytes_for a.decode bytes)
 
+-- nothing is shown for this reason, which is the answer, unless memory ran out
+abbrev pub GivesNone : Refused → Result Told Refused → Type 0
+GivesNone (fault f) answer = answer ≡ Err (fault f)
+GivesNone (document path f) answer = answer ≡ Err (document path f)
+GivesNone input answer = ⊥
+GivesNone (output f) answer = ⊥
+GivesNone memory answer = Unit {0}
+
 -- what is returned is the answer, unless memory ran out
 abbrev pub Gives : Result Shown Refusal → Result Told Refused → Type 0
 Gives (Ok shown) answer = answer ≡ Ok (told_in shown)
-Gives (Err (refusal.Fault f)) answer = answer ≡ Err (fault f)
-Gives (Err (refusal.Document path f)) answer = answer ≡ Err (document path.now f)
-Gives (Err refusal.Input) answer = ⊥
-Gives (Err (refusal.Output f)) answer = ⊥
-Gives (Err refusal.Memory) answer = Unit {0}
+Gives (Err r) answer = GivesNone (refused_of r) answer

@@ -64,18 +64,19 @@ status_of input = 3
 status_of (output f) = 3
 status_of memory = 4
 
--- a path behind a mark: its identifiers, and a slash between each and the next
-abbrev pub nid_text : List ℕ → ℕ → List ℕ
-nid_text mark nid = mark ++ codes "0x" ++ hex nid
+-- a path: its first identifier behind a blank, and each other behind a slash
+abbrev pub step_text : Bool → ℕ → List ℕ
+step_text true nid = codes " 0x" ++ hex nid
+step_text false nid = codes "/0x" ++ hex nid
 
-unfoldable pub path_text : List ℕ → List ℕ → List ℕ
-path_text mark [] = []
-path_text mark (nid ∷ steps) = nid_text mark nid ++ path_text (codes "/") steps
+unfoldable pub path_text : Bool → List ℕ → List ℕ
+path_text first [] = []
+path_text first (nid ∷ rest) = step_text first nid ++ path_text false rest
 
 -- the line of a refusal, without its line feed
 abbrev pub refusal_text : Refused → List ℕ
 refusal_text (fault f) = fault_text f
-refusal_text (document path f) = doc_fault_text f ++ path_text (codes " ") path
+refusal_text (document path f) = doc_fault_text f ++ path_text true path
 refusal_text input = codes "cannot read the file"
 refusal_text (output f) = emit_fault_text f
 refusal_text memory = codes "out of memory"

@@ -13,9 +13,8 @@ use Rattle.pst_ask.specs.declared.ask.Lack.TheVariants.{Nid, Nothing}
 use Rattle.pst_ask.specs.declared.words.NoOrder.{NoOrder}
 use Rattle.pst_ask.specs.declared.words.NoOrder.TheVariants.{Words, Lacks}
 use Rattle.pst_run.specs.declared.refusal.Refusal.{Refusal}
-use Rattle.pst_run.specs.declared.refusal.Refusal.TheVariants as refusal
 use Rattle.pst_run.specs.Answer.{Told, answer_to}
-use Rattle.pst_run.specs.Refusal.{Refused, fault, document, input, output, memory, line_of_text, refusal_line, status_of}
+use Rattle.pst_run.specs.Refusal.{Refused, fault, document, input, output, memory, refused_of, line_of_text, refusal_line, status_of}
 
 -- what both outputs hold, where they tell it
 pub record Outputs : Type 0 where
@@ -46,15 +45,19 @@ Shows answer fails old new = (told : Told) × (answer ≡ Ok told) × (fails ≡
 abbrev pub ShowsFront : Result Told Refused → Option (List ℕ) → Option (List ℕ) → Type 0
 ShowsFront answer old new = (told : Told) × (answer ≡ Ok told) × AppendsFront old new told.text
 
+-- nothing is shown for this reason: what the output holds then
+abbrev pub EndsWith : Refused → Result Told Refused → Option (List ℕ) → Option (List ℕ) → Type 0
+EndsWith (fault f) answer old new = (answer ≡ Err (fault f)) × Keeps old new
+EndsWith (document path f) answer old new = (answer ≡ Err (document path f)) × Keeps old new
+EndsWith input answer old new = ⊥
+EndsWith (output f) answer old new = ShowsFront answer old new
+EndsWith memory answer old new = Keeps old new
+
 -- How showing an answer ends, and what the output then holds: all of the answer; at a refusal nothing; and where the
 -- output failed, a front of the answer.
 abbrev pub Ends : Result Bool Refusal → Result Told Refused → Option (List ℕ) → Option (List ℕ) → Type 0
 Ends (Ok fails) answer old new = Shows answer fails old new
-Ends (Err (refusal.Fault f)) answer old new = (answer ≡ Err (fault f)) × Keeps old new
-Ends (Err (refusal.Document path f)) answer old new = (answer ≡ Err (document path.now f)) × Keeps old new
-Ends (Err refusal.Input) answer old new = ⊥
-Ends (Err (refusal.Output f)) answer old new = ShowsFront answer old new
-Ends (Err refusal.Memory) answer old new = Keeps old new
+Ends (Err r) answer old new = EndsWith (refused_of r) answer old new
 
 -- The answer is written, its status is the run's, and nothing is said on the error output; or the answer is a refusal, the
 -- status is its, and its line is said there and nothing written. Only an output that cannot be written (3) and want of memory

@@ -100,11 +100,7 @@ fn joined(mut text: Vec<u8>, line: Vec<u8>) -> Result<Vec<u8>, AllocError>
 
 // The properties of what paths lead to, a line for each.
 #[tactic(auto, using(crate::proofs::AnswerLemmas::line_first, crate::proofs::AnswerLemmas::line_more))]
-fn props_lines<'a>(
-    alloc: Global,
-    paths: &'a [Path],
-    store: &Store,
-) -> Result<Shown, Refusal<'a>>
+fn props_lines<'a>(alloc: Global, paths: &'a [Path], store: &Store) -> Result<Shown, Refusal<'a>>
     ensures { let ndb = ndb_of_store store.now in
         let line = line_of_props (table_of_ndb ndb) (nodes_of ndb) in
         Gives result (lines_of_paths line (map nids_of paths.now)) }
@@ -121,11 +117,7 @@ fn props_lines<'a>(
 
 // `props`: the properties of what paths lead to, one after another.
 #[tactic(auto, unfolding(crate::specs::Answer::answer_with))]
-fn props_answer<'a>(
-    alloc: Global,
-    paths: &'a [Path],
-    bytes: &[u8],
-) -> Result<Shown, Refusal<'a>>
+fn props_answer<'a>(alloc: Global, paths: &'a [Path], bytes: &[u8]) -> Result<Shown, Refusal<'a>>
     ensures { (digest : Option (List ℕ)) → Gives result
         (answer_with (props (map nids_of paths.now)) digest bytes.now) }
 {

@@ -48,10 +48,10 @@ impl<'a> Refusal<'a> {
 }
 
 /// The fault NoMemory says nothing of the file.
-impl From<Fault> for Refusal<'_> {
+impl<'a> From<Fault> for Refusal<'a> {
     ghost from_gives = { λ f r. refused_of r ≡ refusal_of f };
 
-    fn from(fault: Fault) -> Refusal {
+    fn from(fault: Fault) -> Refusal<'a> {
         match fault.kind {
             Kind::NoMemory => Refusal::Memory,
             _ => Refusal::Fault(fault),
@@ -59,18 +59,18 @@ impl From<Fault> for Refusal<'_> {
     }
 }
 
-impl From<AllocError> for Refusal<'_> {
+impl<'a> From<AllocError> for Refusal<'a> {
     ghost from_gives = { λ _ r. refused_of r ≡ memory };
 
-    fn from(_error: AllocError) -> Refusal {
+    fn from(_error: AllocError) -> Refusal<'a> {
         Refusal::Memory
     }
 }
 
-impl From<LoadFault> for Refusal<'_> {
+impl<'a> From<LoadFault> for Refusal<'a> {
     ghost from_gives = { λ _ r. IsOfInput (refused_of r) };
 
-    fn from(fault: LoadFault) -> Refusal {
+    fn from(fault: LoadFault) -> Refusal<'a> {
         match fault {
             LoadFault::Read | LoadFault::TooLong => Refusal::Input,
             LoadFault::Memory => Refusal::Memory,
@@ -78,10 +78,10 @@ impl From<LoadFault> for Refusal<'_> {
     }
 }
 
-impl From<EmitFault> for Refusal<'_> {
+impl<'a> From<EmitFault> for Refusal<'a> {
     ghost from_gives = { λ f r. refused_of r ≡ output f };
 
-    fn from(fault: EmitFault) -> Refusal {
+    fn from(fault: EmitFault) -> Refusal<'a> {
         Refusal::Output(fault)
     }
 }

@@ -1,53 +1,24 @@
 //! One run of the program.
 
-ghost use Rattle.std.specs.Prelude.{◌≡◌, ◌≢◌, ◌⊎◌, true, [], Err, IfOk, IfSome, MatchOption};
-ghost use Rattle.std.specs.Io.KnownBytes.{Appends, Keeps};
+ghost use Rattle.std.specs.Prelude.{◌≡◌, ◌≢◌, ◌⊎◌, [], Err, IfOk, IfSome};
 ghost use Rattle.pst_ask.specs.Ask.{Asked, order_of, wanted_of};
 ghost use Rattle.pst_ask.specs.Words.{IsAsked, asked, show_app, texts};
 ghost use Rattle.pst_ask.specs.clap.Words.{fault_of, kind_of};
 ghost use Rattle.pst_ask.specs.declared.words.NoOrder.TheVariants.{Lacks};
 ghost use Rattle.pst_run.specs.Answer.{answer_to, bytes_for, digest_for};
-ghost use Rattle.pst_run.specs.Refusal.{document, memory, output, line_of_text, nid_text, refused_of, status_of};
-ghost use Rattle.pst_json.specs.Output.{AppendsFront};
+ghost use Rattle.pst_run.specs.Refusal.{memory};
 ghost use Rattle.pst_run.specs.Run.{Answers, CarriesOut, Ends, IsLacking, IsRefused, IsStatusOf, MatchNone, Says, SaysLine, lack_text, outputs};
 
 use crate::answers::answer;
 use crate::input::load_counted;
 use crate::refusal::Refusal;
-use arrayvec::ArrayString;
+use crate::said::{refuse, say};
 use pst_ask::{Ask, ErrorKind, Lack, NoOrder, Order, parse};
-use pst_json::{DocFault, EmitFault, emit};
+use pst_json::{EmitFault, emit};
 use pst_plain::plain;
 use sha2::{Digest, Sha256};
 use std::alloc::{AllocError, Global};
-use std::fmt::{Display, Write as _};
 use std::io::{Read, Write};
-
-// Room for a line on the error output: the longest is a fault's, of at most 92 bytes.
-const LINE: usize = 128;
-
-// A text as a line, where there is room for it.
-fn line_of<D: Display + Drop>(text: D) -> Option<ArrayString<LINE>>
-    ensures { IfSome result (λ made. IfSome (D.output text) (λ line.
-        made.bytes ≡ line_of_text line)) }
-{
-    let mut line = ArrayString::<LINE>::new();
-    match writeln!(line, "{text}") {
-        Ok(()) => Some(line),
-        Err(_) => None,
-    }
-}
-
-// Says a line on the error output. It is made first, so that what a writer that fails has taken is a front of it.
-#[tactic(auto, using(crate::proofs::RunLemmas::front_is))]
-fn say<D: Display + Drop, E: Write>(text: D, err: &mut E)
-    ensures said { IfSome (D.output text) (λ line.
-        SaysLine line (E.contents err.old) (E.contents err.new)) }
-{
-    if let Some(line) = line_of(text) {
-        let _ = emit(line.as_str().as_bytes(), err);
-    }
-}
 
 // The SHA-256 of the bytes as they lie in the file, where it is asked for.
 fn digest_if(ask: &Ask, bytes: &[u8]) -> Option<[u8; 32]>
@@ -85,77 +56,6 @@ fn write_answer<'a, W: Write>(
     let shown = answer(alloc, &order.ask, digest, &bytes)?;
     emit(&shown.text, out)?;
     Ok(shown.fails)
-}
-
-// What names a node, behind a mark, where there is room for it.
-fn nid_piece(mark: &'static str, nid: u32) -> Option<ArrayString<LINE>>
-    ensures { IfSome result (λ made. made.bytes ≡ nid_text mark.now nid) }
-{
-    let mut piece = ArrayString::<LINE>::new();
-    match write!(piece, "{mark}0x{nid:x}") {
-        Ok(()) => Some(piece),
-        Err(_) => None,
-    }
-}
-
-// A text, where there is room for it.
-fn piece_of<D: Display + Drop>(text: D) -> Option<ArrayString<LINE>>
-    ensures { IfSome result (λ made. IfSome (D.output text) (λ bytes. made.bytes ≡ bytes)) }
-{
-    let mut piece = ArrayString::<LINE>::new();
-    match write!(piece, "{text}") {
-        Ok(()) => Some(piece),
-        Err(_) => None,
-    }
-}
-
-// Writes a piece, and tells whether all of it was written.
-fn put<E: Write>(piece: Option<ArrayString<LINE>>, err: &mut E) -> bool
-    ensures front { MatchOption piece (Keeps (E.contents err.old) (E.contents err.new))
-        (λ made. AppendsFront (E.contents err.old) (E.contents err.new) made.bytes) }
-    ensures all { result ≡ true →
-        IfSome piece (λ made. Appends (E.contents err.old) (E.contents err.new) made.bytes) }
-{
-    match piece {
-        Some(piece) => emit(piece.as_str().as_bytes(), err).is_ok(),
-        None => false,
-    }
-}
-
-// Says on the error output that there is no document of a folder, or at a path. A path may be long, so the line is written piece
-// by piece.
-fn say_none<E: Write>(fault: DocFault, path: &[u32], err: &mut E)
-    ensures { Says (document path.now fault) (E.contents err.old) (E.contents err.new) }
-{
-    if !put(piece_of(fault), err) {
-        return;
-    }
-    let mut mark = " ";
-    for nid in path {
-        if !put(nid_piece(mark, *nid), err) {
-            return;
-        }
-        mark = "/";
-    }
-    let _ = emit(b"\n", err);
-}
-
-/// Says on the error output why nothing is shown, and gives the status for it. A line that cannot be written changes
-/// nothing. Of an output that is closed nothing is said.
-pub fn refuse<E: Write>(refusal: Refusal, err: &mut E) -> u8
-    ensures status { result ≡ status_of (refused_of refusal.entry) }
-    ensures said { Says (refused_of refusal.entry) (E.contents err.old) (E.contents err.new) }
-    ensures closed { refused_of refusal.entry ≡ output EmitFault.Closed → err.new ≡ err.old }
-{
-    match refusal {
-        Refusal::Fault(fault) => say(fault, err),
-        Refusal::Document(path, fault) => say_none(fault, path, err),
-        Refusal::Input => say("cannot read the file", err),
-        Refusal::Output(EmitFault::Closed) => {}
-        Refusal::Output(fault) => say(fault, err),
-        Refusal::Memory => say("out of memory", err),
-    }
-    refusal.status()
 }
 
 /// Says why nothing is done, and gives the status for it: help and the version on the output, all else on the error output.

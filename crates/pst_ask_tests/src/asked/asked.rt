@@ -69,11 +69,7 @@ fn are_paths<R: Abort + AllocGlobal>(
 #[test]
 fn props_takes_paths_in_their_order(rt: HostRuntime) -> Result<(), Fail> {
     for (words, decode, paths) in [
-        (
-            &["props", "a.pst", "0x12D"][..],
-            false,
-            &[&[0x12d][..]][..],
-        ),
+        (&["props", "a.pst", "0x12D"][..], false, &[&[0x12d][..]][..]),
         (&["props", "a.pst", "--decode", "0x21"], true, &[&[0x21]]),
         (&["props", "a.pst", "0x21", "--decode"], true, &[&[0x21]]),
         (
