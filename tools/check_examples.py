@@ -3,7 +3,7 @@
 
     tools/check_examples.py [--some] [--program PROGRAM] [FILE ..]
 
-With no FILE: README.md and docs/JSON.md. An example is a line that begins with `$ ` in a block that opens
+With no FILE: README.md, docs/JSON.md and docs/OUTLOOK.md. An example is a line that begins with `$ ` in a block that opens
 with ```sh; lines that begin with `> ` go on with it, and the lines behind it, up to the next example or the end of the
 block, are what it has to print, on standard output and standard error together. The examples of a file run one after
 another in one empty folder, in which pst_show and samples name those of the repository, or pst_show the program that
@@ -23,7 +23,7 @@ import sys
 import tempfile
 
 ROOT = os.path.dirname(os.path.dirname(os.path.abspath(__file__)))
-DOCUMENTS = ["README.md", "docs/JSON.md"]
+DOCUMENTS = ["README.md", "docs/JSON.md", "docs/OUTLOOK.md"]
 TOOLS = ["jq", "parallel", "xargs", "find", "python3"]
 
 
@@ -120,7 +120,7 @@ def main():
     parser = argparse.ArgumentParser(description="Runs the examples of the documents against the built program.")
     parser.add_argument("--some", action="store_true", help="examples that cannot be run yet are no failure")
     parser.add_argument("--program", default=f"{ROOT}/pst_show", help="the program, in place of ./pst_show")
-    parser.add_argument("files", nargs="*", metavar="FILE", help="the documents, in place of README.md and docs/JSON.md")
+    parser.add_argument("files", nargs="*", metavar="FILE", help="the documents, in place of README.md, docs/JSON.md and docs/OUTLOOK.md")
     words = parser.parse_args()
     program = os.path.abspath(words.program)
     known = known_commands(program)

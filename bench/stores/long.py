@@ -5,7 +5,7 @@ from stores.contexts import BINARY, STRING, PropertyContext, TableContext, text
 from stores.database import LONGEST_BODY
 from stores.hostile import attachment_entries, identifiers, ordered, roots, small_message
 from stores.lists import BLOCKS_IN_A_LIST, data_tree, leaf_list, subnode_list, xblock, xxblock
-from stores.mail import DISPLAY_NAME, RECIPIENTS
+from stores.mail import DISPLAY_NAME, NAME_MAP, RECIPIENTS
 
 
 def attachments(store, count=40_000, order="rising"):
@@ -107,6 +107,22 @@ def subnode_properties(store, count=40_000, order="falling", kind=4):
     store.node(0x200020 | kind, data, subnode_list(store, ordered(sorted(made.subnodes), order)))
 
 
+def named_entries(store, lists=BLOCKS_IN_A_LIST, length=4096):
+    """LISTS LENGTH: a name map whose entries are so many XBLOCKs of 1,021 times one block of so many bytes, each a
+    name that is a string; the strings, all empty, are as many such blocks."""
+    roots(store)
+
+    def spelt(body):
+        whole = len(body) * BLOCKS_IN_A_LIST
+        return xxblock(store, [xblock(store, [store.block(body)] * BLOCKS_IN_A_LIST, whole)] * lists, whole * lists)
+
+    entries = [struct.pack("<IHH", number * length, 1, number) for number in range(length // 8)]
+    made = PropertyContext(store)
+    made.set_raw(3, BINARY, made.subnode(spelt(b"".join(entries))))
+    made.set_raw(4, BINARY, made.subnode(spelt(bytes(length))))
+    store.node(NAME_MAP, *made.write())
+
+
 def deep_trees(store, nodes=20_000):
     """NODES: B-trees of 16 levels, two entries on a page, over so many messages with data of their own."""
     roots(store)
@@ -123,5 +139,5 @@ def lost_runs(store, regions=80):
     store.mark_every_other = True
 
 
-MAKERS = (attachments, subnode_properties, table_cells, wide_table, scattered_rows, empty_spans, wide_heap, deep_trees,
-          lost_runs)
+MAKERS = (attachments, subnode_properties, table_cells, wide_table, scattered_rows, empty_spans, wide_heap,
+          named_entries, deep_trees, lost_runs)

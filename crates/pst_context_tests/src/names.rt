@@ -5,7 +5,7 @@ use crate::opened::{line_of_fault, node_in};
 use crate::told::is;
 use pst_make::Change;
 use pst_make::Change::Set;
-use pst_names::{Name, NameKind, check_names, known_names};
+use pst_names::{Name, NameKind, NameMap, check_names, known_names};
 use pst_pc::{Pc, check_pc};
 use pst_value::bytes_from;
 use std::alloc::Global;
@@ -52,12 +52,8 @@ fn put_name(alloc: Global, line: &mut String, name: Name) -> Result<(), Fail> {
     Ok(())
 }
 
-// What is answered of the names of three properties, or the line of the first fault.
-fn line_of(alloc: Global, pc: &Pc) -> Result<String, Fail> {
-    if let Err(fault) = check_names(alloc, pc) {
-        return line_of_fault(alloc, fault);
-    }
-    let names = known_names(pc);
+// What is answered of the names of three properties.
+fn told(alloc: Global, names: NameMap) -> Result<String, Fail> {
     let mut line = format!(in alloc; "yes")?;
     for id in [0x8000, 0x8001, 0x8002] {
         let text = format!(in alloc; ", {id:x}")?;
@@ -69,13 +65,25 @@ fn line_of(alloc: Global, pc: &Pc) -> Result<String, Fail> {
     Ok(line)
 }
 
+// What is answered of them, with and without an index, or the line of the first fault.
+fn line_of<R: Abort>(rt: &R, alloc: Global, pc: &Pc) -> Result<String, Fail> {
+    if let Err(fault) = check_names(alloc, pc) {
+        return line_of_fault(alloc, fault);
+    }
+    let names = known_names(pc);
+    let line = told(alloc, names)?;
+    let index = names.index(alloc)?;
+    is(rt, told(alloc, names.indexed(&index))?.as_str(), line.as_str());
+    Ok(line)
+}
+
 // Whether the name map of node 0x21 of a store is answered with a line.
 fn is_answered<R: Abort>(rt: &R, alloc: Global, image: &[u8], line: &str) -> Result<(), Fail> {
     let Ok(pc) = check_pc(node_in(alloc, image, 0x21)?) else {
         return Err(Fail::from("no properties"));
     };
-    let told = line_of(alloc, &pc)?;
-    is(rt, told.as_str(), line);
+    let answer = line_of(rt, alloc, &pc)?;
+    is(rt, answer.as_str(), line);
     Ok(())
 }
 

@@ -3,7 +3,7 @@
 ghost use Rattle.std.specs.Prelude.{IfOk};
 ghost use Rattle.pst_value_json.specs.Cells.{table_rows_left};
 ghost use Rattle.pst_value_json.specs.Object.{KeysRise};
-ghost use Rattle.pst_value_json.specs.Props.{prop_rows};
+ghost use Rattle.pst_value_json.specs.Props.{prop_rows_left};
 
 use crate::told::is;
 use pst_bytes::Image;
@@ -30,12 +30,12 @@ const ROWS: &str =
     "{\"cells\":[{\"tag\":\"67F20003\",\"value\":322},{\"tag\":\"36020003\",\"value\":7}],\"row\":\"0x142\"}]";
 
 // An object of properties.
-fn parts_of<'a>(alloc: Global, pc: &Pc<'a>) -> Result<Vec<Part<Props<'a>>>, AllocError>
-    ensures { IfOk result (λ parts. KeysRise prop_rows parts.items) }
+fn parts_of<'a>(alloc: Global, pc: &Pc<'a>) -> Result<Vec<Part<PropRows<'a>>>, AllocError>
+    ensures { IfOk result (λ parts. KeysRise prop_rows_left parts.items) }
 {
     let parts = vec![in alloc;
         Part::Value("nid", Made::Nid(Some(0x21))),
-        Part::Rows("props", pc.props()),
+        Part::Rows("props", prop_rows(pc, None)),
     ]?;
     Ok(parts)
 }

@@ -13,11 +13,14 @@ use Rattle.pst_verify.specs.pst_msg.declared.items.Items.TheVariants.{Subfolders
 use Rattle.pst_verify.specs.pst_msg.declared.object.Object.{Object}
 use Rattle.pst_verify.specs.pst_msg.Shown.{Shown, object_shown, rows_there, folder_table}
 use Rattle.pst_verify.specs.pst_msg.Values.{is_message}
+use Rattle.pst_verify.specs.pst_reach.declared.reached.Reach.{Reach}
+use Rattle.pst_verify.specs.pst_reach.Path.{path_in}
 use Rattle.pst_verify.specs.pst_store.Kind.{node_of_kind}
 use Rattle.pst_json.specs.declared.texts.TheConstants.{NAME, CLASS, SENDER, SUBJECT}
 use Rattle.pst_json.specs.Contents.{text_there, listed_data}
-use Rattle.pst_json.specs.Folders.{text_or_null, text_property, row_nid, folder_data}
+use Rattle.pst_json.specs.Folders.{text_or_null, text_property, row_nid, path_data, folder_data}
 use Rattle.pst_json.specs.Node.{nid_of_object}
+use Rattle.pst_value_json.specs.Names.{nid_data}
 use Rattle.pst_value_json.specs.Plain.{IsPlain}
 use Rattle.pst_value_json.specs.Value.{text_data}
 use Rattle.pst_value_json.proofs.PlainLemmas.{list_is_plain}
@@ -37,10 +40,14 @@ there_is_plain : (t : Table) (r : Option Roots) (id : ℕ) → IsPlain (text_the
 there_is_plain t None id = record { no_float = refl }
 there_is_plain t (Some r) id = property_is_plain t r id
 
-pub folder_has_none : (t : Table) (nodes : List NodeEntry) (r : Roots) → has_float (folder_data t nodes r) ≡ false
+path_is_plain : (o : Option (List ℕ)) → IsPlain (path_data o)
+path_is_plain None = record { no_float = refl }
+path_is_plain (Some nids) = list_is_plain nid_data (λ nid. record { no_float = refl }) nids
+
+pub folder_has_none : (t : Table) (nodes : List NodeEntry) (reached : List Reach) (r : Roots) → has_float (folder_data t nodes reached r) ≡ false
 unfolding folder_data
-folder_has_none t nodes r =
-    rw (IsPlain.no_float (property_is_plain t r NAME), IsPlain.no_float (list_is_plain row_nid (λ x. record { no_float = refl }) (rows_there t (folder_table nodes Subfolders r.top)))) refl
+folder_has_none t nodes reached r =
+    rw (IsPlain.no_float (property_is_plain t r NAME), IsPlain.no_float (path_is_plain (path_in reached r.top)), IsPlain.no_float (list_is_plain row_nid (λ x. record { no_float = refl }) (rows_there t (folder_table nodes Subfolders r.top)))) refl
 
 pub listed_has_none : (t : Table) (nodes : List NodeEntry) (x : RowParts) → has_float (listed_data t nodes x) ≡ false
 unfolding listed_data

@@ -7,7 +7,8 @@ use Rattle.pst_block.specs.Table.{Table}
 use Rattle.pst_verify.specs.pst_msg.Shown.{Shown}
 use Rattle.pst_value_json.specs.Names.{nid_or_null}
 use Rattle.pst_value_json.specs.Plain.{IsPlain}
-use Rattle.pst_value_json.specs.Props.{prop_data}
+use Rattle.pst_value_json.specs.pst_names.Name.{NameParts}
+use Rattle.pst_value_json.specs.Props.{named_prop_data}
 use Rattle.pst_value_json.proofs.PlainLemmas.{list_is_plain}
 use Rattle.pst_value_json.proofs.PropLemmas.{prop_is_plain}
 use Rattle.pst_json.specs.Node.{attachment_data, embedded_there, props_there}
@@ -21,7 +22,8 @@ nid_is_plain : (nid : Option ℕ) → IsPlain (nid_or_null nid)
 nid_is_plain None = record { no_float = refl }
 nid_is_plain (Some nid) = record { no_float = refl }
 
-pub attachment_has_none : (t : Table) (s : Shown) → has_float (attachment_data t s) ≡ false
+pub attachment_has_none : (names : ℕ → Option NameParts) (t : Table) (s : Shown) → has_float (attachment_data names t s) ≡ false
 unfolding attachment_data
-attachment_has_none t s =
-    rw (IsPlain.no_float (nid_is_plain (embedded_there t s.roots)), IsPlain.no_float (list_is_plain prop_data prop_is_plain (props_there t s.roots))) refl
+attachment_has_none names t s =
+    let props = list_is_plain (named_prop_data names) (λ p. prop_is_plain (names p.id) p) (props_there t s.roots) in
+    rw (IsPlain.no_float (nid_is_plain (embedded_there t s.roots)), IsPlain.no_float props) refl

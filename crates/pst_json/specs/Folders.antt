@@ -1,19 +1,20 @@
 -- The folders of a store as a document ([MS-PST] 2.4.4).
-use Rattle.std.specs.Prelude.{ℕ, nat_eq, Option, Some, None, List, length, map, codes, if◌then◌else◌}
+use Rattle.std.specs.Prelude.{ℕ, Bool, true, false, nat_eq, Option, Some, None, List, ◌++◌, length, codes, if◌then◌else◌}
+use Rattle.std.specs.List.{filter}
 use Rattle.serde_json.specs.Data.{Data, null, object, member, no_members}
 use Rattle.pst_page.specs.declared.entry.NodeEntry.{NodeEntry}
 use Rattle.pst_block.specs.Table.{Table}
 use Rattle.pst_btree.specs.Entries.{first_with}
 use Rattle.pst_ndb.specs.Roots.{Roots, all_roots}
-use Rattle.pst_ndb.specs.Views.{table_of_ndb, nodes_of}
 use Rattle.pst_value_json.specs.pst_pc.Values.{Property, id_of, props_of}
 use Rattle.pst_value_json.specs.pst_tc.Values.{RowParts}
 use Rattle.pst_verify.specs.pst_msg.declared.items.Items.TheVariants.{Subfolders, Messages, Associated}
 use Rattle.pst_verify.specs.pst_msg.Shown.{rows_there, folder_table}
 use Rattle.pst_verify.specs.pst_msg.Values.{is_folder}
 use Rattle.pst_verify.specs.pst_store.Kind.{of_kind}
-use Rattle.pst_verify.specs.pst_store.View.{folders_left, folders_ndb}
-use Rattle.pst_json.specs.declared.folders.FolderRows.{FolderRows}
+use Rattle.pst_verify.specs.pst_reach.declared.reached.Reach.{Reach}
+use Rattle.pst_verify.specs.pst_reach.Levels.{reaches_of}
+use Rattle.pst_verify.specs.pst_reach.Path.{path_in, is_reached_in, is_lost_in}
 use Rattle.pst_json.specs.declared.texts.TheConstants.{NAME}
 use Rattle.pst_value_json.specs.Line.{line_of}
 use Rattle.pst_value_json.specs.Names.{nid_data}
@@ -37,24 +38,38 @@ row_nid x = nid_data x.id
 abbrev pub row_total : Table → Option Roots → ℕ
 row_total t table = length (rows_there t table)
 
--- a folder: how many messages belong to it and are in it, its name, its identifier, and those of its subfolders
-unfoldable pub folder_data : Table → List NodeEntry → Roots → Data
-folder_data t nodes r =
+-- the path of a folder, from the root folder down; null where that does not reach it
+abbrev pub path_data : Option (List ℕ) → Data
+path_data None = null
+path_data (Some nids) = list_data nid_data nids
+
+-- a folder, beside those that the root folder reaches: how many messages belong to it and are in it, its name, its identifier, its
+-- path, and the identifiers of its subfolders
+unfoldable pub folder_data : Table → List NodeEntry → List Reach → Roots → Data
+folder_data t nodes reached r =
     object
     (member (codes "associated") (natural (row_total t (folder_table nodes Associated r.top)))
     (member (codes "messages") (natural (row_total t (folder_table nodes Messages r.top)))
     (member (codes "name") (text_property t r NAME)
     (member (codes "nid") (nid_data r.top)
+    (member (codes "path") (path_data (path_in reached r.top))
     (member (codes "subfolders") (list_data row_nid (rows_there t (folder_table nodes Subfolders r.top)))
-    no_members)))))
+    no_members))))))
 
--- the folders that are left
-abbrev pub folder_rows : FolderRows → List Data
-folder_rows rows = let ndb = folders_ndb rows.0 in map (folder_data (table_of_ndb ndb) (nodes_of ndb)) (folders_left rows.0)
+-- whether a folder is shown: among those that are reached, or among the others
+abbrev pub is_shown : Bool → List Reach → Roots → Bool
+is_shown false reached r = is_reached_in reached r.top
+is_shown true reached r = is_lost_in reached r.top
 
--- all folders and search folders, their identifiers rising
+-- all folders and search folders: first those that the root folder reaches, then the others, both in order
+abbrev pub shown_folders : List NodeEntry → List Reach → List Roots
+shown_folders nodes reached =
+    let all = of_kind is_folder (all_roots nodes) in filter (is_shown false reached) all ++ filter (is_shown true reached) all
+
 unfoldable pub folders_data : Table → List NodeEntry → Data
-folders_data t nodes = object (member (codes "folders") (list_data (folder_data t nodes) (of_kind is_folder (all_roots nodes))) no_members)
+folders_data t nodes =
+    let reached = reaches_of t nodes in
+    object (member (codes "folders") (list_data (folder_data t nodes reached) (shown_folders nodes reached)) no_members)
 
 -- the line that shows them
 unfoldable pub folders_line : Table → List NodeEntry → List ℕ

@@ -9,7 +9,9 @@ pub mod Nodes
 pub mod Check
 pub mod Told
 pub mod Folders
+pub mod FolderRows
 pub mod Contents
+pub mod Names
 pub mod Path
 pub mod Node
 pub mod Found

@@ -4,17 +4,18 @@ use Rattle.serde_json.specs.Data.{Data}
 use Rattle.pst_ndb.specs.Views.{table_of_node}
 use Rattle.pst_verify.specs.pst_msg.View.{attachments_left, holder_left}
 use Rattle.pst_value_json.specs.Cells.{table_rows_left}
-use Rattle.pst_value_json.specs.Props.{prop_rows}
+use Rattle.pst_value_json.specs.Props.{names_told, prop_rows_left}
 use Rattle.pst_json.specs.declared.attachment.AttachmentRows.{AttachmentRows}
 use Rattle.pst_json.specs.declared.lists.MessageRows.{MessageRows}
 use Rattle.pst_json.specs.declared.lists.MessageRows.TheVariants.{Attachments, Props, Recipients, Nobody}
 use Rattle.pst_json.specs.Node.{attachment_data}
 
 abbrev pub attachment_rows_left : AttachmentRows → List Data
-attachment_rows_left rows = map (attachment_data (table_of_node (holder_left rows.0))) (attachments_left rows.0)
+attachment_rows_left rows =
+    map (attachment_data (names_told rows.names) (table_of_node (holder_left rows.attachments))) (attachments_left rows.attachments)
 
 abbrev pub list_left : MessageRows → List Data
 list_left (Attachments rows) = attachment_rows_left rows
-list_left (Props rows) = prop_rows rows
+list_left (Props rows) = prop_rows_left rows
 list_left (Recipients rows) = table_rows_left rows
 list_left Nobody = []

@@ -4,11 +4,11 @@ ghost use Rattle.std.specs.Prelude.{◌≡◌, Some, IfOk};
 ghost use Rattle.pst_ndb.specs.Views.{table_of_node, roots_of};
 ghost use Rattle.pst_verify.specs.pst_msg.View.{node_of_attachment, attachment_shown};
 ghost use Rattle.pst_value_json.specs.Object.{parts_data, KeysRise};
-ghost use Rattle.pst_value_json.specs.Props.{prop_rows};
+ghost use Rattle.pst_value_json.specs.Props.{names_told, prop_rows_left};
 ghost use Rattle.pst_json.specs.Node.{embedded_there, attachment_data};
 ghost use Rattle.pst_json.specs.Lists.{attachment_rows_left};
 
-use pst_value_json::{Made, Part, Props, Rows, Sink, Tree, put_object};
+use pst_value_json::{Made, NameMap, Part, PropRows, Rows, Sink, Tree, prop_rows, put_object};
 use pst_verify::{Attachment, Attachments};
 use serde_json::Value as Doc;
 use std::alloc::{AllocError, Global};
@@ -30,32 +30,36 @@ fn embedded_nid(attachment: Attachment) -> Option<u32>
 pub(crate) fn attachment_parts<'a>(
     alloc: Global,
     attachment: Attachment<'a>,
-) -> Result<Vec<Part<Props<'a>>>, AllocError>
+    names: Option<NameMap<'a>>,
+) -> Result<Vec<Part<PropRows<'a>>>, AllocError>
     ensures shown { let t = table_of_node (node_of_attachment attachment.entry) in
-        let shown = attachment_shown attachment.entry in
-        IfOk result (λ parts. parts_data prop_rows parts.items ≡ attachment_data t shown) }
-    ensures keys { IfOk result (λ parts. KeysRise prop_rows parts.items) }
+        let shown = attachment_data (names_told names.entry) t (attachment_shown attachment.entry) in
+        IfOk result (λ parts. parts_data prop_rows_left parts.items ≡ shown) }
+    ensures keys { IfOk result (λ parts. KeysRise prop_rows_left parts.items) }
 {
     let parts = vec![in alloc;
         Part::Value("embedded", Made::Nid(embedded_nid(attachment))),
         Part::Value("nid", Made::Nid(Some(attachment.nid()))),
-        Part::Rows("props", attachment.pc().props()),
+        Part::Rows("props", prop_rows(&attachment.pc(), names)),
     ]?;
     Ok(parts)
 }
 
-/// The attachments that are left.
+/// The attachments that are left, and the names that their properties are shown with.
 #[derive(Drop)]
-pub(crate) struct AttachmentRows<'a>(pub(crate) Attachments<'a>);
+pub(crate) struct AttachmentRows<'a> {
+    pub(crate) attachments: Attachments<'a>,
+    pub(crate) names: Option<NameMap<'a>>,
+}
 
 #[tactic(auto, using(crate::proofs::NodeLemmas::attachment_has_none, pst_value_json::proofs::RowLemmas::puts_next))]
 impl Rows for AttachmentRows<'_> {
     ghost left = { attachment_rows_left };
 
     fn next_doc(&mut self, alloc: Global) -> Result<Option<Doc>, AllocError> {
-        match self.0.next() {
+        match self.attachments.next() {
             Some(attachment) => {
-                let parts = attachment_parts(alloc, attachment)?;
+                let parts = attachment_parts(alloc, attachment, self.names)?;
                 Ok(Some(Tree::object(alloc, parts)?))
             }
             None => Ok(None),
@@ -69,10 +73,11 @@ impl Rows for AttachmentRows<'_> {
         later: bool,
         text: &mut Vec<u8>,
     ) -> Result<bool, AllocError> {
-        let Some(attachment) = self.0.next() else {
+        let Some(attachment) = self.attachments.next() else {
             return Ok(false);
         };
-        put_object(alloc, attachment_parts(alloc, attachment)?, later, text)?;
+        let parts = attachment_parts(alloc, attachment, self.names)?;
+        put_object(alloc, parts, later, text)?;
         Ok(true)
     }
 }

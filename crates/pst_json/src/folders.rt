@@ -1,25 +1,26 @@
 //! The folders of a store as a document.
 
-ghost use Rattle.std.specs.Prelude.{◌≡◌, IfOk, IfSome, length, option_map};
+ghost use Rattle.std.specs.Prelude.{◌≡◌, None, IfOk, IfSome, length, map, option_map};
 ghost use Rattle.serde_json.specs.View.{view};
 ghost use Rattle.pst_block.specs.Table.{Table};
+ghost use Rattle.pst_btree.specs.Order.{Rises};
 ghost use Rattle.pst_ndb.specs.Views.{table_of_ndb, nodes_of, table_of_node, roots_of};
 ghost use Rattle.pst_value_json.specs.pst_tc.Tc.{node_of_tc};
 ghost use Rattle.pst_value_json.specs.pst_tc.Values.{tc_rows};
 ghost use Rattle.pst_verify.specs.pst_msg.Shown.{rows_there};
 ghost use Rattle.pst_verify.specs.pst_msg.View.{tc_roots, ndb_of_folder, folder_roots};
+ghost use Rattle.pst_verify.specs.pst_reach.Path.{reach_nid, path_in};
 ghost use Rattle.pst_verify.specs.pst_store.View.{ndb_of_store};
-ghost use Rattle.pst_json.specs.Folders.{row_nid, folder_data, folder_rows, folders_data, folders_line as line_of_folders};
+ghost use Rattle.pst_json.specs.Folders.{row_nid, path_data, folder_data, folders_data, folders_line as line_of_folders};
+ghost use Rattle.pst_value_json.specs.Names.{nid_data};
 ghost use Rattle.pst_value_json.specs.Parts.{list_data};
 
+use crate::folder_rows::FolderRows;
 use crate::texts::{NAME, text_property_doc};
-use pst_value_json::{Line, Part, Rows, Sink, Tc, Tree, nid_text};
-use pst_verify::{Folder, Folders, Store};
+use pst_value_json::{Line, Part, Sink, Tc, Tree, nid_text};
+use pst_verify::{Folder, Reach, Verified, path_from_root};
 use serde_json::{Value as Doc, json};
 use std::alloc::{AllocError, Global};
-
-// How many bytes the row of a folder takes, where its name is short and it has no subfolders.
-const ROOM: usize = 96;
 
 // How many rows a table has, 0 where it is not there.
 fn count_of(table: Option<Tc>) -> u64
@@ -45,7 +46,19 @@ fn row_nids_doc(alloc: Global, tc: &Tc) -> Result<Doc, AllocError>
     Ok(Doc::from(docs))
 }
 
-// The same, of no rows where the table is not there.
+// Identifiers as a list.
+#[tactic(auto, using(crate::proofs::RowsLemmas::nids_more, crate::proofs::RowsLemmas::nids_end))]
+fn nid_list_doc(alloc: Global, nids: &[u32]) -> Result<Doc, AllocError>
+    ensures { IfOk result (λ d. view d ≡ list_data nid_data nids.now) }
+{
+    let mut docs = Vec::new(alloc);
+    for nid in nids {
+        docs.push(Doc::from(nid_text(alloc, *nid)?))?;
+    }
+    Ok(Doc::from(docs))
+}
+
+// The identifiers of the rows of a table, of no rows where it is not there.
 fn nids_of(alloc: Global, table: Option<Tc>) -> Result<Doc, AllocError>
     ensures { (t : Table) → IfSome table.entry (λ x. table_of_node (node_of_tc x) ≡ t)
         → IfOk result (λ d. view d
@@ -57,11 +70,23 @@ fn nids_of(alloc: Global, table: Option<Tc>) -> Result<Doc, AllocError>
     }
 }
 
-// A folder as an object.
+// The path of a folder as a list, from the root folder down; null where that does not reach it.
+fn path_doc(alloc: Global, reached: &[Reach], nid: u32) -> Result<Doc, AllocError>
+    requires rise { Rises 0 None (map reach_nid reached.now) }
+    ensures { IfOk result (λ d. view d ≡ path_data (path_in reached.now nid)) }
+{
+    match path_from_root(alloc, reached, nid)? {
+        Some(path) => nid_list_doc(alloc, &path),
+        None => Ok(Doc::Null),
+    }
+}
+
+/// A folder as an object.
 #[tactic(auto, unfolding(crate::specs::Folders::folder_data))]
-fn folder_doc(alloc: Global, folder: Folder) -> Result<Doc, AllocError>
+pub(crate) fn folder_doc(alloc: Global, folder: Folder, reached: &[Reach]) -> Result<Doc, AllocError>
+    requires rise { Rises 0 None (map reach_nid reached.now) }
     ensures { let ndb = ndb_of_folder folder.entry in
-        IfOk result (λ d. view d ≡ folder_data (table_of_ndb ndb) (nodes_of ndb)
+        IfOk result (λ d. view d ≡ folder_data (table_of_ndb ndb) (nodes_of ndb) reached.now
         (folder_roots folder.entry)) }
 {
     folder.is_sound();
@@ -69,72 +94,46 @@ fn folder_doc(alloc: Global, folder: Folder) -> Result<Doc, AllocError>
     let messages = count_of(folder.contents());
     let name = text_property_doc(alloc, &folder.pc(), NAME)?;
     let nid = nid_text(alloc, folder.nid())?;
+    let path = path_doc(alloc, reached, folder.nid())?;
     let subfolders = nids_of(alloc, folder.hierarchy())?;
     json!(in alloc; {
         "associated": associated,
         "messages": messages,
         "name": name,
         "nid": nid,
+        "path": path,
         "subfolders": subfolders,
     })
 }
 
-// How many bytes the rows of folders take, where their names are short.
-fn room_for(folders: Folders) -> usize {
-    let mut room = 0usize;
-    for _folder in folders {
-        room = room.saturating_add(ROOM);
-    }
-    room
-}
-
-/// The folders that are left, each as an object.
-#[derive(Drop)]
-pub(crate) struct FolderRows<'a>(Folders<'a>);
-
-#[tactic(auto, using(crate::proofs::FolderLemmas::folder_has_none))]
-impl Rows for FolderRows<'_> {
-    ghost left = { folder_rows };
-
-    fn next_doc(&mut self, alloc: Global) -> Result<Option<Doc>, AllocError> {
-        match self.0.next() {
-            Some(folder) => Ok(Some(folder_doc(alloc, folder)?)),
-            None => Ok(None),
-        }
-    }
-
-    fn room(&self) -> usize {
-        room_for(self.0)
-    }
-}
-
 // The document.
 #[tactic(auto, unfolding(crate::specs::Folders::folders_data))]
-fn shown_folders<S: Sink>(alloc: Global, store: &Store) -> Result<S::Out, AllocError>
-    ensures { let ndb = ndb_of_store store.now in
+fn shown_folders<S: Sink>(alloc: Global, verified: &Verified) -> Result<S::Out, AllocError>
+    ensures { let ndb = ndb_of_store verified.now.store in
         IfOk result (λ out. S.Shows out (folders_data (table_of_ndb ndb) (nodes_of ndb))) }
 {
-    let parts = vec![in alloc; Part::Rows("folders", FolderRows(store.folders()))]?;
+    let parts = vec![in alloc; Part::Rows("folders", FolderRows::of(verified))]?;
     S::object(alloc, parts)
 }
 
-/// The folders and search folders of a store as a JSON object with one member, an array that has an object for each, in
-/// order of their identifiers. A folder has the numbers of the messages that belong to it and that are in it, its name or
-/// null, its identifier, and those of its subfolders.
-pub fn folders_doc(alloc: Global, store: &Store) -> Result<Doc, AllocError>
-    ensures { let ndb = ndb_of_store store.now in
+/// The folders and search folders of a store as a JSON object with one member, an array that has an object for each: first
+/// those that the root folder reaches, then the others, both in order of their identifiers. A folder has the numbers of the
+/// messages that belong to it and that are in it, its name or null, its identifier, the identifiers from the root folder down
+/// the parents to it or null where that does not reach it, and those of its subfolders.
+pub fn folders_doc(alloc: Global, verified: &Verified) -> Result<Doc, AllocError>
+    ensures { let ndb = ndb_of_store verified.now.store in
         IfOk result (λ d. view d ≡ folders_data (table_of_ndb ndb) (nodes_of ndb)) }
 {
-    shown_folders::<Tree>(alloc, store)
+    shown_folders::<Tree>(alloc, verified)
 }
 
 /// The line that shows the folders of a store: the compact text of their document, and a line feed. It is made folder by
 /// folder: beside the text, memory is taken for one folder at a time. Room for all of them is taken at the start, so that a
-/// long text need not be moved while it grows.
+/// text whose names and paths are short need not be moved while it grows.
 #[tactic(auto, unfolding(crate::specs::Folders::folders_line))]
-pub fn folders_line(alloc: Global, store: &Store) -> Result<Vec<u8>, AllocError>
-    ensures { let ndb = ndb_of_store store.now in
+pub fn folders_line(alloc: Global, verified: &Verified) -> Result<Vec<u8>, AllocError>
+    ensures { let ndb = ndb_of_store verified.now.store in
         IfOk result (λ t. t.items ≡ line_of_folders (table_of_ndb ndb) (nodes_of ndb)) }
 {
-    shown_folders::<Line>(alloc, store)
+    shown_folders::<Line>(alloc, verified)
 }

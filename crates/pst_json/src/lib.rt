@@ -4,7 +4,7 @@
 //! that tree and a line feed, made row by row. Begin with `nodes_doc` and `nodes_line`; `emit` writes a text:
 //!
 //! ```text
-//! let line = folders_line(alloc, &store)?;
+//! let line = folders_line(alloc, &verified)?;
 //! emit(&line, &mut out)?;
 //! ```
 #![tactic(auto)]
@@ -13,11 +13,13 @@ mod attachment;
 mod check;
 mod contents;
 mod fault;
+mod folder_rows;
 mod folders;
 mod found;
 mod head;
 mod index;
 mod lists;
+mod names;
 mod node;
 mod nodes;
 mod output;
@@ -28,9 +30,10 @@ pub use contents::{contents_doc, contents_line};
 pub use fault::DocFault;
 pub use folders::{folders_doc, folders_line};
 pub use head::{head_doc, head_line};
+pub use names::names_index;
 pub use node::{props_doc, props_line};
 pub use nodes::{nodes_doc, nodes_line};
 pub use output::{EmitFault, emit};
 pub use pst_ndb::read_nodes;
-pub use pst_value_json::{hex_doc, pc_doc, table_doc, text, value_doc};
+pub use pst_value_json::{NameIndex, hex_doc, pc_doc, table_doc, text, value_doc};
 pub use pst_verify::{Store, verify};

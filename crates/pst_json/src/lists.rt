@@ -3,7 +3,7 @@
 ghost use Rattle.pst_json.specs.Lists.{list_left};
 
 use crate::attachment::AttachmentRows;
-use pst_value_json::{Props, Rows, TableRows};
+use pst_value_json::{PropRows, Rows, TableRows};
 use serde_json::Value as Doc;
 use std::alloc::{AllocError, Global};
 
@@ -13,7 +13,7 @@ pub(crate) enum MessageRows<'a> {
     /// Its attachments.
     Attachments(AttachmentRows<'a>),
     /// Its properties.
-    Props(Props<'a>),
+    Props(PropRows<'a>),
     /// Its recipients, where it has a table of them.
     Recipients(TableRows<'a>),
     /// No recipients.

@@ -5,11 +5,13 @@ ghost use Rattle.serde_json.specs.Data.{array};
 ghost use Rattle.serde_json.specs.View.{view, items_of};
 ghost use Rattle.pst_ndb.specs.Roots.{subnode_of};
 ghost use Rattle.pst_ndb.specs.Views.{table_of_ndb, nodes_of, table_of_node, roots_of};
+ghost use Rattle.pst_value_json.specs.Props.{names_told};
 ghost use Rattle.pst_value_json.specs.pst_pc.View.{node_of_pc};
 ghost use Rattle.pst_verify.specs.pst_msg.View.{node_of_attachment, attachment_shown, node_of_message};
 ghost use Rattle.pst_verify.specs.pst_store.View.{ndb_of_store};
 ghost use Rattle.pst_json.specs.Found.{node_of_found, place_of_found};
 ghost use Rattle.pst_json.specs.Lists.{list_left};
+ghost use Rattle.pst_json.specs.Names.{IsNamesIndex};
 ghost use Rattle.pst_json.specs.Node.{recipient_nid, recipients_there, attachment_data, message_data, node_props_data, place_data, props_told, props_line as line_of_props};
 ghost use Rattle.pst_json.specs.Told.{TellsDoc};
 
@@ -18,7 +20,8 @@ use crate::fault::DocFault;
 use crate::found::{Found, found_in};
 use crate::index::index_of;
 use crate::lists::MessageRows;
-use pst_value_json::{Line, Made, Part, Pc, Sink, Tree, table_rows};
+use crate::names::names_in;
+use pst_value_json::{Line, Made, NameIndex, NameMap, Part, Pc, Sink, Tree, prop_rows, table_rows};
 use pst_verify::{Attachment, Message, Store};
 use serde_json::Value as Doc;
 use std::alloc::{AllocError, Global};
@@ -29,16 +32,20 @@ fn shown_lists<'a, S: Sink>(
     alloc: Global,
     nid: u32,
     message: Message<'a>,
+    names: Option<NameMap<'a>>,
     recipients: MessageRows<'a>,
 ) -> Result<S::Out, AllocError>
     requires { let node = node_of_message message in
         let t = table_of_node node in let r = roots_of node in
         array (items_of (list_left recipients)) ≡ recipients_there t (subnode_of t r recipient_nid) }
-    ensures { let node = node_of_message message.entry in
-        IfOk result (λ out. S.Shows out (message_data (table_of_node node) (roots_of node) nid)) }
+    ensures { let node = node_of_message message.entry in let told = names_told names.entry in
+        IfOk result (λ out. S.Shows out (message_data told (table_of_node node) (roots_of node) nid)) }
 {
-    let attachments = MessageRows::Attachments(AttachmentRows(message.attachments()));
-    let props = MessageRows::Props(message.pc().props());
+    let attachments = MessageRows::Attachments(AttachmentRows {
+        attachments: message.attachments(),
+        names,
+    });
+    let props = MessageRows::Props(prop_rows(&message.pc(), names));
     let parts = vec![in alloc;
         Part::Rows("attachments", attachments),
         Part::Value("nid", Made::Nid(Some(nid))),
@@ -49,81 +56,115 @@ fn shown_lists<'a, S: Sink>(
 }
 
 // The document of a message, under the identifier of its node.
-fn shown_message<S: Sink>(alloc: Global, nid: u32, message: Message) -> Result<S::Out, AllocError>
-    ensures { let node = node_of_message message.entry in
-        IfOk result (λ out. S.Shows out (message_data (table_of_node node) (roots_of node) nid)) }
+fn shown_message<S: Sink>(
+    alloc: Global,
+    nid: u32,
+    message: Message,
+    names: Option<NameMap>,
+) -> Result<S::Out, AllocError>
+    ensures { let node = node_of_message message.entry in let told = names_told names.entry in
+        IfOk result (λ out. S.Shows out (message_data told (table_of_node node) (roots_of node) nid)) }
 {
     match message.recipients() {
         Some(table) => {
             let index = index_of(alloc, table.node())?;
             let rows = table_rows(alloc, &table.indexed(&index))?;
-            shown_lists::<S>(alloc, nid, message, MessageRows::Recipients(rows))
+            shown_lists::<S>(alloc, nid, message, names, MessageRows::Recipients(rows))
         }
-        None => shown_lists::<S>(alloc, nid, message, MessageRows::Nobody),
+        None => shown_lists::<S>(alloc, nid, message, names, MessageRows::Nobody),
     }
 }
 
 // The document of a node that is no message.
 #[tactic(auto, unfolding(crate::specs::Node::node_props_data))]
-fn shown_node<S: Sink>(alloc: Global, nid: u32, pc: &Pc) -> Result<S::Out, AllocError>
-    ensures { let node = node_of_pc pc.now in
-        IfOk result (λ out. S.Shows out (node_props_data (table_of_node node) (roots_of node) nid)) }
+fn shown_node<S: Sink>(
+    alloc: Global,
+    nid: u32,
+    pc: &Pc,
+    names: Option<NameMap>,
+) -> Result<S::Out, AllocError>
+    ensures { let node = node_of_pc pc.now in let told = names_told names.entry in
+        IfOk result (λ out.
+        S.Shows out (node_props_data told (table_of_node node) (roots_of node) nid)) }
 {
     let parts = vec![in alloc;
         Part::Value("nid", Made::Nid(Some(nid))),
-        Part::Rows("props", pc.props()),
+        Part::Rows("props", prop_rows(pc, names)),
     ]?;
     S::object(alloc, parts)
 }
 
 // The document of an attachment.
-fn shown_attachment<S: Sink>(alloc: Global, attachment: Attachment) -> Result<S::Out, AllocError>
+fn shown_attachment<S: Sink>(
+    alloc: Global,
+    attachment: Attachment,
+    names: Option<NameMap>,
+) -> Result<S::Out, AllocError>
     ensures { let t = table_of_node (node_of_attachment attachment.entry) in
-        let shown = attachment_shown attachment.entry in
-        IfOk result (λ out. S.Shows out (attachment_data t shown)) }
+        let shown = attachment_shown attachment.entry in let told = names_told names.entry in
+        IfOk result (λ out. S.Shows out (attachment_data told t shown)) }
 {
-    S::object(alloc, attachment_parts(alloc, attachment)?)
+    S::object(alloc, attachment_parts(alloc, attachment, names)?)
 }
 
 // The document of what has one.
-fn shown_found<S: Sink>(alloc: Global, found: Found) -> Result<S::Out, AllocError>
-    ensures { let t = table_of_node (node_of_found found.entry) in
-        IfOk result (λ out. S.Shows out (place_data t (place_of_found found.entry))) }
+fn shown_found<S: Sink>(
+    alloc: Global,
+    found: Found,
+    names: Option<NameMap>,
+) -> Result<S::Out, AllocError>
+    ensures { let t = table_of_node (node_of_found found.entry) in let told = names_told names.entry in
+        IfOk result (λ out. S.Shows out (place_data told t (place_of_found found.entry))) }
 {
     match found {
         Found::Message(message) => {
             let index = index_of(alloc, message.node())?;
-            shown_message::<S>(alloc, message.nid(), message.indexed(&index))
+            shown_message::<S>(alloc, message.nid(), message.indexed(&index), names)
         }
-        Found::Attachment(attachment) => shown_attachment::<S>(alloc, attachment),
+        Found::Attachment(attachment) => shown_attachment::<S>(alloc, attachment, names),
         Found::Pc(pc) => {
             let index = index_of(alloc, pc.node())?;
-            shown_node::<S>(alloc, pc.node().nid(), &pc.indexed(&index))
+            shown_node::<S>(alloc, pc.node().nid(), &pc.indexed(&index), names)
         }
     }
 }
 
 /// The properties of what a path leads to as a JSON object: the last identifier of the path, and the properties as `pc_doc` gives
-/// them; of a message also its attachments, an array that has an object for each, with the identifier of the message that it embeds
-/// or null, its own, and its properties; and its recipients, as `table_doc` gives them; of an attachment that same object. A path
-/// is a node, and behind a message an attachment of it, behind an attachment the message that it embeds: NoNode where a step leads
-/// nowhere; Bad with the fault of `check_pc` where the node is neither a message nor a property context.
+/// them, called as the store's name map says; of a message also its attachments, an array that has an object for each, with the
+/// identifier of the message that it embeds or null, its own, and its properties; and its recipients, as `table_doc` gives them; of
+/// an attachment that same object. A path is a node, and behind a message an attachment of it, behind an attachment the message that
+/// it embeds: NoNode where a step leads nowhere; Bad with the fault of `check_pc` where the node is neither a message nor a property
+/// context. The index of names is that of `names_index`, made once however many paths are shown.
 #[tactic(auto, using(crate::proofs::FoundLemmas::told_found, crate::proofs::FoundLemmas::told_refused), unfolding(crate::specs::Node::props_told))]
-pub fn props_doc(alloc: Global, store: &Store, path: &[u32]) -> Result<Doc, DocFault>
+pub fn props_doc(
+    alloc: Global,
+    store: &Store,
+    index: &NameIndex,
+    path: &[u32],
+) -> Result<Doc, DocFault>
+    requires { let ndb = ndb_of_store store.now in
+        IsNamesIndex (table_of_ndb ndb) (nodes_of ndb) index.now }
     ensures { let ndb = ndb_of_store store.now in
         TellsDoc view result (props_told (table_of_ndb ndb) (nodes_of ndb) path.now) }
 {
     let found = found_in(store, path)?;
-    Ok(shown_found::<Tree>(alloc, found)?)
+    Ok(shown_found::<Tree>(alloc, found, names_in(store, index))?)
 }
 
 /// The line that shows the properties of what a path leads to: the compact text of their document, and a line feed; or why there is
 /// none. It is made property by property, and row by row: beside the text, memory is taken for one at a time.
 #[tactic(auto, using(crate::proofs::FoundLemmas::line_found, crate::proofs::FoundLemmas::line_refused), unfolding(crate::specs::Node::props_line, crate::specs::Node::props_told))]
-pub fn props_line(alloc: Global, store: &Store, path: &[u32]) -> Result<Vec<u8>, DocFault>
+pub fn props_line(
+    alloc: Global,
+    store: &Store,
+    index: &NameIndex,
+    path: &[u32],
+) -> Result<Vec<u8>, DocFault>
+    requires { let ndb = ndb_of_store store.now in
+        IsNamesIndex (table_of_ndb ndb) (nodes_of ndb) index.now }
     ensures { let ndb = ndb_of_store store.now in
         TellsDoc (λ t. t.items) result (line_of_props (table_of_ndb ndb) (nodes_of ndb) path.now) }
 {
     let found = found_in(store, path)?;
-    Ok(shown_found::<Line>(alloc, found)?)
+    Ok(shown_found::<Line>(alloc, found, names_in(store, index))?)
 }

@@ -2,7 +2,7 @@
 
 use crate::told::is;
 use pst_amap::BitOrder;
-use pst_make::{Change, Plan, build, m0, m0_plan, m1, m1_plan, set};
+use pst_make::{Change, NodePlan, Plan, build, m0, m0_plan, m1, m1_plan, set};
 use pst_verify::*;
 use std::alloc::Global;
 use std::test::Fail;
@@ -20,10 +20,14 @@ fn line_of(alloc: Global, image: &[u8]) -> Result<String, Fail> {
         BitOrder::Low => "low",
     };
     let work = report.work;
-    let (expansions, contexts) = (work.expansions, work.contexts);
+    let (expansions, contexts, walked) = (work.expansions, work.contexts, work.walked);
     let mut line = format!(in alloc;
-        "yes: {pages} {blocks} {nodes} {folders} {messages} {order}, {expansions} {contexts}"
+        "yes: {pages} {blocks} {nodes} {folders} {messages} {order}, {expansions} {contexts} {walked}"
     )?;
+    for nid in &report.unreached {
+        let text = format!(in alloc; ", unreached {nid:x}")?;
+        line.push_str(&text)?;
+    }
     for span in &report.lost {
         let (at, len) = (span.at, span.len);
         let text = format!(in alloc; ", lost {at} {len}")?;
@@ -47,23 +51,40 @@ fn with_byte(
     build(alloc, &plan).map_err(|_| Fail::from("not made"))
 }
 
+// What is reported of the small store with one node more.
+fn with_node(alloc: Global, nid: u32, bid_data: u64) -> Result<String, Fail> {
+    let mut plan = m1_plan(alloc)?;
+    plan.nodes.push(NodePlan {
+        nid,
+        bid_data,
+        bid_sub: 0,
+        parent: 0,
+    })?;
+    let image = build(alloc, &plan).map_err(|_| Fail::from("not made"))?;
+    line_of(alloc, &image)
+}
+
 #[test]
 fn stores_are_reported(rt: HostRuntime) -> Result<(), Fail> {
     let alloc = rt.alloc();
     let image = m0(alloc)?;
     let told = line_of(alloc, &image)?;
-    is(&rt, told.as_str(), "yes: 2 2 2 1 0 high, 0 2");
+    is(&rt, told.as_str(), "yes: 2 2 2 1 0 high, 0 2 1");
     let image = m1(alloc)?;
     let told = line_of(alloc, &image)?;
-    is(&rt, told.as_str(), "yes: 2 3 4 2 0 high, 0 3");
+    is(&rt, told.as_str(), "yes: 2 3 4 2 0 high, 0 3 2");
+    let told = with_node(alloc, 0x162, 8)?;
+    is(&rt, told.as_str(), "yes: 2 3 5 3 0 high, 0 3 2, unreached 162");
+    let told = with_node(alloc, 0x14d, 12)?;
+    is(&rt, told.as_str(), "yes: 2 3 5 2 0 high, 0 3 2");
     Ok(())
 }
 
 // The first byte of the allocation map that is set, and what is answered: its units 32 to 39 are those of the two blocks.
 const MAPS: [(u8, &str); 3] = [
-    (0xe0, "yes: 2 2 2 1 0 high, 0 2, lost 19584 64"),
+    (0xe0, "yes: 2 2 2 1 0 high, 0 2 1, lost 19584 64"),
     (0x80, "no: 20 MapMissing at 0x4c40 bid 0x0 nid 0x0"),
-    (0x03, "yes: 2 2 2 1 0 low, 0 2"),
+    (0x03, "yes: 2 2 2 1 0 low, 0 2 1"),
 ];
 
 #[test]

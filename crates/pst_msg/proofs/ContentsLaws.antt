@@ -14,17 +14,20 @@ use Rattle.pst_ndb.specs.Fault.{node_fault as trees_fault, nodes_fault}
 use Rattle.pst_ndb.proofs.NodeLemmas.{none_subs}
 use Rattle.pst_tc.specs.Values.{RowParts, tc_rows}
 use Rattle.pst_ndb.specs.Roots.{Roots, entry_roots, node_in, all_roots}
-use Rattle.pst_fault.specs.Each.{first_of, there_or}
+use Rattle.pst_fault.specs.Each.{first_of, if_there, there_or}
 use Rattle.pst_pc.specs.Fault.{pc_fault}
 use Rattle.pst_tc.specs.Fault.{tc_fault}
+use Rattle.pst_names.specs.declared.name_map.TheConstants.{NAME_MAP}
+use Rattle.pst_names.specs.Fault.{names_fault}
+use Rattle.pst_names.proofs.NameLaws.{none_names, names_none}
 use Rattle.pst_msg.specs.declared.items.Items.{Items}
 use Rattle.pst_msg.specs.declared.items.Items.TheVariants.{Subfolders, Messages, Associated}
 use Rattle.pst_msg.specs.declared.nid.TheConstants.{STORE, ROOT, FOLDER, SEARCH_FOLDER, MESSAGE, ASSOCIATED}
 use Rattle.pst_msg.specs.Nid.{type_of, is_type, named}
-use Rattle.pst_msg.specs.Fault.{message_fault, listed_item_fault, items_fault, table_fault, folder_fault, required_fault, typed_node_fault, messaging_fault}
+use Rattle.pst_msg.specs.Fault.{message_fault, listed_item_fault, items_fault, table_fault, folder_fault, required_fault, name_map_fault, typed_node_fault, messaging_fault}
 use Rattle.pst_msg.specs.Values.{may_list, listing_of}
 use Rattle.pst_tc.specs.Grammar.{IsTc}
-use Rattle.pst_msg.specs.Grammar.{Lists, IsFolder, HasProperties, Contents}
+use Rattle.pst_msg.specs.Grammar.{Lists, IsFolder, HasProperties, MayHaveNames, Contents}
 use Rattle.pst_msg.specs.Laws.{ContentsLaw}
 use Rattle.pst_msg.specs.NodeLaw.{IsAsTyped, NodeLaw}
 use Rattle.pst_pc.proofs.PcLaws.{none_pc, pc_none}
@@ -159,24 +162,41 @@ none_required t nodes nid none = by_found (node_in nodes nid) refl none
     by_found None e h = cc
     by_found (Some r) e h = (r, e, none_pc t r h)
 
+-- ---- the name map
+
+names_are_none : (t : Table) (nodes : List NodeEntry) → MayHaveNames t nodes → if_there (name_map_fault t) (node_in nodes NAME_MAP) ≡ None
+unfolding name_map_fault
+names_are_none t nodes are =
+    there_none (name_map_fault t) (node_in nodes NAME_MAP)
+    (λ r e. both_none (pc_fault t r) (names_fault t r) (pc_none t r (are r e).0) (names_none t r (are r e).1))
+
+pub none_are_names : (t : Table) (nodes : List NodeEntry) → if_there (name_map_fault t) (node_in nodes NAME_MAP) ≡ None → MayHaveNames t nodes
+unfolding name_map_fault
+none_are_names t nodes none r e =
+    let both = none_then (pc_fault t r) (names_fault t r) (none_there (name_map_fault t) (node_in nodes NAME_MAP) r none e) in
+    (none_pc t r both.0, none_names t r both.1)
+
 -- ---- laws
 
 contents_none : (t : Table) (nodes : List NodeEntry) → nodes_fault t nodes ≡ None → Contents t nodes → messaging_fault t nodes ≡ None
 unfolding messaging_fault
 contents_none t nodes sound is =
     both_none (required_fault t nodes STORE) _ (required_none t nodes STORE is.store)
-    (both_none (required_fault t nodes ROOT) (first_of (typed_node_fault t nodes) (all_roots nodes)) (required_none t nodes ROOT is.root)
+    (both_none (required_fault t nodes ROOT) _ (required_none t nodes ROOT is.root)
+    (both_none (if_there (name_map_fault t) (node_in nodes NAME_MAP)) (first_of (typed_node_fault t nodes) (all_roots nodes)) (names_are_none t nodes is.names)
     (of_none (typed_node_fault t nodes) (all_roots nodes)
-    (λ r w. node_none t nodes r (nodes_sound t nodes r sound w) (record { folder = is.folders r w; search_folder = is.searches r w; message = is.messages r w; associated = is.associated r w }))))
+    (λ r w. node_none t nodes r (nodes_sound t nodes r sound w) (record { folder = is.folders r w; search_folder = is.searches r w; message = is.messages r w; associated = is.associated r w })))))
 
 pub none_contents : (t : Table) (nodes : List NodeEntry) → nodes_fault t nodes ≡ None → messaging_fault t nodes ≡ None → Contents t nodes
 unfolding messaging_fault
 none_contents t nodes sound none =
-    let p = none_then (required_fault t nodes STORE) (required_fault t nodes ROOT then first_of (typed_node_fault t nodes) (all_roots nodes)) none in
-    let q = none_then (required_fault t nodes ROOT) (first_of (typed_node_fault t nodes) (all_roots nodes)) p.1 in
-    let each : (r : Roots) → Contains (all_roots nodes) r → IsAsTyped t nodes r = λ r w. none_node t nodes r (nodes_sound t nodes r sound w) (none_of (typed_node_fault t nodes) (all_roots nodes) r q.1 w) in record {
+    let p = none_then (required_fault t nodes STORE) (required_fault t nodes ROOT then if_there (name_map_fault t) (node_in nodes NAME_MAP) then first_of (typed_node_fault t nodes) (all_roots nodes)) none in
+    let q = none_then (required_fault t nodes ROOT) (if_there (name_map_fault t) (node_in nodes NAME_MAP) then first_of (typed_node_fault t nodes) (all_roots nodes)) p.1 in
+    let s = none_then (if_there (name_map_fault t) (node_in nodes NAME_MAP)) (first_of (typed_node_fault t nodes) (all_roots nodes)) q.1 in
+    let each : (r : Roots) → Contains (all_roots nodes) r → IsAsTyped t nodes r = λ r w. none_node t nodes r (nodes_sound t nodes r sound w) (none_of (typed_node_fault t nodes) (all_roots nodes) r s.1 w) in record {
       store = none_required t nodes STORE p.0;
       root = none_required t nodes ROOT q.0;
+      names = none_are_names t nodes s.0;
       folders = λ r w e. (each r w).folder e;
       searches = λ r w e. (each r w).search_folder e;
       messages = λ r w e. (each r w).message e;

@@ -7,6 +7,7 @@ use Rattle.pst_block.specs.Table.{Table}
 use Rattle.pst_ndb.specs.declared.node.Node.{Node}
 use Rattle.pst_msg.specs.declared.object.Object.{Object}
 use Rattle.pst_tc.specs.Values.{RowParts, tc_rows}
+use Rattle.pst_names.specs.declared.name_map.TheConstants.{NAME_MAP}
 use Rattle.pst_ndb.specs.Roots.{Roots, subnode_of, node_in, all_roots}
 use Rattle.pst_ndb.specs.Views.{roots_of}
 use Rattle.pst_msg.specs.Values.{embedded_of, is_message, listing_of}
@@ -16,7 +17,7 @@ use Rattle.pst_msg.specs.declared.nid.TheConstants.{STORE, ROOT, FOLDER, SEARCH_
 use Rattle.pst_msg.specs.declared.role.Role.TheVariants.{Properties, Listed, Recipients, Attachments}
 use Rattle.pst_msg.specs.Nid.{type_of, is_type}
 use Rattle.pst_msg.specs.Grammar.{IsAttachmentRow}
-use Rattle.pst_msg.specs.Counts.{HasMessage, node, embedded, HasAttachment, attached, Names, of_store, of_root, of_folder, of_search, of_message, of_attachment, listed, recipients, attachments, IsNode}
+use Rattle.pst_msg.specs.Counts.{HasMessage, node, embedded, HasAttachment, attached, Names, of_store, of_root, of_names, of_folder, of_search, of_message, of_attachment, listed, recipients, attachments, IsNode}
 use Rattle.pst_msg.specs.Growth.{Grows, FolderIn, NodeIn}
 use Rattle.pst_msg.proofs.CountLemmas.{grows_then, grows_of}
 use Rattle.pst_fault.proofs.EachLemmas.{contains_here, contains_later}
@@ -81,6 +82,9 @@ store_grows t N a b g = grows_of t (λ nodes. (nodes ≡ N) × ((r : Roots) → 
 
 pub root_grows : (t : Table) (N : List NodeEntry) (a b : Known) → Grows t (λ nodes. (nodes ≡ N) × ((r : Roots) → node_in nodes ROOT ≡ Some r → Names t nodes Properties r)) a b → Grows t (λ nodes. nodes ≡ N) a b
 root_grows t N a b g = grows_of t (λ nodes. (nodes ≡ N) × ((r : Roots) → node_in nodes ROOT ≡ Some r → Names t nodes Properties r)) (λ nodes. nodes ≡ N) a b (λ nodes e. (e, λ r is. of_root r is)) g
+
+pub names_grow : (t : Table) (N : List NodeEntry) (a b : Known) → Grows t (λ nodes. (nodes ≡ N) × ((r : Roots) → node_in nodes NAME_MAP ≡ Some r → Names t nodes Properties r)) a b → Grows t (λ nodes. nodes ≡ N) a b
+names_grow t N a b g = grows_of t (λ nodes. (nodes ≡ N) × ((r : Roots) → node_in nodes NAME_MAP ≡ Some r → Names t nodes Properties r)) (λ nodes. nodes ≡ N) a b (λ nodes e. (e, λ r is. of_names r is)) g
 
 -- ---- later
 

@@ -26,3 +26,4 @@ pub mod ViewLemmas
 pub mod FolderLemmas
 pub mod LookUpLaws
 pub use Rattle.pst_pc.proofs as pst_pc
+pub use Rattle.pst_names.proofs as pst_names

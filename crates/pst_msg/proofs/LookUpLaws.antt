@@ -19,6 +19,10 @@ use Rattle.pst_tc.specs.declared.tc.Tc.{Tc}
 use Rattle.pst_tc.specs.Tc.{node_of_tc}
 use Rattle.pst_tc.specs.LookUps.{TcLookUps}
 use Rattle.pst_tc.proofs.LookUpLaws.{look_ups_law as tc_law}
+use Rattle.pst_names.specs.declared.name_map.NameMap.{NameMap}
+use Rattle.pst_names.specs.LookUps.{NameMapLookUps}
+use Rattle.pst_names.specs.View.{node_of_names, names_roots}
+use Rattle.pst_names.proofs.NameLaws.{look_ups_law as names_law}
 use Rattle.pst_msg.specs.declared.attachment_view.Attachment.{Attachment}
 use Rattle.pst_msg.specs.declared.message_view.Message.{Message}
 use Rattle.pst_msg.specs.View.{tc_roots, ndb_of_folder, node_of_folder, node_of_message, node_of_attachment}
@@ -59,6 +63,11 @@ tc_of : (file : Image) (t : Table) (tc : Tc) → IsNodeOf file t (node_of_tc tc)
 tc_of file t tc own =
     let r = tc_roots tc in
     subst (λ i. TcLookUps i t r tc) own.0 (subst (λ u. TcLookUps (image_of_node (node_of_tc tc)) u r tc) own.1 (tc_law tc))
+
+names_of : (file : Image) (t : Table) (m : NameMap) → IsNodeOf file t (node_of_names m) → NameMapLookUps file t (names_roots m) m
+names_of file t m own =
+    let r = names_roots m in
+    subst (λ i. NameMapLookUps i t r m) own.0 (subst (λ u. NameMapLookUps (image_of_node (node_of_names m)) u r m) own.1 (names_law m))
 
 properties_of : (file : Image) (t : Table) (n : Node) → IsNodeOf file t n → PropertiesOf file t n
 properties_of file t n own pc is = subst (λ m. PcLookUps file t (roots_of m) pc) is (pc_of file t pc (subst (λ m. IsNodeOf file t m) (sym is) own))
@@ -134,6 +143,7 @@ views_law file t = record {
   node = node_of_file file t;
   pc = pc_of file t;
   tc = tc_of file t;
+  names = names_of file t;
   message = message_of file t;
   attachment = attachment_of file t;
 }

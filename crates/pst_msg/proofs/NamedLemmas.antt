@@ -13,7 +13,7 @@ use Rattle.pst_msg.specs.declared.role.Role.{Role}
 use Rattle.pst_msg.specs.Nid.{type_of, is_type}
 use Rattle.pst_msg.specs.Keys.{Key, key_cmp, keys_in, holds}
 use Rattle.pst_msg.specs.Known.{ContextIn, WholeIn, IsTrueOf}
-use Rattle.pst_msg.specs.Counts.{HasMessage, node, embedded, HasAttachment, attached, Names, of_store, of_root, of_folder, of_search, of_message, of_attachment, listed, recipients, attachments, IsNamed, IsRaised}
+use Rattle.pst_msg.specs.Counts.{HasMessage, node, embedded, HasAttachment, attached, Names, of_store, of_root, of_names, of_folder, of_search, of_message, of_attachment, listed, recipients, attachments, IsNamed, IsRaised}
 use Rattle.pst_msg.specs.Growth.{AreNamed, AreContextsCounted, Grows, AllIn}
 use Rattle.pst_msg.proofs.KeyLemmas.{holds_listed, listed_holds}
 
@@ -32,6 +32,7 @@ type_true kind nid e = grind (arith, nat_tests)
 pub contexts_in : (t : Table) (N : List NodeEntry) (k : Known) → IsTrueOf t k → AllIn N k → (role : Role) (r : Roots) → Names t N role r → ContextIn k role r
 contexts_in t N k is all _ r (of_store _ e) = all.store r e
 contexts_in t N k is all _ r (of_root _ e) = all.root r e
+contexts_in t N k is all _ r (of_names _ e) = all.names r e
 contexts_in t N k is all _ r (of_folder _ w) = ((all.nodes r w.0).folders (type_true FOLDER r.top w.1)).properties
 contexts_in t N k is all _ r (of_search _ w) = (all.nodes r w.0).searches (type_true SEARCH_FOLDER r.top w.1)
 contexts_in t N k is all _ r (of_message _ held) = (is.messages_in r (message_in t N k is all r held)).properties

@@ -16,7 +16,7 @@ use Rattle.pst_msg.specs.declared.role.Role.{Role}
 use Rattle.pst_msg.specs.Nid.{type_of, is_type}
 use Rattle.pst_msg.specs.Values.{is_message, listing_of}
 use Rattle.pst_msg.specs.Grammar.{IsMessage, IsAttachment, IsFolder, HasProperties, Contents}
-use Rattle.pst_msg.specs.Counts.{HasMessage, node, embedded, HasAttachment, attached, Names, of_store, of_root, of_folder, of_search, of_message, of_attachment, listed, recipients, attachments}
+use Rattle.pst_msg.specs.Counts.{HasMessage, node, embedded, HasAttachment, attached, Names, of_store, of_root, of_names, of_folder, of_search, of_message, of_attachment, listed, recipients, attachments}
 use Rattle.pst_msg.specs.Laws.{NamesLaw}
 use Rattle.pst_msg.specs.Roles.{role_fault}
 use Rattle.pst_msg.proofs.MessageLaws.{message_facts, attachment_facts}
@@ -47,6 +47,7 @@ listed_table t N r s Associated is e = (is.associated s e).0
 named_fault : (t : Table) (N : List NodeEntry) → Contents t N → (role : Role) (r : Roots) → Names t N role r → role_fault t role r ≡ None
 named_fault t N is _ r (of_store _ e) = pc_none t r (has_properties t N _ r is.store e)
 named_fault t N is _ r (of_root _ e) = pc_none t r (has_properties t N _ r is.root e)
+named_fault t N is _ r (of_names _ e) = pc_none t r (is.names r e).0
 named_fault t N is _ r (of_folder _ w) = pc_none t r (is.folders r w.0 w.1).properties
 named_fault t N is _ r (of_search _ w) = pc_none t r (is.searches r w.0 w.1)
 named_fault t N is _ r (of_message _ held) = pc_none t r (message_facts t r (has_message t N is r held)).properties

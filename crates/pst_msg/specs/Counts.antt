@@ -7,6 +7,7 @@ use Rattle.pst_block.specs.Table.{Table}
 use Rattle.pst_ndb.specs.Counts.{capped}
 use Rattle.pst_ndb.specs.Roots.{Roots, subnode_of, node_in, all_roots}
 use Rattle.pst_tc.specs.Values.{RowParts}
+use Rattle.pst_names.specs.declared.name_map.TheConstants.{NAME_MAP}
 use Rattle.pst_msg.specs.declared.items.Items.{Items}
 use Rattle.pst_msg.specs.declared.nid.TheConstants.{STORE, ROOT, FOLDER, SEARCH_FOLDER, ATTACHMENTS, RECIPIENTS}
 use Rattle.pst_msg.specs.declared.object.Object.{Object}
@@ -38,6 +39,7 @@ IsNode nodes kind r = Contains (all_roots nodes) r × (type_of r.top ≡ kind)
 pub data Names (t : Table) (nodes : List NodeEntry) : Role → Roots → Type 0 where
   of_store : (r : Roots) → node_in nodes STORE ≡ Some r → Names t nodes Properties r
   of_root : (r : Roots) → node_in nodes ROOT ≡ Some r → Names t nodes Properties r
+  of_names : (r : Roots) → node_in nodes NAME_MAP ≡ Some r → Names t nodes Properties r
   of_folder : (r : Roots) → IsNode nodes FOLDER r → Names t nodes Properties r
   of_search : (r : Roots) → IsNode nodes SEARCH_FOLDER r → Names t nodes Properties r
   of_message : (r : Roots) → HasMessage t nodes r → Names t nodes Properties r

@@ -12,6 +12,8 @@ use Rattle.pst_ndb.specs.Roots.{Roots, subnode_of, node_in, all_roots}
 use Rattle.pst_pc.specs.Fault.{pc_fault}
 use Rattle.pst_tc.specs.Fault.{tc_fault}
 use Rattle.pst_tc.specs.Values.{RowParts, tc_rows}
+use Rattle.pst_names.specs.declared.name_map.TheConstants.{NAME_MAP}
+use Rattle.pst_names.specs.Fault.{names_fault}
 use Rattle.pst_msg.specs.declared.items.Items.{Items}
 use Rattle.pst_msg.specs.declared.items.Items.TheVariants.{Subfolders, Messages, Associated}
 use Rattle.pst_msg.specs.declared.nid.TheConstants.{STORE, ROOT, FOLDER, SEARCH_FOLDER, ATTACHMENT, ATTACHMENTS, RECIPIENTS}
@@ -112,6 +114,10 @@ folder_fault t nodes r =
 unfoldable pub required_fault : Table → List NodeEntry → ℕ → Option Fault
 required_fault t nodes nid = there_or (named NodeMissing 0 0 nid) (pc_fault t) (node_in nodes nid)
 
+-- the name map ([MS-PST] 2.4.7): the properties of its node, then what they say
+unfoldable pub name_map_fault : Table → Roots → Option Fault
+name_map_fault t r = pc_fault t r then names_fault t r
+
 -- a node, by its type: a folder, a search folder, a message; of another type there is none
 unfoldable pub typed_node_fault : Table → List NodeEntry → Roots → Option Fault
 typed_node_fault t nodes r =
@@ -120,7 +126,9 @@ typed_node_fault t nodes r =
     else (if is_message r.top then message_fault t r
     else None))
 
--- all: the store's node and the root folder's, then the nodes in order of their identifiers
+-- all: the store's node and the root folder's, then the name map, where its node is there, then the nodes in order of their
+-- identifiers
 unfoldable pub messaging_fault : Table → List NodeEntry → Option Fault
 messaging_fault t nodes =
-    required_fault t nodes STORE then required_fault t nodes ROOT then first_of (typed_node_fault t nodes) (all_roots nodes)
+    required_fault t nodes STORE then required_fault t nodes ROOT then if_there (name_map_fault t) (node_in nodes NAME_MAP)
+    then first_of (typed_node_fault t nodes) (all_roots nodes)

@@ -7,6 +7,8 @@ use Rattle.pst_ndb.specs.Roots.{Roots, subnode_of, node_in, all_roots}
 use Rattle.pst_pc.specs.Grammar.{IsPc}
 use Rattle.pst_tc.specs.Grammar.{IsTc}
 use Rattle.pst_tc.specs.Values.{RowParts, tc_rows}
+use Rattle.pst_names.specs.declared.name_map.TheConstants.{NAME_MAP}
+use Rattle.pst_names.specs.Grammar.{IsNameMap}
 use Rattle.pst_msg.specs.declared.items.Items.{Items}
 use Rattle.pst_msg.specs.declared.items.Items.TheVariants.{Subfolders, Messages, Associated}
 use Rattle.pst_msg.specs.declared.nid.TheConstants.{STORE, ROOT, FOLDER, SEARCH_FOLDER, MESSAGE, ASSOCIATED, ATTACHMENT, ATTACHMENTS, RECIPIENTS}
@@ -64,10 +66,16 @@ pub record IsFolder (t : Table) (nodes : List NodeEntry) (r : Roots) : Type 0 wh
 abbrev pub HasProperties : Table → List NodeEntry → ℕ → Type 0
 HasProperties t nodes nid = (r : Roots) × (node_in nodes nid ≡ Some r) × IsPc t r
 
+-- the node of the name map ([MS-PST] 2.4.7), where it is there: it has properties, which are a name map
+abbrev pub MayHaveNames : Table → List NodeEntry → Type 0
+MayHaveNames t nodes = (r : Roots) → node_in nodes NAME_MAP ≡ Some r → IsPc t r × IsNameMap t r
+
 pub record Contents (t : Table) (nodes : List NodeEntry) : Type 0 where
   -- the node of the store itself and that of the root folder
   pub store : HasProperties t nodes STORE
   pub root : HasProperties t nodes ROOT
+  -- the names of properties
+  pub names : MayHaveNames t nodes
   -- each node, by its type
   pub folders : (r : Roots) → Contains (all_roots nodes) r → type_of r.top ≡ FOLDER → IsFolder t nodes r
   pub searches : (r : Roots) → Contains (all_roots nodes) r → type_of r.top ≡ SEARCH_FOLDER → IsPc t r

@@ -4,6 +4,7 @@ use Rattle.std.specs.List.{Contains}
 use Rattle.pst_page.specs.declared.entry.NodeEntry.{NodeEntry}
 use Rattle.pst_block.specs.Table.{Table}
 use Rattle.pst_ndb.specs.Roots.{Roots, node_in, all_roots}
+use Rattle.pst_names.specs.declared.name_map.TheConstants.{NAME_MAP}
 use Rattle.pst_msg.specs.declared.items.Items.{Items}
 use Rattle.pst_msg.specs.declared.keys.Keys.{Keys}
 use Rattle.pst_msg.specs.declared.known.Known.{Known}
@@ -50,4 +51,5 @@ PropertiesIn nodes k nid = (r : Roots) → node_in nodes nid ≡ Some r → Cont
 pub record AllIn (entries : List NodeEntry) (k : Known) : Type 0 where
   pub store : PropertiesIn entries k STORE
   pub root : PropertiesIn entries k ROOT
+  pub names : PropertiesIn entries k NAME_MAP
   pub nodes : (r : Roots) → Contains (all_roots entries) r → NodeIn entries k r

@@ -20,3 +20,4 @@ pub mod LookUps
 pub mod Steps
 pub mod Frames
 pub use Rattle.pst_pc.specs as pst_pc
+pub use Rattle.pst_names.specs as pst_names

@@ -16,6 +16,9 @@ use Rattle.pst_tc.specs.declared.tc.Tc.{Tc}
 use Rattle.pst_tc.specs.Values.{row_id_of}
 use Rattle.pst_tc.specs.Tc.{node_of_tc}
 use Rattle.pst_tc.specs.LookUps.{TcLookUps}
+use Rattle.pst_names.specs.declared.name_map.NameMap.{NameMap}
+use Rattle.pst_names.specs.LookUps.{NameMapLookUps}
+use Rattle.pst_names.specs.View.{node_of_names, names_roots}
 use Rattle.pst_msg.specs.declared.attachment_view.Attachment.{Attachment}
 use Rattle.pst_msg.specs.declared.attachments.Attachments.{Attachments}
 use Rattle.pst_msg.specs.declared.folder_view.Folder.{Folder}
@@ -129,7 +132,7 @@ pub record AttachmentLookUps (file : Image) (t : Table) (a : Attachment) : Type 
       ≡ option_map (object_shown t (roots_of (node_of_attachment a))) (embedded_of t (roots_of (node_of_attachment a))))
       × IfSome found (λ m. IsNodeOf file t (node_of_message m))
 
--- ---- so it is of every node, property context and table, every folder, message and attachment of a file
+-- ---- so it is of every node, property context, table and name map, every folder, message and attachment of a file
 
 abbrev pub FolderLookUpsLaw : Type 0
 FolderLookUpsLaw = (f : Folder) → let ndb = ndb_of_folder f in FolderLookUps (image_of_ndb ndb) (table_of_ndb ndb) (nodes_of ndb) f
@@ -138,6 +141,7 @@ pub record ViewLookUps (file : Image) (t : Table) : Type 0 where
   pub node : (n : Node) → IsNodeOf file t n → NodeLookUps file t n
   pub pc : (pc : Pc) → IsNodeOf file t (node_of_pc pc) → PcLookUps file t (roots_of (node_of_pc pc)) pc
   pub tc : (tc : Tc) → IsNodeOf file t (node_of_tc tc) → TcLookUps file t (tc_roots tc) tc
+  pub names : (m : NameMap) → IsNodeOf file t (node_of_names m) → NameMapLookUps file t (names_roots m) m
   pub message : (m : Message) → IsNodeOf file t (node_of_message m) → MessageLookUps file t m
   pub attachment : (a : Attachment) → IsNodeOf file t (node_of_attachment a) → AttachmentLookUps file t a
 

@@ -2,14 +2,15 @@
 
 ghost use Rattle.std.specs.Prelude.{◌≡◌, ◌≤◌, Some, OnOk, IfErr};
 ghost use Rattle.std.specs.List.{Contains};
-ghost use Rattle.pst_fault.specs.Each.{first_of};
+ghost use Rattle.pst_fault.specs.Each.{first_of, if_there};
 ghost use Rattle.pst_fault.specs.Fault.{no_memory};
 ghost use Rattle.pst_fault.specs.First.{Tells};
 ghost use Rattle.pst_ndb.specs.Roots.{Roots, node_in, all_roots};
 ghost use Rattle.pst_ndb.specs.Views.{table_of_node, table_of_ndb, nodes_of, roots_of};
+ghost use Rattle.pst_names.specs.declared.name_map.TheConstants.{NAME_MAP};
 ghost use Rattle.pst_msg.specs.declared.role.Role.TheVariants.{Properties};
 ghost use Rattle.pst_msg.specs.Counts.{Names, IsRaised};
-ghost use Rattle.pst_msg.specs.Fault.{required_fault, typed_node_fault, messaging_fault};
+ghost use Rattle.pst_msg.specs.Fault.{required_fault, name_map_fault, typed_node_fault, messaging_fault};
 ghost use Rattle.pst_msg.specs.Grammar.{Contents};
 ghost use Rattle.pst_msg.specs.Growth.{Grows, PropertiesIn, NodeIn, AllIn};
 ghost use Rattle.pst_msg.specs.Known.{ListingsAreTrue, IsTrueOf};
@@ -23,7 +24,9 @@ use crate::message::check_message;
 use crate::nid::{FOLDER, ROOT, SEARCH_FOLDER, STORE, is_type, named};
 use crate::role::Role;
 use pst_fault::{Fault, Kind};
+use pst_names::{NAME_MAP, check_names};
 use pst_ndb::{Ndb, Node, Work};
+use pst_pc::known_pc;
 use std::alloc::Global;
 
 // A node that every store has.
@@ -44,6 +47,29 @@ fn check_required(ndb: &Ndb, nid: u32, known: &mut Known) -> Result<(), Fault>
             Ok(())
         }
         None => Err(named(Kind::NodeMissing, 0, 0, nid)),
+    }
+}
+
+// The name map, where its node is there.
+#[tactic(auto, unfolding(crate::specs::Fault::name_map_fault))]
+fn check_name_map(ndb: &Ndb, known: &mut Known) -> Result<(), Fault>
+    requires { IsTrueOf (table_of_ndb ndb.now) known.old }
+    ensures known { IsTrueOf (table_of_ndb ndb.now) known.new }
+    ensures grows { let t = table_of_ndb ndb.now in let N = nodes_of ndb.now in
+        Grows t (λ nodes. (nodes ≡ N)
+        × ((r : Roots) → node_in nodes NAME_MAP ≡ Some r → Names t nodes Properties r))
+        known.old known.new }
+    ensures there { OnOk result (PropertiesIn (nodes_of ndb.now) known.new NAME_MAP) }
+    ensures exact { let t = table_of_ndb ndb.now in
+        Tells result (if_there (name_map_fault t) (node_in (nodes_of ndb.now) NAME_MAP)) tt }
+{
+    match ndb.node(NAME_MAP) {
+        Some(node) => {
+            once(known, Role::Properties, node)?;
+            check_names(known.alloc, &known_pc(known.index.lend(node)))?;
+            Ok(())
+        }
+        None => Ok(()),
     }
 }
 
@@ -109,6 +135,7 @@ fn check_all(ndb: &Ndb, known: &mut Known, listings: &mut Keys) -> Result<(), Fa
 {
     check_required(ndb, STORE, known)?;
     check_required(ndb, ROOT, known)?;
+    check_name_map(ndb, known)?;
     check_nodes(ndb, known, listings)
 }
 
@@ -116,6 +143,7 @@ fn check_all(ndb: &Ndb, known: &mut Known, listings: &mut Keys) -> Result<(), Fa
 ///
 /// - the node of the store, which has to be there, NodeMissing, and to have properties, as `check_pc` answers; and that of the
 ///   root folder likewise;
+/// - then the name map, where its node is there: its properties, and of these what `check_names` answers;
 /// - then the nodes in order of their identifiers:
 ///   - a folder: its properties; then its tables of subfolders, of messages and of associated messages, where they are there,
 ///     each as `check_tc` answers, and right after each its rows in order of their identifiers: NodeMissing at the record of the

@@ -1,6 +1,7 @@
 //! That what the look-ups give has the clauses by which the laws of look-ups know them.
 
 ghost use Rattle.pst_pc.specs.LookUps.{GivesProp, GivesProps};
+ghost use Rattle.pst_names.specs.LookUps.{GivesNameOf};
 ghost use Rattle.pst_tc.specs.LookUps.{GivesColumns, GivesRows, GivesRowCount, GivesRow, GivesCell};
 ghost use Rattle.pst_msg.specs.declared.items.Items.TheVariants.{Subfolders, Messages, Associated};
 ghost use Rattle.pst_msg.specs.NodeLookUps.{GivesBytes, GivesSub};
@@ -11,6 +12,7 @@ use crate::attachments::Attachments;
 use crate::folder_view::Folder;
 use crate::message_view::Message;
 use pst_datatree::Value;
+use pst_names::{Name, NameMap};
 use pst_ndb::Node;
 use pst_pc::{Pc, Prop, Props};
 use pst_tc::{Columns, Row, Rows, Tc};
@@ -29,6 +31,13 @@ pub fn pc_gives<'a>(pc: &Pc<'a>, id: u16) -> (Option<Prop<'a>>, Props<'a>)
     ensures props { GivesProps pc.now result.1 }
 {
     (pc.get(id), pc.props())
+}
+
+/// What a name map gives: what the property with an identifier is called.
+pub fn names_gives<'a>(names: &NameMap<'a>, id: u16) -> Option<Name<'a>>
+    ensures { GivesNameOf names.now id result }
+{
+    names.name(id)
 }
 
 /// What a table context gives: its columns, its rows, how many they are, and the row with an identifier.

@@ -35,8 +35,8 @@ pub fn named_are_contexts()
     ensures { NamesLaw }
 {}
 
-/// What folders, messages and attachments are asked, and their property contexts and tables, they answer by the grammar, in the
-/// words and the memory of the file that they are of.
+/// What folders, messages and attachments are asked, their property contexts and tables, and name maps, they answer by the grammar,
+/// in the words and the memory of the file that they are of.
 pub fn message_look_ups()
     ensures folders { FolderLookUpsLaw }
     ensures views { ViewLookUpsLaw }

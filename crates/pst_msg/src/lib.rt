@@ -1,4 +1,4 @@
-//! Messaging ([MS-PST] 2.4): the folders, messages and attachments of a store.
+//! Messaging ([MS-PST] 2.4): the name map, folders, messages and attachments of a store.
 //!
 //! Begin with `check_messaging`, which answers the first fault of a node database as a store's, and counts the contexts
 //! that it names. Where there is no fault, `Store` of pst_store gives each `Folder` and each `Message`, and what they
@@ -47,7 +47,8 @@ pub use attachments::Attachments;
 pub use check::check_messaging;
 pub use folder_view::Folder;
 pub use given::{
-    attachment_gives, folder_gives, message_gives, node_gives, pc_gives, row_gives, tc_gives,
+    attachment_gives, folder_gives, message_gives, names_gives, node_gives, pc_gives, row_gives,
+    tc_gives,
 };
 pub use items::Items;
 pub use kinds::{is_folder, is_message};
@@ -58,6 +59,7 @@ pub use laws::{
 pub use message_view::Message;
 pub use nid::{ASSOCIATED, FOLDER, MESSAGE, ROOT, SEARCH_FOLDER, STORE, is_type};
 pub use object::Object;
+pub use pst_names::{NAME_MAP, Name, NameKind, NameMap, known_names};
 pub use pst_pc::{Pc, known_pc};
 pub use pst_tc::Tc;
 pub use role::Role;

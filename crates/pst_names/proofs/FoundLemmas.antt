@@ -2,16 +2,18 @@
 use Rattle.std.proofs.Common.{◌≡◌, ◌≢◌, ℕ, suc, ◌+◌, ◌-◌, ◌*◌, ◌/◌, ◌%◌, ◌<◌, ◌≤◌, true, false, eqb, List, length, Option, Some, None, refl, sym, ap, ◌∙◌, arith}
 use Rattle.std.proofs.lemmas.Bool.{eq-eqb, ne_eqb}
 use Rattle.pst_btree.specs.Entries.{first_with}
-use Rattle.std.specs.Prelude.{nat_eq, slice_range}
+use Rattle.std.specs.Prelude.{nat_eq, slice_range, option_map}
 use Rattle.uuid.specs.Parts.{swap_fields}
 use Rattle.pst_block.specs.Table.{Table}
 use Rattle.pst_datatree.specs.Spans.{joined_bytes}
 use Rattle.pst_ndb.specs.Roots.{Roots}
 use Rattle.pst_value.specs.Read.{exactly, guid_of}
+use Rattle.pst_names.specs.declared.fields.Fields.{Fields}
 use Rattle.pst_names.specs.declared.streams.TheConstants.{GUIDS, ENTRIES}
 use Rattle.pst_names.specs.Streams.{stream_of, stream_bytes, stream_spans}
 use Rattle.pst_names.specs.Entry.{Entry, is_text, guid_index, prop_id, entry_with, entries_from}
 use Rattle.pst_names.specs.Fault.{strings_of}
+use Rattle.pst_names.specs.Index.{fields_in}
 use Rattle.pst_names.specs.Grammar.{HasText, IsEntry}
 use Rattle.pst_names.specs.Name.{KindParts, guid_in, set_with, name_kind, name_in, naming_entry, name_of}
 use Rattle.pst_names.proofs.NumLemmas.{length_range}
@@ -65,6 +67,16 @@ guid_read bytes guids g is le =
     rw whole (ap (λ bs. Some (swap_fields bs)) is)
 
 -- ---- its name
+
+-- the entry whose fields were found
+pub fields_found : (o : Option Entry) (f : Fields) → Some f ≡ option_map fields_in o → (e : Entry) × (o ≡ Some e) × (f ≡ fields_in e)
+fields_found None f is = absurd cc
+fields_found (Some e) f is = (e, refl, cc)
+
+-- no entry was found
+pub none_there : (o : Option Entry) → None ≡ option_map fields_in o → o ≡ None
+none_there None is = refl
+none_there (Some e) is = absurd cc
 
 pub name_some : (t : Table) (r : Roots) (id : ℕ) (e : Entry) → naming_entry t r id ≡ Some e → name_of t r id ≡ Some (name_in (stream_bytes (stream_of t r GUIDS)) (strings_of t r) e)
 unfolding name_of

@@ -10,3 +10,4 @@ pub mod EntryLaws
 pub mod FoundLemmas
 pub mod NamesLemmas
 pub mod NameLaws
+pub mod IndexLemmas

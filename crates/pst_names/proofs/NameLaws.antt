@@ -12,6 +12,7 @@ use Rattle.pst_fault.proofs.EachLemmas.{of_none, none_of}
 use Rattle.pst_fault.proofs.ToldLemmas.{told_none, none_told}
 use Rattle.pst_block.specs.Table.{Table}
 use Rattle.pst_ndb.specs.Roots.{Roots}
+use Rattle.pst_ndb.specs.Views.{table_of_node}
 use Rattle.pst_heap.specs.Fault.{told_under}
 use Rattle.pst_pc.specs.Values.{Property}
 use Rattle.pst_names.specs.declared.streams.TheConstants.{GUIDS, ENTRIES, STRINGS}
@@ -19,8 +20,10 @@ use Rattle.pst_names.specs.Streams.{stream_of, stream_bytes, stream_place}
 use Rattle.pst_names.specs.Fault.{type_fault, width_fault, entry_fault, guids_count, strings_of, all_entries, entries_fault, streams_fault, names_fault}
 use Rattle.pst_names.specs.Grammar.{IsBinary, HasParts, IsEntry, IsNameMap}
 use Rattle.pst_names.specs.Laws.{NameMapLaw}
+use Rattle.pst_names.specs.LookUps.{NameMapLookUpsLaw}
 use Rattle.pst_names.specs.Entry.{Entry, prop_id}
 use Rattle.pst_names.specs.Name.{naming_entry}
+use Rattle.pst_names.specs.View.{node_of_names, names_roots}
 use Rattle.pst_btree.proofs.EntryLemmas.{with_contains}
 use Rattle.pst_names.proofs.EntryLaws.{whole_law, entry_law}
 
@@ -84,3 +87,11 @@ refused_for_memory t r (Err f) told is = only_memory (names_fault t r) f (names_
 -- the entry that names a property is one
 pub named_entry : (t : Table) (r : Roots) (id : ℕ) (e : Entry) → names_fault t r ≡ None → naming_entry t r id ≡ Some e → IsEntry (guids_count t r) (strings_of t r) e
 named_entry t r id e none found = IsNameMap.each (none_names t r none) e (with_contains prop_id (all_entries t r) id e found).0
+
+-- ---- what a name map is asked
+
+pub look_ups_law : NameMapLookUpsLaw
+look_ups_law m = record {
+  map = none_names (table_of_node (node_of_names m)) (names_roots m) m.sound;
+  name = λ id found is. is;
+}

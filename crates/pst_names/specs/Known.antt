@@ -1,5 +1,5 @@
--- What is known of entries: runs of them, each by the place in the file where its first one begins, in which all are good. Only
--- what is true is known, so what is passed over hides no fault.
+-- What is known of entries: runs of them, each by the place in the file where its first one begins, in which all keep a rule. Only
+-- what is true is known, so what is passed over hides nothing.
 use Rattle.std.specs.Prelude.{◌≡◌, ℕ, ◌+◌, ◌*◌, ◌<◌, ◌≤◌, Bool, true, false, List, length, Option, Some, None}
 use Rattle.std.specs.Ordering.{nat_cmp}
 use Rattle.std.specs.BTreeMap.{get}
@@ -16,16 +16,20 @@ allows guids strings bytes = is_entry guids strings (entry_in 0 bytes)
 unfoldable pub run_at : Runs → ℕ → Option ℕ
 run_at r at = get nat_cmp r.runs at
 
--- all entries are good, as many as are whole
+-- all entries keep a rule, as many as are whole
+abbrev pub AreAll : (List ℕ → Bool) → List ℕ → Type 0
+AreAll good bytes = (j : ℕ) → 8 * j + 8 ≤ length bytes → good (entry_bytes bytes j) ≡ true
+
+-- they are good
 abbrev pub AreAllowed : ℕ → List ℕ → List ℕ → Type 0
-AreAllowed guids strings bytes = (j : ℕ) → 8 * j + 8 ≤ length bytes → allows guids strings (entry_bytes bytes j) ≡ true
+AreAllowed guids strings bytes = AreAll (allows guids strings) bytes
 
 -- so many that begin at a place in the file
-abbrev pub IsRun : ℕ → List ℕ → List ℕ → ℕ → ℕ → Type 0
-IsRun guids strings I at n = (j : ℕ) → j < n → allows guids strings (bytes_at I (record { at = at + 8 * j; len = 8 })) ≡ true
+abbrev pub IsRun : (List ℕ → Bool) → List ℕ → ℕ → ℕ → Type 0
+IsRun good I at n = (j : ℕ) → j < n → good (bytes_at I (record { at = at + 8 * j; len = 8 })) ≡ true
 
-pub record AreRunsTrue (guids : ℕ) (strings I : List ℕ) (r : Runs) : Type 0 where
-  pub holds : (at n : ℕ) → run_at r at ≡ Some n → IsRun guids strings I at n
+pub record AreRunsTrue (good : List ℕ → Bool) (I : List ℕ) (r : Runs) : Type 0 where
+  pub holds : (at n : ℕ) → run_at r at ≡ Some n → IsRun good I at n
 
 -- the number of the first entry that is not good, of those in a run of bytes; none where all are good
 abbrev pub IsFirstBad : ℕ → List ℕ → List ℕ → Option ℕ → Type 0

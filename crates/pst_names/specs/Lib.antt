@@ -5,6 +5,8 @@ pub mod Grammar
 pub mod Name
 pub mod Laws
 pub mod View
+pub mod Index
+pub mod LookUps
 pub mod Behind
 pub mod Rest
 pub mod Known

@@ -1,22 +1,29 @@
 -- What a contract sees of a name map and of a name.
 use Rattle.std.specs.Prelude.{◌≡◌, ℕ, List, Option, Some, None, ⊤}
+use Rattle.pst_bytes.specs.declared.Image.{Image}
+use Rattle.pst_page.specs.declared.entry.NodeEntry.{NodeEntry}
+use Rattle.pst_block.specs.Table.{Table}
 use Rattle.pst_datatree.specs.declared.value_view.Value.{Value}
 use Rattle.pst_datatree.specs.Shown.{ShowsSpans, IsPart, bytes_in}
 use Rattle.pst_ndb.specs.declared.node.Node.{Node}
-use Rattle.pst_ndb.specs.Views.{image_of_node, table_of_node, roots_of}
+use Rattle.pst_ndb.specs.Roots.{Roots, node_in}
+use Rattle.pst_ndb.specs.Views.{roots_of}
 use Rattle.pst_pc.specs.View.{node_of_pc}
 use Rattle.pst_names.specs.declared.name.Name.{Name}
 use Rattle.pst_names.specs.declared.name.NameKind.{NameKind}
 use Rattle.pst_names.specs.declared.name.NameKind.TheVariants.{Num, Text}
 use Rattle.pst_names.specs.declared.name_map.NameMap.{NameMap}
+use Rattle.pst_names.specs.declared.name_map.TheConstants.{NAME_MAP}
 use Rattle.pst_names.specs.declared.streams.TheConstants.{STRINGS}
 use Rattle.pst_names.specs.Streams.{stream_spans}
-use Rattle.pst_names.specs.Entry.{Entry, entry_in}
 use Rattle.pst_names.specs.Name.{KindParts, by_number, by_text, NameParts}
 
 -- the node whose properties its streams are
 abbrev pub node_of_names : NameMap → Node
 node_of_names m = node_of_pc m.pc
+
+abbrev pub names_roots : NameMap → Roots
+names_roots m = roots_of (node_of_names m)
 
 -- what is told of a name
 abbrev pub kind_parts : NameKind → KindParts
@@ -26,20 +33,18 @@ kind_parts (Text v) = by_text (bytes_in v)
 abbrev pub name_parts : Name → NameParts
 name_parts n = record { set = n.set; kind = kind_parts n.kind }
 
--- the entry that was found, by its 8 bytes
-abbrev pub IsFound : Option Entry → Option (List ℕ) → Type 0
-IsFound found None = found ≡ None
-IsFound found (Some bytes) = (at : ℕ) × (found ≡ Some (entry_in at bytes))
+-- A string is a part of the string stream of the map with these roots, in the file's own memory.
+abbrev pub IsTextOf : Image → Table → Roots → Value → Type 0
+IsTextOf file t r v =
+    (all : Value) × (from : ℕ) × (to : ℕ) × ShowsSpans file (stream_spans t r STRINGS) all × IsPart from to all v
 
--- A string is a part of the string stream, in the file's own memory.
-abbrev pub IsTextOf : Node → Value → Type 0
-IsTextOf node v =
-    (all : Value) × (from : ℕ) × (to : ℕ)
-    × ShowsSpans (image_of_node node) (stream_spans (table_of_node node) (roots_of node) STRINGS) all × IsPart from to all v
+abbrev pub IsKindLent : Image → Table → Roots → NameKind → Type 0
+IsKindLent file t r (Num n) = ⊤
+IsKindLent file t r (Text v) = IsTextOf file t r v
 
-abbrev pub IsKindLent : Node → NameKind → Type 0
-IsKindLent node (Num n) = ⊤
-IsKindLent node (Text v) = IsTextOf node v
+abbrev pub IsLent : Image → Table → Roots → Name → Type 0
+IsLent file t r n = IsKindLent file t r n.kind
 
-abbrev pub IsLent : Node → Name → Type 0
-IsLent node n = IsKindLent node n.kind
+-- of the map of a store with these blocks and nodes
+abbrev pub IsLentIn : Image → Table → List NodeEntry → Name → Type 0
+IsLentIn file t nodes n = (r : Roots) × (node_in nodes NAME_MAP ≡ Some r) × IsLent file t r n

@@ -7,7 +7,7 @@ ghost use Rattle.pst_fault.specs.First.{Checks, TellsFirst};
 ghost use Rattle.pst_ndb.specs.Views.{table_of_node, roots_of};
 ghost use Rattle.pst_pc.specs.View.{node_of_pc};
 ghost use Rattle.pst_names.specs.Rest.{rest_file, front_span};
-ghost use Rattle.pst_names.specs.Known.{IsFirstBad, AreRunsTrue};
+ghost use Rattle.pst_names.specs.Known.{allows, IsFirstBad, AreRunsTrue};
 ghost use Rattle.pst_names.specs.Strings.{rule_guids, rule_strings};
 ghost use Rattle.pst_names.specs.Fault.{entries_fault, streams_fault, names_fault};
 ghost use Rattle.pst_names.specs.Grammar.{IsNameMap};
@@ -39,9 +39,9 @@ fn first_bad(rules: &Rules, bytes: &[u8]) -> Option<u64>
 // The same, of the entries that lie side by side in the front of what is left. Where they are known to be good, they are passed
 // over.
 fn bad_in_front(rules: &Rules, rest: &Rest, runs: &mut Runs) -> Result<Option<u64>, Fault>
-    requires known { AreRunsTrue (rule_guids rules.now) (rule_strings rules.now)
+    requires known { AreRunsTrue (allows (rule_guids rules.now) (rule_strings rules.now))
         (rest_file rest.now) runs.old }
-    ensures known { AreRunsTrue (rule_guids rules.now) (rule_strings rules.now)
+    ensures known { AreRunsTrue (allows (rule_guids rules.now) (rule_strings rules.now))
         (rest_file rest.now) runs.new }
     ensures first { IfOk result (IsFirstBad (rule_guids rules.now) (rule_strings rules.now)
         rest.now.front.now) }

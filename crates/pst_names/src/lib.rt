@@ -9,10 +9,13 @@
 //! let names = known_names(&context);
 //! let name = names.name(0x8001);
 //! ```
+//!
+//! Whoever asks for many names makes an index once, and lends it to the view: `names.indexed(&names.index(alloc)?)`.
 #![tactic(auto)]
 
 mod check;
 mod fields;
+mod index;
 mod laws;
 mod name;
 mod name_map;
@@ -25,6 +28,7 @@ mod string_index;
 mod strings;
 
 pub use check::{check_names, known_names};
-pub use laws::names_decide;
+pub use index::NameIndex;
+pub use laws::{names_decide, names_look_ups};
 pub use name::{Name, NameKind};
 pub use name_map::{NAME_MAP, NameMap};

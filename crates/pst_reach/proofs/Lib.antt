@@ -4,6 +4,7 @@ pub mod LevelLemmas
 pub mod StoreLemmas
 pub mod LoopLemmas
 pub mod ListLemmas
+pub mod PathLemmas
 pub mod WayLaws
 pub mod ReachLaws
 pub mod CountLaws

@@ -49,6 +49,10 @@ root_level t nodes empty s none is = is ∙ rw none refl
 pub none_taken_yet : (t : Table) (tables : BTreeSet (ℕ × ℕ)) (m : BTreeMap ℕ Reach) → tables.keys ≡ [] → AreTaken t tables m
 none_taken_yet t tables m none r was x w = let bad : false ≡ true = (rw none at was) in cc
 
+-- a count of 64 bits is not capped
+pub capped_small : (n : ℕ) → n < 2 ^ 64 → n ≡ capped n
+capped_small n small = grind (arith, small)
+
 -- ---- one folder more, and so one depth more
 
 same_length : (xs : List Roots) → length (tops xs) ≡ length xs

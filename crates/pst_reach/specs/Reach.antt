@@ -53,6 +53,12 @@ pub record IsReach (t : Table) (nodes : List NodeEntry) (x : Reach) : Type 0 whe
   pub depth : IsDepth t nodes x.nid x.depth
   pub parent : IsParent t nodes x.nid x.depth x.parent
 
+-- These are all folders and search folders to which no way leads, each once, their identifiers rising.
+pub record AreAllUnreached (t : Table) (nodes : List NodeEntry) (nids : List ℕ) : Type 0 where
+  pub rise : Rises 0 None nids
+  pub sound : (nid : ℕ) → Contains nids nid → Contains (folder_ids nodes) nid × ((n : ℕ) → IsWay t nodes nid n → ⊥)
+  pub all : (nid : ℕ) → Contains (folder_ids nodes) nid → ((n : ℕ) → IsWay t nodes nid n → ⊥) → Contains nids nid
+
 -- These are all folders that are reached, each once, their identifiers rising.
 pub record AreAllReached (t : Table) (nodes : List NodeEntry) (xs : List Reach) : Type 0 where
   pub rise : Rises 0 None (map (λ (x : Reach). x.nid) xs)

@@ -1,16 +1,18 @@
 //! The search, level by level from the root folder.
 
-ghost use Rattle.std.specs.Prelude.{◌≡◌, ℕ, ◌+◌, None, [], ◌∷◌, IfOk, OnOk, OnErr};
+ghost use Rattle.std.specs.Prelude.{◌≡◌, ℕ, ◌+◌, None, [], ◌∷◌, IfOk, OnOk, OnErr, map};
+ghost use Rattle.pst_btree.specs.Order.{Rises};
 ghost use Rattle.pst_ndb.specs.Counts.{capped};
 ghost use Rattle.pst_ndb.specs.Views.{table_of_ndb, nodes_of, roots_of};
 ghost use Rattle.pst_msg.specs.Fault.{messaging_fault};
 ghost use Rattle.pst_reach.specs.Levels.{reaches_of, folders_in, folders_at};
+ghost use Rattle.pst_reach.specs.Path.{reach_nid};
 ghost use Rattle.pst_reach.specs.Search.{table_key};
 
 use crate::reached::Reach;
 use crate::rows::take_rows;
 use pst_msg::{FOLDER, ROOT, is_type};
-use pst_ndb::{Ndb, Node};
+use pst_ndb::{Ndb, Node, Work};
 use pst_page::PageKind;
 use pst_store::Store;
 use std::alloc::{AllocError, Global};
@@ -22,6 +24,13 @@ fn key_of(table: Node) -> (u64, u64)
 {
     let data = PageKind::Bbt.key_of(table.bid_data());
     (data, PageKind::Bbt.key_of(table.bid_sub()))
+}
+
+// How many folders were walked from by then.
+fn walked_in(work: &Work) -> u64
+    ensures { result ≡ work.now.walked }
+{
+    work.walked
 }
 
 // A count of folders that are walked from, with one more, or with a search folder, which has no table to walk by.
@@ -165,21 +174,26 @@ impl<'a> Search<'a> {
     }
 }
 
-// The search from the root folder of a store, where so many folders were walked from before.
-/// The folders and search folders that the root folder reaches, their identifiers rising, each with its depth and its parent, and
-/// a count of the folders that were walked from, which is raised by their number: each is walked from once, and a search folder,
-/// which has no table to walk by, is not. The count stays at its greatest value once it is there.
+/// The folders and search folders that the root folder reaches, their identifiers rising, each with its depth and its parent. The
+/// count of the folders that were walked from is raised by their number: each is walked from once, and a search folder, which has
+/// no table to walk by, is not. It stays at its greatest value once it is there, and the other counts stay as they are.
 ///
 /// Each hierarchy table is gone through once, also one that several folders have, and a row of it takes about log n steps of n
-/// folders. It answers nothing but that memory is refused, and then the count stays.
-pub fn reach(alloc: Global, ndb: &Ndb, walked: &mut u64) -> Result<Vec<Reach>, AllocError>
+/// folders. It answers nothing but that memory is refused, and then no count is raised.
+pub fn reach(alloc: Global, ndb: &Ndb, work: &mut Work) -> Result<Vec<Reach>, AllocError>
     requires { messaging_fault (table_of_ndb ndb.now) (nodes_of ndb.now) ≡ None }
     ensures exact { let t = table_of_ndb ndb.now in
         IfOk result (λ v. v.items ≡ reaches_of t (nodes_of ndb.now)) }
+    ensures rise { IfOk result (λ v. Rises 0 None (map reach_nid v.items)) }
     ensures walked { let all = reaches_of (table_of_ndb ndb.now) (nodes_of ndb.now) in
-        OnOk result (walked.new ≡ capped (walked.old + folders_in all)) }
-    ensures same { OnErr result (walked.new ≡ walked.old) }
+        OnOk result (work.new.walked ≡ capped (work.old.walked + folders_in all)) }
+    ensures same { OnErr result (work.new.walked ≡ work.old.walked) }
+    ensures pages { work.new.pages ≡ work.old.pages }
+    ensures sums { work.new.sums ≡ work.old.sums }
+    ensures expansions { work.new.expansions ≡ work.old.expansions }
+    ensures contexts { work.new.contexts ≡ work.old.contexts }
 {
+    let walked = walked_in(work);
     let mut found = BTreeMap::new(alloc);
     let root = Reach {
         nid: ROOT,
@@ -194,10 +208,11 @@ pub fn reach(alloc: Global, ndb: &Ndb, walked: &mut u64) -> Result<Vec<Reach>, A
         store: Store::known(*ndb),
         found,
         tables: BTreeSet::new(alloc),
-        walked: *walked,
+        walked,
     };
     search.take_levels(level)?;
     let reached = search.list()?;
-    *walked = search.walked;
+    search.store.is_sound();
+    work.walked = search.walked;
     Ok(reached)
 }

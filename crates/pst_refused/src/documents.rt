@@ -5,8 +5,8 @@ use pst_bytes::Image;
 use pst_header::read_header;
 use pst_json::{
     check_doc, check_line, contents_doc, contents_line, folders_doc, folders_line, head_doc,
-    head_line, hex_doc, nodes_doc, nodes_line, pc_doc, props_doc, props_line, read_nodes,
-    table_doc, text, value_doc, verify,
+    head_line, hex_doc, names_index, nodes_doc, nodes_line, pc_doc, props_doc, props_line,
+    read_nodes, table_doc, text, value_doc, verify,
 };
 use pst_verify::Verified;
 use serde_json::Value as Doc;
@@ -40,17 +40,18 @@ pub(crate) fn report(alloc: Global, bytes: &[u8]) -> Result<(), Refused> {
 pub(crate) fn lists(alloc: Global, bytes: &[u8]) -> Result<(), Refused> {
     let tree = read_nodes(alloc, Image::new(bytes))?;
     is_line(alloc, &nodes_doc(alloc, &tree)?, &nodes_line(alloc, &tree)?)?;
-    let store = verify(alloc, bytes)?.store;
+    let verified = verify(alloc, bytes)?;
     is_line(
         alloc,
-        &folders_doc(alloc, &store)?,
-        &folders_line(alloc, &store)?,
+        &folders_doc(alloc, &verified)?,
+        &folders_line(alloc, &verified)?,
     )
 }
 
 /// The contents of each folder, and the properties of each message, of its attachments and of the store.
 pub(crate) fn nodes(alloc: Global, bytes: &[u8]) -> Result<(), Refused> {
     let store = verify(alloc, bytes)?.store;
+    let index = names_index(alloc, &store)?;
     for folder in store.folders() {
         let nid = folder.node().nid();
         if nid % 32 == 2 {
@@ -60,23 +61,23 @@ pub(crate) fn nodes(alloc: Global, bytes: &[u8]) -> Result<(), Refused> {
     }
     for message in store.messages() {
         let nid = message.node().nid();
-        let doc = props_doc(alloc, &store, &[nid])?;
-        is_line(alloc, &doc, &props_line(alloc, &store, &[nid])?)?;
+        let doc = props_doc(alloc, &store, &index, &[nid])?;
+        is_line(alloc, &doc, &props_line(alloc, &store, &index, &[nid])?)?;
         for attachment in message.attachments() {
             let path = [nid, attachment.node().nid()];
-            let doc = props_doc(alloc, &store, &path)?;
-            is_line(alloc, &doc, &props_line(alloc, &store, &path)?)?;
+            let doc = props_doc(alloc, &store, &index, &path)?;
+            is_line(alloc, &doc, &props_line(alloc, &store, &index, &path)?)?;
         }
     }
-    let doc = props_doc(alloc, &store, &[0x21])?;
-    is_line(alloc, &doc, &props_line(alloc, &store, &[0x21])?)
+    let doc = props_doc(alloc, &store, &index, &[0x21])?;
+    is_line(alloc, &doc, &props_line(alloc, &store, &index, &[0x21])?)
 }
 
 /// The values of the store's own properties, and the rows of the root folder's table.
 pub(crate) fn values(alloc: Global, bytes: &[u8]) -> Result<(), Refused> {
     let store = verify(alloc, bytes)?.store;
     let pc = store.props();
-    let _all = pc_doc(alloc, &pc)?;
+    let _all = pc_doc(alloc, &pc, store.names())?;
     for prop in pc.props() {
         let _shown = value_doc(alloc, prop.kind, prop.value)?;
         let _bytes = hex_doc(alloc, prop.value)?;

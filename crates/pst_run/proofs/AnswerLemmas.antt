@@ -21,7 +21,9 @@ use Rattle.pst_run.specs.Refusal.{Refused, fault, is_memory, memory, refusal_for
 use Rattle.pst_run.specs.Answer.{GivesNone, Told, answer_with, behind, in_front, line_at, lines_of_paths, of_store, plain, report_in, report_told}
 
 report_is : (I : List ℕ) (r : Report) → IsReportOf I (store_in I) r → report_parts r ≡ report_in I
-report_is I r is = rw (is.pages, is.blocks, is.nodes, is.folders, is.messages, is.order, is.lost) refl
+report_is I r is =
+    let told = is.told in
+    rw (told.pages, told.blocks, told.nodes, told.folders, told.messages, told.order, told.lost) refl
 
 pub check_told : (bytes : Bor (List ℕ)) (strict digested : Bool) (digest : Option (List ℕ)) (v : Verified) → store_fault bytes.now ≡ None → IsVerified bytes v
     → answer_with (report strict digested) digest bytes.now ≡ Ok (report_told strict digest (report_parts v.report))

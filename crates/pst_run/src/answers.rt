@@ -12,8 +12,8 @@ use pst_ask::{Ask, Path};
 use pst_bytes::Image;
 use pst_header::read_header;
 use pst_json::{
-    Store, check_line, contents_line, folders_line, head_line, nodes_line, props_line, read_nodes,
-    verify,
+    Store, check_line, contents_line, folders_line, head_line, names_index, nodes_line, props_line,
+    read_nodes, verify,
 };
 use std::alloc::{AllocError, Global};
 use std::slice;
@@ -68,9 +68,9 @@ fn nodes_answer(alloc: Global, bytes: &[u8]) -> Result<Shown, Refusal<'static>>
 fn folders_answer(alloc: Global, bytes: &[u8]) -> Result<Shown, Refusal<'static>>
     ensures { (digest : Option (List ℕ)) → Gives result (answer_with folders digest bytes.now) }
 {
-    let store = verify(alloc, bytes)?.store;
-    store.is_sound();
-    let text = folders_line(alloc, &store)?;
+    let verified = verify(alloc, bytes)?;
+    verified.store.is_sound();
+    let text = folders_line(alloc, &verified)?;
     Ok(Shown { text, fails: false })
 }
 
@@ -98,16 +98,17 @@ fn joined(mut text: Vec<u8>, line: Vec<u8>) -> Result<Vec<u8>, AllocError>
     Ok(text)
 }
 
-// The properties of what paths lead to, a line for each.
+// The properties of what paths lead to, a line for each. The index of their names is made once for all.
 #[tactic(auto, using(crate::proofs::AnswerLemmas::line_first, crate::proofs::AnswerLemmas::line_more))]
 fn props_lines<'a>(alloc: Global, paths: &'a [Path], store: &Store) -> Result<Shown, Refusal<'a>>
     ensures { let ndb = ndb_of_store store.now in
         let line = line_of_props (table_of_ndb ndb) (nodes_of ndb) in
         Gives result (lines_of_paths line (map nids_of paths.now)) }
 {
+    let index = names_index(alloc, store)?;
     let mut text = Vec::new(alloc);
     for path in paths {
-        match props_line(alloc, store, &path.nids) {
+        match props_line(alloc, store, &index, &path.nids) {
             Ok(line) => text = joined(text, line)?,
             Err(fault) => return Err(Refusal::of_document(&path.nids, fault)),
         }

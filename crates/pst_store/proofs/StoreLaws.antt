@@ -46,6 +46,7 @@ contents_of : (I : List ℕ) (s : StoreParts) → IsStore I s → Contents (tabl
 contents_of I s is = record {
   store = is.store;
   root = is.root;
+  names = is.names;
   folders = λ r w e. is.folders r (w, e);
   searches = λ r w e. is.searches r (w, e);
   messages = λ r w e. is.messages r (w, e);
@@ -66,6 +67,7 @@ both_make I s d beside contents = record {
   trees = d.trees;
   store = contents.store;
   root = contents.root;
+  names = contents.names;
   folders = λ r w. contents.folders r w.0 w.1;
   searches = λ r w. contents.searches r w.0 w.1;
   messages = λ r w. contents.messages r w.0 w.1;

@@ -1,8 +1,9 @@
 -- What a store stands on.
 use Rattle.std.proofs.Common.{◌≡◌, ℕ, Bool, true, false, List, [], ◌∷◌, cond, eqb, Option, Some, None, refl, sym, ap, ◌∙◌}
-use Rattle.std.specs.Prelude.{option_map}
+use Rattle.std.specs.Prelude.{IfSome, option_map}
+use Rattle.pst_bytes.specs.declared.Image.{Image}
 use Rattle.pst_fault.specs.declared.fault.Fault.{Fault}
-use Rattle.pst_fault.specs.Each.{first_of}
+use Rattle.pst_fault.specs.Each.{first_of, if_there}
 use Rattle.pst_fault.specs.First.{◌then◌}
 use Rattle.pst_fault.proofs.FirstLemmas.{none_then}
 use Rattle.pst_header.specs.declared.header.Header.{Header}
@@ -14,13 +15,20 @@ use Rattle.pst_ndb.specs.declared.node.Node.{Node}
 use Rattle.pst_ndb.specs.Entries.{block_table, node_list}
 use Rattle.pst_ndb.specs.Fault.{ndb_fault}
 use Rattle.pst_ndb.specs.Roots.{Roots, entry_roots, node_in, all_roots}
-use Rattle.pst_ndb.specs.Views.{table_of_node, top_of, roots_of}
+use Rattle.pst_ndb.specs.Views.{image_of_node, table_of_node, top_of, roots_of}
 use Rattle.pst_msg.specs.pst_pc.Fault.{pc_fault}
 use Rattle.pst_msg.proofs.pst_pc.PcLaws.{pc_none}
 use Rattle.pst_msg.specs.declared.nid.TheConstants.{STORE, ROOT}
 use Rattle.pst_msg.specs.Values.{is_folder, is_message}
-use Rattle.pst_msg.specs.Fault.{message_fault, required_fault, typed_node_fault, messaging_fault}
-use Rattle.pst_msg.proofs.ContentsLaws.{none_required}
+use Rattle.pst_msg.specs.Fault.{message_fault, required_fault, name_map_fault, typed_node_fault, messaging_fault}
+use Rattle.pst_msg.specs.pst_names.declared.name_map.TheConstants.{NAME_MAP}
+use Rattle.pst_msg.specs.pst_names.declared.name.Name.{Name}
+use Rattle.pst_msg.specs.pst_names.declared.name_map.NameMap.{NameMap}
+use Rattle.pst_msg.specs.pst_names.Fault.{names_fault}
+use Rattle.pst_msg.specs.pst_names.Name.{name_of, store_name}
+use Rattle.pst_msg.specs.pst_names.View.{node_of_names, names_roots, name_parts, IsLent, IsLentIn}
+use Rattle.pst_msg.proofs.pst_names.NameLaws.{names_none}
+use Rattle.pst_msg.proofs.ContentsLaws.{none_required, none_are_names}
 use Rattle.pst_msg.proofs.FolderLemmas.{of_message}
 use Rattle.pst_store.specs.Parts.{table_in, entries_in}
 use Rattle.pst_store.specs.Fault.{store_fault}
@@ -50,14 +58,16 @@ entries_are I h nodes is entries = entries ∙ ap (node_list I) is ∙ sym (entr
 record Parts (t : Table) (nodes : List NodeEntry) : Type 0 where
   store : required_fault t nodes STORE ≡ None
   root : required_fault t nodes ROOT ≡ None
+  names : if_there (name_map_fault t) (node_in nodes NAME_MAP) ≡ None
   each : first_of (typed_node_fault t nodes) (all_roots nodes) ≡ None
 
 parts : (t : Table) (nodes : List NodeEntry) → messaging_fault t nodes ≡ None → Parts t nodes
 unfolding messaging_fault
 parts t nodes none =
-    let p = none_then (required_fault t nodes STORE) (required_fault t nodes ROOT then first_of (typed_node_fault t nodes) (all_roots nodes)) none in
-    let q = none_then (required_fault t nodes ROOT) (first_of (typed_node_fault t nodes) (all_roots nodes)) p.1 in
-    record { store = p.0; root = q.0; each = q.1 }
+    let p = none_then (required_fault t nodes STORE) (required_fault t nodes ROOT then if_there (name_map_fault t) (node_in nodes NAME_MAP) then first_of (typed_node_fault t nodes) (all_roots nodes)) none in
+    let q = none_then (required_fault t nodes ROOT) (if_there (name_map_fault t) (node_in nodes NAME_MAP) then first_of (typed_node_fault t nodes) (all_roots nodes)) p.1 in
+    let s = none_then (if_there (name_map_fault t) (node_in nodes NAME_MAP)) (first_of (typed_node_fault t nodes) (all_roots nodes)) q.1 in
+    record { store = p.0; root = q.0; names = s.0; each = s.1 }
 
 pub nodes_sound : (t : Table) (nodes : List NodeEntry) → messaging_fault t nodes ≡ None → first_of (typed_node_fault t nodes) (all_roots nodes) ≡ None
 nodes_sound t nodes none = (parts t nodes none).each
@@ -77,6 +87,27 @@ root_there t nodes none is = let found = none_required t nodes ROOT (parts t nod
 
 pub root_kind : (node : Node) → top_of node ≡ ROOT → is_folder (top_of node) ≡ true
 root_kind node is = rw is refl
+
+-- ---- the name map, where it is there
+
+pub names_properties : (t : Table) (nodes : List NodeEntry) (node : Node) → messaging_fault t nodes ≡ None → Some (roots_of node) ≡ node_in nodes NAME_MAP → table_of_node node ≡ t → pc_fault (table_of_node node) (roots_of node) ≡ None
+names_properties t nodes node none is same = rw same (pc_none t (roots_of node) (none_are_names t nodes (parts t nodes none).names (roots_of node) (sym is)).0)
+
+pub names_sound : (t : Table) (nodes : List NodeEntry) (node : Node) → messaging_fault t nodes ≡ None → Some (roots_of node) ≡ node_in nodes NAME_MAP → table_of_node node ≡ t → names_fault (table_of_node node) (roots_of node) ≡ None
+names_sound t nodes node none is same = rw same (names_none t (roots_of node) (none_are_names t nodes (parts t nodes none).names (roots_of node) (sym is)).1)
+
+-- what a property is called by it, and by none
+pub name_is : (t : Table) (nodes : List NodeEntry) (m : NameMap) (id : ℕ) (found : Option Name) → Some (names_roots m) ≡ node_in nodes NAME_MAP → table_of_node (node_of_names m) ≡ t → option_map name_parts found ≡ name_of (table_of_node (node_of_names m)) (names_roots m) id → option_map name_parts found ≡ store_name t nodes id
+unfolding store_name
+name_is t nodes m id found is same named = rw (← is, ← same) named
+
+pub no_name : (t : Table) (nodes : List NodeEntry) (id : ℕ) → None ≡ node_in nodes NAME_MAP → None ≡ store_name t nodes id
+unfolding store_name
+no_name t nodes id is = rw (← is) refl
+
+pub name_lent : (file : Image) (t : Table) (nodes : List NodeEntry) (m : NameMap) (found : Option Name) → Some (names_roots m) ≡ node_in nodes NAME_MAP → image_of_node (node_of_names m) ≡ file → table_of_node (node_of_names m) ≡ t → IfSome found (IsLent (image_of_node (node_of_names m)) (table_of_node (node_of_names m)) (names_roots m)) → IfSome found (IsLentIn file t nodes)
+name_lent file t nodes m None is own same lent = tt
+name_lent file t nodes m (Some n) is own same lent = (names_roots m, sym is, rw (← own, ← same) lent)
 
 -- ---- a node that is found
 

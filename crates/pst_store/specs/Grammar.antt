@@ -14,7 +14,7 @@ use Rattle.pst_ndb.specs.Database.{IsSpelt, AllHaveTrees, blocks_in, claimed_uni
 use Rattle.pst_ndb.specs.Roots.{Roots}
 use Rattle.pst_msg.specs.pst_pc.Grammar.{IsPc}
 use Rattle.pst_msg.specs.declared.nid.TheConstants.{STORE, ROOT, FOLDER, SEARCH_FOLDER, MESSAGE, ASSOCIATED}
-use Rattle.pst_msg.specs.Grammar.{HasProperties, IsFolder, IsMessage}
+use Rattle.pst_msg.specs.Grammar.{HasProperties, MayHaveNames, IsFolder, IsMessage}
 use Rattle.pst_store.specs.Parts.{StoreParts, table_in, entries_in, used_in, HasNode}
 
 pub record IsStore (I : List ℕ) (s : StoreParts) : Type 0 where
@@ -41,6 +41,8 @@ pub record IsStore (I : List ℕ) (s : StoreParts) : Type 0 where
   -- The message store and the root folder are there: their nodes are property contexts (2.4.3, 2.4.4).
   pub store : HasProperties (table_in I s) (entries_in I s) STORE
   pub root : HasProperties (table_in I s) (entries_in I s) ROOT
+  -- Where the node of the name map is there, it is a property context, whose streams name properties (2.4.7).
+  pub names : MayHaveNames (table_in I s) (entries_in I s)
   -- A node of the type of folders is a property context, and its tables, where they are there, are table contexts, whose rows name
   -- nodes of the types that belong there; a search folder is a property context (2.4.4).
   pub folders : (r : Roots) → HasNode I s FOLDER r → IsFolder (table_in I s) (entries_in I s) r

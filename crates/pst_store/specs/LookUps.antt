@@ -8,6 +8,11 @@ use Rattle.pst_msg.specs.declared.message_view.Message.{Message}
 use Rattle.pst_msg.specs.declared.nid.TheConstants.{STORE, ROOT}
 use Rattle.pst_msg.specs.pst_pc.declared.pc.Pc.{Pc}
 use Rattle.pst_msg.specs.pst_pc.View.{node_of_pc}
+use Rattle.pst_msg.specs.pst_names.declared.name.Name.{Name}
+use Rattle.pst_msg.specs.pst_names.declared.name_map.NameMap.{NameMap}
+use Rattle.pst_msg.specs.pst_names.declared.name_map.TheConstants.{NAME_MAP}
+use Rattle.pst_msg.specs.pst_names.Name.{store_name}
+use Rattle.pst_msg.specs.pst_names.View.{node_of_names, names_roots, name_parts, IsLentIn}
 use Rattle.pst_msg.specs.Values.{is_folder, is_message}
 use Rattle.pst_msg.specs.View.{ndb_of_folder, node_of_folder, folder_roots, node_of_message, message_roots}
 use Rattle.pst_store.specs.declared.store.Store.{Store}
@@ -31,6 +36,18 @@ GivesStoreProps store pc =
     (Some (roots_of (node_of_pc pc)) ≡ node_in (nodes_of_store store) STORE)
     × (image_of_node (node_of_pc pc) ≡ image_of_store store)
     × (table_of_node (node_of_pc pc) ≡ table_of_store store)
+
+-- `names` and `name`
+abbrev pub GivesNames : Store → Option NameMap → Type 0
+GivesNames store found =
+    (option_map names_roots found ≡ node_in (nodes_of_store store) NAME_MAP)
+    × IfSome found (λ m. image_of_node (node_of_names m) ≡ image_of_store store)
+    × IfSome found (λ m. table_of_node (node_of_names m) ≡ table_of_store store)
+
+abbrev pub GivesName : Store → ℕ → Option Name → Type 0
+GivesName store id found =
+    (option_map name_parts found ≡ store_name (table_of_store store) (nodes_of_store store) id)
+    × IfSome found (IsLentIn (image_of_store store) (table_of_store store) (nodes_of_store store))
 
 -- `root`, `folder` and `folders`
 abbrev pub GivesRoot : Store → Folder → Type 0

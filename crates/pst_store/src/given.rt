@@ -1,11 +1,11 @@
 //! That what the look-ups of a store give has the clauses by which the law of look-ups knows them.
 
-ghost use Rattle.pst_store.specs.LookUps.{GivesNode, GivesStoreProps, GivesRoot, GivesFolder, GivesFolders, GivesMessage, GivesMessages};
+ghost use Rattle.pst_store.specs.LookUps.{GivesNode, GivesStoreProps, GivesNames, GivesName, GivesRoot, GivesFolder, GivesFolders, GivesMessage, GivesMessages};
 
 use crate::folders::Folders;
 use crate::messages::Messages;
 use crate::store::Store;
-use pst_msg::{Folder, Message, Pc};
+use pst_msg::{Folder, Message, Name, NameMap, Pc};
 use pst_ndb::Node;
 
 /// What a store gives: the node with an identifier, and its own properties.
@@ -14,6 +14,14 @@ pub fn store_gives<'a>(store: &Store<'a>, nid: u32) -> (Option<Node<'a>>, Pc<'a>
     ensures props { GivesStoreProps store.now result.1 }
 {
     (store.node(nid), store.props())
+}
+
+/// The name map that it gives, and what it says that the property with an identifier is called.
+pub fn store_gives_names<'a>(store: &Store<'a>, id: u16) -> (Option<NameMap<'a>>, Option<Name<'a>>)
+    ensures names { GivesNames store.now result.0 }
+    ensures name { GivesName store.now id result.1 }
+{
+    (store.names(), store.name(id))
 }
 
 /// The folders that it gives: the root folder, the one with an identifier, and all of them.

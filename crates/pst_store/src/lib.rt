@@ -18,11 +18,11 @@ mod sort;
 mod store;
 
 pub use folders::Folders;
-pub use given::{store_gives, store_gives_folders, store_gives_messages};
+pub use given::{store_gives, store_gives_folders, store_gives_messages, store_gives_names};
 pub use laws::store_decides;
 pub use messages::Messages;
 pub use pst_msg::{
-    Attachment, Attachments, FOLDER, Folder, Message, check_messaging, is_folder, is_message,
-    is_type,
+    Attachment, Attachments, FOLDER, Folder, Message, Name, NameKind, NameMap, check_messaging,
+    is_folder, is_message, is_type,
 };
 pub use store::Store;

@@ -9,7 +9,8 @@ ghost use Rattle.pst_store.specs.Fault.{store_fault};
 use crate::folders::Folders;
 use crate::messages::Messages;
 use pst_msg::{
-    Folder, Message, Pc, ROOT, STORE, is_folder, is_message, known_folder, known_message, known_pc,
+    Folder, Message, NAME_MAP, Name, NameMap, Pc, ROOT, STORE, is_folder, is_message, known_folder,
+    known_message, known_names, known_pc,
 };
 use pst_ndb::{Ndb, Node};
 
@@ -26,6 +27,8 @@ impl<'a> Store<'a> {
     ghost use Rattle.pst_ndb.specs.Roots.{node_in, all_roots};
     ghost use Rattle.pst_ndb.specs.Views.{table_of_ndb, nodes_of, image_of_node, table_of_node, top_of, nid_of, roots_of};
     ghost use Rattle.pst_msg.specs.pst_pc.View.{node_of_pc};
+    ghost use Rattle.pst_msg.specs.pst_names.Name.{store_name};
+    ghost use Rattle.pst_msg.specs.pst_names.View.{node_of_names, names_roots, name_parts, IsLentIn};
     ghost use Rattle.pst_msg.specs.Fault.{messaging_fault};
     ghost use Rattle.pst_msg.specs.Values.{is_folder as folder_kind, is_message as message_kind};
     ghost use Rattle.pst_msg.specs.View.{node_of_folder, ndb_of_folder, folder_roots, node_of_message, message_roots};
@@ -92,6 +95,37 @@ impl<'a> Store<'a> {
         match self.ndb.node(STORE) {
             Some(node) => known_pc(node),
             None => unreachable!(),
+        }
+    }
+
+    /// Its name map ([MS-PST] 2.4.7), by which properties from 0x8000 on are called; None exactly where the store has no node of it.
+    #[tactic(auto, using(crate::proofs::StoreLemmas::names_properties, crate::proofs::StoreLemmas::names_sound))]
+    pub fn names(&self) -> Option<NameMap<'a>>
+        ensures roots { option_map names_roots result
+            ≡ node_in (nodes_of_store self.now) NAME_MAP }
+        ensures image { IfSome result (λ m.
+            image_of_node (node_of_names m) ≡ image_of_store self.now) }
+        ensures table { IfSome result (λ m.
+            table_of_node (node_of_names m) ≡ table_of_store self.now) }
+    {
+        match self.ndb.node(NAME_MAP) {
+            Some(node) => Some(known_names(&known_pc(node))),
+            None => None,
+        }
+    }
+
+    /// What the property with an identifier is called; None exactly where no entry of the name map names it. Of two entries that
+    /// name it the first one counts. It takes no memory, and goes through the entries up to the one that names it.
+    #[tactic(auto, using(crate::proofs::StoreLemmas::name_is, crate::proofs::StoreLemmas::no_name, crate::proofs::StoreLemmas::name_lent))]
+    pub fn name(&self, id: u16) -> Option<Name<'a>>
+        ensures value { option_map name_parts result
+            ≡ store_name (table_of_store self.now) (nodes_of_store self.now) id }
+        ensures lent { let nodes = nodes_of_store self.now in
+            IfSome result (IsLentIn (image_of_store self.now) (table_of_store self.now) nodes) }
+    {
+        match self.names() {
+            Some(names) => names.name(id),
+            None => None,
         }
     }
 

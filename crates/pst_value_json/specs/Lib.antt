@@ -9,5 +9,6 @@ pub mod Cells
 pub mod Rows
 pub mod Made
 pub mod Object
+pub use Rattle.pst_names.specs as pst_names
 pub use Rattle.pst_pc.specs as pst_pc
 pub use Rattle.pst_tc.specs as pst_tc

@@ -5,10 +5,15 @@
 //! a tree or a line by the sink that it is made for:
 //!
 //! ```text
-//! fn shown_node<S: Sink>(alloc: Global, nid: u32, pc: &Pc) -> Result<S::Out, AllocError> {
+//! fn shown_node<S: Sink>(
+//!     alloc: Global,
+//!     nid: u32,
+//!     pc: &Pc,
+//!     names: Option<NameMap>,
+//! ) -> Result<S::Out, AllocError> {
 //!     let parts = vec![in alloc;
 //!         Part::Value("nid", Made::Nid(Some(nid))),
-//!         Part::Rows("props", pc.props()),
+//!         Part::Rows("props", prop_rows(pc, names)),
 //!     ]?;
 //!     S::object(alloc, parts)
 //! }
@@ -31,8 +36,9 @@ pub use compact::{line_text, text};
 pub use listing::Rows;
 pub use names::nid_text;
 pub use parts::{Made, Part};
-pub use props::pc_doc;
-pub use pst_pc::{Pc, Props, check_pc};
+pub use props::{PropRows, pc_doc, prop_rows};
+pub use pst_names::{NameIndex, NameMap};
+pub use pst_pc::{Pc, check_pc};
 pub use pst_tc::{Row, Rows as TcRows, Tc, check_tc, tc_ids_rise};
 pub use pst_value::PropType;
 pub use scalar::text_doc;

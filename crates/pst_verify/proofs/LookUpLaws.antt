@@ -3,6 +3,9 @@ use Rattle.std.proofs.Common.{◌≡◌, Option, Some, None, refl, ap, ◌∙◌
 use Rattle.std.specs.Prelude.{IfSome}
 use Rattle.pst_ndb.specs.declared.node.Node.{Node}
 use Rattle.pst_ndb.specs.Views.{image_of_node, image_of_ndb, header_of, table_of_node, table_of_ndb, nodes_of}
+use Rattle.pst_store.specs.pst_msg.pst_names.declared.name_map.NameMap.{NameMap}
+use Rattle.pst_store.specs.pst_msg.pst_names.LookUps.{NameMapLookUps}
+use Rattle.pst_store.specs.pst_msg.pst_names.View.{node_of_names, names_roots}
 use Rattle.pst_store.specs.pst_msg.declared.folder_view.Folder.{Folder}
 use Rattle.pst_store.specs.pst_msg.declared.message_view.Message.{Message}
 use Rattle.pst_store.specs.pst_msg.NodeLookUps.{NodeLookUps}
@@ -25,6 +28,12 @@ node_found : (s : Store) (found : Option Node) → IfSome found (λ n. image_of_
     → IfSome found (λ n. table_of_node n ≡ table_of_store s) → IfSome found (NodeLookUps (image_of_store s) (table_of_store s))
 node_found s None image table = tt
 node_found s (Some n) image table = (views_of s).node n (image, table)
+
+names_found : (s : Store) (found : Option NameMap) → IfSome found (λ m. image_of_node (node_of_names m) ≡ image_of_store s)
+    → IfSome found (λ m. table_of_node (node_of_names m) ≡ table_of_store s)
+    → IfSome found (λ m. NameMapLookUps (image_of_store s) (table_of_store s) (names_roots m) m)
+names_found s None image table = tt
+names_found s (Some m) image table = (views_of s).names m (image, table)
 
 folder_in : (s : Store) (f : Folder) → ndb_of_folder f ≡ ndb_of_store s → IsFolderIn (table_of_store s) (nodes_of_store s) s f
 folder_in s f is = (
@@ -49,6 +58,8 @@ own_look_ups s = record {
   memory = refl;
   node = λ nid found is. (is.0, node_found s found is.1 is.2, is.4);
   props = λ pc is. (is.0, (views_of s).pc pc (is.1, is.2));
+  names = λ found is. (is.0, names_found s found is.1 is.2);
+  name = λ id found is. is;
   root = λ f is. (is.0, folder_in s f is.1);
   folder = λ nid found is. (is.0, folder_found s found is.1, is.2);
   folders = λ all is. is;

@@ -2,6 +2,7 @@
 use Rattle.std.proofs.Common.{◌≡◌, ℕ, List, length, Option, None, Result, Ok, Err, refl, sym, ap, ◌∙◌}
 use Rattle.std.specs.Prelude.{IfOk, IfErr, OnOk}
 use Rattle.std.specs.Borrow.{Bor}
+use Rattle.std.specs.Global.{Vec}
 use Rattle.pst_fault.specs.declared.fault.Fault.{Fault}
 use Rattle.pst_fault.specs.Fault.{no_memory}
 use Rattle.pst_fault.specs.First.{IsFirst, TellsFirst}
@@ -13,7 +14,7 @@ use Rattle.pst_block.specs.Table.{Table}
 use Rattle.pst_amap.specs.declared.report.MapReport.{MapReport}
 use Rattle.pst_amap.specs.Report.{IsReport}
 use Rattle.pst_ndb.specs.declared.check.Work.{Work}
-use Rattle.pst_ndb.specs.Counts.{AreExpanded}
+use Rattle.pst_ndb.specs.Counts.{AreExpanded, capped}
 use Rattle.pst_ndb.specs.Entries.{page_total, block_table, block_list, node_list}
 use Rattle.pst_ndb.specs.Fault.{ndb_fault}
 use Rattle.pst_ndb.specs.Roots.{all_roots}
@@ -27,10 +28,16 @@ use Rattle.pst_store.specs.Parts.{StoreParts, table_in, entries_in}
 use Rattle.pst_store.specs.Values.{store_in}
 use Rattle.pst_store.specs.View.{memory_of_store}
 use Rattle.pst_store.proofs.StoreLaws.{store_law, sound_store, table_is, entries_are, lost_is}
+use Rattle.pst_store.proofs.StoreLemmas.{is_store}
+use Rattle.pst_reach.specs.declared.reached.Reach.{Reach}
+use Rattle.pst_reach.specs.Path.{unreached_of}
+use Rattle.pst_reach.specs.Levels.{reaches_of, folders_in}
+use Rattle.pst_reach.proofs.ReachLaws.{reach_law, unreached_law}
 use Rattle.pst_verify.specs.declared.counts.Counts.{Counts}
-use Rattle.pst_verify.specs.declared.check.Verified.{Verified}
+use Rattle.pst_verify.specs.declared.report.Report.{Report}
+use Rattle.pst_verify.specs.declared.verified.Verified.{Verified}
 use Rattle.pst_verify.specs.Counts.{count_of}
-use Rattle.pst_verify.specs.Report.{IsReportOf}
+use Rattle.pst_verify.specs.Report.{IsToldOf, IsReportOf}
 use Rattle.pst_verify.specs.Verified.{IsVerified}
 
 -- ---- the first fault
@@ -53,17 +60,20 @@ messaging_fails I J t nodes f same none table entries h = rw same at (messaging_
 
 -- ---- the report
 
+abbrev report_with : MapReport → Work → Counts → Vec Reach → Vec ℕ → Report
+report_with map work counts reached unreached = record { pages = work.pages; blocks = work.sums; nodes = counts.nodes; folders = counts.folders; messages = counts.messages; order = map.order; lost = map.lost; reached = reached; unreached = unreached; work = work }
+
 -- what was found, in the words of the store that the file spells
-spelt_report : (I : List ℕ) (map : MapReport) (work : Work) (counts : Counts) →
+spelt_told : (I : List ℕ) (map : MapReport) (work : Work) (counts : Counts) (reached : Vec Reach) (unreached : Vec ℕ) →
     IsReport I (fields I) (space_claimed I (fields I)) map → map.lost.items ≡ (store_in I).lost → work.pages ≡ page_total I (fields I) →
-    work.sums ≡ length (block_list I (fields I)) → AreExpanded (table_in I (store_in I)) (entries_in I (store_in I)) work.expansions →
-    IsRaised (table_in I (store_in I)) (entries_in I (store_in I)) 0 work.contexts → counts.nodes ≡ length (entries_in I (store_in I)) →
+    work.sums ≡ length (block_list I (fields I)) → counts.nodes ≡ length (entries_in I (store_in I)) →
     counts.folders ≡ count_of is_folder (all_roots (entries_in I (store_in I))) →
     counts.messages ≡ count_of is_message (all_roots (entries_in I (store_in I))) →
-    IsReportOf I (store_in I)
-    (record { pages = work.pages; blocks = work.sums; nodes = counts.nodes; folders = counts.folders; messages = counts.messages; order = map.order; lost = map.lost; work = work })
+    reached.items ≡ reaches_of (table_in I (store_in I)) (entries_in I (store_in I)) →
+    unreached.items ≡ unreached_of (table_in I (store_in I)) (entries_in I (store_in I)) →
+    IsToldOf I (store_in I) (report_with map work counts reached unreached)
 unfolding store_in page_total block_list
-spelt_report I map work counts is lost pages sums expanded contexts nodes folders messages = record {
+spelt_told I map work counts reached unreached is lost pages sums nodes folders messages found left = record {
   pages = pages;
   blocks = sums;
   nodes = nodes;
@@ -71,24 +81,54 @@ spelt_report I map work counts is lost pages sums expanded contexts nodes folder
   messages = messages;
   order = is.order;
   lost = lost;
-  decoded = refl;
-  summed = refl;
-  expanded = expanded;
-  contexts = contexts;
+  reached = found;
+  unreached = left;
 }
 
-pub report_is : (I : List ℕ) (h : Header) (t : Table) (entries : List NodeEntry) (map : MapReport) (work : Work) (counts : Counts) →
+-- how much work it was
+pub record IsWork (I : List ℕ) (t : Table) (nodes : List NodeEntry) (work : Work) : Type 0 where
+  pub pages : work.pages ≡ page_total I (fields I)
+  pub sums : work.sums ≡ length (block_list I (fields I))
+  pub expansions : AreExpanded t nodes work.expansions
+  pub contexts : IsRaised t nodes 0 work.contexts
+  pub walked : work.walked ≡ capped (folders_in (reaches_of t nodes))
+
+-- which folders are reached, and which are not
+pub record AreFound (t : Table) (nodes : List NodeEntry) (reached : Vec Reach) (unreached : Vec ℕ) : Type 0 where
+  pub all : reached.items ≡ reaches_of t nodes
+  pub others : unreached.items ≡ unreached_of t nodes
+
+spelt_report : (I : List ℕ) (map : MapReport) (work : Work) (counts : Counts) (reached : Vec Reach) (unreached : Vec ℕ) →
+    store_fault I ≡ None → IsToldOf I (store_in I) (report_with map work counts reached unreached) →
+    IsWork I (table_in I (store_in I)) (entries_in I (store_in I)) work →
+    AreFound (table_in I (store_in I)) (entries_in I (store_in I)) reached unreached →
+    IsReportOf I (store_in I) (report_with map work counts reached unreached)
+spelt_report I map work counts reached unreached none told done found =
+    let is = sound_store I none in record {
+      told = told;
+      reached = rw found.all (reach_law I (store_in I) is);
+      unreached = rw found.others (unreached_law I (store_in I) is);
+      decoded = refl;
+      summed = refl;
+      expanded = done.expansions;
+      contexts = done.contexts;
+      walked = done.walked ∙ ap (λ (xs : List Reach). capped (folders_in xs)) (sym found.all);
+    }
+
+pub report_is : (I : List ℕ) (h : Header) (t : Table) (entries : List NodeEntry) (map : MapReport) (work : Work) (counts : Counts) (reached : Vec Reach) (unreached : Vec ℕ) →
     h ≡ fields I → t ≡ block_table I h → entries ≡ node_list I h →
-    IsReport I (fields I) (space_claimed I (fields I)) map → ndb_fault I ≡ None → work.pages ≡ page_total I (fields I) →
-    work.sums ≡ length (block_list I (fields I)) → AreExpanded t entries work.expansions → IsRaised t entries 0 work.contexts →
+    IsReport I (fields I) (space_claimed I (fields I)) map → ndb_fault I ≡ None → messaging_fault t entries ≡ None → IsWork I t entries work →
+    AreFound t entries reached unreached →
     counts.nodes ≡ length entries → counts.folders ≡ count_of is_folder (all_roots entries) →
     counts.messages ≡ count_of is_message (all_roots entries) →
-    IsReportOf I (store_in I)
-    (record { pages = work.pages; blocks = work.sums; nodes = counts.nodes; folders = counts.folders; messages = counts.messages; order = map.order; lost = map.lost; work = work })
-report_is I h t entries map work counts is table nodes_are report sound pages sums expanded contexts nodes folders messages =
+    IsReportOf I (store_in I) (report_with map work counts reached unreached)
+report_is I h t entries map work counts reached unreached is table nodes_are report sound none done found nodes folders messages =
     let a : t ≡ table_in I (store_in I) = table ∙ ap (block_table I) is ∙ sym (table_is I) in
     let b : entries ≡ entries_in I (store_in I) = nodes_are ∙ ap (node_list I) is ∙ sym (entries_are I) in
-    spelt_report I map work counts report (report.lost ∙ lost_is I sound) pages sums (rw (a, b) at expanded) (rw (a, b) at contexts) (rw b at nodes) (rw b at folders) (rw b at messages)
+    let whole : AreFound (table_in I (store_in I)) (entries_in I (store_in I)) reached unreached = (rw (a, b) at found) in
+    spelt_report I map work counts reached unreached (is_store I h t entries sound is table nodes_are none)
+    (spelt_told I map work counts reached unreached report (report.lost ∙ lost_is I sound) done.pages done.sums (rw b at nodes) (rw b at folders) (rw b at messages) whole.all whole.others)
+    (rw (a, b) at done) whole
 
 -- ---- the answer
 

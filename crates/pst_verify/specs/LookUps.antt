@@ -13,6 +13,12 @@ use Rattle.pst_ndb.specs.Views.{nid_of, roots_of}
 use Rattle.pst_store.specs.pst_msg.pst_pc.declared.pc.Pc.{Pc}
 use Rattle.pst_store.specs.pst_msg.pst_pc.View.{node_of_pc}
 use Rattle.pst_store.specs.pst_msg.pst_pc.LookUps.{PcLookUps}
+use Rattle.pst_store.specs.pst_msg.pst_names.declared.name.Name.{Name}
+use Rattle.pst_store.specs.pst_msg.pst_names.declared.name_map.NameMap.{NameMap}
+use Rattle.pst_store.specs.pst_msg.pst_names.declared.name_map.TheConstants.{NAME_MAP}
+use Rattle.pst_store.specs.pst_msg.pst_names.LookUps.{NameMapLookUps}
+use Rattle.pst_store.specs.pst_msg.pst_names.Name.{store_name}
+use Rattle.pst_store.specs.pst_msg.pst_names.View.{names_roots, name_parts, IsLentIn}
 use Rattle.pst_store.specs.pst_msg.declared.folder_view.Folder.{Folder}
 use Rattle.pst_store.specs.pst_msg.declared.message_view.Message.{Message}
 use Rattle.pst_store.specs.pst_msg.declared.nid.TheConstants.{STORE, ROOT}
@@ -24,11 +30,11 @@ use Rattle.pst_store.specs.declared.store.Store.{Store}
 use Rattle.pst_store.specs.declared.folders.Folders.{Folders}
 use Rattle.pst_store.specs.declared.messages.Messages.{Messages}
 use Rattle.pst_store.specs.Kind.{of_kind, node_of_kind}
-use Rattle.pst_store.specs.LookUps.{GivesNode, GivesStoreProps, GivesRoot, GivesFolder, GivesFolders, GivesMessage, GivesMessages}
+use Rattle.pst_store.specs.LookUps.{GivesNode, GivesStoreProps, GivesNames, GivesName, GivesRoot, GivesFolder, GivesFolders, GivesMessage, GivesMessages}
 use Rattle.pst_store.specs.Parts.{StoreParts, table_in, entries_in}
 use Rattle.pst_store.specs.Values.{store_in}
 use Rattle.pst_store.specs.View.{ndb_of_store, image_of_store, folders_left, folders_ndb, messages_left, messages_ndb, TakesFolder, TakesMessage}
-use Rattle.pst_verify.specs.declared.check.Verified.{Verified}
+use Rattle.pst_verify.specs.declared.verified.Verified.{Verified}
 use Rattle.pst_verify.specs.Verified.{IsVerified}
 
 -- a folder, and a message, of a store with these blocks and nodes
@@ -49,6 +55,13 @@ pub record StoreLookUps (bytes : Bor (List ℕ)) (t : Table) (nodes : List NodeE
   pub props : (pc : Pc) → GivesStoreProps store pc →
       (Some (roots_of (node_of_pc pc)) ≡ node_in nodes STORE)
       × PcLookUps (image_of_store store) t (roots_of (node_of_pc pc)) pc
+  -- `names`: the name map; None exactly where the store has no node of it
+  pub names : (found : Option NameMap) → GivesNames store found →
+      (option_map names_roots found ≡ node_in nodes NAME_MAP)
+      × IfSome found (λ m. NameMapLookUps (image_of_store store) t (names_roots m) m)
+  -- `name`: what the property with an identifier is called, a string lent from the file; None exactly where no entry names it
+  pub name : (id : ℕ) (found : Option Name) → GivesName store id found →
+      (option_map name_parts found ≡ store_name t nodes id) × IfSome found (IsLentIn (image_of_store store) t nodes)
   -- `root`: the root folder
   pub root : (f : Folder) → GivesRoot store f →
       (Some (folder_roots f) ≡ node_in nodes ROOT) × IsFolderIn t nodes store f
@@ -72,7 +85,7 @@ pub record StoreLookUps (bytes : Bor (List ℕ)) (t : Table) (nodes : List NodeE
   pub next_message : (old new : Messages) (taken : Option Message) → messages_ndb old ≡ ndb_of_store store → TakesMessage old taken new →
       YieldsFirstBy message_roots messages_left old taken new × (messages_ndb new ≡ ndb_of_store store)
       × IfSome taken (IsMessageIn t store)
-  -- What is reached from there answers so, too: each node, property context, table, message and attachment of the file.
+  -- What is reached from there answers so, too: each node, property context, table, name map, message and attachment of the file.
   pub views : ViewLookUps (image_of_store store) t
 
 -- of the store that bytes are

@@ -4,7 +4,7 @@ use Rattle.std.specs.Borrow.{Bor}
 use Rattle.pst_store.specs.Grammar.{IsStore}
 use Rattle.pst_store.specs.Values.{store_in}
 use Rattle.pst_store.specs.View.{memory_of_store}
-use Rattle.pst_verify.specs.declared.check.Verified.{Verified}
+use Rattle.pst_verify.specs.declared.verified.Verified.{Verified}
 use Rattle.pst_verify.specs.Report.{IsReportOf}
 
 -- A yes: these bytes are a store, this is the store that they are, of which each look-up answers without fault, in their own

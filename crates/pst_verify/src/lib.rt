@@ -15,10 +15,14 @@ mod check;
 mod counts;
 mod laws;
 mod report;
+mod verified;
 
-pub use check::{Verified, verify};
+pub use check::verify;
 pub use laws::look_ups_are_of_the_store;
+pub use pst_reach::{Reach, find_reach, path_from_root};
 pub use pst_store::{
-    Attachment, Attachments, FOLDER, Folder, Folders, Message, Store, is_message, is_type,
+    Attachment, Attachments, FOLDER, Folder, Folders, Message, Name, NameKind, NameMap, Store,
+    is_message, is_type,
 };
 pub use report::Report;
+pub use verified::Verified;

@@ -3,6 +3,7 @@
 use pst_amap::BitOrder;
 use pst_bytes::Span;
 use pst_ndb::Work;
+use pst_reach::Reach;
 
 /// What is reported of a file that is a store.
 #[derive(Debug, Drop)]
@@ -21,6 +22,12 @@ pub struct Report {
     pub order: BitOrder,
     /// The runs of units that the maps mark and nothing uses, in order.
     pub lost: Vec<Span>,
+    /// The folders and search folders that the root folder reaches, by rows of hierarchy tables ([MS-PST] 2.4.4.4), their
+    /// identifiers rising.
+    pub reached: Vec<Reach>,
+    /// Those that it does not reach, their identifiers rising. They are in the store, and break none of its rules, but no program
+    /// that starts at the root folder comes to them.
+    pub unreached: Vec<u32>,
     /// How much work the check was.
     pub work: Work,
 }

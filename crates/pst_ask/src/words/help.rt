@@ -58,8 +58,9 @@ identifier, that of its parent, and those of the blocks of its data and its subn
 
 const FOLDERS: &str = ending!(
     "Checks the whole file, and prints of each folder its identifier and its name, the
-identifiers of its subfolders, how many messages are in it, and how many belong to the
-folder itself.",
+identifiers from the root folder down to it and of its subfolders, how many messages are
+in it, and how many belong to the folder itself. Those that the root folder does not
+reach come last, without a path.",
     "The folders are printed",
     "The file breaks a rule of the format: standard error tells the first fault"
 );

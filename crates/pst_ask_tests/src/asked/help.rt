@@ -126,8 +126,9 @@ Options:
   -h, --help    Print help
 
 Checks the whole file, and prints of each folder its identifier and its name, the
-identifiers of its subfolders, how many messages are in it, and how many belong to the
-folder itself.
+identifiers from the root folder down to it and of its subfolders, how many messages are
+in it, and how many belong to the folder itself. Those that the root folder does not
+reach come last, without a path.
 
 Exit status:
   0  The folders are printed

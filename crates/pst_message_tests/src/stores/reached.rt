@@ -7,7 +7,7 @@ use pst_bytes::Image;
 use pst_make::{build, m1_plan};
 use pst_msg::check_messaging;
 use pst_ndb::check_ndb;
-use pst_reach::{reach, ways_are_found};
+use pst_reach::{Reach, path_from_root, reach, unreached, ways_are_found};
 use std::alloc::Global;
 use std::test::Fail;
 
@@ -38,7 +38,15 @@ fn image(alloc: Global) -> Result<Vec<u8>, Fail> {
     build(alloc, &plan).map_err(|_| Fail::from("not made"))
 }
 
-// Those that are reached, each with its parent and its depth, and how many of them were walked from, beside 7.
+// A folder that is reached, with its parent and its depth.
+fn put_folder(alloc: Global, line: &mut String, folder: &Reach) -> Result<(), Fail> {
+    let (nid, parent, depth) = (folder.nid, folder.parent, folder.depth);
+    let text = format!(in alloc; "{nid:x} {parent:x} {depth}, ")?;
+    line.push_str(&text)?;
+    Ok(())
+}
+
+// Those that are reached and those that are not, and how many were walked from, beside 7.
 fn reached_line(alloc: Global, image: &[u8]) -> Result<String, Fail> {
     let Ok(checked) = check_ndb(alloc, Image::new(image)) else {
         return Err(Fail::from("no node database"));
@@ -46,19 +54,47 @@ fn reached_line(alloc: Global, image: &[u8]) -> Result<String, Fail> {
     let ndb = checked.ndb;
     let mut work = checked.work;
     let mut line = String::new(alloc);
-    let mut walked = 7;
+    work.walked = 7;
     match check_messaging(alloc, &ndb, &mut work) {
         Ok(()) => {
-            for folder in reach(alloc, &ndb, &mut walked)? {
-                let (nid, parent, depth) = (folder.nid, folder.parent, folder.depth);
-                let text = format!(in alloc; "{nid:x} {parent:x} {depth}, ")?;
+            let reached = reach(alloc, &ndb, &mut work)?;
+            for folder in &reached {
+                put_folder(alloc, &mut line, folder)?;
+            }
+            for nid in unreached(alloc, &ndb, &reached)? {
+                let text = format!(in alloc; "not {nid:x}, ")?;
                 line.push_str(&text)?;
             }
         }
         Err(_) => return Err(Fail::from("refused")),
     }
+    let walked = work.walked;
     let text = format!(in alloc; "{walked}")?;
     line.push_str(&text)?;
+    Ok(line)
+}
+
+// The path of a folder from the root folder, where that reaches it.
+fn path_line(alloc: Global, image: &[u8], nid: u32) -> Result<String, Fail> {
+    let Ok(checked) = check_ndb(alloc, Image::new(image)) else {
+        return Err(Fail::from("no node database"));
+    };
+    let ndb = checked.ndb;
+    let mut work = checked.work;
+    let mut line = String::new(alloc);
+    match check_messaging(alloc, &ndb, &mut work) {
+        Ok(()) => {
+            let reached = reach(alloc, &ndb, &mut work)?;
+            let Some(path) = path_from_root(alloc, &reached, nid)? else {
+                return Ok(line);
+            };
+            for above in path {
+                let text = format!(in alloc; "{above:x} ")?;
+                line.push_str(&text)?;
+            }
+        }
+        Err(_) => return Err(Fail::from("refused")),
+    }
     Ok(line)
 }
 
@@ -67,8 +103,12 @@ fn folders_are_reached(rt: HostRuntime) -> Result<(), Fail> {
     let alloc = rt.alloc();
     let image = image(alloc)?;
     let line = reached_line(alloc, &image)?;
-    let wanted = "122 0 0, 142 122 1, 162 142 2, 163 162 3, 182 142 2, 1a2 162 3, 12";
+    let wanted = "122 0 0, 142 122 1, 162 142 2, 163 162 3, 182 142 2, 1a2 162 3, not 1c2, 12";
     is(&rt, line.as_str(), wanted);
+    let path = path_line(alloc, &image, 0x1a2)?;
+    is(&rt, path.as_str(), "122 142 162 1a2 ");
+    let lost = path_line(alloc, &image, 0x1c2)?;
+    is(&rt, lost.as_str(), "");
     ways_are_found();
     Ok(())
 }

@@ -11,7 +11,7 @@ const M0: [Asked<'static>; 12] = [
     (
         &["folders", "store.pst"],
         Yes(
-            "{\"folders\":[{\"associated\":0,\"messages\":0,\"name\":null,\"nid\":\"0x122\",\"subfolders\":[]}]}\n",
+            "{\"folders\":[{\"associated\":0,\"messages\":0,\"name\":null,\"nid\":\"0x122\",\"path\":[\"0x122\"],\"subfolders\":[]}]}\n",
         ),
     ),
     (&["contents", "store.pst", "0x21"], No("no folder 0x21\n")),
@@ -55,7 +55,7 @@ const M1: [Asked<'static>; 10] = [
     (
         &["folders", "store.pst"],
         Yes(
-            "{\"folders\":[{\"associated\":0,\"messages\":0,\"name\":null,\"nid\":\"0x122\",\"subfolders\":[\"0x142\"]},{\"associated\":0,\"messages\":0,\"name\":null,\"nid\":\"0x142\",\"subfolders\":[]}]}\n",
+            "{\"folders\":[{\"associated\":0,\"messages\":0,\"name\":null,\"nid\":\"0x122\",\"path\":[\"0x122\"],\"subfolders\":[\"0x142\"]},{\"associated\":0,\"messages\":0,\"name\":null,\"nid\":\"0x142\",\"path\":[\"0x122\",\"0x142\"],\"subfolders\":[]}]}\n",
         ),
     ),
     (&["contents", "store.pst", "0x21"], No("no folder 0x21\n")),
@@ -96,7 +96,7 @@ const M2: [Asked<'static>; 4] = [
     (
         &["folders", "store.pst"],
         Yes(
-            "{\"folders\":[{\"associated\":0,\"messages\":0,\"name\":null,\"nid\":\"0x122\",\"subfolders\":[]}]}\n",
+            "{\"folders\":[{\"associated\":0,\"messages\":0,\"name\":null,\"nid\":\"0x122\",\"path\":[\"0x122\"],\"subfolders\":[]}]}\n",
         ),
     ),
     (
@@ -107,7 +107,9 @@ const M2: [Asked<'static>; 4] = [
     ),
     (
         &["props", "store.pst", "0x122"],
-        Yes("{\"nid\":\"0x122\",\"props\":[{\"id\":\"8000\",\"type\":\"0003\",\"value\":5}]}\n"),
+        Yes(
+            "{\"nid\":\"0x122\",\"props\":[{\"id\":\"8000\",\"name\":\"Hi\",\"set\":\"33221100-5544-7766-8899-aabbccddeeff\",\"type\":\"0003\",\"value\":5}]}\n",
+        ),
     ),
 ];
 
@@ -116,7 +118,7 @@ const WITHOUT_PROPERTIES: [Asked<'static>; 2] = [
     (
         &["folders", "store.pst"],
         Yes(
-            "{\"folders\":[{\"associated\":0,\"messages\":0,\"name\":null,\"nid\":\"0x122\",\"subfolders\":[]}]}\n",
+            "{\"folders\":[{\"associated\":0,\"messages\":0,\"name\":null,\"nid\":\"0x122\",\"path\":[\"0x122\"],\"subfolders\":[]}]}\n",
         ),
     ),
     (
@@ -215,6 +217,45 @@ const OTHERS: [Asked<'static>; 7] = [
         No("no: 23 Bth at 0x4dcc bid 0x1c nid 0x2a1\n"),
     ),
 ];
+
+// A folder that no row names, and one whose table names itself; the lines are those of another program.
+const LOST_FOLDER: Store<'static> = Store::Wider(
+    &[(12, Body::Rows(&[0x142]))],
+    &[(0x12d, 12, 0), (0x142, 8, 0), (0x162, 8, 0)],
+);
+
+const LOST: [Asked<'static>; 2] = [
+    (
+        &["check", "--strict", "store.pst"],
+        Yes(
+            "{\"blocks\":3,\"folders\":3,\"lost\":[],\"messages\":0,\"nodes\":5,\"order\":\"high\",\"pages\":2,\"verdict\":\"yes\"}\n",
+        ),
+    ),
+    (
+        &["folders", "store.pst"],
+        Yes(
+            "{\"folders\":[{\"associated\":0,\"messages\":0,\"name\":null,\"nid\":\"0x122\",\"path\":[\"0x122\"],\"subfolders\":[\"0x142\"]},{\"associated\":0,\"messages\":0,\"name\":null,\"nid\":\"0x142\",\"path\":[\"0x122\",\"0x142\"],\"subfolders\":[]},{\"associated\":0,\"messages\":0,\"name\":null,\"nid\":\"0x162\",\"path\":null,\"subfolders\":[]}]}\n",
+        ),
+    ),
+];
+
+const CIRCLE: Store<'static> = Store::Wider(
+    &[(12, Body::Rows(&[0x142]))],
+    &[(0x12d, 12, 0), (0x142, 8, 0), (0x14d, 12, 0)],
+);
+
+const CIRCLING: [Asked<'static>; 1] = [(
+    &["folders", "store.pst"],
+    Yes(
+        "{\"folders\":[{\"associated\":0,\"messages\":0,\"name\":null,\"nid\":\"0x122\",\"path\":[\"0x122\"],\"subfolders\":[\"0x142\"]},{\"associated\":0,\"messages\":0,\"name\":null,\"nid\":\"0x142\",\"path\":[\"0x122\",\"0x142\"],\"subfolders\":[\"0x142\"]}]}\n",
+    ),
+)];
+
+#[test]
+fn folders_that_are_lost_come_last(rt: HostRuntime) -> Result<(), Fail> {
+    are_asked(&rt, LOST_FOLDER, &[], &LOST)?;
+    are_asked(&rt, CIRCLE, &[], &CIRCLING)
+}
 
 #[test]
 fn small_stores_are_shown(rt: HostRuntime) -> Result<(), Fail> {

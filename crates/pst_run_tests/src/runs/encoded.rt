@@ -8,7 +8,7 @@ use std::process::Abort;
 use std::test::Fail;
 
 const FOLDERS: &str =
-    "{\"folders\":[{\"associated\":0,\"messages\":0,\"name\":null,\"nid\":\"0x122\",\"subfolders\":[\"0x142\"]},{\"associated\":0,\"messages\":0,\"name\":null,\"nid\":\"0x142\",\"subfolders\":[]}]}\n";
+    "{\"folders\":[{\"associated\":0,\"messages\":0,\"name\":null,\"nid\":\"0x122\",\"path\":[\"0x122\"],\"subfolders\":[\"0x142\"]},{\"associated\":0,\"messages\":0,\"name\":null,\"nid\":\"0x142\",\"path\":[\"0x122\",\"0x142\"],\"subfolders\":[]}]}\n";
 
 /// M1, encoded by a method.
 pub(super) fn encoded(alloc: Global, method: Method) -> Result<Vec<u8>, Fail> {

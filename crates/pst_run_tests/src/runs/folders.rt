@@ -60,7 +60,7 @@ const ROWS: [Asked<'static>; 9] = [
     (
         &["folders", "store.pst"],
         Yes(
-            "{\"folders\":[{\"associated\":0,\"messages\":0,\"name\":null,\"nid\":\"0x122\",\"subfolders\":[\"0x142\",\"0x183\"]},{\"associated\":1,\"messages\":2,\"name\":\"Inbox\",\"nid\":\"0x142\",\"subfolders\":[\"0x162\"]},{\"associated\":0,\"messages\":0,\"name\":\"\",\"nid\":\"0x162\",\"subfolders\":[]},{\"associated\":0,\"messages\":0,\"name\":null,\"nid\":\"0x183\",\"subfolders\":[]}]}\n",
+            "{\"folders\":[{\"associated\":0,\"messages\":0,\"name\":null,\"nid\":\"0x122\",\"path\":[\"0x122\"],\"subfolders\":[\"0x142\",\"0x183\"]},{\"associated\":1,\"messages\":2,\"name\":\"Inbox\",\"nid\":\"0x142\",\"path\":[\"0x122\",\"0x142\"],\"subfolders\":[\"0x162\"]},{\"associated\":0,\"messages\":0,\"name\":\"\",\"nid\":\"0x162\",\"path\":[\"0x122\",\"0x142\",\"0x162\"],\"subfolders\":[]},{\"associated\":0,\"messages\":0,\"name\":null,\"nid\":\"0x183\",\"path\":[\"0x122\",\"0x183\"],\"subfolders\":[]}]}\n",
         ),
     ),
     (

@@ -29,7 +29,7 @@ loop-number-init c =
       behind = c.of-rest.ensures.behind;
       file = c.of-rest.ensures.file;
       left = all_left (table_of_node node) (roots_of node) I g s count c.in_ok-rules.ensures.guids c.in_ok-rules.ensures.strings c.of-rest.ensures.bytes (ap (λ n. n / 8) (c.len-count.ensures.bytes ∙ ap (λ (bs : List ℕ). length bs) c.stream.ensures.bytes));
-      known = c.new-runs.ensures g s I;
+      known = c.new-runs.ensures (allows g s) I;
     }
 
 pub returns-then-not-allow-clause-first : goal.returns-then-not-allow-clause-first
@@ -145,7 +145,7 @@ loop-number-preserved c =
       behind = further I all (rest_spans h) (rest_spans c.skip-rest.result) l.number m (8 * m) refl here behind;
       file = c.skip-rest.ensures.file ∙ file;
       left = front_passes I all g s front l.number m count (front_span h) (behind_spans h.behind) total here own refl whole most good l.invariant.left;
-      known = subst (λ J. AreRunsTrue g s J c.bad_in_front.new.runs) file c.in_ok-bad.ensures.known;
+      known = subst (λ J. AreRunsTrue (allows g s) J c.bad_in_front.new.runs) file c.in_ok-bad.ensures.known;
     }
 
 pub returns-clause-first : goal.returns-clause-first

@@ -9,7 +9,7 @@ use Rattle.pst_names.specs.Entry.{entry_with}
 use Rattle.pst_names.specs.Fault.{entry_fault, entries_fault}
 use Rattle.pst_names.specs.Behind.{IsBehind}
 use Rattle.pst_names.specs.Rest.{rest_file, rest_spans}
-use Rattle.pst_names.specs.Known.{AreRunsTrue}
+use Rattle.pst_names.specs.Known.{allows, AreRunsTrue}
 use Rattle.pst_names.specs.Strings.{rule_guids, rule_strings}
 use Rattle.pst_names.proofs.WalkLemmas.{left_from}
 use Rattle.pst_names.proofs.check.bad_place.Given as goal
@@ -25,7 +25,7 @@ invariant-loop-number l =
       behind : IsBehind I all (8 * l.number) (rest_spans l.rest);
       file : rest_file l.rest ≡ I;
       left : left_from (entry_fault (rule_guids l.rules) (rule_strings l.rules)) (entry_with all (joined_bytes I all)) l.number l.count ≡ entries_fault (table_of_node node) (roots_of node);
-      known : AreRunsTrue (rule_guids l.rules) (rule_strings l.rules) I l.runs;
+      known : AreRunsTrue (allows (rule_guids l.rules) (rule_strings l.rules)) I l.runs;
     }
 
 abbrev pub decreases-loop-number : goal.decreases-loop-number

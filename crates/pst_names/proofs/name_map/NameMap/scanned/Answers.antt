@@ -1,19 +1,21 @@
 use Rattle.std.proofs.Common.{◌≡◌, ◌≢◌, ◌+◌, ◌*◌, ◌/◌, List, ℕ, length, take, sym, ap, subst, ◌∙◌, arith}
-use Rattle.std.specs.Prelude.{Some}
+use Rattle.std.specs.Prelude.{Some, option_map}
 use Rattle.pst_bytes.specs.Image.{bytes_of}
 use Rattle.pst_datatree.specs.Spans.{joined_bytes}
 use Rattle.pst_ndb.specs.Views.{image_of_node, table_of_node, roots_of}
 use Rattle.pst_names.specs.declared.streams.TheConstants.{ENTRIES}
 use Rattle.pst_names.specs.Streams.{stream_spans, byte_place}
 use Rattle.pst_names.specs.Entry.{entry_in, entry_with, prop_id}
+use Rattle.pst_names.specs.Index.{fields_in}
 use Rattle.pst_names.specs.Name.{naming_entry}
 use Rattle.pst_names.specs.Behind.{IsBehind}
 use Rattle.pst_names.specs.Rest.{rest_spans}
 use Rattle.pst_names.specs.View.{node_of_names}
 use Rattle.pst_names.proofs.EntryLemmas.{entry_left}
 use Rattle.pst_names.proofs.FoundLemmas.{other_passes, one_found, none_found, all_found}
+use Rattle.pst_names.proofs.IndexLemmas.{fields_are}
 use Rattle.pst_names.proofs.WalkLemmas.{further}
-use Rattle.pst_names.proofs.name_map.NameMap.entry.Goals as goal
+use Rattle.pst_names.proofs.name_map.NameMap.scanned.Goals as goal
 
 pub loop-number-init : goal.loop-number-init
 loop-number-init c =
@@ -36,11 +38,13 @@ returns-then-is_for c =
     let total = naming_entry (table_of_node node) (roots_of node) c.args.id in
     let count = c.len-count.result / 8 in
     let l = c.loop-number in
+    let at = byte_place all (8 * l.number) in
     let bytes : c.entry.result.0 ≡ take 8 (joined_bytes I (rest_spans l.rest)) = subst (λ J. c.entry.result.0 ≡ take 8 (joined_bytes J (rest_spans l.rest))) l.invariant.file c.entry.ensures.bytes in
-    let is : entry l.number ≡ entry_in (byte_place all (8 * l.number)) c.entry.result.0 = entry_left I all l.number (rest_spans l.rest) l.invariant.behind ∙ ap (entry_in (byte_place all (8 * l.number))) (sym bytes) in
-    let key : prop_id (entry l.number) ≡ 0x8000 + c.of.result.index = ap prop_id is ∙ ap (λ n. 0x8000 + n) (sym c.of.ensures.index) in
+    let is : entry l.number ≡ entry_in at c.entry.result.0 = entry_left I all l.number (rest_spans l.rest) l.invariant.behind ∙ ap (entry_in at) (sym bytes) in
+    let key : prop_id (entry l.number) ≡ 0x8000 + c.of-fields.result.index = ap prop_id is ∙ ap (λ n. 0x8000 + n) (sym c.of-fields.ensures.index) in
     let same : prop_id (entry l.number) ≡ c.args.id = key ∙ c.is_for.ensures.0 c.if-is_for.true in
-    (byte_place all (8 * l.number), one_found prop_id c.args.id entry l.number count total c.loop-number-test.true same l.invariant.left ∙ ap (λ e. Some e) is)
+    let fields : c.of-fields.result ≡ fields_in (entry_in at c.entry.result.0) = fields_are c.of-fields.result at c.entry.result.0 c.of-fields.ensures.id c.of-fields.ensures.word c.of-fields.ensures.index in
+    ap (λ f. Some f) (fields ∙ ap fields_in (sym is)) ∙ sym (ap (option_map fields_in) (one_found prop_id c.args.id entry l.number count total c.loop-number-test.true same l.invariant.left))
 
 pub loop-number-preserved : goal.loop-number-preserved
 loop-number-preserved c =
@@ -53,7 +57,7 @@ loop-number-preserved c =
     let l = c.loop-number in
     let bytes : c.entry.result.0 ≡ take 8 (joined_bytes I (rest_spans l.rest)) = subst (λ J. c.entry.result.0 ≡ take 8 (joined_bytes J (rest_spans l.rest))) l.invariant.file c.entry.ensures.bytes in
     let is : entry l.number ≡ entry_in (byte_place all (8 * l.number)) c.entry.result.0 = entry_left I all l.number (rest_spans l.rest) l.invariant.behind ∙ ap (entry_in (byte_place all (8 * l.number))) (sym bytes) in
-    let key : prop_id (entry l.number) ≡ 0x8000 + c.of.result.index = ap prop_id is ∙ ap (λ n. 0x8000 + n) (sym c.of.ensures.index) in
+    let key : prop_id (entry l.number) ≡ 0x8000 + c.of-fields.result.index = ap prop_id is ∙ ap (λ n. 0x8000 + n) (sym c.of-fields.ensures.index) in
     let other : prop_id (entry l.number) ≢ c.args.id = λ same. absurd (let yes = c.is_for.ensures.1 (sym key ∙ same) in cc) in
     let behind : IsBehind I (rest_spans l.rest) 8 (rest_spans c.entry.result.1) = subst (λ J. IsBehind J (rest_spans l.rest) 8 (rest_spans c.entry.result.1)) l.invariant.file c.entry.ensures.behind in
     record {
@@ -72,4 +76,4 @@ returns c =
     let total = naming_entry (table_of_node node) (roots_of node) c.args.id in
     let count = c.len-count.result / 8 in
     let l = c.loop-number in
-    none_found prop_id c.args.id entry l.number count total (omega (arith, c.loop-number-test.false)) l.invariant.left
+    sym (ap (option_map fields_in) (none_found prop_id c.args.id entry l.number count total (omega (arith, c.loop-number-test.false)) l.invariant.left))
