@@ -1,5 +1,5 @@
 -- A kind by the word that names it.
-use Rattle.std.proofs.Common.{◌≡◌, ◌<◌, ◌+◌, ℕ, Bool, false, List, length, drop, get_or, Option, sym, ◌∙◌}
+use Rattle.std.proofs.Common.{◌≡◌, ◌<◌, ◌+◌, ℕ, Bool, true, false, List, length, drop, get_or, Option, Some, sym, ◌∙◌}
 use Rattle.std.specs.Prelude.{find}
 use Rattle.std.proofs.lemmas.List.{at_drop_more}
 
@@ -9,3 +9,10 @@ pub find_next : {X : Type 0} (test : X → Bool) (xs : List X) (i : ℕ) (d : X)
 find_next test xs i d whole inside other so_far =
     let next = at_drop_more (find test) xs i d inside in
     sym (rw other at next) ∙ so_far
+
+-- it is this one
+pub find_here : {X : Type 0} (test : X → Bool) (xs : List X) (i : ℕ) (d : X) (whole : Option X) → i < length xs → test (get_or xs i d) ≡ true
+    → find test (drop i xs) ≡ whole → Some (get_or xs i d) ≡ whole
+find_here test xs i d whole inside here so_far =
+    let next = at_drop_more (find test) xs i d inside in
+    sym (rw here at next) ∙ so_far

@@ -1,7 +1,7 @@
 //! The kind that a word names, and what is said of it.
 
 ghost use Rattle.std.specs.Prelude.{◌≡◌};
-ghost use Rattle.pst_explain.specs.Kinds.{kind_in_word};
+ghost use Rattle.pst_explain.specs.Kinds.{is_named, kind_in_word};
 ghost use Rattle.pst_explain.specs.Text.{explanation as text_for};
 
 use crate::table::{all_kinds, text_of, words_of};
@@ -39,14 +39,21 @@ const KINDS: [Kind; 28] = [
     Kind::NoMemory,
 ];
 
+// Whether a word names a kind.
+fn names(word: &str, kind: Kind) -> bool
+    ensures { result ≡ is_named word.now kind }
+{
+    let (number, name) = words_of(kind);
+    number == word || name == word
+}
+
 /// The kind that a word names, by its number in decimal or by its name; None exactly where it names none.
 #[tactic(auto, using(crate::proofs::KindLemmas::find_next))]
 pub fn kind_named(word: &str) -> Option<Kind>
     ensures { result ≡ kind_in_word word.now }
 {
     for kind in KINDS {
-        let (number, name) = words_of(kind);
-        if number == word || name == word {
+        if names(word, kind) {
             return Some(kind);
         }
     }
