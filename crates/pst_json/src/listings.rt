@@ -50,6 +50,7 @@ impl Listings {
     }
 
     // A folder with this table lists each message that a row names: no two rows name the same.
+    #[tactic(auto, using(crate::proofs::ListingLemmas::row_noted, crate::proofs::ListingLemmas::row_rises_on, crate::proofs::ListingLemmas::rows_noted))]
     fn note_rows(&mut self, table: Tc, folder: u32) -> Result<(), AllocError>
         ensures { let node = node_of_tc table.entry in
             let rows = tc_rows (table_of_node node) (roots_of node) in
@@ -90,6 +91,7 @@ impl Listings {
 }
 
 /// Which folders of a store list each message. Each contents table is gone through once for each folder that has it.
+#[tactic(auto, unfolding(crate::specs::Messages::listed_in), using(crate::proofs::ListingLemmas::folder_noted, crate::proofs::ListingLemmas::folders_noted))]
 pub(crate) fn listings_of(alloc: Global, store: &Store) -> Result<Listings, AllocError>
     ensures { let ndb = ndb_of_store store.now in
         IfOk result (λ l. (nid : ℕ) → folders_at l nid
