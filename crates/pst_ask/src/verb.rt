@@ -58,7 +58,11 @@ impl Verb {
             Verb::Nodes => ("nodes", "Lists the nodes", Takes::File),
             Verb::Folders => ("folders", "Lists the folders", Takes::File),
             Verb::Contents => ("contents", "Lists the messages of a folder", Takes::Node),
-            Verb::Messages => ("messages", "Lists all messages, a line for each", Takes::File),
+            Verb::Messages => (
+                "messages",
+                "Lists all messages, a line for each",
+                Takes::File,
+            ),
             Verb::Props => ("props", "Shows the properties of nodes", Takes::Nodes),
         }
     }

@@ -9,8 +9,11 @@ use std::test::Fail;
 
 // Times: 17 April 2019, 18:40, and a step of 100 nanoseconds later; the last step of the year 9999, and the one behind it.
 const SENT: [u8; 8] = 132_000_000_000_000_000u64.to_le_bytes();
+
 const RECEIVED: [u8; 8] = 132_000_000_000_000_001u64.to_le_bytes();
+
 const LAST: [u8; 8] = 2_650_467_743_999_999_999u64.to_le_bytes();
+
 const BEHIND: [u8; 8] = 2_650_467_744_000_000_000u64.to_le_bytes();
 
 // Five messages, with texts of other types, times of other types and behind the year 9999, and sizes of other types. Folders 0x142
@@ -46,16 +49,15 @@ const LISTED: Store<'static> = Store::Wider(
                 (0x0E08, 0x0014, Held::Item(&[7, 0, 0, 0, 0, 0, 0, 0])),
             ]),
         ),
-        (
-            24,
-            Body::Properties(&[
-                (0x0E06, 0x0014, Held::Item(&SENT)),
-            ]),
-        ),
+        (24, Body::Properties(&[(0x0E06, 0x0014, Held::Item(&SENT))])),
         (
             28,
             Body::Properties(&[
-                (0x0037, 0x001F, Held::Item(b"i\0n\0 \0n\0o\0 \0f\0o\0l\0d\0e\0r\0")),
+                (
+                    0x0037,
+                    0x001F,
+                    Held::Item(b"i\0n\0 \0n\0o\0 \0f\0o\0l\0d\0e\0r\0"),
+                ),
                 (0x0E06, 0x0040, Held::Item(&[0xff; 8])),
             ]),
         ),
