@@ -46,9 +46,15 @@ number_property_is_plain t r id = number_in_is_plain (first_with id_of id (props
 pub summary_has_none : (t : Table) (r : Roots) (folders : List ℕ) → has_float (summary_data t r folders) ≡ false
 unfolding summary_data
 summary_has_none t r folders =
-    rw (IsPlain.no_float (property_is_plain t r CLASS), IsPlain.no_float (list_is_plain nid_data (λ x. record { no_float = refl }) folders),
-    IsPlain.no_float (time_property_is_plain t r RECEIVED), IsPlain.no_float (property_is_plain t r SENDER), IsPlain.no_float (time_property_is_plain t r SENT),
-    IsPlain.no_float (number_property_is_plain t r SIZE), IsPlain.no_float (property_is_plain t r SUBJECT)) refl
+    rw (
+      IsPlain.no_float (property_is_plain t r CLASS),
+      IsPlain.no_float (list_is_plain nid_data (λ x. record { no_float = refl }) folders),
+      IsPlain.no_float (time_property_is_plain t r RECEIVED),
+      IsPlain.no_float (property_is_plain t r SENDER),
+      IsPlain.no_float (time_property_is_plain t r SENT),
+      IsPlain.no_float (number_property_is_plain t r SIZE),
+      IsPlain.no_float (property_is_plain t r SUBJECT),
+    ) refl
 
 -- ---- line after line
 

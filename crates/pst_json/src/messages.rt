@@ -31,6 +31,7 @@ pub(crate) const SIZE: u16 = 0x0E08;
 
 // The types of times (PtypTime) and of numbers of 4 bytes (PtypInteger32).
 const TIME: PropType = PropType(0x0040);
+
 const NUMBER: PropType = PropType(0x0003);
 
 // The time of the property with an identifier; null where there is none, or it has another type.

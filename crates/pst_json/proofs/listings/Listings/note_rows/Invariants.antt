@@ -13,8 +13,8 @@ use Rattle.pst_json.proofs.listings.Listings.note_rows.Given as goal
 -- what is noted, with what the rows that are left name, is all
 abbrev pub invariant-loop-row : goal.invariant-loop-row
 invariant-loop-row l = record {
-  same : tc_left l.row-iterator ≡ l.table;
+  same : tc_left l.row-iterator ≡ l.fn.table;
   rise : (low : ℕ) × Rises low None (map row_id_of (tc_rows_left l.row-iterator));
   noted : (nid : ℕ) → folders_at l.self nid ++ if_listed (list_any (names nid) (tc_rows_left l.row-iterator)) l.folder
-      ≡ folders_at l.initial.self nid ++ if_listed (list_any (names nid) (tc_rows (table_of_node (node_of_tc l.table)) (roots_of (node_of_tc l.table)))) l.folder;
+      ≡ folders_at l.initial.self nid ++ if_listed (list_any (names nid) (tc_rows (table_of_node (node_of_tc l.fn.table)) (roots_of (node_of_tc l.fn.table)))) l.folder;
 }
