@@ -1,5 +1,5 @@
-//! Tests of the lowest crates (pst_bytes, pst_crc, pst_fault, pst_make, pst_header, pst_space, pst_page), by their public calls. They stand apart, so that
-//! the crates that they are about are proved once, and without them.
+//! Tests of the lowest crates (pst_bytes, pst_crc, pst_fault, pst_time, pst_make, pst_header, pst_space, pst_page), by
+//! their public calls. They stand apart, so that the crates that they are about are proved once, and without them.
 #![tactic(auto)]
 
 #[cfg(test)]
@@ -16,5 +16,7 @@ mod made;
 mod pages;
 #[cfg(test)]
 mod space;
+#[cfg(test)]
+mod times;
 #[cfg(test)]
 mod told;
