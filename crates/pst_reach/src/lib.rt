@@ -22,8 +22,8 @@ pub use laws::ways_are_found;
 pub use lost::unreached;
 pub use paths::{find_reach, path_from_root};
 pub use pst_store::{
-    Attachment, Attachments, FOLDER, Folder, Folders, Message, Name, NameKind, NameMap, Store,
-    check_messaging, is_folder, is_message, is_type,
+    Attachment, Attachments, FOLDER, Folder, Folders, MESSAGE, Message, Name, NameKind, NameMap,
+    Store, check_messaging, is_folder, is_message, is_type,
 };
 pub use reached::Reach;
 pub use search::reach;
