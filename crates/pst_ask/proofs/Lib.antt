@@ -1,5 +1,5 @@
 pub mod CommandLaws
 pub mod FileLemmas
 pub mod NidLemmas
-pub mod NodesLaws
+pub mod PathsLaws
 pub mod WordLemmas

@@ -8,11 +8,13 @@ use Rattle.clap.specs.declared.parser.matches.ArgMatches.{ArgMatches}
 use Rattle.clap.specs.declared.parser.matches.ArgMatches.TheViews.{out-ArgMatches}
 use Rattle.clap.proofs.OnLiterals.{clap_on_literals}
 use Rattle.clap.proofs.WalkLemmas.{first_value-rows, raw_values-rows}
-use Rattle.pst_ask.specs.Ask.{Reads, asked_in, asked_with, nids_of, order_of, with_nid}
+use Rattle.pst_ask.specs.declared.ask.Lack.{Lack}
+use Rattle.pst_ask.specs.declared.ask.Lack.TheVariants.{Nid}
+use Rattle.pst_ask.specs.Ask.{Reads, asked_in, asked_with, or_lack, order_of}
 use Rattle.pst_ask.specs.declared.ask.Order.{Order}
 use Rattle.pst_ask.specs.declared.words.NoOrder.{NoOrder}
 use Rattle.pst_ask.specs.declared.words.NoOrder.TheVariants.{Words, Lacks}
-use Rattle.pst_ask.specs.Nid.{nid_of_word}
+use Rattle.pst_ask.specs.Nid.{all_named, with_named}
 use Rattle.pst_ask.specs.Verbs.{verb_of}
 use Rattle.pst_ask.specs.declared.verb.Verb.{Verb}
 use Rattle.pst_ask.specs.Words.{Declines, IsAsked, asked, show_app, with_verb, with_verbs}
@@ -71,39 +73,65 @@ pub verbs_next : (a b : App) (xs : List Verb) (i : ℕ) (d : Verb) (whole : App)
 verbs_next a b xs i d whole inside is so_far =
     ap (λ x. with_verbs x (drop (i + 1) xs)) is ∙ sym (at_drop_more (with_verbs a) xs i d inside) ∙ so_far
 
--- ---- nodes, one after another
+-- ---- words that name something, one after another
 
 abbrev texts_of : List (Bor Text) → List Text
 texts_of = map (λ w. w.now)
 
--- one node more
-pub nids_next : (words : List (Bor Text)) (i : ℕ) (d : Bor Text) (nid : ℕ) (so_far : List ℕ) (whole : Option (List ℕ)) → i < length words → Some nid ≡ nid_of_word (get_or words i d).now
-    → whole ≡ option_map (λ rest. so_far ++ rest) (nids_of (texts_of (drop i words)))
-    → whole ≡ option_map (λ rest. (so_far ++ nid ∷ []) ++ rest) (nids_of (texts_of (drop (i + 1) words)))
-unfolding nids_of
-nids_next words i d nid so_far whole inside named is =
-    let behind = nids_of (texts_of (drop (i + 1) words)) in
-    is ∙ ap (option_map (λ rest. so_far ++ rest)) (at_drop_more (λ l. nids_of (texts_of l)) words i d inside)
-    ∙ ap (λ o. option_map (λ rest. so_far ++ rest) (with_nid o behind)) (sym named) ∙ moved behind so_far nid
+-- one word more
+pub named_next : {X : Type 0} (name : Text → Option X) (words : List (Bor Text)) (i : ℕ) (d : Bor Text) (x : X) (so_far : List X) (whole : Option (List X)) → i < length words
+    → Some x ≡ name (get_or words i d).now → whole ≡ option_map (λ rest. so_far ++ rest) (all_named name (texts_of (drop i words)))
+    → whole ≡ option_map (λ rest. (so_far ++ x ∷ []) ++ rest) (all_named name (texts_of (drop (i + 1) words)))
+unfolding all_named
+named_next name words i d x so_far whole inside named is =
+    let behind = all_named name (texts_of (drop (i + 1) words)) in
+    is ∙ ap (option_map (λ rest. so_far ++ rest)) (at_drop_more (λ l. all_named name (texts_of l)) words i d inside)
+    ∙ ap (λ o. option_map (λ rest. so_far ++ rest) (with_named o behind)) (sym named) ∙ moved behind so_far x
   where
-    moved : (o : Option (List ℕ)) (a : List ℕ) (n : ℕ) → option_map (λ rest. a ++ rest) (option_map (λ nids. n ∷ nids) o) ≡ option_map (λ rest. (a ++ n ∷ []) ++ rest) o
+    moved : {X : Type 0} (o : Option (List X)) (a : List X) (n : X) → option_map (λ rest. a ++ rest) (option_map (λ xs. n ∷ xs) o) ≡ option_map (λ rest. (a ++ n ∷ []) ++ rest) o
     moved None a n = refl
     moved (Some rest) a n = ap (λ l. Some l) (sym (append_assoc a (n ∷ []) rest))
 
--- a word that names none
-pub nids_none : (words : List (Bor Text)) (i : ℕ) (d : Bor Text) (so_far : List ℕ) (whole : Option (List ℕ)) → i < length words → None ≡ nid_of_word (get_or words i d).now
-    → whole ≡ option_map (λ rest. so_far ++ rest) (nids_of (texts_of (drop i words))) → whole ≡ None
-unfolding nids_of
-nids_none words i d so_far whole inside named is =
-    is ∙ ap (option_map (λ rest. so_far ++ rest)) (at_drop_more (λ l. nids_of (texts_of l)) words i d inside)
-    ∙ ap (λ o. option_map (λ rest. so_far ++ rest) (with_nid o (nids_of (texts_of (drop (i + 1) words))))) (sym named)
+pub mapped_behind : {X Y : Type 0} (f : Y → X) (ys : List Y) (y : Y) → map f (ys ++ y ∷ []) ≡ map f ys ++ f y ∷ []
+mapped_behind f [] y = refl
+mapped_behind f (z ∷ ys) y = ap (λ l. f z ∷ l) (mapped_behind f ys y)
+
+-- a word that names nothing
+pub named_none : {X : Type 0} (name : Text → Option X) (words : List (Bor Text)) (i : ℕ) (d : Bor Text) (so_far : List X) (whole : Option (List X)) → i < length words
+    → None ≡ name (get_or words i d).now → whole ≡ option_map (λ rest. so_far ++ rest) (all_named name (texts_of (drop i words))) → whole ≡ None
+unfolding all_named
+named_none name words i d so_far whole inside named is =
+    is ∙ ap (option_map (λ rest. so_far ++ rest)) (at_drop_more (λ l. all_named name (texts_of l)) words i d inside)
+    ∙ ap (λ o. option_map (λ rest. so_far ++ rest) (with_named o (all_named name (texts_of (drop (i + 1) words))))) (sym named)
 
 -- no word is left
-pub nids_end : (words : List (Bor Text)) (i : ℕ) (so_far : List ℕ) (whole : Option (List ℕ)) → length words ≤ i
-    → whole ≡ option_map (λ rest. so_far ++ rest) (nids_of (texts_of (drop i words))) → whole ≡ Some so_far
-unfolding nids_of
-nids_end words i so_far whole outside is =
-    is ∙ ap (λ l. option_map (λ rest. so_far ++ rest) (nids_of (texts_of l))) (drop_all i words outside) ∙ ap (λ l. Some l) (append-nil so_far)
+pub named_end : {X : Type 0} (name : Text → Option X) (words : List (Bor Text)) (i : ℕ) (so_far : List X) (whole : Option (List X)) → length words ≤ i
+    → whole ≡ option_map (λ rest. so_far ++ rest) (all_named name (texts_of (drop i words))) → whole ≡ Some so_far
+unfolding all_named
+named_end name words i so_far whole outside is =
+    is ∙ ap (λ l. option_map (λ rest. so_far ++ rest) (all_named name (texts_of l))) (drop_all i words outside) ∙ ap (λ l. Some l) (append-nil so_far)
+
+-- what a word names that does not lack it, and that it names nothing where it does
+pub named_there : {X : Type 0} (o : Option X) (x : X) → or_lack o ≡ Ok x → Some x ≡ o
+named_there None x is = absurd cc
+named_there (Some y) x is = cc
+
+pub named_lacks : {X : Type 0} (o : Option X) (lack : Lack) → or_lack o ≡ Err lack → None ≡ o
+named_lacks None lack is = refl
+named_lacks (Some x) lack is = absurd cc
+
+-- what is answered where a word is refused
+pub named_refused : {X Y Z : Type 0} (name : Text → Option X) (shown : Y → X) (all : Z → List X) (words : List (Bor Text)) (i : ℕ) (d : Bor Text) (so_far : List X) (none : NoOrder)
+    (whole : Option (List X)) → i < length words → Reads {X = Y} {Y = X} shown (Err none) (or_lack (name (get_or words i d).now))
+    → whole ≡ option_map (λ rest. so_far ++ rest) (all_named name (texts_of (drop i words))) → Reads {X = Z} {Y = List X} all (Err none) (or_lack whole)
+named_refused name shown all words i d so_far (Words e) whole inside reads is = reads
+named_refused name shown all words i d so_far (Lacks lack) whole inside reads is =
+    let o = name (get_or words i d).now in
+    ap or_lack (named_none name words i d so_far whole inside (named_lacks o lack reads) is) ∙ ap Err (lack_is o lack reads)
+  where
+    lack_is : {X : Type 0} (o : Option X) (lack : Lack) → or_lack o ≡ Err lack → Nid ≡ lack
+    lack_is None lack e = cc
+    lack_is (Some x) lack e = absurd cc
 
 -- ---- what is read of the words
 

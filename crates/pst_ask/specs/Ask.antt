@@ -1,5 +1,5 @@
 -- What the matches of the words ask for.
-use Rattle.std.specs.Prelude.{◌≡◌, ℕ, Bool, false, List, [], ◌∷◌, Option, Some, None, option_map, Result, Ok, Err, codes, slice_index}
+use Rattle.std.specs.Prelude.{◌≡◌, ℕ, Bool, false, List, [], ◌∷◌, map, Option, Some, None, option_map, Result, Ok, Err, codes}
 use Rattle.std.specs.Str.{bytes_eq}
 use Rattle.clap.specs.Words.{Text, Row, all_of, first_of, kind_of}
 use Rattle.clap.specs.declared.error.kind.ErrorKind.TheVariants.{OutOfMemory}
@@ -12,7 +12,8 @@ use Rattle.pst_ask.specs.declared.verb.Verb.{Verb}
 use Rattle.pst_ask.specs.declared.verb.Verb.TheVariants.{Check, Head, Nodes, Folders, Contents, Props}
 use Rattle.pst_ask.specs.declared.words.NoOrder.{NoOrder}
 use Rattle.pst_ask.specs.declared.words.NoOrder.TheVariants.{Words, Lacks}
-use Rattle.pst_ask.specs.Nid.{nid_of_word}
+use Rattle.pst_ask.specs.declared.path.Path.{Path}
+use Rattle.pst_ask.specs.Nid.{nid_of_word, paths_of}
 use Rattle.pst_ask.specs.Verbs.{verb_of}
 
 -- ---- what is to be shown
@@ -25,8 +26,12 @@ pub data Wanted : Type 0 where
   folders : Wanted
   -- the messages of the folder with an identifier
   contents : ℕ → Wanted
-  -- the properties of the nodes with these identifiers, one after another
-  props : List ℕ → Wanted
+  -- the properties of what these paths lead to, one after another
+  props : List (List ℕ) → Wanted
+
+-- the identifiers of a path
+abbrev pub nids_of : Path → List ℕ
+nids_of path = path.nids.items
 
 abbrev pub wanted_of : Ask → Wanted
 wanted_of (ask.Check strict digest) = report strict digest
@@ -34,7 +39,7 @@ wanted_of ask.Head = head
 wanted_of ask.Nodes = nodes
 wanted_of ask.Folders = folders
 wanted_of (ask.Contents nid) = contents nid
-wanted_of (ask.Props nids) = props nids.items
+wanted_of (ask.Props paths) = props (map nids_of paths.items)
 
 -- what is to be shown, of which file, and whether that is decoded first
 pub record Asked : Type 0 where
@@ -69,31 +74,18 @@ is_true (Some text) = bytes_eq text (codes "true")
 abbrev pub is_used : Text → List Row → Bool
 is_used flag rows = is_true (first_of flag rows)
 
--- the node that a word names
-abbrev pub node_in_word : Option ℕ → Result ℕ Lack
-node_in_word None = Err Nid
-node_in_word (Some nid) = Ok nid
+-- what a word names, or that it names nothing
+abbrev pub or_lack : {X : Type 0} → Option X → Result X Lack
+or_lack None = Err Nid
+or_lack (Some x) = Ok x
 
 abbrev pub node_named : Option Text → Result ℕ Lack
 node_named None = Err Nothing
-node_named (Some word) = node_in_word (nid_of_word word)
+node_named (Some word) = or_lack (nid_of_word word)
 
--- the nodes that words name, where each names one
-abbrev pub with_nid : Option ℕ → Option (List ℕ) → Option (List ℕ)
-with_nid None rest = None
-with_nid (Some nid) rest = option_map (λ nids. nid ∷ nids) rest
-
-unfoldable pub nids_of : List Text → Option (List ℕ)
-nids_of [] = Some []
-nids_of (word ∷ rest) = with_nid (nid_of_word word) (nids_of rest)
-
-abbrev pub nodes_in_words : Option (List ℕ) → Result (List ℕ) Lack
-nodes_in_words None = Err Nid
-nodes_in_words (Some nids) = Ok nids
-
-abbrev pub nodes_named : Option (List Text) → Result (List ℕ) Lack
-nodes_named None = Err Nothing
-nodes_named (Some words) = nodes_in_words (nids_of words)
+abbrev pub paths_named : Option (List Text) → Result (List (List ℕ)) Lack
+paths_named None = Err Nothing
+paths_named (Some words) = or_lack (paths_of words)
 
 abbrev pub asking : {X : Type 0} → (X → Wanted) → Result X Lack → Result Wanted Lack
 asking make (Ok x) = Ok (make x)
@@ -106,7 +98,7 @@ ask_of Head rows = Ok head
 ask_of Nodes rows = Ok nodes
 ask_of Folders rows = Ok folders
 ask_of Contents rows = asking contents (node_named (first_of (codes "NID") rows))
-ask_of Props rows = asking props (nodes_named (all_of (codes "NID") rows))
+ask_of Props rows = asking props (paths_named (all_of (codes "PATH") rows))
 
 -- which flags are used: `--strict`, `--digest`, `--decode`
 pub record Flags : Type 0 where
@@ -117,14 +109,26 @@ pub record Flags : Type 0 where
 abbrev pub flags_of : Bool → Bool → Bool → Flags
 flags_of strict digest decode = record { strict = strict; digest = digest; decode = decode }
 
--- what it asks for by its flags and the nodes behind its file; where it takes one, of the first
-abbrev pub asks : Verb → Flags → List ℕ → Wanted
-asks Check flags nids = report flags.strict flags.digest
-asks Head flags nids = head
-asks Nodes flags nids = nodes
-asks Folders flags nids = folders
-asks Contents flags nids = contents (slice_index nids 0)
-asks Props flags nids = props nids
+-- the node that is named, where one word stands there
+abbrev pub only_node : List Text → Option ℕ
+only_node [] = None
+only_node (word ∷ []) = nid_of_word word
+only_node (word ∷ next ∷ rest) = None
+
+-- the paths of words, where one stands there at least
+abbrev pub some_paths : List Text → Option (List (List ℕ))
+some_paths [] = None
+some_paths (word ∷ rest) = paths_of (word ∷ rest)
+
+-- What a command asks for by its flags and the words behind its file, where they are words of it: of `contents` a node, of
+-- `props` paths.
+abbrev pub asks : Verb → Flags → List Text → Option Wanted
+asks Check flags words = Some (report flags.strict flags.digest)
+asks Head flags words = Some head
+asks Nodes flags words = Some nodes
+asks Folders flags words = Some folders
+asks Contents flags words = option_map contents (only_node words)
+asks Props flags words = option_map props (some_paths words)
 
 -- ---- with the file
 

@@ -15,7 +15,7 @@ line_of_verb Head = (codes "head", File)
 line_of_verb Nodes = (codes "nodes", File)
 line_of_verb Folders = (codes "folders", File)
 line_of_verb Contents = (codes "contents", Node)
-line_of_verb Props = (codes "props", takes.Nodes)
+line_of_verb Props = (codes "props", takes.Paths)
 
 abbrev pub name_of : Verb → Text
 name_of v = (line_of_verb v).0

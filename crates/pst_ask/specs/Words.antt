@@ -1,5 +1,5 @@
 -- What the words after the program's name ask for.
-use Rattle.std.specs.Prelude.{◌≡◌, ◌≢◌, ⊤, ℕ, true, false, length, List, [], ◌∷◌, map, ◌++◌, Bool, Some, Result, Ok, Err, codes, string_bytes, String}
+use Rattle.std.specs.Prelude.{◌≡◌, ◌≢◌, ⊤, true, false, List, [], ◌∷◌, map, ◌++◌, Bool, Some, Result, Ok, Err, codes, string_bytes, String}
 use Rattle.std.specs.Global.{Global}
 use Rattle.clap.specs.Words.{App, Shape, AddsSubcommand, app_of, Rule, Text, new_app, new_rule, with_rule, with_subcommand, subcommand_of, fault_of, HasKind}
 use Rattle.clap.specs.declared.builder.action.ArgAction.TheVariants.{Append, SetTrue}
@@ -12,7 +12,7 @@ use Rattle.pst_ask.specs.declared.verb.Takes.TheVariants as takes
 use Rattle.pst_ask.specs.declared.verb.Verb.{Verb}
 use Rattle.pst_ask.specs.declared.words.NoOrder.{NoOrder}
 use Rattle.pst_ask.specs.declared.words.NoOrder.TheVariants.{Words, Lacks}
-use Rattle.pst_ask.specs.Ask.{Asked, Flags, asked_of, asked_in, asks, nids_of}
+use Rattle.pst_ask.specs.Ask.{Asked, Flags, Wanted, asked_of, asked_in, asks}
 use Rattle.pst_ask.specs.Verbs.{name_of, takes_of, verbs}
 
 abbrev pub texts : List (String Global) → List Text
@@ -28,9 +28,9 @@ file_rule = record (new_rule (codes "FILE")) { required = true }
 abbrev pub node_rule : Rule
 node_rule = record (new_rule (codes "NID")) { required = true }
 
--- nodes, of which one has to be named at least
-abbrev pub nodes_rule : Rule
-nodes_rule = record (new_rule (codes "NID")) { required = true; action = Some Append }
+-- paths, of which one has to be named at least
+abbrev pub paths_rule : Rule
+paths_rule = record (new_rule (codes "PATH")) { required = true; action = Some Append }
 
 -- the flag `--strict`
 abbrev pub strict_rule : Rule
@@ -53,14 +53,14 @@ abbrev pub with_flags : Takes → App → App
 with_flags File a = a
 with_flags Report a = with_rule (with_rule a strict_rule) digest_rule
 with_flags Node a = a
-with_flags takes.Nodes a = a
+with_flags takes.Paths a = a
 
 -- with what stands behind the file
 abbrev pub with_words : Takes → App → App
 with_words File a = a
 with_words Report a = a
 with_words Node a = with_rule a node_rule
-with_words takes.Nodes a = with_rule a nodes_rule
+with_words takes.Paths a = with_rule a paths_rule
 
 -- a command of a name, and what stands behind that
 abbrev pub app_taking : Takes → Text → App
@@ -113,7 +113,7 @@ IsNoOption [] = ⊤
 IsNoOption (b ∷ []) = ⊤
 IsNoOption (b ∷ c ∷ rest) = b ≢ 45
 
--- a command's words: its name, the flags that are used, a file, and of `contents` and `props` nodes behind it
+-- a command's words: its name, the flags that are used, a file, and what stands behind it
 abbrev pub flag_if : Bool → Text → List Text
 flag_if true flag = flag ∷ []
 flag_if false flag = []
@@ -122,7 +122,7 @@ abbrev pub behind_file : Takes → List Text → List Text
 behind_file File words = []
 behind_file Report words = []
 behind_file Node words = words
-behind_file takes.Nodes words = words
+behind_file takes.Paths words = words
 
 abbrev pub flag_words : Flags → List Text
 flag_words f = flag_if f.strict (codes "--strict") ++ flag_if f.digest (codes "--digest") ++ flag_if f.decode (codes "--decode")
@@ -135,22 +135,15 @@ abbrev pub MayUse : Takes → Flags → Type 0
 MayUse Report flags = ⊤
 MayUse File flags = (flags.strict ≡ false) × (flags.digest ≡ false)
 MayUse Node flags = (flags.strict ≡ false) × (flags.digest ≡ false)
-MayUse takes.Nodes flags = (flags.strict ≡ false) × (flags.digest ≡ false)
-
--- the words behind the file are the identifiers of nodes: of one, or of one at least
-abbrev pub NamesNodes : Takes → List Text → List ℕ → Type 0
-NamesNodes File words nids = ⊤
-NamesNodes Report words nids = ⊤
-NamesNodes Node words nids = (nids_of words ≡ Some nids) × (length words ≡ 1)
-NamesNodes takes.Nodes words nids = (nids_of words ≡ Some nids) × (words ≢ [])
+MayUse takes.Paths flags = (flags.strict ≡ false) × (flags.digest ≡ false)
 
 -- The words of each command, with each of its flags or without, are accepted, and ask for what the command shows of the file
 -- that they name, whatever its name, if it begins with no hyphen, or is one: decoded with `--decode`, of `contents` of the node
--- that they name, and of `props` of all of the nodes, however many.
+-- that they name, and of `props` of all of the paths, however many and however long.
 abbrev pub WordsLaw : Type 0
-WordsLaw = (v : Verb) (flags : Flags) (file : Text) (words : List Text) (nids : List ℕ)
-    → MayUse (takes_of v) flags → IsNoOption file → NamesNodes (takes_of v) words nids
-    → IsAsked (words_for v flags file words) (asked_of (asks v flags nids) flags.decode file)
+WordsLaw = (v : Verb) (flags : Flags) (file : Text) (words : List Text) (wanted : Wanted)
+    → MayUse (takes_of v) flags → IsNoOption file → asks v flags words ≡ Some wanted
+    → IsAsked (words_for v flags file words) (asked_of wanted flags.decode file)
 
 -- ---- where nothing is done
 

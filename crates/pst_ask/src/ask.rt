@@ -2,9 +2,11 @@
 
 ghost use Rattle.std.specs.Prelude.{◌≡◌, codes, map, option_map};
 ghost use Rattle.clap.specs.Words.{all_of, first_of, found_of, rows_of, subcommand_rows_of};
-ghost use Rattle.pst_ask.specs.Ask.{Reads, is_used, node_named, nodes_named, nids_of, nodes_in_words, order_of, wanted_of, ask_of, asked_by, asked_in};
+ghost use Rattle.pst_ask.specs.Ask.{Reads, is_used, node_named, paths_named, nids_of, or_lack, order_of, wanted_of, ask_of, asked_by, asked_in};
+ghost use Rattle.pst_ask.specs.Nid.{paths_of as paths_in_words};
 
 use crate::nid::read_nid;
+use crate::path::{Path, read_path};
 use crate::verb::Verb;
 use crate::words::NoOrder;
 use clap::ArgMatches;
@@ -28,8 +30,8 @@ pub enum Ask {
     Folders,
     /// The messages of the folder with an identifier.
     Contents(u32),
-    /// The properties of the nodes with these identifiers, one after another.
-    Props(Vec<u32>),
+    /// The properties of what these paths lead to, one after another.
+    Props(Vec<Path>),
 }
 
 /// What a command line asks for: what to show, and of which file.
@@ -46,7 +48,7 @@ pub struct Order<'a> {
 /// Why an accepted command line cannot be carried out.
 #[derive(Clone, Copy, Debug, PartialEq, Eq)]
 pub enum Lack {
-    /// The word that is to name a node names none.
+    /// A word that is to be the path of a node, or to name one, is none.
     Nid,
     /// They name nothing that is known here.
     Nothing,
@@ -80,29 +82,30 @@ fn node_in(found: &ArgMatches) -> Result<u32, Lack>
     }
 }
 
-// The nodes that words name.
-#[tactic(auto, using(crate::proofs::WordLemmas::nids_next, crate::proofs::WordLemmas::nids_none, crate::proofs::WordLemmas::nids_end))]
-fn nodes_of(alloc: Global, words: &[&str]) -> Result<Vec<u32>, NoOrder>
-    ensures { Reads (λ v. v.items) result (nodes_in_words (nids_of (map (λ w. w.now) words.now))) }
+// The paths that words write.
+#[tactic(auto, using(crate::proofs::WordLemmas::named_next, crate::proofs::WordLemmas::named_end))]
+fn paths_of(alloc: Global, words: &[&str]) -> Result<Vec<Path>, NoOrder>
+    ensures { Reads (λ v. map nids_of v.items) result
+        (or_lack (paths_in_words (map (λ w. w.now) words.now))) }
 {
-    let mut nids = Vec::new(alloc);
+    let mut paths = Vec::new(alloc);
     for word in words {
-        match read_nid(word) {
-            Some(nid) => nids.push(nid)?,
-            None => return Err(NoOrder::Lacks(Lack::Nid)),
+        match read_path(alloc, word) {
+            Ok(path) => paths.push(path)?,
+            Err(none) => return Err(none),
         }
     }
-    Ok(nids)
+    Ok(paths)
 }
 
-// The nodes that are named.
+// The paths that are named.
 #[tactic(auto, using(crate::proofs::WordLemmas::texts_are))]
-fn nodes_in(alloc: Global, found: &ArgMatches) -> Result<Vec<u32>, NoOrder>
-    ensures { Reads (λ v. v.items) result
-        (nodes_named (all_of (codes "NID") (rows_of (found_of found.now)))) }
+fn paths_in(alloc: Global, found: &ArgMatches) -> Result<Vec<Path>, NoOrder>
+    ensures { Reads (λ v. map nids_of v.items) result
+        (paths_named (all_of (codes "PATH") (rows_of (found_of found.now)))) }
 {
-    match found.get_strs("NID") {
-        Some(words) => nodes_of(alloc, words),
+    match found.get_strs("PATH") {
+        Some(words) => paths_of(alloc, words),
         None => Err(NoOrder::Lacks(Lack::Nothing)),
     }
 }
@@ -120,7 +123,7 @@ fn ask_in(alloc: Global, verb: Verb, found: &ArgMatches) -> Result<Ask, NoOrder>
         Verb::Nodes => Ok(Ask::Nodes),
         Verb::Folders => Ok(Ask::Folders),
         Verb::Contents => Ok(Ask::Contents(node_in(found)?)),
-        Verb::Props => Ok(Ask::Props(nodes_in(alloc, found)?)),
+        Verb::Props => Ok(Ask::Props(paths_in(alloc, found)?)),
     }
 }
 

@@ -18,6 +18,7 @@
 mod ask;
 mod laws;
 mod nid;
+mod path;
 mod verb;
 mod words;
 
@@ -26,4 +27,5 @@ pub use clap::Error;
 pub use clap::error::ErrorKind;
 pub use laws::commands_are_asked;
 pub use nid::read_nid;
+pub use path::{Path, read_path};
 pub use words::{NoOrder, parse};

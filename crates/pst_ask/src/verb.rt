@@ -12,8 +12,8 @@ pub enum Takes {
     Report,
     /// A file, and the identifier of a node.
     Node,
-    /// A file, and the identifiers of nodes, one at least.
-    Nodes,
+    /// A file, and paths, one at least.
+    Paths,
 }
 
 /// A command: it shows something of a file.
@@ -29,7 +29,7 @@ pub enum Verb {
     Folders,
     /// The messages of a folder.
     Contents,
-    /// The properties of nodes.
+    /// The properties of nodes, and of what is inside messages.
     Props,
 }
 
@@ -55,7 +55,7 @@ impl Verb {
             Verb::Nodes => ("nodes", "Lists the nodes", Takes::File),
             Verb::Folders => ("folders", "Lists the folders", Takes::File),
             Verb::Contents => ("contents", "Lists the messages of a folder", Takes::Node),
-            Verb::Props => ("props", "Shows the properties of nodes", Takes::Nodes),
+            Verb::Props => ("props", "Shows the properties of nodes", Takes::Paths),
         }
     }
 

@@ -6,7 +6,7 @@ ghost use Rattle.std.specs.Prelude.{◌≡◌, IfOk, IfErr, false};
 ghost use Rattle.clap.specs.Words.{FailsBy, HasMatchesOf, app_of, fault_of, rule_of};
 ghost use Rattle.pst_ask.specs.Ask.{IsForMemory, order_of};
 ghost use Rattle.pst_ask.specs.declared.words.NoOrder.TheVariants.{Lacks};
-ghost use Rattle.pst_ask.specs.Words.{AddsAs, IsAlone, IsOwn, decode_rule, digest_rule, file_rule, node_rule, nodes_rule, strict_rule, app_for, base, with_flags, with_verb, with_words, show_app, texts, IsAsked, Declines};
+ghost use Rattle.pst_ask.specs.Words.{AddsAs, IsAlone, IsOwn, decode_rule, digest_rule, file_rule, node_rule, paths_rule, strict_rule, app_for, base, with_flags, with_verb, with_words, show_app, texts, IsAsked, Declines};
 
 use crate::ask::{Lack, Order, order_in};
 use crate::verb::{Takes, Verb};
@@ -42,6 +42,14 @@ impl<T: Drop> From<AllocFailed<T>> for NoOrder {
     }
 }
 
+impl From<AllocError> for NoOrder {
+    ghost from_gives = { λ _ none. IsForMemory none };
+
+    fn from(error: AllocError) -> NoOrder {
+        NoOrder::Words(Error::from(error))
+    }
+}
+
 // The argument that names the file.
 fn file_arg<'a>(alloc: Global) -> Arg<'a>
     ensures rule { rule_of result ≡ file_rule }
@@ -62,13 +70,13 @@ fn node_arg<'a>(alloc: Global) -> Arg<'a>
         .required(true)
 }
 
-// The argument that names nodes.
-fn nodes_arg<'a>(alloc: Global) -> Arg<'a>
-    ensures rule { rule_of result ≡ nodes_rule }
+// The argument that names paths.
+fn paths_arg<'a>(alloc: Global) -> Arg<'a>
+    ensures rule { rule_of result ≡ paths_rule }
     ensures local { result.global ≡ false }
 {
-    Arg::new(alloc, "NID")
-        .help("The identifiers of nodes, as 0x122")
+    Arg::new(alloc, "PATH")
+        .help("Nodes, as 0x122, and what is inside messages, as 0x200024/0x8025")
         .required(true)
         .action(ArgAction::Append)
 }
@@ -117,7 +125,7 @@ fn with_flags<'a>(
 {
     match takes {
         Takes::Report => command.arg(strict_arg(alloc))?.arg(digest_arg(alloc)),
-        Takes::File | Takes::Node | Takes::Nodes => Ok(command),
+        Takes::File | Takes::Node | Takes::Paths => Ok(command),
     }
 }
 
@@ -132,7 +140,7 @@ fn with_words<'a>(
 {
     match takes {
         Takes::Node => command.arg(node_arg(alloc)),
-        Takes::Nodes => command.arg(nodes_arg(alloc)),
+        Takes::Paths => command.arg(paths_arg(alloc)),
         Takes::File | Takes::Report => Ok(command),
     }
 }

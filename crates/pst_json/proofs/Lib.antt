@@ -1,6 +1,9 @@
 pub mod CheckLemmas
 pub mod FolderLemmas
+pub mod FoundLemmas
 pub mod HeadLemmas
 pub mod NameLemmas
 pub mod NodeLemmas
+pub mod OutputLemmas
+pub mod PathLemmas
 pub mod RowsLemmas

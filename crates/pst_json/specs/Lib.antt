@@ -12,6 +12,7 @@ pub mod Folders
 pub mod FolderRows
 pub mod Contents
 pub mod NamesIndex
+pub mod Path
 pub mod Node
 pub mod Found
 pub mod Lists

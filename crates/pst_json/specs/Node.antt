@@ -1,24 +1,22 @@
 -- The properties of a node as a document ([MS-PST] 2.3.3), and of a message also its attachments and recipients (2.4.5).
-use Rattle.std.specs.Prelude.{ℕ, Option, Some, None, option_map, List, [], Result, Ok, Err, map, codes, if◌then◌else◌}
+use Rattle.std.specs.Prelude.{ℕ, Option, Some, None, option_map, List, [], Result, map, codes}
 use Rattle.serde_json.specs.Data.{Data, array, no_items, object, member, no_members}
-use Rattle.pst_fault.specs.declared.fault.Fault.{Fault}
 use Rattle.pst_page.specs.declared.entry.NodeEntry.{NodeEntry}
 use Rattle.pst_block.specs.Table.{Table}
-use Rattle.pst_ndb.specs.Roots.{Roots, node_in, subnode_of}
+use Rattle.pst_ndb.specs.Roots.{Roots, subnode_of}
 use Rattle.pst_value_json.specs.pst_names.Name.{NameParts, store_name}
-use Rattle.pst_value_json.specs.pst_pc.Fault.{pc_fault}
 use Rattle.pst_value_json.specs.pst_pc.Values.{Property, props_of}
 use Rattle.pst_value_json.specs.pst_tc.Values.{tc_rows}
 use Rattle.pst_verify.specs.pst_msg.declared.object.Object.{Object}
 use Rattle.pst_verify.specs.pst_msg.Shown.{Shown, row_shown, attachment_rows}
-use Rattle.pst_verify.specs.pst_msg.Values.{is_message, embedded_of}
+use Rattle.pst_verify.specs.pst_msg.Values.{embedded_of}
 use Rattle.pst_json.specs.declared.fault.DocFault.{DocFault}
-use Rattle.pst_json.specs.declared.fault.DocFault.TheVariants.{NoNode, Bad}
 use Rattle.pst_value_json.specs.Cells.{table_row_data}
 use Rattle.pst_value_json.specs.Names.{nid_data, nid_or_null}
 use Rattle.pst_value_json.specs.Parts.{list_data}
 use Rattle.pst_value_json.specs.Props.{named_prop_data}
-use Rattle.pst_json.specs.Told.{lined}
+use Rattle.pst_json.specs.Path.{Place, message, attachment, other, found_at}
+use Rattle.pst_json.specs.Told.{lined, told_of}
 
 -- the properties of a node, which are called so
 abbrev pub props_data : (ℕ → Option NameParts) → Table → Roots → Data
@@ -72,20 +70,17 @@ message_data names t r nid =
 unfoldable pub node_props_data : (ℕ → Option NameParts) → Table → Roots → ℕ → Data
 node_props_data names t r nid = object (member (codes "nid") (nid_data nid) (member (codes "props") (props_data names t r) no_members))
 
-abbrev pub unless_bad : Option Fault → Data → Result Data DocFault
-unless_bad None d = Ok d
-unless_bad (Some f) d = Err (Bad f)
+-- the document of a place, with properties that are called so
+abbrev pub place_data : (ℕ → Option NameParts) → Table → Place → Data
+place_data names t (message nid r) = message_data names t r nid
+place_data names t (attachment nid r) = attachment_data names t (record { nid = nid; roots = Some r })
+place_data names t (other nid r) = node_props_data names t r nid
 
-abbrev pub node_there : (ℕ → Option NameParts) → Table → ℕ → Option Roots → Result Data DocFault
-node_there names t nid None = Err NoNode
-node_there names t nid (Some r) =
-    if is_message nid then Ok (message_data names t r nid) else unless_bad (pc_fault t r) (node_props_data names t r nid)
-
--- The document of a node: of a message or of another property context. There is none where there is no such node, or where
--- it is neither. Its properties, and those of attachments, are called as the store's name map says.
-unfoldable pub props_told : Table → List NodeEntry → ℕ → Result Data DocFault
-props_told t nodes nid = node_there (store_name t nodes) t nid (node_in nodes nid)
+-- The document of what a path leads to: of a message, an attachment or another property context. Its properties, and those of
+-- attachments, are called as the store's name map says.
+unfoldable pub props_told : Table → List NodeEntry → List ℕ → Result Data DocFault
+props_told t nodes path = told_of (place_data (store_name t nodes) t) (found_at t nodes path)
 
 -- the line that shows it
-unfoldable pub props_line : Table → List NodeEntry → ℕ → Result (List ℕ) DocFault
-props_line t nodes nid = lined (props_told t nodes nid)
+unfoldable pub props_line : Table → List NodeEntry → List ℕ → Result (List ℕ) DocFault
+props_line t nodes path = lined (props_told t nodes path)

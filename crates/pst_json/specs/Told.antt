@@ -21,6 +21,11 @@ doc_fault_text NoNode = codes "no node"
 doc_fault_text (Bad f) = fault_text f
 doc_fault_text Memory = codes "out of memory"
 
+-- what is told of what there is
+abbrev pub told_of : {X Y : Type 0} → (X → Y) → Result X DocFault → Result Y DocFault
+told_of told (Ok x) = Ok (told x)
+told_of told (Err f) = Err f
+
 -- the line of a document, where there is one
 abbrev pub lined : Result Data DocFault → Result (List ℕ) DocFault
 lined (Ok d) = Ok (line_of d)

@@ -25,9 +25,9 @@ fn embedded_nid(attachment: Attachment) -> Option<u32>
     }
 }
 
-// What the object of an attachment is made of.
+/// What the object of an attachment is made of.
 #[tactic(auto, unfolding(crate::specs::Node::attachment_data))]
-fn attachment_parts<'a>(
+pub(crate) fn attachment_parts<'a>(
     alloc: Global,
     attachment: Attachment<'a>,
     names: Option<NameMap<'a>>,

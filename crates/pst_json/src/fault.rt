@@ -14,7 +14,7 @@ use std::fmt;
 pub enum DocFault {
     /// The store has no folder with the identifier.
     NoFolder,
-    /// The store has no node with the identifier.
+    /// The store has no node with the identifier, or a path leads nowhere.
     NoNode,
     /// The node is neither a message nor a property context: its first fault as one.
     Bad(Fault),

@@ -15,6 +15,7 @@ mod contents;
 mod fault;
 mod folder_rows;
 mod folders;
+mod found;
 mod head;
 mod index;
 mod lists;

@@ -1,31 +1,28 @@
 //! The properties of a node as a document, and of a message also its attachments and recipients.
 
-ghost use Rattle.std.specs.Prelude.{◌≡◌, ℕ, Option, IfOk};
+ghost use Rattle.std.specs.Prelude.{◌≡◌, IfOk};
 ghost use Rattle.serde_json.specs.Data.{array};
 ghost use Rattle.serde_json.specs.View.{view, items_of};
 ghost use Rattle.pst_ndb.specs.Roots.{subnode_of};
-ghost use Rattle.pst_ndb.specs.Views.{table_of_ndb, nodes_of, table_of_node, roots_of, IsIndexedBy};
+ghost use Rattle.pst_ndb.specs.Views.{table_of_ndb, nodes_of, table_of_node, roots_of};
 ghost use Rattle.pst_value_json.specs.Props.{names_told};
-ghost use Rattle.pst_value_json.specs.pst_names.Name.{NameParts, store_name};
 ghost use Rattle.pst_value_json.specs.pst_pc.View.{node_of_pc};
-ghost use Rattle.pst_verify.specs.pst_msg.View.{node_of_message};
+ghost use Rattle.pst_verify.specs.pst_msg.View.{node_of_attachment, attachment_shown, node_of_message};
 ghost use Rattle.pst_verify.specs.pst_store.View.{ndb_of_store};
-ghost use Rattle.pst_json.specs.Found.{node_of_found, found_data};
+ghost use Rattle.pst_json.specs.Found.{node_of_found, place_of_found};
 ghost use Rattle.pst_json.specs.Lists.{list_left};
 ghost use Rattle.pst_json.specs.NamesIndex.{IsNamesIndex};
-ghost use Rattle.pst_json.specs.Node.{recipient_nid, recipients_there, message_data, node_props_data, props_told, props_line as line_of_props};
+ghost use Rattle.pst_json.specs.Node.{recipient_nid, recipients_there, attachment_data, message_data, node_props_data, place_data, props_told, props_line as line_of_props};
 ghost use Rattle.pst_json.specs.Told.{TellsDoc};
 
-use crate::attachment::AttachmentRows;
+use crate::attachment::{AttachmentRows, attachment_parts};
 use crate::fault::DocFault;
+use crate::found::{Found, found_in};
 use crate::index::index_of;
 use crate::lists::MessageRows;
 use crate::names::names_in;
-use pst_ndb::{Node, SubIndex};
-use pst_value_json::{
-    Line, Made, NameIndex, NameMap, Part, Pc, Sink, Tree, check_pc, prop_rows, table_rows,
-};
-use pst_verify::{Message, Store, is_message};
+use pst_value_json::{Line, Made, NameIndex, NameMap, Part, Pc, Sink, Tree, prop_rows, table_rows};
+use pst_verify::{Attachment, Message, Store};
 use serde_json::Value as Doc;
 use std::alloc::{AllocError, Global};
 
@@ -97,111 +94,77 @@ fn shown_node<'a, S: Sink>(
     S::object(alloc, parts)
 }
 
-/// What has a document: a message, or another property context, of the node with an identifier.
-#[derive(Clone, Copy)]
-pub(crate) enum Found<'a> {
-    /// A message.
-    Message(Message<'a>),
-    /// Another property context.
-    Pc(Pc<'a>),
-}
-
-/// What the node with an identifier is, or why it has no document.
-#[tactic(auto, unfolding(crate::specs::Contents::node_of_kind, crate::specs::Node::props_told))]
-fn found_in<'a>(store: &Store<'a>, nid: u32) -> Result<Found<'a>, DocFault>
-    ensures { let ndb = ndb_of_store store.now in
-        let t = table_of_ndb ndb in let nodes = nodes_of ndb in
-        TellsDoc (found_data (store_name t nodes) nid) result (props_told t nodes nid) }
+// The document of an attachment.
+fn shown_attachment<S: Sink>(
+    alloc: Global,
+    attachment: Attachment,
+    names: Option<NameMap>,
+) -> Result<S::Out, AllocError>
+    ensures { let t = table_of_node (node_of_attachment attachment.entry) in
+        let shown = attachment_shown attachment.entry in let told = names_told names.entry in
+        IfOk result (λ out. S.Shows out (attachment_data told t shown)) }
 {
-    if is_message(nid) {
-        return match store.message(nid) {
-            Some(message) => Ok(Found::Message(message)),
-            None => Err(DocFault::NoNode),
-        };
-    }
-    let Some(node) = store.node(nid) else {
-        return Err(DocFault::NoNode);
-    };
-    match check_pc(node) {
-        Ok(pc) => Ok(Found::Pc(pc)),
-        Err(fault) => Err(DocFault::Bad(fault)),
-    }
-}
-
-impl<'a> Found<'a> {
-    // The node whose properties they are.
-    fn node(&self) -> Node<'a>
-        ensures { result ≡ node_of_found self.now }
-    {
-        match self {
-            Found::Message(message) => message.node(),
-            Found::Pc(pc) => pc.node(),
-        }
-    }
-
-    // The same, whose node is lent an index of its subnodes.
-    fn indexed(self, index: &'a SubIndex) -> Found<'a>
-        requires { IsIndexedBy (node_of_found self) index.now }
-        ensures { (told : ℕ → Option NameParts) (nid : ℕ) →
-            found_data told nid result ≡ found_data told nid self.entry }
-    {
-        match self {
-            Found::Message(message) => Found::Message(message.indexed(index)),
-            Found::Pc(pc) => Found::Pc(pc.indexed(index)),
-        }
-    }
+    S::object(alloc, attachment_parts(alloc, attachment, names)?)
 }
 
 // The document of what has one.
 fn shown_found<'a, S: Sink>(
     alloc: Global,
-    nid: u32,
     found: Found<'a>,
     names: Option<NameMap<'a>>,
 ) -> Result<S::Out, AllocError>
-    ensures { IfOk result (λ out. S.Shows out (found_data (names_told names.entry) nid found.entry)) }
+    ensures { let t = table_of_node (node_of_found found.entry) in let told = names_told names.entry in
+        IfOk result (λ out. S.Shows out (place_data told t (place_of_found found.entry))) }
 {
-    let index = index_of(alloc, found.node())?;
-    match found.indexed(&index) {
-        Found::Message(message) => shown_message::<S>(alloc, nid, message, names),
-        Found::Pc(pc) => shown_node::<S>(alloc, nid, &pc, names),
+    match found {
+        Found::Message(message) => {
+            let index = index_of(alloc, message.node())?;
+            shown_message::<S>(alloc, message.nid(), message.indexed(&index), names)
+        }
+        Found::Attachment(attachment) => shown_attachment::<S>(alloc, attachment, names),
+        Found::Pc(pc) => {
+            let index = index_of(alloc, pc.node())?;
+            shown_node::<S>(alloc, pc.node().nid(), &pc.indexed(&index), names)
+        }
     }
 }
 
-/// The properties of a node as a JSON object: the identifier of the node, and its properties as `pc_doc` gives them, called as the
-/// store's name map says; of a message also its attachments, an array that has an object for each, with the identifier of the
-/// message that it embeds or null, its own, and its properties; and its recipients, as `table_doc` gives them. NoNode where the
-/// store has no such node; Bad with the fault of `check_pc` where it is neither a message nor a property context. The index of
-/// names is that of `names_index`, made once however many nodes are shown.
+/// The properties of what a path leads to as a JSON object: the last identifier of the path, and the properties as `pc_doc` gives
+/// them, called as the store's name map says; of a message also its attachments, an array that has an object for each, with the
+/// identifier of the message that it embeds or null, its own, and its properties; and its recipients, as `table_doc` gives them; of
+/// an attachment that same object. A path is a node, and behind a message an attachment of it, behind an attachment the message that
+/// it embeds: NoNode where a step leads nowhere; Bad with the fault of `check_pc` where the node is neither a message nor a property
+/// context. The index of names is that of `names_index`, made once however many paths are shown.
+#[tactic(auto, using(crate::proofs::FoundLemmas::told_found, crate::proofs::FoundLemmas::told_refused), unfolding(crate::specs::Node::props_told))]
 pub fn props_doc<'a>(
     alloc: Global,
     store: &Store<'a>,
     index: &'a NameIndex,
-    nid: u32,
+    path: &[u32],
 ) -> Result<Doc, DocFault>
     requires { let ndb = ndb_of_store store.now in
         IsNamesIndex (table_of_ndb ndb) (nodes_of ndb) index.now }
     ensures { let ndb = ndb_of_store store.now in
-        TellsDoc view result (props_told (table_of_ndb ndb) (nodes_of ndb) nid) }
+        TellsDoc view result (props_told (table_of_ndb ndb) (nodes_of ndb) path.now) }
 {
-    let found = found_in(store, nid)?;
-    Ok(shown_found::<Tree>(alloc, nid, found, names_in(store, index))?)
+    let found = found_in(store, path)?;
+    Ok(shown_found::<Tree>(alloc, found, names_in(store, index))?)
 }
 
-/// The line that shows the properties of a node: the compact text of their document, and a line feed; or why there is none.
-/// It is made property by property, and row by row: beside the text, memory is taken for one at a time.
-#[tactic(auto, unfolding(crate::specs::Node::props_line))]
+/// The line that shows the properties of what a path leads to: the compact text of their document, and a line feed; or why there is
+/// none. It is made property by property, and row by row: beside the text, memory is taken for one at a time.
+#[tactic(auto, using(crate::proofs::FoundLemmas::line_found, crate::proofs::FoundLemmas::line_refused), unfolding(crate::specs::Node::props_line, crate::specs::Node::props_told))]
 pub fn props_line<'a>(
     alloc: Global,
     store: &Store<'a>,
     index: &'a NameIndex,
-    nid: u32,
+    path: &[u32],
 ) -> Result<Vec<u8>, DocFault>
     requires { let ndb = ndb_of_store store.now in
         IsNamesIndex (table_of_ndb ndb) (nodes_of ndb) index.now }
     ensures { let ndb = ndb_of_store store.now in
-        TellsDoc (λ t. t.items) result (line_of_props (table_of_ndb ndb) (nodes_of ndb) nid) }
+        TellsDoc (λ t. t.items) result (line_of_props (table_of_ndb ndb) (nodes_of ndb) path.now) }
 {
-    let found = found_in(store, nid)?;
-    Ok(shown_found::<Line>(alloc, nid, found, names_in(store, index))?)
+    let found = found_in(store, path)?;
+    Ok(shown_found::<Line>(alloc, found, names_in(store, index))?)
 }

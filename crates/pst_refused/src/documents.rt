@@ -48,7 +48,7 @@ pub(crate) fn lists(alloc: Global, bytes: &[u8]) -> Result<(), Refused> {
     )
 }
 
-/// The contents of each folder, and the properties of each message and of the store.
+/// The contents of each folder, and the properties of each message, of its attachments and of the store.
 pub(crate) fn nodes(alloc: Global, bytes: &[u8]) -> Result<(), Refused> {
     let store = verify(alloc, bytes)?.store;
     let index = names_index(alloc, &store)?;
@@ -61,11 +61,16 @@ pub(crate) fn nodes(alloc: Global, bytes: &[u8]) -> Result<(), Refused> {
     }
     for message in store.messages() {
         let nid = message.node().nid();
-        let doc = props_doc(alloc, &store, &index, nid)?;
-        is_line(alloc, &doc, &props_line(alloc, &store, &index, nid)?)?;
+        let doc = props_doc(alloc, &store, &index, &[nid])?;
+        is_line(alloc, &doc, &props_line(alloc, &store, &index, &[nid])?)?;
+        for attachment in message.attachments() {
+            let path = [nid, attachment.node().nid()];
+            let doc = props_doc(alloc, &store, &index, &path)?;
+            is_line(alloc, &doc, &props_line(alloc, &store, &index, &path)?)?;
+        }
     }
-    let doc = props_doc(alloc, &store, &index, 0x21)?;
-    is_line(alloc, &doc, &props_line(alloc, &store, &index, 0x21)?)
+    let doc = props_doc(alloc, &store, &index, &[0x21])?;
+    is_line(alloc, &doc, &props_line(alloc, &store, &index, &[0x21])?)
 }
 
 /// The values of the store's own properties, and the rows of the root folder's table.

@@ -1,3 +1,4 @@
 pub mod AnswerLemmas
 pub mod Loading
 pub mod RunLemmas
+pub mod SaidLemmas

@@ -26,8 +26,7 @@ use Rattle.sha2.specs.Sha256.{sha256}
 use Rattle.pst_run.specs.declared.answers.Shown.{Shown}
 use Rattle.pst_ask.specs.Ask.{Asked, Wanted, report, head, nodes, folders, contents, props}
 use Rattle.pst_run.specs.declared.refusal.Refusal.{Refusal}
-use Rattle.pst_run.specs.declared.refusal.Refusal.TheVariants as refusal
-use Rattle.pst_run.specs.Refusal.{refusal_of, refusal_for}
+use Rattle.pst_run.specs.Refusal.{Refused, fault, document, input, output, memory, refused_of, refusal_of, refusal_for}
 
 -- ---- of which bytes
 
@@ -55,14 +54,14 @@ plain text = record { text = text; fails = false }
 -- ---- of the header, and of both trees
 
 -- the line of what a check found, or the fault for which the file is refused
-abbrev pub line_or_fault : {X : Type 0} → (X → List ℕ) → Result X Fault → Result Told Refusal
+abbrev pub line_or_fault : {X : Type 0} → (X → List ℕ) → Result X Fault → Result Told Refused
 line_or_fault line (Ok x) = Ok (plain (line x))
 line_or_fault line (Err f) = Err (refusal_of f)
 
 -- ---- of a store
 
 -- what is told of bytes that are a store; else their first fault
-abbrev pub of_store : Option Fault → Result Told Refusal → Result Told Refusal
+abbrev pub of_store : Option Fault → Result Told Refused → Result Told Refused
 of_store None told = told
 of_store (Some f) told = Err (refusal_of f)
 
@@ -89,24 +88,24 @@ table_of_file I = table_in I (store_in I)
 abbrev pub entries_of_file : List ℕ → List NodeEntry
 entries_of_file I = entries_in I (store_in I)
 
--- a line, or that there is none of the node with an identifier
-abbrev pub line_of_node : ℕ → Result (List ℕ) DocFault → Result Told Refusal
-line_of_node nid (Ok line) = Ok (plain line)
-line_of_node nid (Err f) = Err (refusal_for nid f)
+-- a line, or that there is none of the folder or at the path with these identifiers
+abbrev pub line_at : List ℕ → Result (List ℕ) DocFault → Result Told Refused
+line_at path (Ok line) = Ok (plain line)
+line_at path (Err f) = Err (refusal_for path f)
 
 -- a text before the answer
-abbrev pub behind : List ℕ → Result Told Refusal → Result Told Refusal
+abbrev pub behind : List ℕ → Result Told Refused → Result Told Refused
 behind text (Ok told) = Ok (record told { text = text ++ told.text })
 behind text (Err r) = Err r
 
-abbrev pub in_front : Result Told Refusal → Result Told Refusal → Result Told Refusal
+abbrev pub in_front : Result Told Refused → Result Told Refused → Result Told Refused
 in_front (Ok told) rest = behind told.text rest
 in_front (Err r) rest = Err r
 
--- the lines of nodes, one after another; where one has none, the first of these
-unfoldable pub lines_of_nodes : (ℕ → Result (List ℕ) DocFault) → List ℕ → Result Told Refusal
-lines_of_nodes line [] = Ok (plain [])
-lines_of_nodes line (nid ∷ rest) = in_front (line_of_node nid (line nid)) (lines_of_nodes line rest)
+-- the lines of paths, one after another; where one has none, the first of these
+unfoldable pub lines_of_paths : (List ℕ → Result (List ℕ) DocFault) → List (List ℕ) → Result Told Refused
+lines_of_paths line [] = Ok (plain [])
+lines_of_paths line (path ∷ rest) = in_front (line_at path (line path)) (lines_of_paths line rest)
 
 -- ---- all of them
 
@@ -114,23 +113,27 @@ lines_of_nodes line (nid ∷ rest) = in_front (line_of_node nid (line nid)) (lin
 -- the fields of a good header, and else answers its first fault. `nodes` shows the nodes of two trees without fault, and else
 -- answers the first fault of the header and of both walks. The others show a store, and else answer the first fault of the bytes
 -- as one.
-unfoldable pub answer_with : Wanted → Option (List ℕ) → List ℕ → Result Told Refusal
+unfoldable pub answer_with : Wanted → Option (List ℕ) → List ℕ → Result Told Refused
 answer_with (report strict digested) digest I = of_store (store_fault I) (Ok (report_told strict digest (report_in I)))
 answer_with head digest I = line_or_fault head_line (answer (header_fault I) (fields I))
 answer_with nodes digest I = line_or_fault nodes_line (listed_nodes I)
 answer_with folders digest I = of_store (store_fault I) (Ok (plain (folders_line (table_of_file I) (entries_of_file I))))
-answer_with (contents nid) digest I = of_store (store_fault I) (line_of_node nid (contents_line (table_of_file I) (entries_of_file I) nid))
-answer_with (props nids) digest I = of_store (store_fault I) (lines_of_nodes (props_line (table_of_file I) (entries_of_file I)) nids)
+answer_with (contents nid) digest I = of_store (store_fault I) (line_at (nid ∷ []) (contents_line (table_of_file I) (entries_of_file I) nid))
+answer_with (props paths) digest I = of_store (store_fault I) (lines_of_paths (props_line (table_of_file I) (entries_of_file I)) paths)
 
 -- The same of the bytes of a file: it is of its plain twin where that is asked for, and the digest is of the file as it is.
-abbrev pub answer_to : Asked → List ℕ → Result Told Refusal
+abbrev pub answer_to : Asked → List ℕ → Result Told Refused
 answer_to a bytes = answer_with a.ask (digest_for a.ask bytes) (bytes_for a.decode bytes)
 
+-- nothing is shown for this reason, which is the answer, unless memory ran out
+abbrev pub GivesNone : Refused → Result Told Refused → Type 0
+GivesNone (fault f) answer = answer ≡ Err (fault f)
+GivesNone (document path f) answer = answer ≡ Err (document path f)
+GivesNone input answer = ⊥
+GivesNone (output f) answer = ⊥
+GivesNone memory answer = Unit {0}
+
 -- what is returned is the answer, unless memory ran out
-abbrev pub Gives : Result Shown Refusal → Result Told Refusal → Type 0
+abbrev pub Gives : Result Shown Refusal → Result Told Refused → Type 0
 Gives (Ok shown) answer = answer ≡ Ok (told_in shown)
-Gives (Err (refusal.Fault f)) answer = answer ≡ Err (refusal.Fault f)
-Gives (Err (refusal.Document nid f)) answer = answer ≡ Err (refusal.Document nid f)
-Gives (Err refusal.Input) answer = ⊥
-Gives (Err (refusal.Output f)) answer = ⊥
-Gives (Err refusal.Memory) answer = Unit {0}
+Gives (Err r) answer = GivesNone (refused_of r) answer

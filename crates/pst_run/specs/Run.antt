@@ -13,9 +13,8 @@ use Rattle.pst_ask.specs.declared.ask.Lack.TheVariants.{Nid, Nothing}
 use Rattle.pst_ask.specs.declared.words.NoOrder.{NoOrder}
 use Rattle.pst_ask.specs.declared.words.NoOrder.TheVariants.{Words, Lacks}
 use Rattle.pst_run.specs.declared.refusal.Refusal.{Refusal}
-use Rattle.pst_run.specs.declared.refusal.Refusal.TheVariants as refusal
 use Rattle.pst_run.specs.Answer.{Told, answer_to}
-use Rattle.pst_run.specs.Refusal.{line_of_text, refusal_line, status_of}
+use Rattle.pst_run.specs.Refusal.{Refused, fault, document, input, output, memory, refused_of, line_of_text, refusal_line, status_of}
 
 -- what both outputs hold, where they tell it
 pub record Outputs : Type 0 where
@@ -30,7 +29,7 @@ abbrev pub SaysLine : List ℕ → Option (List ℕ) → Option (List ℕ) → T
 SaysLine text old new = AppendsFront old new (line_of_text text)
 
 -- the error output gains what a refusal says there, or a front of it where it fails
-abbrev pub Says : Refusal → Option (List ℕ) → Option (List ℕ) → Type 0
+abbrev pub Says : Refused → Option (List ℕ) → Option (List ℕ) → Type 0
 Says r old new = AppendsFront old new (refusal_line r)
 
 -- the status of a text that is shown
@@ -39,38 +38,42 @@ shown_status true = 1
 shown_status false = 0
 
 -- the answer is a text, which fails so, and all of it is written
-abbrev pub Shows : Result Told Refusal → Bool → Option (List ℕ) → Option (List ℕ) → Type 0
+abbrev pub Shows : Result Told Refused → Bool → Option (List ℕ) → Option (List ℕ) → Type 0
 Shows answer fails old new = (told : Told) × (answer ≡ Ok told) × (fails ≡ told.fails) × Appends old new told.text
 
 -- the answer is a text, and a front of it is written
-abbrev pub ShowsFront : Result Told Refusal → Option (List ℕ) → Option (List ℕ) → Type 0
+abbrev pub ShowsFront : Result Told Refused → Option (List ℕ) → Option (List ℕ) → Type 0
 ShowsFront answer old new = (told : Told) × (answer ≡ Ok told) × AppendsFront old new told.text
+
+-- nothing is shown for this reason: what the output holds then
+abbrev pub EndsWith : Refused → Result Told Refused → Option (List ℕ) → Option (List ℕ) → Type 0
+EndsWith (fault f) answer old new = (answer ≡ Err (fault f)) × Keeps old new
+EndsWith (document path f) answer old new = (answer ≡ Err (document path f)) × Keeps old new
+EndsWith input answer old new = ⊥
+EndsWith (output f) answer old new = ShowsFront answer old new
+EndsWith memory answer old new = Keeps old new
 
 -- How showing an answer ends, and what the output then holds: all of the answer; at a refusal nothing; and where the
 -- output failed, a front of the answer.
-abbrev pub Ends : Result Bool Refusal → Result Told Refusal → Option (List ℕ) → Option (List ℕ) → Type 0
+abbrev pub Ends : Result Bool Refusal → Result Told Refused → Option (List ℕ) → Option (List ℕ) → Type 0
 Ends (Ok fails) answer old new = Shows answer fails old new
-Ends (Err (refusal.Fault f)) answer old new = (answer ≡ Err (refusal.Fault f)) × Keeps old new
-Ends (Err (refusal.Document nid f)) answer old new = (answer ≡ Err (refusal.Document nid f)) × Keeps old new
-Ends (Err refusal.Input) answer old new = ⊥
-Ends (Err (refusal.Output f)) answer old new = ShowsFront answer old new
-Ends (Err refusal.Memory) answer old new = Keeps old new
+Ends (Err r) answer old new = EndsWith (refused_of r) answer old new
 
 -- The answer is written, its status is the run's, and nothing is said on the error output; or the answer is a refusal, the
 -- status is its, and its line is said there and nothing written. Only an output that cannot be written (3) and want of memory
 -- (4) give another status, and say so.
-abbrev pub Answers : Result Told Refusal → ℕ → Outputs → Outputs → Type 0
+abbrev pub Answers : Result Told Refused → ℕ → Outputs → Outputs → Type 0
 Answers answer status old new =
     ((fails : Bool) × (status ≡ shown_status fails) × Shows answer fails old.out new.out × Keeps old.err new.err)
-    ⊎ (((r : Refusal) × (answer ≡ Err r) × (status ≡ status_of r) × Keeps old.out new.out × Says r old.err new.err)
-    ⊎ (((f : EmitFault) × (status ≡ 3) × ShowsFront answer old.out new.out × Says (refusal.Output f) old.err new.err)
-    ⊎ ((status ≡ 4) × Keeps old.out new.out × Says refusal.Memory old.err new.err)))
+    ⊎ (((r : Refused) × (answer ≡ Err r) × (status ≡ status_of r) × Keeps old.out new.out × Says r old.err new.err)
+    ⊎ (((f : EmitFault) × (status ≡ 3) × ShowsFront answer old.out new.out × Says (output f) old.err new.err)
+    ⊎ ((status ≡ 4) × Keeps old.out new.out × Says memory old.err new.err)))
 
 -- the bytes did not come: the file cannot be read, or memory was refused, which is said, and nothing is written
 abbrev pub IsUnread : ℕ → Outputs → Outputs → Type 0
 IsUnread status old new =
-    ((status ≡ 3) × Keeps old.out new.out × Says refusal.Input old.err new.err)
-    ⊎ ((status ≡ 4) × Keeps old.out new.out × Says refusal.Memory old.err new.err)
+    ((status ≡ 3) × Keeps old.out new.out × Says input old.err new.err)
+    ⊎ ((status ≡ 4) × Keeps old.out new.out × Says memory old.err new.err)
 
 -- The answer to some bytes, which are those of the reader where it tells them; or these did not come.
 abbrev pub CarriesOut : Asked → Option (List ℕ) → ℕ → Outputs → Outputs → Type 0
@@ -103,4 +106,4 @@ lack_text Nothing = codes "nothing is asked for"
 
 -- words that lack something say so, with status 2; or memory was refused
 abbrev pub IsLacking : Lack → ℕ → Option (List ℕ) → Option (List ℕ) → Type 0
-IsLacking lack status old new = ((status ≡ 2) × SaysLine (lack_text lack) old new) ⊎ ((status ≡ 4) × Says refusal.Memory old new)
+IsLacking lack status old new = ((status ≡ 2) × SaysLine (lack_text lack) old new) ⊎ ((status ≡ 4) × Says memory old new)

@@ -1,15 +1,15 @@
 //! What each command answers to the bytes of a file.
 
-ghost use Rattle.std.specs.Prelude.{◌≡◌, ◌++◌, ℕ, Bool, List, Option, IfOk};
-ghost use Rattle.pst_ask.specs.Ask.{report, head, nodes, folders, contents, props, wanted_of};
+ghost use Rattle.std.specs.Prelude.{◌≡◌, ◌++◌, ℕ, Bool, List, map, Option, IfOk};
+ghost use Rattle.pst_ask.specs.Ask.{report, head, nodes, folders, contents, props, nids_of, wanted_of};
 ghost use Rattle.pst_json.specs.NamesIndex.{IsNamesIndex};
 ghost use Rattle.pst_json.specs.Node.{props_line as line_of_props};
 ghost use Rattle.pst_json.specs.pst_ndb.Views.{table_of_ndb, nodes_of};
 ghost use Rattle.pst_json.specs.pst_store.View.{ndb_of_store};
-ghost use Rattle.pst_run.specs.Answer.{Gives, answer_with, lines_of_nodes};
+ghost use Rattle.pst_run.specs.Answer.{Gives, answer_with, lines_of_paths};
 
 use crate::refusal::Refusal;
-use pst_ask::Ask;
+use pst_ask::{Ask, Path};
 use pst_bytes::Image;
 use pst_header::read_header;
 use pst_json::{
@@ -17,6 +17,7 @@ use pst_json::{
     props_line, read_nodes, verify,
 };
 use std::alloc::{AllocError, Global};
+use std::slice;
 
 /// What a command shows.
 #[derive(Drop)]
@@ -34,7 +35,7 @@ fn check_answer(
     strict: bool,
     digest: Option<[u8; 32]>,
     bytes: &[u8],
-) -> Result<Shown, Refusal>
+) -> Result<Shown, Refusal<'static>>
     ensures { (digested : Bool) → Gives result (answer_with (report strict digested) digest bytes.now) }
 {
     let verified = verify(alloc, bytes)?;
@@ -45,7 +46,7 @@ fn check_answer(
 
 // `head`: the fields of the header.
 #[tactic(auto, unfolding(crate::specs::Answer::answer_with))]
-fn head_answer(alloc: Global, bytes: &[u8]) -> Result<Shown, Refusal>
+fn head_answer(alloc: Global, bytes: &[u8]) -> Result<Shown, Refusal<'static>>
     ensures { (digest : Option (List ℕ)) → Gives result (answer_with head digest bytes.now) }
 {
     let header = read_header(Image::new(bytes))?;
@@ -55,7 +56,7 @@ fn head_answer(alloc: Global, bytes: &[u8]) -> Result<Shown, Refusal>
 
 // `nodes`: the entries of the node B-tree.
 #[tactic(auto, unfolding(crate::specs::Answer::answer_with))]
-fn nodes_answer(alloc: Global, bytes: &[u8]) -> Result<Shown, Refusal>
+fn nodes_answer(alloc: Global, bytes: &[u8]) -> Result<Shown, Refusal<'static>>
     ensures { (digest : Option (List ℕ)) → Gives result (answer_with nodes digest bytes.now) }
 {
     let tree = read_nodes(alloc, Image::new(bytes))?;
@@ -65,7 +66,7 @@ fn nodes_answer(alloc: Global, bytes: &[u8]) -> Result<Shown, Refusal>
 
 // `folders`: the folders of a store.
 #[tactic(auto, unfolding(crate::specs::Answer::answer_with))]
-fn folders_answer(alloc: Global, bytes: &[u8]) -> Result<Shown, Refusal>
+fn folders_answer(alloc: Global, bytes: &[u8]) -> Result<Shown, Refusal<'static>>
     ensures { (digest : Option (List ℕ)) → Gives result (answer_with folders digest bytes.now) }
 {
     let verified = verify(alloc, bytes)?;
@@ -76,14 +77,14 @@ fn folders_answer(alloc: Global, bytes: &[u8]) -> Result<Shown, Refusal>
 
 // `contents`: the messages of a folder.
 #[tactic(auto, unfolding(crate::specs::Answer::answer_with))]
-fn contents_answer(alloc: Global, nid: u32, bytes: &[u8]) -> Result<Shown, Refusal>
-    ensures { (digest : Option (List ℕ)) → Gives result (answer_with (contents nid) digest bytes.now) }
+fn contents_answer<'a>(alloc: Global, nid: &'a u32, bytes: &[u8]) -> Result<Shown, Refusal<'a>>
+    ensures { (digest : Option (List ℕ)) → Gives result (answer_with (contents nid.now) digest bytes.now) }
 {
     let store = verify(alloc, bytes)?.store;
     store.is_sound();
-    match contents_line(alloc, &store, nid) {
+    match contents_line(alloc, &store, *nid) {
         Ok(text) => Ok(Shown { text, fails: false }),
-        Err(fault) => Err(Refusal::of_document(nid, fault)),
+        Err(fault) => Err(Refusal::of_document(slice::from_ref(nid), fault)),
     }
 }
 
@@ -98,48 +99,50 @@ fn joined(mut text: Vec<u8>, line: Vec<u8>) -> Result<Vec<u8>, AllocError>
     Ok(text)
 }
 
-// The properties of nodes, a line for each. The index of their names is made once for all of them.
+// The properties of what paths lead to, a line for each. The index of their names is made once for all.
 #[tactic(auto, using(crate::proofs::AnswerLemmas::line_first, crate::proofs::AnswerLemmas::line_more))]
-fn props_lines<'a>(
+fn props_lines<'p, 'a>(
     alloc: Global,
-    nids: &[u32],
+    paths: &'p [Path],
     store: &Store<'a>,
     index: &'a NameIndex,
-) -> Result<Shown, Refusal>
+) -> Result<Shown, Refusal<'p>>
     requires { let ndb = ndb_of_store store.now in
         IsNamesIndex (table_of_ndb ndb) (nodes_of ndb) index.now }
     ensures { let ndb = ndb_of_store store.now in
-        Gives result (lines_of_nodes (line_of_props (table_of_ndb ndb) (nodes_of ndb)) nids.now) }
+        let line = line_of_props (table_of_ndb ndb) (nodes_of ndb) in
+        Gives result (lines_of_paths line (map nids_of paths.now)) }
 {
     let mut text = Vec::new(alloc);
-    for nid in nids {
-        match props_line(alloc, store, index, *nid) {
+    for path in paths {
+        match props_line(alloc, store, index, &path.nids) {
             Ok(line) => text = joined(text, line)?,
-            Err(fault) => return Err(Refusal::of_document(*nid, fault)),
+            Err(fault) => return Err(Refusal::of_document(&path.nids, fault)),
         }
     }
     Ok(Shown { text, fails: false })
 }
 
-// `props`: the properties of nodes, one after another.
+// `props`: the properties of what paths lead to, one after another.
 #[tactic(auto, unfolding(crate::specs::Answer::answer_with))]
-fn props_answer(alloc: Global, nids: &[u32], bytes: &[u8]) -> Result<Shown, Refusal>
-    ensures { (digest : Option (List ℕ)) → Gives result (answer_with (props nids.now) digest bytes.now) }
+fn props_answer<'a>(alloc: Global, paths: &'a [Path], bytes: &[u8]) -> Result<Shown, Refusal<'a>>
+    ensures { (digest : Option (List ℕ)) → Gives result
+        (answer_with (props (map nids_of paths.now)) digest bytes.now) }
 {
     let store = verify(alloc, bytes)?.store;
     store.is_sound();
     let index = names_index(alloc, &store)?;
-    props_lines(alloc, nids, &store, &index)
+    props_lines(alloc, paths, &store, &index)
 }
 
 /// What a command shows of a file with these bytes, and with this digest where it shows one; or why it refuses them. The fault
 /// NoMemory comes as want of memory, and not as a refusal of the file.
-pub fn answer(
+pub fn answer<'a>(
     alloc: Global,
-    ask: &Ask,
+    ask: &'a Ask,
     digest: Option<[u8; 32]>,
     bytes: &[u8],
-) -> Result<Shown, Refusal>
+) -> Result<Shown, Refusal<'a>>
     ensures { Gives result (answer_with (wanted_of ask.now) digest bytes.now) }
 {
     match ask {
@@ -147,7 +150,7 @@ pub fn answer(
         Ask::Head => head_answer(alloc, bytes),
         Ask::Nodes => nodes_answer(alloc, bytes),
         Ask::Folders => folders_answer(alloc, bytes),
-        Ask::Contents(nid) => contents_answer(alloc, *nid, bytes),
-        Ask::Props(nids) => props_answer(alloc, nids, bytes),
+        Ask::Contents(nid) => contents_answer(alloc, nid, bytes),
+        Ask::Props(paths) => props_answer(alloc, paths, bytes),
     }
 }

@@ -15,10 +15,12 @@ mod answers;
 mod input;
 mod refusal;
 mod running;
+mod said;
 mod source;
 
 pub use answers::{Shown, answer};
 pub use input::{LoadFault, MOST_BYTES, MOST_READS, Reads, load, load_counted};
 pub use refusal::Refusal;
-pub use running::{answer_out, carry_out, decline, refuse, run};
+pub use running::{answer_out, carry_out, decline, run};
+pub use said::refuse;
 pub use source::{Source, Watched, explain};

@@ -1,22 +1,20 @@
 //! Why a run shows nothing.
 
-ghost use Rattle.std.specs.Prelude.{◌≡◌, Some};
-ghost use Rattle.pst_run.specs.declared.refusal.Refusal.TheVariants as refusal;
-ghost use Rattle.pst_run.specs.Refusal.{IsOfInput, refusal_of, refusal_for, refusal_text, status_of};
+ghost use Rattle.std.specs.Prelude.{◌≡◌};
+ghost use Rattle.pst_run.specs.Refusal.{IsOfInput, memory, output, refusal_of, refusal_for, refused_of, status_of};
 
 use crate::input::LoadFault;
 use pst_fault::{Fault, Kind};
 use pst_json::{DocFault, EmitFault};
 use std::alloc::AllocError;
-use std::fmt;
 
 /// Why a run shows nothing.
-#[derive(Clone, Copy, Debug, PartialEq, Eq)]
-pub enum Refusal {
+#[derive(Clone, Copy, Debug)]
+pub enum Refusal<'a> {
     /// The file is not what it has to be. The kind is not NoMemory.
     Fault(Fault),
-    /// There is no such document, of the folder or node with this identifier.
-    Document(u32, DocFault),
+    /// There is no such document, of the folder or at the path with these identifiers.
+    Document(&'a [u32], DocFault),
     /// The file cannot be read, or is too long.
     Input,
     /// The output cannot be written. Where it is closed no line is written.
@@ -25,25 +23,10 @@ pub enum Refusal {
     Memory,
 }
 
-/// The line on the standard error, without a line feed.
-impl fmt::Display for Refusal {
-    ghost output = { λ r. Some (refusal_text r) };
-
-    fn fmt<W: fmt::Write>(&self, f: &mut fmt::Formatter<W>) -> fmt::Result {
-        match self {
-            Refusal::Fault(fault) => write!(f, "{fault}"),
-            Refusal::Document(nid, fault) => write!(f, "{fault} 0x{nid:x}"),
-            Refusal::Input => write!(f, "cannot read the file"),
-            Refusal::Output(fault) => write!(f, "{fault}"),
-            Refusal::Memory => write!(f, "out of memory"),
-        }
-    }
-}
-
-impl Refusal {
+impl<'a> Refusal<'a> {
     /// The status with which the run ends.
     pub fn status(self) -> u8
-        ensures { result ≡ status_of self }
+        ensures { result ≡ status_of (refused_of self.entry) }
     {
         match self {
             Refusal::Fault(_) | Refusal::Document(..) => 1,
@@ -52,23 +35,23 @@ impl Refusal {
         }
     }
 
-    /// The refusal for a folder or node that has no such document.
-    pub fn of_document(nid: u32, fault: DocFault) -> Refusal
-        ensures { result ≡ refusal_for nid fault }
+    /// The refusal for a folder or a path that has no such document.
+    pub fn of_document(path: &'a [u32], fault: DocFault) -> Refusal<'a>
+        ensures { refused_of result ≡ refusal_for path.now fault }
     {
         match fault {
             DocFault::Bad(fault) => Refusal::from(fault),
             DocFault::Memory => Refusal::Memory,
-            _ => Refusal::Document(nid, fault),
+            _ => Refusal::Document(path, fault),
         }
     }
 }
 
 /// The fault NoMemory says nothing of the file.
-impl From<Fault> for Refusal {
-    ghost from_gives = { λ f r. r ≡ refusal_of f };
+impl<'a> From<Fault> for Refusal<'a> {
+    ghost from_gives = { λ f r. refused_of r ≡ refusal_of f };
 
-    fn from(fault: Fault) -> Refusal {
+    fn from(fault: Fault) -> Refusal<'a> {
         match fault.kind {
             Kind::NoMemory => Refusal::Memory,
             _ => Refusal::Fault(fault),
@@ -76,18 +59,18 @@ impl From<Fault> for Refusal {
     }
 }
 
-impl From<AllocError> for Refusal {
-    ghost from_gives = { λ _ r. r ≡ refusal.Memory };
+impl<'a> From<AllocError> for Refusal<'a> {
+    ghost from_gives = { λ _ r. refused_of r ≡ memory };
 
-    fn from(_error: AllocError) -> Refusal {
+    fn from(_error: AllocError) -> Refusal<'a> {
         Refusal::Memory
     }
 }
 
-impl From<LoadFault> for Refusal {
-    ghost from_gives = { λ _ r. IsOfInput r };
+impl<'a> From<LoadFault> for Refusal<'a> {
+    ghost from_gives = { λ _ r. IsOfInput (refused_of r) };
 
-    fn from(fault: LoadFault) -> Refusal {
+    fn from(fault: LoadFault) -> Refusal<'a> {
         match fault {
             LoadFault::Read | LoadFault::TooLong => Refusal::Input,
             LoadFault::Memory => Refusal::Memory,
@@ -95,10 +78,10 @@ impl From<LoadFault> for Refusal {
     }
 }
 
-impl From<EmitFault> for Refusal {
-    ghost from_gives = { λ f r. r ≡ refusal.Output f };
+impl<'a> From<EmitFault> for Refusal<'a> {
+    ghost from_gives = { λ f r. refused_of r ≡ output f };
 
-    fn from(fault: EmitFault) -> Refusal {
+    fn from(fault: EmitFault) -> Refusal<'a> {
         Refusal::Output(fault)
     }
 }

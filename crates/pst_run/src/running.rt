@@ -6,47 +6,19 @@ ghost use Rattle.pst_ask.specs.Words.{IsAsked, asked, show_app, texts};
 ghost use Rattle.pst_ask.specs.clap.Words.{fault_of, kind_of};
 ghost use Rattle.pst_ask.specs.declared.words.NoOrder.TheVariants.{Lacks};
 ghost use Rattle.pst_run.specs.Answer.{answer_to, bytes_for, digest_for};
-ghost use Rattle.pst_run.specs.declared.refusal.Refusal.TheVariants as refused;
-ghost use Rattle.pst_run.specs.Refusal.{line_of_text, status_of};
+ghost use Rattle.pst_run.specs.Refusal.{memory};
 ghost use Rattle.pst_run.specs.Run.{Answers, CarriesOut, Ends, IsLacking, IsRefused, IsStatusOf, MatchNone, Says, SaysLine, lack_text, outputs};
 
 use crate::answers::answer;
 use crate::input::load_counted;
 use crate::refusal::Refusal;
-use arrayvec::ArrayString;
+use crate::said::{refuse, say};
 use pst_ask::{Ask, ErrorKind, Lack, NoOrder, Order, parse};
 use pst_json::{EmitFault, emit};
 use pst_plain::plain;
 use sha2::{Digest, Sha256};
 use std::alloc::{AllocError, Global};
-use std::fmt::{Display, Write as _};
 use std::io::{Read, Write};
-
-// Room for a line on the error output: the longest is a fault's, of at most 92 bytes.
-const LINE: usize = 128;
-
-// A text as a line, where there is room for it.
-fn line_of<D: Display + Drop>(text: D) -> Option<ArrayString<LINE>>
-    ensures { IfSome result (λ made. IfSome (D.output text) (λ line.
-        made.bytes ≡ line_of_text line)) }
-{
-    let mut line = ArrayString::<LINE>::new();
-    match writeln!(line, "{text}") {
-        Ok(()) => Some(line),
-        Err(_) => None,
-    }
-}
-
-// Says a line on the error output. It is made first, so that what a writer that fails has taken is a front of it.
-#[tactic(auto, using(crate::proofs::RunLemmas::front_is))]
-fn say<D: Display + Drop, E: Write>(text: D, err: &mut E)
-    ensures said { IfSome (D.output text) (λ line.
-        SaysLine line (E.contents err.old) (E.contents err.new)) }
-{
-    if let Some(line) = line_of(text) {
-        let _ = emit(line.as_str().as_bytes(), err);
-    }
-}
 
 // The SHA-256 of the bytes as they lie in the file, where it is asked for.
 fn digest_if(ask: &Ask, bytes: &[u8]) -> Option<[u8; 32]>
@@ -70,12 +42,12 @@ fn decode_if(alloc: Global, decode: bool, mut bytes: Vec<u8>) -> Result<Vec<u8>,
 
 // Writes what a command answers to these bytes of a file, and tells whether the run fails all the same. The digest is taken
 // before anything is decoded.
-fn write_answer<W: Write>(
+fn write_answer<'a, W: Write>(
     alloc: Global,
-    order: &Order,
+    order: &'a Order,
     bytes: Vec<u8>,
     out: &mut W,
-) -> Result<bool, Refusal>
+) -> Result<bool, Refusal<'a>>
     ensures { Ends result (answer_to (order_of order.now) bytes.items)
         (W.contents out.old) (W.contents out.new) }
 {
@@ -86,26 +58,13 @@ fn write_answer<W: Write>(
     Ok(shown.fails)
 }
 
-/// Says on the error output why nothing is shown, and gives the status for it. A line that cannot be written changes
-/// nothing. Of an output that is closed nothing is said.
-pub fn refuse<E: Write>(refusal: Refusal, err: &mut E) -> u8
-    ensures status { result ≡ status_of refusal }
-    ensures said { Says refusal (E.contents err.old) (E.contents err.new) }
-    ensures closed { refusal ≡ refused.Output EmitFault.Closed → err.new ≡ err.old }
-{
-    if refusal != Refusal::Output(EmitFault::Closed) {
-        say(refusal, err);
-    }
-    refusal.status()
-}
-
 /// Says why nothing is done, and gives the status for it: help and the version on the output, all else on the error output.
 pub fn decline<W: Write, E: Write>(none: NoOrder, out: &mut W, err: &mut E) -> u8
     ensures status { MatchNone none (λ e. IsStatusOf (kind_of e) result) (result ≡ 2) }
     ensures lacking { (lack : Lack) → none ≡ Lacks lack →
         SaysLine (lack_text lack) (E.contents err.old) (E.contents err.new) }
     ensures quiet { (result ≡ 2) ⊎ (result ≡ 4) → out.new ≡ out.old }
-    ensures memory { result ≡ 4 → Says refused.Memory (E.contents err.old) (E.contents err.new) }
+    ensures memory { result ≡ 4 → Says memory (E.contents err.old) (E.contents err.new) }
 {
     match none {
         NoOrder::Words(error) => {

@@ -20,7 +20,7 @@ macro_rules! ending {
 
 /// The end of the help of the program.
 pub(super) const PROGRAM: &str =
-    "The answer is one line of JSON on standard output, and of props one for each node.
+    "The answer is one line of JSON on standard output, and of props one for each path.
 Where there is none, one line on standard error says why. FILE is the name of a file,
 or - for standard input; the program only reads it.
 
@@ -73,9 +73,11 @@ its class, its sender and its subject.",
 );
 
 const PROPS: &str = ending!(
-    "Checks the whole file, and prints of each property of the node NID its identifier, its
-type and its value; of a message also the attachments and the recipients. Of several
-nodes it prints a line for each, in their order; and none where one of them has none.",
+    "Checks the whole file, and prints of each property of what PATH leads to its identifier,
+its type and its value; of a message also the attachments and the recipients. PATH is a
+node; and, with a slash between each and the next, from a message an attachment of it,
+from an attachment the message that it embeds, and so on. Of several paths it prints a
+line for each, in their order; and none where one of them leads nowhere.",
     "The properties are printed",
     "The file breaks a rule of the format, or has no such node, or that has no properties:
      standard error tells which"

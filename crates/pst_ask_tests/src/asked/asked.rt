@@ -1,8 +1,8 @@
-//! What accepted words ask for, and the words that name a node.
+//! What accepted words ask for, and the words that name a node or a path.
 
 use super::words_of;
 use crate::told::{holds_at, is, is_at};
-use pst_ask::{Ask, Lack, NoOrder, Order, parse, read_nid};
+use pst_ask::{Ask, Lack, NoOrder, Order, Path, parse, read_nid, read_path};
 use std::process::Abort;
 use std::test::Fail;
 
@@ -49,36 +49,46 @@ fn is_order<R: Abort + AllocGlobal>(
     Ok(())
 }
 
-// Compares of which nodes words ask for the properties.
-fn are_nodes<R: Abort + AllocGlobal>(
+// Compares of which paths words ask for the properties.
+fn are_paths<R: Abort + AllocGlobal>(
     rt: &R,
     words: &[&str],
     decode: bool,
-    nids: &[u32],
+    expected: &[&[u32]],
 ) -> Result<(), Fail> {
-    let ask = Ask::Props(Vec::from_slice(rt.alloc(), nids)?);
+    let mut paths = Vec::new(rt.alloc());
+    for nids in expected {
+        let nids = Vec::from_slice(rt.alloc(), nids)?;
+        paths.push(Path { nids })?;
+    }
     let file = "a.pst";
+    let ask = Ask::Props(paths);
     is_order(rt, words, Order { ask, decode, file })
 }
 
 #[test]
-fn props_takes_nodes_in_their_order(rt: HostRuntime) -> Result<(), Fail> {
-    for (words, decode, nids) in [
-        (&["props", "a.pst", "0x12D"][..], false, &[0x12d][..]),
-        (&["props", "a.pst", "--decode", "0x21"], true, &[0x21]),
-        (&["props", "a.pst", "0x21", "--decode"], true, &[0x21]),
+fn props_takes_paths_in_their_order(rt: HostRuntime) -> Result<(), Fail> {
+    for (words, decode, paths) in [
+        (&["props", "a.pst", "0x12D"][..], false, &[&[0x12d][..]][..]),
+        (&["props", "a.pst", "--decode", "0x21"], true, &[&[0x21]]),
+        (&["props", "a.pst", "0x21", "--decode"], true, &[&[0x21]]),
         (
             &["props", "a.pst", "0x122", "0x21", "0x122"],
             false,
-            &[0x122, 0x21, 0x122],
+            &[&[0x122], &[0x21], &[0x122]],
         ),
         (
-            &["props", "a.pst", "0x21", "--decode", "0x61"],
+            &["props", "a.pst", "0x21", "--decode", "0x61/0x0/0x021"],
             true,
-            &[0x21, 0x61],
+            &[&[0x21], &[0x61, 0, 0x21]],
+        ),
+        (
+            &["props", "a.pst", "0x200024/0x8025/0xffFFffFF"],
+            false,
+            &[&[0x200024, 0x8025, u32::MAX]],
         ),
     ] {
-        are_nodes(&rt, words, decode, nids)?;
+        are_paths(&rt, words, decode, paths)?;
     }
     Ok(())
 }
@@ -167,5 +177,43 @@ fn other_words_name_no_node(rt: HostRuntime) -> Result<(), Fail> {
             holds_at(&rt, word, matches!(asked, Err(NoOrder::Lacks(Lack::Nid))));
         }
     }
+    Ok(())
+}
+
+#[test]
+fn slashes_stand_between_the_nodes_of_a_path(rt: HostRuntime) -> Result<(), Fail> {
+    for (word, nids) in [
+        ("0x0", &[0][..]),
+        ("0x21/0x8025", &[0x21, 0x8025]),
+        ("0x1/0x2/0x3/0x00000004", &[1, 2, 3, 4]),
+    ] {
+        let path = read_path(rt.alloc(), word).map_err(|_| "refused")?;
+        is_at(&rt, word, &path.nids[..], nids);
+    }
+    for word in [
+        "/",
+        "/0x21",
+        "0x21/",
+        "0x21//0x22",
+        "0x21/22",
+        "0x21/0x",
+        "0x21/0x123456789",
+        "0x21\\0x22",
+        "0x21 /0x22",
+    ] {
+        for words in [
+            &["contents", "a.pst", word][..],
+            &["props", "a.pst", word],
+            &["props", "a.pst", "0x21", word],
+        ] {
+            let words = words_of(rt.alloc(), words)?;
+            let asked = parse(rt.alloc(), &words);
+            holds_at(&rt, word, matches!(asked, Err(NoOrder::Lacks(Lack::Nid))));
+        }
+    }
+    let words = words_of(rt.alloc(), &["contents", "a.pst", "0x122/0x21"])?;
+    let asked = parse(rt.alloc(), &words);
+    let refused = matches!(asked, Err(NoOrder::Lacks(Lack::Nid)));
+    holds_at(&rt, "contents", refused);
     Ok(())
 }

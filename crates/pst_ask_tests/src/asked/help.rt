@@ -20,7 +20,7 @@ Options:
   -h, --help     Print help
   -V, --version  Print version
 
-The answer is one line of JSON on standard output, and of props one for each node.
+The answer is one line of JSON on standard output, and of props one for each path.
 Where there is none, one line on standard error says why. FILE is the name of a file,
 or - for standard input; the program only reads it.
 
@@ -167,19 +167,21 @@ Exit status:
         "props",
         "Shows the properties of nodes
 
-Usage: pst_show props [OPTIONS] <FILE> <NID>...
+Usage: pst_show props [OPTIONS] <FILE> <PATH>...
 
 Arguments:
-  <FILE>    The file to read, or - for standard input
-  <NID>...  The identifiers of nodes, as 0x122
+  <FILE>     The file to read, or - for standard input
+  <PATH>...  Nodes, as 0x122, and what is inside messages, as 0x200024/0x8025
 
 Options:
       --decode  Decodes an encoded file first, in memory
   -h, --help    Print help
 
-Checks the whole file, and prints of each property of the node NID its identifier, its
-type and its value; of a message also the attachments and the recipients. Of several
-nodes it prints a line for each, in their order; and none where one of them has none.
+Checks the whole file, and prints of each property of what PATH leads to its identifier,
+its type and its value; of a message also the attachments and the recipients. PATH is a
+node; and, with a slash between each and the next, from a message an attachment of it,
+from an attachment the message that it embeds, and so on. Of several paths it prints a
+line for each, in their order; and none where one of them leads nowhere.
 
 Exit status:
   0  The properties are printed

@@ -1,4 +1,4 @@
-//! `props` of messages: their attachments and recipients.
+//! `props` of messages, of their attachments, and of what these embed.
 
 use super::check_cases::Answer::{No, Yes};
 use super::check_cases::{Asked, Body, LIST_OF_ONE, Store, are_asked};
@@ -67,7 +67,7 @@ const MESSAGES: Store<'static> = Store::Wider(
     &[(0x200044, 8, 34), (0x200068, 8, 0)],
 );
 
-const ROWS: [Asked<'static>; 5] = [
+const ROWS: [Asked<'static>; 16] = [
     (
         &["props", "store.pst", "0x200044"],
         Yes(
@@ -86,6 +86,62 @@ const ROWS: [Asked<'static>; 5] = [
     ),
     (&["props", "store.pst", "0x8025"], No("no node 0x8025\n")),
     (&["props", "store.pst", "0x4"], No("no node 0x4\n")),
+    (
+        &["props", "store.pst", "0x200044/0x8025"],
+        Yes(
+            "{\"embedded\":\"0x200024\",\"nid\":\"0x8025\",\"props\":[{\"id\":\"3701\",\"type\":\"000D\",\"value\":{\"nid\":\"0x200024\",\"size\":100}},{\"id\":\"3705\",\"type\":\"0003\",\"value\":5}]}\n",
+        ),
+    ),
+    // A path of two lines: an attachment that embeds nothing, and the message that the other embeds, which has no attachments.
+    (
+        &[
+            "props",
+            "store.pst",
+            "0x200044/0x8045",
+            "0x200044/0x8025/0x0200024",
+        ],
+        Yes(
+            "{\"embedded\":null,\"nid\":\"0x8045\",\"props\":[{\"id\":\"3701\",\"type\":\"0102\",\"value\":\"abcd\"},{\"id\":\"3705\",\"type\":\"0003\",\"value\":1}]}\n{\"attachments\":[],\"nid\":\"0x200024\",\"props\":[{\"id\":\"3602\",\"type\":\"0003\",\"value\":5}],\"recipients\":[]}\n",
+        ),
+    ),
+    // The embedded message of the other attachment, the table of attachments, a subnode of no row, and a message that has none.
+    (
+        &["props", "store.pst", "0x200044/0x8045/0x200024"],
+        No("no node 0x200044/0x8045/0x200024\n"),
+    ),
+    (
+        &["props", "store.pst", "0x200044/0x671"],
+        No("no node 0x200044/0x671\n"),
+    ),
+    (
+        &["props", "store.pst", "0x200044/0x692"],
+        No("no node 0x200044/0x692\n"),
+    ),
+    (
+        &["props", "store.pst", "0x200044/0x0"],
+        No("no node 0x200044/0x0\n"),
+    ),
+    (
+        &["props", "store.pst", "0x200044/0x200024"],
+        No("no node 0x200044/0x200024\n"),
+    ),
+    (
+        &["props", "store.pst", "0x200068/0x8025"],
+        No("no node 0x200068/0x8025\n"),
+    ),
+    (
+        &["props", "store.pst", "0x200044/0x8025/0x200024/0x8025"],
+        No("no node 0x200044/0x8025/0x200024/0x8025\n"),
+    ),
+    // From a node that is no message there is no step, be it a property context or not.
+    (
+        &["props", "store.pst", "0x200044", "0x21/0x8025", "0x999"],
+        No("no node 0x21/0x8025\n"),
+    ),
+    (
+        &["props", "store.pst", "0x999/0x8025/0x1/0x000A"],
+        No("no node 0x999/0x8025/0x1/0xa\n"),
+    ),
 ];
 
 #[test]

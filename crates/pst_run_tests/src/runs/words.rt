@@ -68,5 +68,8 @@ fn refused_words_are_told_as_an_error(rt: HostRuntime) -> Result<(), Fail> {
     for command in ["contents", "props"] {
         are_answered(&rt, &[command, "a.pst", "21"], 2, "", "bad node id\n")?;
     }
-    Ok(())
+    let words = ["props", "a.pst", "0x400024/"];
+    are_answered(&rt, &words, 2, "", "bad node id\n")?;
+    let words = ["contents", "a.pst", "0x122/0x21"];
+    are_answered(&rt, &words, 2, "", "bad node id\n")
 }

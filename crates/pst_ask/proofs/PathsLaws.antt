@@ -1,6 +1,7 @@
--- What the words of `props` ask for: of a file, and of nodes, however many.
-use Rattle.std.proofs.Common.{◌≡◌, ℕ, Bool, true, false, List, [], ◌∷◌, ◌++◌, Option, Some, None, Result, Ok, refl, sym, ap, subst, ◌∙◌, append_assoc, append-nil}
-use Rattle.std.specs.Prelude.{◌≢◌, nat_eq, codes, find, fold, is_some, unwrap_or}
+-- What the words of `props` ask for: of a file, and of paths, however many.
+use Rattle.std.proofs.Common.{◌≡◌, ℕ, Bool, true, false, List, [], ◌∷◌, ◌++◌, Option, Some, None, Ok, refl, sym, ap, subst, ◌∙◌, append_assoc, append-nil}
+use Rattle.std.specs.Prelude.{nat_eq, cond, codes, find, fold, is_some, unwrap_or}
+use Rattle.std.specs.List.{onto_first}
 use Rattle.clap.specs.Words.{App, Kinds, Row, Rule, Shape, Text, built, fault_of}
 use Rattle.clap.specs.Kinds.{or_else}
 use Rattle.clap.specs.Faults.{built_fault, check_fault, defaults_fault, entered_fault, level_fault, settle_fault, turn_fault, walk_fault}
@@ -10,8 +11,8 @@ use Rattle.clap.specs.declared.builder.value_parser.Reading.TheVariants.{AsWritt
 use Rattle.clap.specs.declared.parser.matches.ValueSource.TheVariants.{CommandLine}
 use Rattle.clap.proofs.OnLiterals.{clap_on_literals}
 use Rattle.pst_ask.specs.declared.verb.Verb.TheVariants.{Props}
-use Rattle.pst_ask.specs.Ask.{asked_by, asked_in, asked_of, asking, asks, flags_of, nids_of, nodes_in_words, of_file, props, with_nid}
-use Rattle.pst_ask.specs.Nid.{nid_of_word}
+use Rattle.pst_ask.specs.Ask.{asked_by, asked_in, asked_of, asking, flags_of, of_file, or_lack, props}
+use Rattle.pst_ask.specs.Nid.{all_named, nid_of_word, path_of_word, paths_of, pieces_of, with_named}
 use Rattle.pst_ask.specs.Words.{IsAsked, IsNoOption, asked, flag_if, show_app, words_for}
 use Rattle.pst_ask.proofs.FileLemmas.{by_file, no_empty, no_hyphen}
 
@@ -81,7 +82,7 @@ top_asked words = ap (λ w. asked_in (entered whole w.stopped)) (top_stops words
 
 -- ---- the walk over the words behind the name
 
--- what is found for the flag, the file and the nodes
+-- what is found for the flag, the file and the paths
 abbrev found_row : Text → List Text → Row
 found_row id values = record { id = id; values = values; count = None; source = Some CommandLine; reading = AsWritten }
 
@@ -95,15 +96,15 @@ rows_with decode file rows = flag_rows decode ++ found_row (codes "FILE") (file 
 abbrev held_with : List Row → Text → Text → Held
 held_with rows id value = record { rows = rows; pending = Some (id, value ∷ []); skip = 0 }
 
--- behind the file, and behind the last of some nodes
+-- behind the file, and behind the last of some paths
 abbrev behind_file : Bool → Text → Walk
 behind_file decode file = record { held = held_with (flag_rows decode) (codes "FILE") file; waiting = idle; position = 2; is_trailing = false; stopped = None }
 
-abbrev behind_node : List Row → Text → Walk
-behind_node rows word = record { held = held_with rows (codes "NID") word; waiting = positional; position = 2; is_trailing = false; stopped = None }
+abbrev behind_path : List Row → Text → Walk
+behind_path rows word = record { held = held_with rows (codes "PATH") word; waiting = positional; position = 2; is_trailing = false; stopped = None }
 
-abbrev node_rows : Bool → Text → List Text → List Row
-node_rows decode file words = rows_with decode file (found_row (codes "NID") words ∷ [])
+abbrev path_rows : Bool → Text → List Text → List Row
+path_rows decode file words = rows_with decode file (found_row (codes "PATH") words ∷ [])
 
 -- the words up to the file
 abbrev front : Bool → Text → List Text
@@ -132,35 +133,35 @@ to_hyphen true = (refl, refl)
 to_file : (d : Bool) (file : Text) → IsNoOption file → ToFile d file
 to_file d = by_file (ToFile d) (to_empty d) (to_hyphen d) (to_other d)
 
--- the first node, the second, and each one behind it
+-- the first path, the second, and each one behind it
 abbrev Goes : Walk → Text → Walk → Type 0
 Goes w word next = (walked command.rules [] w word ≡ next) × (turn_fault command [] w word ≡ [])
 
-first_goes : (d : Bool) (file : Text) (e : ℕ) (more : List ℕ) → nat_eq e 45 ≡ false → Goes (behind_file d file) (e ∷ more) (behind_node (rows_with d file []) (e ∷ more))
+first_goes : (d : Bool) (file : Text) (e : ℕ) (more : List ℕ) → nat_eq e 45 ≡ false → Goes (behind_file d file) (e ∷ more) (behind_path (rows_with d file []) (e ∷ more))
 unfolding clap_on_literals
 first_goes false file e more other = (rw other (rw other refl), rw other (rw other refl))
 first_goes true file e more other = (rw other (rw other refl), rw other (rw other refl))
 
 second_goes : (d : Bool) (file word : Text) (e : ℕ) (more : List ℕ) → nat_eq e 45 ≡ false
-    → Goes (behind_node (rows_with d file []) word) (e ∷ more) (behind_node (node_rows d file (word ∷ [])) (e ∷ more))
+    → Goes (behind_path (rows_with d file []) word) (e ∷ more) (behind_path (path_rows d file (word ∷ [])) (e ∷ more))
 unfolding clap_on_literals
 second_goes false file word e more other = (rw other (rw other refl), rw other (rw other refl))
 second_goes true file word e more other = (rw other (rw other refl), rw other (rw other refl))
 
 next_goes : (d : Bool) (file : Text) (words : List Text) (word : Text) (e : ℕ) (more : List ℕ) → nat_eq e 45 ≡ false
-    → Goes (behind_node (node_rows d file words) word) (e ∷ more) (behind_node (node_rows d file (words ++ word ∷ [])) (e ∷ more))
+    → Goes (behind_path (path_rows d file words) word) (e ∷ more) (behind_path (path_rows d file (words ++ word ∷ [])) (e ∷ more))
 unfolding clap_on_literals
 next_goes false file words word e more other = (rw other (rw other refl), rw other (rw other refl))
 next_goes true file words word e more other = (rw other (rw other refl), rw other (rw other refl))
 
--- ---- the nodes, however many
+-- ---- the paths, however many
 
 -- from here on the walk ends without a fault, and has found all of these
 abbrev Ends : Bool → Text → Walk → List Text → List Text → Type 0
 Ends d file w all rest =
     (walk_fault command [] w rest ≡ [])
     × (settle_fault command.rules command.args_override_self (fold (walked command.rules []) w rest).held ≡ [])
-    × ((settled command.rules (fold (walked command.rules []) w rest).held).rows ≡ node_rows d file all)
+    × ((settled command.rules (fold (walked command.rules []) w rest).held).rows ≡ path_rows d file all)
 
 goes_on : (d : Bool) (file : Text) (all : List Text) (w next : Walk) (x : Text) (rest : List Text) → Goes w x next → Ends d file next all rest → Ends d file w all (x ∷ rest)
 unfolding walk_fault
@@ -168,12 +169,12 @@ goes_on d file all w next x rest goes ends =
     let moved : Ends d file (walked command.rules [] w x) all rest = subst (λ n. Ends d file n all rest) (sym goes.0) ends in
     (ap (λ k. or_else k (walk_fault command [] (walked command.rules [] w x) rest)) goes.1 ∙ moved.0, moved.1, moved.2)
 
-one_ends : (d : Bool) (file word : Text) → Ends d file (behind_node (rows_with d file []) word) (word ∷ []) []
+one_ends : (d : Bool) (file word : Text) → Ends d file (behind_path (rows_with d file []) word) (word ∷ []) []
 unfolding clap_on_literals
 one_ends false file word = (refl, refl, refl)
 one_ends true file word = (refl, refl, refl)
 
-last_ends : (d : Bool) (file : Text) (words : List Text) (word : Text) → Ends d file (behind_node (node_rows d file words) word) (words ++ word ∷ []) []
+last_ends : (d : Bool) (file : Text) (words : List Text) (word : Text) → Ends d file (behind_path (path_rows d file words) word) (words ++ word ∷ []) []
 unfolding clap_on_literals
 last_ends false file words word = (refl, refl, refl)
 last_ends true file words word = (refl, refl, refl)
@@ -188,27 +189,27 @@ ArePlain [] = Unit {0}
 ArePlain (word ∷ rest) = IsPlain word × ArePlain rest
 
 more_end : (d : Bool) (file : Text) (words : List Text) (word : Text) (rest : List Text) → ArePlain rest
-    → Ends d file (behind_node (node_rows d file words) word) (words ++ word ∷ rest) rest
+    → Ends d file (behind_path (path_rows d file words) word) (words ++ word ∷ rest) rest
 more_end d file words word [] plain = last_ends d file words word
 more_end d file words word ([] ∷ rest) plain = absurd plain.0
 more_end d file words word ((e ∷ more) ∷ rest) plain =
-    let next = behind_node (node_rows d file (words ++ word ∷ [])) (e ∷ more) in
-    goes_on d file (words ++ word ∷ (e ∷ more) ∷ rest) (behind_node (node_rows d file words) word) next (e ∷ more) rest (next_goes d file words word e more plain.0)
+    let next = behind_path (path_rows d file (words ++ word ∷ [])) (e ∷ more) in
+    goes_on d file (words ++ word ∷ (e ∷ more) ∷ rest) (behind_path (path_rows d file words) word) next (e ∷ more) rest (next_goes d file words word e more plain.0)
     (subst (λ l. Ends d file next l rest) (append_assoc words (word ∷ []) ((e ∷ more) ∷ rest)) (more_end d file (words ++ word ∷ []) (e ∷ more) rest plain.1))
 
-nodes_end : (d : Bool) (file word : Text) (rest : List Text) → ArePlain (word ∷ rest) → Ends d file (behind_file d file) (word ∷ rest) (word ∷ rest)
-nodes_end d file [] rest plain = absurd plain.0
-nodes_end d file (e ∷ more) [] plain =
-    goes_on d file ((e ∷ more) ∷ []) (behind_file d file) (behind_node (rows_with d file []) (e ∷ more)) (e ∷ more) [] (first_goes d file e more plain.0) (one_ends d file (e ∷ more))
-nodes_end d file (e ∷ more) ([] ∷ rest) plain = absurd plain.1.0
-nodes_end d file (e ∷ more) ((f ∷ others) ∷ rest) plain =
+paths_end : (d : Bool) (file word : Text) (rest : List Text) → ArePlain (word ∷ rest) → Ends d file (behind_file d file) (word ∷ rest) (word ∷ rest)
+paths_end d file [] rest plain = absurd plain.0
+paths_end d file (e ∷ more) [] plain =
+    goes_on d file ((e ∷ more) ∷ []) (behind_file d file) (behind_path (rows_with d file []) (e ∷ more)) (e ∷ more) [] (first_goes d file e more plain.0) (one_ends d file (e ∷ more))
+paths_end d file (e ∷ more) ([] ∷ rest) plain = absurd plain.1.0
+paths_end d file (e ∷ more) ((f ∷ others) ∷ rest) plain =
     let all = (e ∷ more) ∷ (f ∷ others) ∷ rest in
-    let one = behind_node (rows_with d file []) (e ∷ more) in
-    let two = behind_node (node_rows d file ((e ∷ more) ∷ [])) (f ∷ others) in
+    let one = behind_path (rows_with d file []) (e ∷ more) in
+    let two = behind_path (path_rows d file ((e ∷ more) ∷ [])) (f ∷ others) in
     goes_on d file all (behind_file d file) one (e ∷ more) ((f ∷ others) ∷ rest) (first_goes d file e more plain.0)
     (goes_on d file all one two (f ∷ others) rest (second_goes d file (e ∷ more) f others plain.1.0) (more_end d file ((e ∷ more) ∷ []) (f ∷ others) rest plain.1.1))
 
--- ---- the words up to the file, and the nodes behind it
+-- ---- the words up to the file, and the paths behind it
 
 walk_behind : (c : List Rule) (names : Names) (w : Walk) (xs ys : List Text) → fold (walked c names) w (xs ++ ys) ≡ fold (walked c names) (fold (walked c names) w xs) ys
 walk_behind c names w [] ys = refl
@@ -244,54 +245,70 @@ good_is d file words no_option good =
 -- ---- what is asked for
 
 rows_fault : (d : Bool) (file : Text) (all : List Text)
-    → or_else (defaults_fault (node_rows d file all) command.rules) (check_fault command (fold with_default (node_rows d file all) command.rules) false) ≡ []
+    → or_else (defaults_fault (path_rows d file all) command.rules) (check_fault command (fold with_default (path_rows d file all) command.rules) false) ≡ []
 unfolding clap_on_literals
 rows_fault false file all = refl
 rows_fault true file all = refl
 
-rows_asked : (d : Bool) (file : Text) (all : List Text) (nids : List ℕ) → nids_of all ≡ Some nids
-    → asked_by Props (fold with_default (node_rows d file all) command.rules) ≡ Ok (asked_of (props nids) d file)
+rows_asked : (d : Bool) (file : Text) (all : List Text) (paths : List (List ℕ)) → paths_of all ≡ Some paths
+    → asked_by Props (fold with_default (path_rows d file all) command.rules) ≡ Ok (asked_of (props paths) d file)
 unfolding clap_on_literals
-rows_asked false file all nids named = ap (λ o. of_file (asking props (nodes_in_words o)) false (Some file)) named
-rows_asked true file all nids named = ap (λ o. of_file (asking props (nodes_in_words o)) true (Some file)) named
+rows_asked false file all paths named = ap (λ o. of_file (asking props (or_lack o)) false (Some file)) named
+rows_asked true file all paths named = ap (λ o. of_file (asking props (or_lack o)) true (Some file)) named
 
-abbrev Asks : Bool → Text → List Text → List ℕ → Type 0
-Asks d file words nids = IsAsked (words_for Props (flags_of false false d) file words) (asked_of (asks Props (flags_of false false d) nids) d file)
+abbrev Asks : Bool → Text → List Text → List (List ℕ) → Type 0
+Asks d file words paths = IsAsked (words_for Props (flags_of false false d) file words) (asked_of (props paths) d file)
 
-ends_asked : (d : Bool) (file : Text) (words : List Text) (nids : List ℕ) → IsNoOption file → nids_of words ≡ Some nids → Ends d file (behind_file d file) words words
-    → IsAsked (codes "props" ∷ (front d file ++ words)) (asked_of (props nids) d file)
-ends_asked d file words nids no_option named ends =
+ends_asked : (d : Bool) (file : Text) (words : List Text) (paths : List (List ℕ)) → IsNoOption file → paths_of words ≡ Some paths → Ends d file (behind_file d file) words words
+    → IsAsked (codes "props" ∷ (front d file ++ words)) (asked_of (props paths) d file)
+ends_asked d file words paths no_option named ends =
     let is = walk_is d file words no_option in record {
       accepted = top_fault (front d file ++ words)
-          ∙ level_is command (front d file ++ words) (end_of d file words) (node_rows d file words) is (good_is d file words no_option ends.0) ends.1 ends.2
+          ∙ level_is command (front d file ++ words) (end_of d file words) (path_rows d file words) is (good_is d file words no_option ends.0) ends.1 ends.2
           ∙ rows_fault d file words;
       is = top_asked (front d file ++ words) ∙ ap (λ w. asked_by Props (finished command.rules w.held)) is
-          ∙ ap (λ rows. asked_by Props (fold with_default rows command.rules)) ends.2 ∙ rows_asked d file words nids named;
+          ∙ ap (λ rows. asked_by Props (fold with_default rows command.rules)) ends.2 ∙ rows_asked d file words paths named;
     }
 
-front_asked : (d : Bool) (file : Text) (words : List Text) (nids : List ℕ) → IsAsked (codes "props" ∷ (front d file ++ words)) (asked_of (props nids) d file) → Asks d file words nids
-front_asked false file words nids is = is
-front_asked true file words nids is = is
+front_asked : (d : Bool) (file : Text) (words : List Text) (paths : List (List ℕ)) → IsAsked (codes "props" ∷ (front d file ++ words)) (asked_of (props paths) d file) → Asks d file words paths
+front_asked false file words paths is = is
+front_asked true file words paths is = is
 
--- words that name nodes begin with no hyphen
-named_first : (o : Option ℕ) (p : Option (List ℕ)) (nids : List ℕ) → with_nid o p ≡ Some nids → (nid : ℕ) × (rest : List ℕ) × (o ≡ Some nid) × (p ≡ Some rest)
-named_first None p nids is = absurd cc
-named_first (Some nid) None nids is = absurd cc
-named_first (Some nid) (Some rest) nids is = (nid, rest, refl, refl)
+-- words that write paths begin with no hyphen
+named_first : {X : Type 0} (o : Option X) (p : Option (List X)) (xs : List X) → with_named o p ≡ Some xs → (x : X) × (rest : List X) × (o ≡ Some x) × (p ≡ Some rest)
+named_first None p xs is = absurd cc
+named_first (Some x) None xs is = absurd cc
+named_first (Some x) (Some rest) xs is = (x, rest, refl, refl)
 
-is_plain : (word : Text) (nid : ℕ) → nid_of_word word ≡ Some nid → IsPlain word
-is_plain [] nid named = no_empty nid named
-is_plain (e ∷ more) nid named = no_hyphen e more nid (nat_eq e 45) refl named
+no_first : (parts : List Text) (nids : List ℕ) → all_named nid_of_word ([] ∷ parts) ≡ Some nids → ⊥
+unfolding all_named
+no_first parts nids named =
+    let first = named_first (nid_of_word []) (all_named nid_of_word parts) nids named in
+    no_empty first.0 first.2
 
-are_plain : (words : List Text) (nids : List ℕ) → nids_of words ≡ Some nids → ArePlain words
-unfolding nids_of
-are_plain [] nids named = tt
-are_plain (word ∷ rest) nids named =
-    let first = named_first (nid_of_word word) (nids_of rest) nids named in
+of_first : (e : ℕ) (more : List ℕ) (parts : List Text) (nids : List ℕ) → all_named nid_of_word ((e ∷ more) ∷ parts) ≡ Some nids → nat_eq e 45 ≡ false
+unfolding all_named
+of_first e more parts nids named =
+    let first = named_first (nid_of_word (e ∷ more)) (all_named nid_of_word parts) nids named in
+    no_hyphen e more first.0 (nat_eq e 45) refl first.2
+
+first_plain : (slash : Bool) (e : ℕ) (parts : List Text) (nids : List ℕ) → all_named nid_of_word (cond slash ([] ∷ parts) (onto_first e parts)) ≡ Some nids → nat_eq e 45 ≡ false
+first_plain true e parts nids named = absurd (no_first parts nids named)
+first_plain false e [] nids named = of_first e [] [] nids named
+first_plain false e (part ∷ parts) nids named = of_first e part parts nids named
+
+is_plain : (word : Text) (nids : List ℕ) → path_of_word word ≡ Some nids → IsPlain word
+is_plain [] nids named = no_first [] nids named
+is_plain (e ∷ more) nids named = first_plain (nat_eq e 47) e (pieces_of more) nids named
+
+are_plain : (words : List Text) (paths : List (List ℕ)) → paths_of words ≡ Some paths → ArePlain words
+unfolding all_named
+are_plain [] paths named = tt
+are_plain (word ∷ rest) paths named =
+    let first = named_first (path_of_word word) (paths_of rest) paths named in
     (is_plain word first.0 first.2, are_plain rest first.1 first.3)
 
-pub props_are : (d : Bool) (file : Text) (words : List Text) (nids : List ℕ) → nids_of words ≡ Some nids → words ≢ [] → IsNoOption file → Asks d file words nids
-props_are d file [] nids named some no_option = absurd (some refl)
-props_are d file (word ∷ rest) nids named some no_option =
-    front_asked d file (word ∷ rest) nids
-    (ends_asked d file (word ∷ rest) nids no_option named (nodes_end d file word rest (are_plain (word ∷ rest) nids named)))
+pub props_are : (d : Bool) (file word : Text) (rest : List Text) (paths : List (List ℕ)) → paths_of (word ∷ rest) ≡ Some paths → IsNoOption file → Asks d file (word ∷ rest) paths
+props_are d file word rest paths named no_option =
+    front_asked d file (word ∷ rest) paths
+    (ends_asked d file (word ∷ rest) paths no_option named (paths_end d file word rest (are_plain (word ∷ rest) paths named)))

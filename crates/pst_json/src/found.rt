@@ -1,0 +1,161 @@
+//! What a path leads to.
+
+ghost use Rattle.std.specs.Prelude.{◌≡◌, IfOk, IfSome, option_map, fold, Some};
+ghost use Rattle.pst_ndb.specs.Views.{table_of_ndb, nodes_of, table_of_node, roots_of};
+ghost use Rattle.pst_verify.specs.pst_msg.View.{node_of_attachment, node_of_message};
+ghost use Rattle.pst_verify.specs.pst_store.View.{ndb_of_store};
+ghost use Rattle.pst_json.specs.Found.{node_of_reached, place_of, node_of_found, place_of_found};
+ghost use Rattle.pst_json.specs.Path.{message, attachment, place_of_shown, attachment_with, embedded_with, first_place, found_at, place_at, step, step_from};
+ghost use Rattle.pst_json.specs.Told.{TellsDoc};
+
+use crate::fault::DocFault;
+use pst_ndb::Node as NodeView;
+use pst_value_json::{Pc, check_pc};
+use pst_verify::{Attachment, Message, Store, is_message};
+
+// What a path has reached.
+#[derive(Clone, Copy)]
+enum Reached<'a> {
+    // A message.
+    Message(Message<'a>),
+    // An attachment of a message.
+    Attachment(Attachment<'a>),
+    // A node that is no message.
+    Node(NodeView<'a>),
+}
+
+/// What has properties.
+#[derive(Clone, Copy)]
+pub(crate) enum Found<'a> {
+    /// A message.
+    Message(Message<'a>),
+    /// An attachment of a message.
+    Attachment(Attachment<'a>),
+    /// Another property context.
+    Pc(Pc<'a>),
+}
+
+// The node with which a path begins.
+#[tactic(auto, unfolding(crate::specs::Contents::node_of_kind))]
+fn first<'a>(store: &Store<'a>, nid: u32) -> Option<Reached<'a>>
+    ensures place { let nodes = nodes_of (ndb_of_store store.now) in
+        option_map place_of result ≡ first_place nodes nid }
+    ensures table { let t = table_of_ndb (ndb_of_store store.now) in
+        IfSome result (λ r. table_of_node (node_of_reached r) ≡ t) }
+{
+    if is_message(nid) {
+        return match store.message(nid) {
+            Some(message) => Some(Reached::Message(message)),
+            None => None,
+        };
+    }
+    match store.node(nid) {
+        Some(node) => Some(Reached::Node(node)),
+        None => None,
+    }
+}
+
+// The attachment of a message with an identifier.
+fn attachment_in(message: Message<'_>, nid: u32) -> Option<Reached<'_>>
+    ensures place { let node = node_of_message message.entry in
+        let there = attachment_with (table_of_node node) (roots_of node) nid in
+        option_map place_of result ≡ place_of_shown attachment there }
+    ensures table { let t = table_of_node (node_of_message message.entry) in
+        IfSome result (λ r. table_of_node (node_of_reached r) ≡ t) }
+{
+    match message.attachment(nid) {
+        Some(attachment) => Some(Reached::Attachment(attachment)),
+        None => None,
+    }
+}
+
+// The message that an attachment embeds, where it has an identifier.
+fn embedded_in(holder: Attachment<'_>, nid: u32) -> Option<Reached<'_>>
+    ensures place { let node = node_of_attachment holder.entry in
+        let there = embedded_with (table_of_node node) (roots_of node) nid in
+        option_map place_of result ≡ place_of_shown message there }
+    ensures table { let t = table_of_node (node_of_attachment holder.entry) in
+        IfSome result (λ r. table_of_node (node_of_reached r) ≡ t) }
+{
+    match holder.embedded() {
+        Some(message) if message.nid() == nid => Some(Reached::Message(message)),
+        _ => None,
+    }
+}
+
+// One step.
+fn next(from: Reached<'_>, nid: u32) -> Option<Reached<'_>>
+    ensures place { let t = table_of_node (node_of_reached from.entry) in
+        option_map place_of result ≡ step_from t (place_of from.entry) nid }
+    ensures table { let t = table_of_node (node_of_reached from.entry) in
+        IfSome result (λ r. table_of_node (node_of_reached r) ≡ t) }
+{
+    match from {
+        Reached::Message(message) => attachment_in(message, nid),
+        Reached::Attachment(attachment) => embedded_in(attachment, nid),
+        Reached::Node(_) => None,
+    }
+}
+
+// One step after another.
+#[tactic(auto, using(crate::proofs::PathLemmas::step_on, crate::proofs::PathLemmas::steps_end))]
+fn walk<'a>(from: Reached<'a>, steps: &[u32]) -> Option<Reached<'a>>
+    ensures place { let t = table_of_node (node_of_reached from.entry) in
+        option_map place_of result ≡ fold (step t) (Some (place_of from.entry)) steps.now }
+    ensures table { let t = table_of_node (node_of_reached from.entry) in
+        IfSome result (λ r. table_of_node (node_of_reached r) ≡ t) }
+{
+    let mut at = from;
+    for nid in steps {
+        match next(at, *nid) {
+            Some(reached) => at = reached,
+            None => return None,
+        }
+    }
+    Some(at)
+}
+
+// Steps from a node on.
+fn walk_from<'a>(store: &Store<'a>, nid: u32, steps: &[u32]) -> Option<Reached<'a>>
+    ensures place { let t = table_of_ndb (ndb_of_store store.now) in
+        let nodes = nodes_of (ndb_of_store store.now) in
+        option_map place_of result ≡ fold (step t) (first_place nodes nid) steps.now }
+    ensures table { let t = table_of_ndb (ndb_of_store store.now) in
+        IfSome result (λ r. table_of_node (node_of_reached r) ≡ t) }
+{
+    match first(store, nid) {
+        Some(reached) => walk(reached, steps),
+        None => None,
+    }
+}
+
+// What a path leads to.
+#[tactic(auto, unfolding(crate::specs::Path::place_at))]
+fn reached_by<'a>(store: &Store<'a>, path: &[u32]) -> Option<Reached<'a>>
+    ensures place { let ndb = ndb_of_store store.now in
+        option_map place_of result ≡ place_at (table_of_ndb ndb) (nodes_of ndb) path.now }
+    ensures table { let t = table_of_ndb (ndb_of_store store.now) in
+        IfSome result (λ r. table_of_node (node_of_reached r) ≡ t) }
+{
+    let (nid, steps) = path.split_first()?;
+    walk_from(store, *nid, steps)
+}
+
+/// What a path leads to that has properties, or why there is none.
+#[tactic(auto, unfolding(crate::specs::Path::found_at))]
+pub(crate) fn found_in<'a>(store: &Store<'a>, path: &[u32]) -> Result<Found<'a>, DocFault>
+    ensures place { let ndb = ndb_of_store store.now in
+        TellsDoc place_of_found result (found_at (table_of_ndb ndb) (nodes_of ndb) path.now) }
+    ensures table { let t = table_of_ndb (ndb_of_store store.now) in
+        IfOk result (λ f. table_of_node (node_of_found f) ≡ t) }
+{
+    match reached_by(store, path) {
+        Some(Reached::Message(message)) => Ok(Found::Message(message)),
+        Some(Reached::Attachment(attachment)) => Ok(Found::Attachment(attachment)),
+        Some(Reached::Node(node)) => match check_pc(node) {
+            Ok(pc) => Ok(Found::Pc(pc)),
+            Err(fault) => Err(DocFault::Bad(fault)),
+        },
+        None => Err(DocFault::NoNode),
+    }
+}
