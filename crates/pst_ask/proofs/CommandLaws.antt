@@ -5,7 +5,7 @@ use Rattle.std.proofs.lemmas.Bool.{ne_eqb, eqb-true}
 use Rattle.clap.specs.Words.{Text}
 use Rattle.clap.proofs.OnLiterals.{clap_on_literals}
 use Rattle.pst_ask.specs.declared.verb.Verb.{Verb}
-use Rattle.pst_ask.specs.declared.verb.Verb.TheVariants.{Check, Head, Nodes, Folders, Contents, Props}
+use Rattle.pst_ask.specs.declared.verb.Verb.TheVariants.{Check, Head, Nodes, Folders, Contents, Messages, Props}
 use Rattle.pst_ask.specs.declared.ask.Lack.{Lack}
 use Rattle.pst_ask.specs.Ask.{Asked, Flags, asked_of, asking, asks, contents, flags_of, nids_of, node_in_word, of_file, with_nid}
 use Rattle.pst_ask.specs.Nid.{nid_of_word}
@@ -101,6 +101,21 @@ unfolding clap_on_literals asked
 folders_hyphen false = record { accepted = refl; is = refl }
 folders_hyphen true = record { accepted = refl; is = refl }
 
+messages_other : (d : Bool) (b : ℕ) (rest : List ℕ) → nat_eq b 45 ≡ false → Asks Messages (plain d) [] [] (b ∷ rest)
+unfolding clap_on_literals asked
+messages_other false b rest other = record { accepted = rw other (rw other refl); is = rw other (rw other refl) }
+messages_other true b rest other = record { accepted = rw other (rw other refl); is = rw other (rw other refl) }
+
+messages_empty : (d : Bool) → Asks Messages (plain d) [] [] []
+unfolding clap_on_literals asked
+messages_empty false = record { accepted = refl; is = refl }
+messages_empty true = record { accepted = refl; is = refl }
+
+messages_hyphen : (d : Bool) → Asks Messages (plain d) [] [] (45 ∷ [])
+unfolding clap_on_literals asked
+messages_hyphen false = record { accepted = refl; is = refl }
+messages_hyphen true = record { accepted = refl; is = refl }
+
 -- ---- a node behind the file
 
 -- what is asked for of the node that a word names
@@ -173,5 +188,7 @@ words_law Nodes flags file words nids may no_option named =
     let d = flags.decode in at_plain Nodes flags words nids file may (by_file (Asks Nodes (plain d) words nids) (nodes_empty d) (nodes_hyphen d) (nodes_other d) file no_option)
 words_law Folders flags file words nids may no_option named =
     let d = flags.decode in at_plain Folders flags words nids file may (by_file (Asks Folders (plain d) words nids) (folders_empty d) (folders_hyphen d) (folders_other d) file no_option)
+words_law Messages flags file words nids may no_option named =
+    let d = flags.decode in at_plain Messages flags words nids file may (by_file (Asks Messages (plain d) words nids) (messages_empty d) (messages_hyphen d) (messages_other d) file no_option)
 words_law Contents flags file words nids may no_option named = at_plain Contents flags words nids file may (contents_of flags.decode words nids named.0 named.1 file no_option)
 words_law Props flags file words nids may no_option named = at_plain Props flags words nids file may (props_are flags.decode file words nids named.0 named.1 no_option)

@@ -9,7 +9,7 @@ use Rattle.pst_ask.specs.declared.ask.Lack.{Lack}
 use Rattle.pst_ask.specs.declared.ask.Lack.TheVariants.{Nid, Nothing}
 use Rattle.pst_ask.specs.declared.ask.Order.{Order}
 use Rattle.pst_ask.specs.declared.verb.Verb.{Verb}
-use Rattle.pst_ask.specs.declared.verb.Verb.TheVariants.{Check, Head, Nodes, Folders, Contents, Props}
+use Rattle.pst_ask.specs.declared.verb.Verb.TheVariants.{Check, Head, Nodes, Folders, Contents, Messages, Props}
 use Rattle.pst_ask.specs.declared.words.NoOrder.{NoOrder}
 use Rattle.pst_ask.specs.declared.words.NoOrder.TheVariants.{Words, Lacks}
 use Rattle.pst_ask.specs.Nid.{nid_of_word}
@@ -25,6 +25,7 @@ pub data Wanted : Type 0 where
   folders : Wanted
   -- the messages of the folder with an identifier
   contents : ℕ → Wanted
+  messages : Wanted
   -- the properties of the nodes with these identifiers, one after another
   props : List ℕ → Wanted
 
@@ -34,6 +35,7 @@ wanted_of ask.Head = head
 wanted_of ask.Nodes = nodes
 wanted_of ask.Folders = folders
 wanted_of (ask.Contents nid) = contents nid
+wanted_of ask.Messages = messages
 wanted_of (ask.Props nids) = props nids.items
 
 -- what is to be shown, of which file, and whether that is decoded first
@@ -106,6 +108,7 @@ ask_of Head rows = Ok head
 ask_of Nodes rows = Ok nodes
 ask_of Folders rows = Ok folders
 ask_of Contents rows = asking contents (node_named (first_of (codes "NID") rows))
+ask_of Messages rows = Ok messages
 ask_of Props rows = asking props (nodes_named (all_of (codes "NID") rows))
 
 -- which flags are used: `--strict`, `--digest`, `--decode`
@@ -124,6 +127,7 @@ asks Head flags nids = head
 asks Nodes flags nids = nodes
 asks Folders flags nids = folders
 asks Contents flags nids = contents (slice_index nids 0)
+asks Messages flags nids = messages
 asks Props flags nids = props nids
 
 -- ---- with the file

@@ -28,6 +28,8 @@ pub enum Ask {
     Folders,
     /// The messages of the folder with an identifier.
     Contents(u32),
+    /// All its messages.
+    Messages,
     /// The properties of the nodes with these identifiers, one after another.
     Props(Vec<u32>),
 }
@@ -120,6 +122,7 @@ fn ask_in(alloc: Global, verb: Verb, found: &ArgMatches) -> Result<Ask, NoOrder>
         Verb::Nodes => Ok(Ask::Nodes),
         Verb::Folders => Ok(Ask::Folders),
         Verb::Contents => Ok(Ask::Contents(node_in(found)?)),
+        Verb::Messages => Ok(Ask::Messages),
         Verb::Props => Ok(Ask::Props(nodes_in(alloc, found)?)),
     }
 }

@@ -10,6 +10,8 @@ pub mod Check
 pub mod Told
 pub mod Folders
 pub mod Contents
+pub mod Messages
+pub mod Listings
 pub mod Node
 pub mod Found
 pub mod Lists

@@ -104,9 +104,9 @@ impl<'a> Message<'a> {
         }
     }
 
-    // Its attachment table, where it has one.
+    /// Its attachment table; None exactly where it has none.
     #[tactic(auto, using(crate::proofs::ViewLemmas::message_attachments))]
-    fn table(&self) -> Option<Tc<'a>>
+    pub fn attachment_table(&self) -> Option<Tc<'a>>
         ensures roots { let node = node_of_message self.now in
             option_map tc_roots result
             ≡ subnode_of (table_of_node node) (roots_of node) ATTACHMENTS }
@@ -125,7 +125,7 @@ impl<'a> Message<'a> {
         ensures { let node = node_of_message self.now in
             rows_of_rest result ≡ attachment_rows (table_of_node node) (roots_of node) }
     {
-        match self.table() {
+        match self.attachment_table() {
             Some(table) => Some(table.rows()),
             None => None,
         }
@@ -138,7 +138,7 @@ impl<'a> Message<'a> {
             let rows = attachment_rows (table_of_node node) (roots_of node) in
             option_map row_parts result ≡ first_with row_id_of nid rows }
     {
-        match self.table() {
+        match self.attachment_table() {
             Some(table) => table.row(nid),
             None => None,
         }

@@ -5,8 +5,8 @@ use pst_bytes::Image;
 use pst_header::read_header;
 use pst_json::{
     check_doc, check_line, contents_doc, contents_line, folders_doc, folders_line, head_doc,
-    head_line, hex_doc, nodes_doc, nodes_line, pc_doc, props_doc, props_line, read_nodes,
-    table_doc, text, value_doc, verify,
+    head_line, hex_doc, messages_text, nodes_doc, nodes_line, pc_doc, props_doc, props_line,
+    read_nodes, table_doc, text, value_doc, verify,
 };
 use pst_verify::Verified;
 use serde_json::Value as Doc;
@@ -63,6 +63,7 @@ pub(crate) fn nodes(alloc: Global, bytes: &[u8]) -> Result<(), Refused> {
         let doc = props_doc(alloc, &store, nid)?;
         is_line(alloc, &doc, &props_line(alloc, &store, nid)?)?;
     }
+    let _lines = messages_text(alloc, &store)?;
     let doc = props_doc(alloc, &store, 0x21)?;
     is_line(alloc, &doc, &props_line(alloc, &store, 0x21)?)
 }

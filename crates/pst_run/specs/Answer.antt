@@ -19,12 +19,13 @@ use Rattle.pst_json.specs.Check.{ReportParts, check_line}
 use Rattle.pst_json.specs.Contents.{contents_line}
 use Rattle.pst_json.specs.Folders.{folders_line}
 use Rattle.pst_json.specs.Head.{head_line}
+use Rattle.pst_json.specs.Messages.{messages_text}
 use Rattle.pst_json.specs.Node.{props_line}
 use Rattle.pst_json.specs.Nodes.{nodes_line}
 use Rattle.pst_plain.specs.Twin.{twin_of}
 use Rattle.sha2.specs.Sha256.{sha256}
 use Rattle.pst_run.specs.declared.answers.Shown.{Shown}
-use Rattle.pst_ask.specs.Ask.{Asked, Wanted, report, head, nodes, folders, contents, props}
+use Rattle.pst_ask.specs.Ask.{Asked, Wanted, report, head, nodes, folders, contents, messages, props}
 use Rattle.pst_run.specs.declared.refusal.Refusal.{Refusal}
 use Rattle.pst_run.specs.declared.refusal.Refusal.TheVariants as refusal
 use Rattle.pst_run.specs.Refusal.{refusal_of, refusal_for}
@@ -120,6 +121,7 @@ answer_with head digest I = line_or_fault head_line (answer (header_fault I) (fi
 answer_with nodes digest I = line_or_fault nodes_line (listed_nodes I)
 answer_with folders digest I = of_store (store_fault I) (Ok (plain (folders_line (table_of_file I) (entries_of_file I))))
 answer_with (contents nid) digest I = of_store (store_fault I) (line_of_node nid (contents_line (table_of_file I) (entries_of_file I) nid))
+answer_with messages digest I = of_store (store_fault I) (Ok (plain (messages_text (table_of_file I) (entries_of_file I))))
 answer_with (props nids) digest I = of_store (store_fault I) (lines_of_nodes (props_line (table_of_file I) (entries_of_file I)) nids)
 
 -- The same of the bytes of a file: it is of its plain twin where that is asked for, and the digest is of the file as it is.

@@ -1,7 +1,7 @@
 //! What each command answers to the bytes of a file.
 
 ghost use Rattle.std.specs.Prelude.{◌≡◌, ◌++◌, ℕ, Bool, List, Option, IfOk};
-ghost use Rattle.pst_ask.specs.Ask.{report, head, nodes, folders, contents, props, wanted_of};
+ghost use Rattle.pst_ask.specs.Ask.{report, head, nodes, folders, contents, messages, props, wanted_of};
 ghost use Rattle.pst_json.specs.Node.{props_line as line_of_props};
 ghost use Rattle.pst_json.specs.pst_ndb.Views.{table_of_ndb, nodes_of};
 ghost use Rattle.pst_json.specs.pst_store.View.{ndb_of_store};
@@ -12,8 +12,8 @@ use pst_ask::Ask;
 use pst_bytes::Image;
 use pst_header::read_header;
 use pst_json::{
-    Store, check_line, contents_line, folders_line, head_line, nodes_line, props_line, read_nodes,
-    verify,
+    Store, check_line, contents_line, folders_line, head_line, messages_text, nodes_line,
+    props_line, read_nodes, verify,
 };
 use std::alloc::{AllocError, Global};
 
@@ -86,6 +86,17 @@ fn contents_answer(alloc: Global, nid: u32, bytes: &[u8]) -> Result<Shown, Refus
     }
 }
 
+// `messages`: all messages of a store.
+#[tactic(auto, unfolding(crate::specs::Answer::answer_with))]
+fn messages_answer(alloc: Global, bytes: &[u8]) -> Result<Shown, Refusal>
+    ensures { (digest : Option (List ℕ)) → Gives result (answer_with messages digest bytes.now) }
+{
+    let store = verify(alloc, bytes)?.store;
+    store.is_sound();
+    let text = messages_text(alloc, &store)?;
+    Ok(Shown { text, fails: false })
+}
+
 // A line behind a text.
 fn joined(mut text: Vec<u8>, line: Vec<u8>) -> Result<Vec<u8>, AllocError>
     ensures { IfOk result (λ v. v.items ≡ text.items ++ line.items) }
@@ -139,6 +150,7 @@ pub fn answer(
         Ask::Nodes => nodes_answer(alloc, bytes),
         Ask::Folders => folders_answer(alloc, bytes),
         Ask::Contents(nid) => contents_answer(alloc, *nid, bytes),
+        Ask::Messages => messages_answer(alloc, bytes),
         Ask::Props(nids) => props_answer(alloc, nids, bytes),
     }
 }

@@ -22,7 +22,7 @@ pub use given::{store_gives, store_gives_folders, store_gives_messages};
 pub use laws::store_decides;
 pub use messages::Messages;
 pub use pst_msg::{
-    Attachment, Attachments, FOLDER, Folder, Message, check_messaging, is_folder, is_message,
-    is_type,
+    Attachment, Attachments, FOLDER, Folder, MESSAGE, Message, check_messaging, is_folder,
+    is_message, is_type,
 };
 pub use store::Store;

@@ -19,6 +19,6 @@ mod report;
 pub use check::{Verified, verify};
 pub use laws::look_ups_are_of_the_store;
 pub use pst_store::{
-    Attachment, Attachments, FOLDER, Folder, Folders, Message, Store, is_message, is_type,
+    Attachment, Attachments, FOLDER, Folder, Folders, MESSAGE, Message, Store, is_message, is_type,
 };
 pub use report::Report;

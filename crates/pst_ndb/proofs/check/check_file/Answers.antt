@@ -16,4 +16,5 @@ returns-clause-checked c =
       sums = space.sums;
       expansions = expanded_same _ _ _ _ c.in_ok-expansions.expansions c.known-ndb.ensures.table c.known-ndb.ensures.nodes c.in_ok-expansions.ensures.expansions;
       contexts = refl;
+      walked = refl;
     }
