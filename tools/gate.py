@@ -20,6 +20,7 @@ COUNTS = re.compile(r"(\d+) passed, (\d+) failed\s*")
 REFUSE = ["tools/refuse/refuse"]
 TRIED = [
     ["tools/compare_answers.py"],
+    ["tools/compare_kinds.py"],
     ["tools/write_words.py", "--compare"],
     ["tools/check_examples.py", "--some"],
     REFUSE,

@@ -4,9 +4,9 @@ use Rattle.std.specs.Prelude.{nat_eq, option_map}
 use Rattle.clap.specs.Words.{Text}
 use Rattle.clap.proofs.OnLiterals.{clap_on_literals}
 use Rattle.pst_ask.specs.declared.verb.Verb.{Verb}
-use Rattle.pst_ask.specs.declared.verb.Verb.TheVariants.{Check, Head, Nodes, Folders, Contents, Props}
+use Rattle.pst_ask.specs.declared.verb.Verb.TheVariants.{Check, Head, Nodes, Folders, Contents, Messages, Props}
 use Rattle.pst_ask.specs.declared.ask.Lack.{Lack}
-use Rattle.pst_ask.specs.Ask.{Asked, Flags, Wanted, asked_of, asking, contents, flags_of, folders, head, nodes, of_file, only_node, or_lack, props, report, some_paths}
+use Rattle.pst_ask.specs.Ask.{Asked, Flags, Wanted, asked_of, asking, contents, flags_of, folders, head, messages, nodes, of_file, only_node, or_lack, props, report, some_paths}
 use Rattle.pst_ask.specs.Nid.{nid_of_word, paths_of}
 use Rattle.pst_ask.proofs.FileLemmas.{by_file, no_empty, no_hyphen}
 use Rattle.pst_ask.proofs.PathsLaws.{props_are}
@@ -100,6 +100,21 @@ unfolding clap_on_literals asked
 folders_hyphen false = record { accepted = refl; is = refl }
 folders_hyphen true = record { accepted = refl; is = refl }
 
+messages_other : (d : Bool) (b : ℕ) (rest : List ℕ) → nat_eq b 45 ≡ false → Asks Messages (plain d) [] messages (b ∷ rest)
+unfolding clap_on_literals asked
+messages_other false b rest other = record { accepted = rw other (rw other refl); is = rw other (rw other refl) }
+messages_other true b rest other = record { accepted = rw other (rw other refl); is = rw other (rw other refl) }
+
+messages_empty : (d : Bool) → Asks Messages (plain d) [] messages []
+unfolding clap_on_literals asked
+messages_empty false = record { accepted = refl; is = refl }
+messages_empty true = record { accepted = refl; is = refl }
+
+messages_hyphen : (d : Bool) → Asks Messages (plain d) [] messages (45 ∷ [])
+unfolding clap_on_literals asked
+messages_hyphen false = record { accepted = refl; is = refl }
+messages_hyphen true = record { accepted = refl; is = refl }
+
 -- ---- a node behind the file
 
 -- what is asked for of what is named
@@ -187,11 +202,16 @@ nodes_is d words file no_option = by_file (Asks Nodes (plain d) words nodes) (no
 folders_is : (d : Bool) (words : List Text) (file : Text) → IsNoOption file → Asks Folders (plain d) words folders file
 folders_is d words file no_option = by_file (Asks Folders (plain d) words folders) (folders_empty d) (folders_hyphen d) (folders_other d) file no_option
 
+messages_is : (d : Bool) (words : List Text) (file : Text) → IsNoOption file → Asks Messages (plain d) words messages file
+messages_is d words file no_option = by_file (Asks Messages (plain d) words messages) (messages_empty d) (messages_hyphen d) (messages_other d) file no_option
+
 pub words_law : WordsLaw
 words_law Check flags file words wanted may no_option asks_it = at_file Check flags words (report flags.strict flags.digest) wanted file asks_it (check_is flags words file no_option)
 words_law Head flags file words wanted may no_option asks_it = at_file Head flags words head wanted file asks_it (at_plain Head flags words head file may (head_is flags.decode words file no_option))
 words_law Nodes flags file words wanted may no_option asks_it = at_file Nodes flags words nodes wanted file asks_it (at_plain Nodes flags words nodes file may (nodes_is flags.decode words file no_option))
 words_law Folders flags file words wanted may no_option asks_it =
     at_file Folders flags words folders wanted file asks_it (at_plain Folders flags words folders file may (folders_is flags.decode words file no_option))
+words_law Messages flags file words wanted may no_option asks_it =
+    at_file Messages flags words messages wanted file asks_it (at_plain Messages flags words messages file may (messages_is flags.decode words file no_option))
 words_law Contents flags file words wanted may no_option asks_it = at_plain Contents flags words wanted file may (contents_of flags.decode words wanted asks_it file no_option)
 words_law Props flags file words wanted may no_option asks_it = at_plain Props flags words wanted file may (props_of flags.decode words wanted asks_it file no_option)

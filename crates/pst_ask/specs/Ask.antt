@@ -9,7 +9,7 @@ use Rattle.pst_ask.specs.declared.ask.Lack.{Lack}
 use Rattle.pst_ask.specs.declared.ask.Lack.TheVariants.{Nid, Nothing}
 use Rattle.pst_ask.specs.declared.ask.Order.{Order}
 use Rattle.pst_ask.specs.declared.verb.Verb.{Verb}
-use Rattle.pst_ask.specs.declared.verb.Verb.TheVariants.{Check, Head, Nodes, Folders, Contents, Props}
+use Rattle.pst_ask.specs.declared.verb.Verb.TheVariants.{Check, Head, Nodes, Folders, Contents, Messages, Props}
 use Rattle.pst_ask.specs.declared.words.NoOrder.{NoOrder}
 use Rattle.pst_ask.specs.declared.words.NoOrder.TheVariants.{Words, Lacks}
 use Rattle.pst_ask.specs.declared.path.Path.{Path}
@@ -26,6 +26,8 @@ pub data Wanted : Type 0 where
   folders : Wanted
   -- the messages of the folder with an identifier
   contents : ℕ → Wanted
+  -- all its messages
+  messages : Wanted
   -- the properties of what these paths lead to, one after another
   props : List (List ℕ) → Wanted
 
@@ -39,6 +41,7 @@ wanted_of ask.Head = head
 wanted_of ask.Nodes = nodes
 wanted_of ask.Folders = folders
 wanted_of (ask.Contents nid) = contents nid
+wanted_of ask.Messages = messages
 wanted_of (ask.Props paths) = props (map nids_of paths.items)
 
 -- what is to be shown, of which file, and whether that is decoded first
@@ -98,6 +101,7 @@ ask_of Head rows = Ok head
 ask_of Nodes rows = Ok nodes
 ask_of Folders rows = Ok folders
 ask_of Contents rows = asking contents (node_named (first_of (codes "NID") rows))
+ask_of Messages rows = Ok messages
 ask_of Props rows = asking props (paths_named (all_of (codes "PATH") rows))
 
 -- which flags are used: `--strict`, `--digest`, `--decode`
@@ -128,6 +132,7 @@ asks Head flags words = Some head
 asks Nodes flags words = Some nodes
 asks Folders flags words = Some folders
 asks Contents flags words = option_map contents (only_node words)
+asks Messages flags words = Some messages
 asks Props flags words = option_map props (some_paths words)
 
 -- ---- with the file

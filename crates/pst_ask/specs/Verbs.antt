@@ -6,7 +6,7 @@ use Rattle.pst_ask.specs.declared.verb.Takes.{Takes}
 use Rattle.pst_ask.specs.declared.verb.Takes.TheVariants.{File, Report, Node}
 use Rattle.pst_ask.specs.declared.verb.Takes.TheVariants as takes
 use Rattle.pst_ask.specs.declared.verb.Verb.{Verb}
-use Rattle.pst_ask.specs.declared.verb.Verb.TheVariants.{Check, Head, Nodes, Folders, Contents, Props}
+use Rattle.pst_ask.specs.declared.verb.Verb.TheVariants.{Check, Head, Nodes, Folders, Contents, Messages, Props}
 
 -- its name, and what stands behind that
 abbrev pub line_of_verb : Verb → Text × Takes
@@ -15,6 +15,7 @@ line_of_verb Head = (codes "head", File)
 line_of_verb Nodes = (codes "nodes", File)
 line_of_verb Folders = (codes "folders", File)
 line_of_verb Contents = (codes "contents", Node)
+line_of_verb Messages = (codes "messages", File)
 line_of_verb Props = (codes "props", takes.Paths)
 
 abbrev pub name_of : Verb → Text
@@ -25,7 +26,7 @@ takes_of v = (line_of_verb v).1
 
 -- all commands, in the order in which help shows them
 abbrev pub verbs : List Verb
-verbs = Check ∷ Head ∷ Nodes ∷ Folders ∷ Contents ∷ Props ∷ []
+verbs = Check ∷ Head ∷ Nodes ∷ Folders ∷ Contents ∷ Messages ∷ Props ∷ []
 
 -- the command of a name
 abbrev pub verb_of : Text → Option Verb

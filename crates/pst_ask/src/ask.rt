@@ -30,6 +30,8 @@ pub enum Ask {
     Folders,
     /// The messages of the folder with an identifier.
     Contents(u32),
+    /// All its messages.
+    Messages,
     /// The properties of what these paths lead to, one after another.
     Props(Vec<Path>),
 }
@@ -123,6 +125,7 @@ fn ask_in(alloc: Global, verb: Verb, found: &ArgMatches) -> Result<Ask, NoOrder>
         Verb::Nodes => Ok(Ask::Nodes),
         Verb::Folders => Ok(Ask::Folders),
         Verb::Contents => Ok(Ask::Contents(node_in(found)?)),
+        Verb::Messages => Ok(Ask::Messages),
         Verb::Props => Ok(Ask::Props(paths_in(alloc, found)?)),
     }
 }

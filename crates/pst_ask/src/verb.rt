@@ -29,18 +29,21 @@ pub enum Verb {
     Folders,
     /// The messages of a folder.
     Contents,
+    /// All messages.
+    Messages,
     /// The properties of nodes, and of what is inside messages.
     Props,
 }
 
 impl Verb {
     /// All commands, in the order in which help shows them.
-    pub const ALL: [Verb; 6] = [
+    pub const ALL: [Verb; 7] = [
         Verb::Check,
         Verb::Head,
         Verb::Nodes,
         Verb::Folders,
         Verb::Contents,
+        Verb::Messages,
         Verb::Props,
     ];
 
@@ -55,6 +58,11 @@ impl Verb {
             Verb::Nodes => ("nodes", "Lists the nodes", Takes::File),
             Verb::Folders => ("folders", "Lists the folders", Takes::File),
             Verb::Contents => ("contents", "Lists the messages of a folder", Takes::Node),
+            Verb::Messages => (
+                "messages",
+                "Lists all messages, a line for each",
+                Takes::File,
+            ),
             Verb::Props => ("props", "Shows the properties of nodes", Takes::Paths),
         }
     }

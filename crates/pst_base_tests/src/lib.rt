@@ -1,11 +1,13 @@
-//! Tests of the lowest crates (pst_bytes, pst_crc, pst_fault, pst_make, pst_header, pst_space, pst_page), by their public calls. They stand apart, so that
-//! the crates that they are about are proved once, and without them.
+//! Tests of the lowest crates (pst_bytes, pst_crc, pst_fault, pst_explain, pst_time, pst_make, pst_header, pst_space, pst_page), by
+//! their public calls. They stand apart, so that the crates that they are about are proved once, and without them.
 #![tactic(auto)]
 
 #[cfg(test)]
 mod bytes;
 #[cfg(test)]
 mod crc;
+#[cfg(test)]
+mod explained;
 #[cfg(test)]
 mod faults;
 #[cfg(test)]
@@ -16,5 +18,7 @@ mod made;
 mod pages;
 #[cfg(test)]
 mod space;
+#[cfg(test)]
+mod times;
 #[cfg(test)]
 mod told;

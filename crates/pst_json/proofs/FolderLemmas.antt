@@ -32,7 +32,7 @@ text_is_plain : (p : Option Property) → IsPlain (text_or_null p)
 text_is_plain None = record { no_float = refl }
 text_is_plain (Some p) = either_is_plain (nat_eq p.kind 0x001F) (text_data p.bytes) null (record { no_float = refl }) (record { no_float = refl })
 
-property_is_plain : (t : Table) (r : Roots) (id : ℕ) → IsPlain (text_property t r id)
+pub property_is_plain : (t : Table) (r : Roots) (id : ℕ) → IsPlain (text_property t r id)
 unfolding text_property
 property_is_plain t r id = text_is_plain (first_with id_of id (props_of t r))
 

@@ -2,6 +2,8 @@ pub mod CheckLemmas
 pub mod FolderLemmas
 pub mod FoundLemmas
 pub mod HeadLemmas
+pub mod ListingLemmas
+pub mod MessageLemmas
 pub mod NameLemmas
 pub mod NodeLemmas
 pub mod OutputLemmas

@@ -11,6 +11,8 @@ pub mod Told
 pub mod Folders
 pub mod FolderRows
 pub mod Contents
+pub mod Messages
+pub mod Listings
 pub mod NamesIndex
 pub mod Path
 pub mod Node

@@ -22,8 +22,8 @@ use pst_verify::{Folder, Reach, Verified, path_from_root};
 use serde_json::{Value as Doc, json};
 use std::alloc::{AllocError, Global};
 
-// How many rows a table has, 0 where it is not there.
-fn count_of(table: Option<Tc>) -> u64
+/// How many rows a table has, 0 where it is not there.
+pub(crate) fn count_of(table: Option<Tc>) -> u64
     ensures { (t : Table) → IfSome table.entry (λ x. table_of_node (node_of_tc x) ≡ t)
         → result ≡ length (rows_there t (option_map tc_roots table.entry)) }
 {

@@ -5,7 +5,7 @@ use pst_bytes::Image;
 use pst_header::read_header;
 use pst_json::{
     check_doc, check_line, contents_doc, contents_line, folders_doc, folders_line, head_doc,
-    head_line, hex_doc, names_index, nodes_doc, nodes_line, pc_doc, props_doc, props_line,
+    head_line, hex_doc, messages_text, names_index, nodes_doc, nodes_line, pc_doc, props_doc, props_line,
     read_nodes, table_doc, text, value_doc, verify,
 };
 use pst_verify::Verified;
@@ -69,6 +69,7 @@ pub(crate) fn nodes(alloc: Global, bytes: &[u8]) -> Result<(), Refused> {
             is_line(alloc, &doc, &props_line(alloc, &store, &index, &path)?)?;
         }
     }
+    let _lines = messages_text(alloc, &store)?;
     let doc = props_doc(alloc, &store, &index, &[0x21])?;
     is_line(alloc, &doc, &props_line(alloc, &store, &index, &[0x21])?)
 }

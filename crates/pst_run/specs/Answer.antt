@@ -19,12 +19,13 @@ use Rattle.pst_json.specs.Check.{ReportParts, check_line}
 use Rattle.pst_json.specs.Contents.{contents_line}
 use Rattle.pst_json.specs.Folders.{folders_line}
 use Rattle.pst_json.specs.Head.{head_line}
+use Rattle.pst_json.specs.Messages.{messages_text}
 use Rattle.pst_json.specs.Node.{props_line}
 use Rattle.pst_json.specs.Nodes.{nodes_line}
 use Rattle.pst_plain.specs.Twin.{twin_of}
 use Rattle.sha2.specs.Sha256.{sha256}
 use Rattle.pst_run.specs.declared.answers.Shown.{Shown}
-use Rattle.pst_ask.specs.Ask.{Asked, Wanted, report, head, nodes, folders, contents, props}
+use Rattle.pst_ask.specs.Ask.{Asked, Wanted, report, head, nodes, folders, contents, messages, props}
 use Rattle.pst_run.specs.declared.refusal.Refusal.{Refusal}
 use Rattle.pst_run.specs.Refusal.{Refused, fault, document, input, output, memory, refused_of, refusal_of, refusal_for}
 
@@ -118,6 +119,7 @@ answer_with (report strict digested) digest I = of_store (store_fault I) (Ok (re
 answer_with head digest I = line_or_fault head_line (answer (header_fault I) (fields I))
 answer_with nodes digest I = line_or_fault nodes_line (listed_nodes I)
 answer_with folders digest I = of_store (store_fault I) (Ok (plain (folders_line (table_of_file I) (entries_of_file I))))
+answer_with messages digest I = of_store (store_fault I) (Ok (plain (messages_text (table_of_file I) (entries_of_file I))))
 answer_with (contents nid) digest I = of_store (store_fault I) (line_at (nid ∷ []) (contents_line (table_of_file I) (entries_of_file I) nid))
 answer_with (props paths) digest I = of_store (store_fault I) (lines_of_paths (props_line (table_of_file I) (entries_of_file I)) paths)
 

@@ -1,7 +1,7 @@
 //! What each command answers to the bytes of a file.
 
 ghost use Rattle.std.specs.Prelude.{◌≡◌, ◌++◌, ℕ, Bool, List, map, Option, IfOk};
-ghost use Rattle.pst_ask.specs.Ask.{report, head, nodes, folders, contents, props, nids_of, wanted_of};
+ghost use Rattle.pst_ask.specs.Ask.{report, head, nodes, folders, contents, messages, props, nids_of, wanted_of};
 ghost use Rattle.pst_json.specs.NamesIndex.{IsNamesIndex};
 ghost use Rattle.pst_json.specs.Node.{props_line as line_of_props};
 ghost use Rattle.pst_json.specs.pst_ndb.Views.{table_of_ndb, nodes_of};
@@ -13,7 +13,7 @@ use pst_ask::{Ask, Path};
 use pst_bytes::Image;
 use pst_header::read_header;
 use pst_json::{
-    NameIndex, Store, check_line, contents_line, folders_line, head_line, names_index, nodes_line,
+    NameIndex, Store, check_line, contents_line, folders_line, head_line, messages_text, names_index, nodes_line,
     props_line, read_nodes, verify,
 };
 use std::alloc::{AllocError, Global};
@@ -88,6 +88,17 @@ fn contents_answer<'a>(alloc: Global, nid: &'a u32, bytes: &[u8]) -> Result<Show
     }
 }
 
+// `messages`: all messages of a store.
+#[tactic(auto, unfolding(crate::specs::Answer::answer_with))]
+fn messages_answer(alloc: Global, bytes: &[u8]) -> Result<Shown, Refusal<'static>>
+    ensures { (digest : Option (List ℕ)) → Gives result (answer_with messages digest bytes.now) }
+{
+    let store = verify(alloc, bytes)?.store;
+    store.is_sound();
+    let text = messages_text(alloc, &store)?;
+    Ok(Shown { text, fails: false })
+}
+
 // A line behind a text.
 fn joined(mut text: Vec<u8>, line: Vec<u8>) -> Result<Vec<u8>, AllocError>
     ensures { IfOk result (λ v. v.items ≡ text.items ++ line.items) }
@@ -151,6 +162,7 @@ pub fn answer<'a>(
         Ask::Nodes => nodes_answer(alloc, bytes),
         Ask::Folders => folders_answer(alloc, bytes),
         Ask::Contents(nid) => contents_answer(alloc, nid, bytes),
+        Ask::Messages => messages_answer(alloc, bytes),
         Ask::Props(paths) => props_answer(alloc, paths, bytes),
     }
 }

@@ -1,5 +1,6 @@
 //! Runs of the program, from the words to the status: over small images, and over readers and writers that fail.
 
+mod all_messages;
 mod check_cases;
 mod check_contexts;
 mod check_files;

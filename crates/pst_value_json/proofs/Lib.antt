@@ -4,4 +4,5 @@ pub mod PartLemmas
 pub mod PlainLemmas
 pub mod PropLemmas
 pub mod RowLemmas
+pub mod TimeLemmas
 pub mod ValueLemmas

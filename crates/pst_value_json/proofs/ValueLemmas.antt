@@ -17,7 +17,7 @@ pub either_is_plain : (b : Bool) (x y : Data) → IsPlain x → IsPlain y → Is
 either_is_plain true x y p q = p
 either_is_plain false x y p q = q
 
-integer_is_plain : (z : ℤ) → IsPlain (integer z)
+pub integer_is_plain : (z : ℤ) → IsPlain (integer z)
 integer_is_plain (pos n) = record { no_float = refl }
 integer_is_plain (negsuc n) = record { no_float = refl }
 

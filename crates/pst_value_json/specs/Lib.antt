@@ -4,6 +4,7 @@ pub mod Line
 pub mod Plain
 pub mod Form
 pub mod Value
+pub mod Time
 pub mod Props
 pub mod Cells
 pub mod Rows

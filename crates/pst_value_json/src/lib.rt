@@ -29,6 +29,7 @@ mod parts;
 mod props;
 mod scalar;
 mod sinks;
+mod time;
 mod value;
 
 pub use cells::{TableRows, table_doc, table_rows};
@@ -43,4 +44,5 @@ pub use pst_tc::{Row, Rows as TcRows, Tc, check_tc, tc_ids_rise};
 pub use pst_value::PropType;
 pub use scalar::text_doc;
 pub use sinks::{Line, Sink, Tree, put_object};
+pub use time::{i32_or_null_doc, time_or_null_doc};
 pub use value::{hex_doc, value_doc};

@@ -20,7 +20,7 @@ macro_rules! ending {
 
 /// The end of the help of the program.
 pub(super) const PROGRAM: &str =
-    "The answer is one line of JSON on standard output, and of props one for each path.
+    "The answer is one line of JSON on standard output, of messages and props one for each.
 Where there is none, one line on standard error says why. FILE is the name of a file,
 or - for standard input; the program only reads it.
 
@@ -72,6 +72,15 @@ its class, its sender and its subject.",
     "The file breaks a rule of the format, or has no such folder: standard error tells which"
 );
 
+const MESSAGES: &str = ending!(
+    "Checks the whole file, and prints of each message, a line for each, its identifier,
+its class, its sender and its subject, when it was sent and received, its size, how
+many recipients and attachments it has, and the folders that list it. A message that
+no folder lists is there, too.",
+    "The messages are printed",
+    "The file breaks a rule of the format: standard error tells the first fault"
+);
+
 const PROPS: &str = ending!(
     "Checks the whole file, and prints of each property of what PATH leads to its identifier,
 its type and its value; of a message also the attachments and the recipients. PATH is a
@@ -91,6 +100,7 @@ pub(super) fn ending_of<'a>(verb: Verb) -> &'a str {
         Verb::Nodes => NODES,
         Verb::Folders => FOLDERS,
         Verb::Contents => CONTENTS,
+        Verb::Messages => MESSAGES,
         Verb::Props => PROPS,
     }
 }

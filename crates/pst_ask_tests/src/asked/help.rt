@@ -13,6 +13,7 @@ Commands:
   nodes     Lists the nodes
   folders   Lists the folders
   contents  Lists the messages of a folder
+  messages  Lists all messages, a line for each
   props     Shows the properties of nodes
   help      Print this message or the help of the given subcommand(s)
 
@@ -20,7 +21,7 @@ Options:
   -h, --help     Print help
   -V, --version  Print version
 
-The answer is one line of JSON on standard output, and of props one for each path.
+The answer is one line of JSON on standard output, of messages and props one for each.
 Where there is none, one line on standard error says why. FILE is the name of a file,
 or - for standard input; the program only reads it.
 
@@ -35,7 +36,7 @@ Exit status:
 ";
 
 // The help of each command.
-const HELP_OF: [(&str, &str); 6] = [
+const HELP_OF: [(&str, &str); 7] = [
     (
         "check",
         "Checks whether it is a store
@@ -158,6 +159,32 @@ its class, its sender and its subject.
 Exit status:
   0  The messages are printed
   1  The file breaks a rule of the format, or has no such folder: standard error tells which
+  2  The words are refused
+  3  The file cannot be read or is too long, or the output cannot be written
+  4  Memory was refused
+",
+    ),
+    (
+        "messages",
+        "Lists all messages, a line for each
+
+Usage: pst_show messages [OPTIONS] <FILE>
+
+Arguments:
+  <FILE>  The file to read, or - for standard input
+
+Options:
+      --decode  Decodes an encoded file first, in memory
+  -h, --help    Print help
+
+Checks the whole file, and prints of each message, a line for each, its identifier,
+its class, its sender and its subject, when it was sent and received, its size, how
+many recipients and attachments it has, and the folders that list it. A message that
+no folder lists is there, too.
+
+Exit status:
+  0  The messages are printed
+  1  The file breaks a rule of the format: standard error tells the first fault
   2  The words are refused
   3  The file cannot be read or is too long, or the output cannot be written
   4  Memory was refused

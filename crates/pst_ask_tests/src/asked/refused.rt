@@ -10,7 +10,7 @@ const NO_COMMAND: [Refused; 5] = [
     (
         &[],
         "error: 'pst_show' requires a subcommand but one was not provided
-  [subcommands: check, head, nodes, folders, contents, props, help]
+  [subcommands: check, head, nodes, folders, contents, messages, props, help]
 
 Usage: pst_show <COMMAND>
 ",

@@ -31,9 +31,9 @@ const RECIPIENTS: [&[u8]; 5] = [
     b"A\0n\0n\0",
 ];
 
-// Message 0x200044 has two recipients and two attachments, of which the first, 0x8025, is message 0x200024. Message 0x200068, which
-// belongs to a folder itself, has none.
-const MESSAGES: Store<'static> = Store::Wider(
+/// Message 0x200044 has two recipients and two attachments, of which the first, 0x8025, is message 0x200024. Message 0x200068, which
+/// belongs to a folder itself, has none.
+pub(super) const MESSAGES: Store<'static> = Store::Wider(
     &[
         (12, Body::Rows(&[0x8025, 0x8045])),
         (

@@ -1,0 +1,51 @@
+//! The kinds of fault in plain words, and the words that name them.
+
+use crate::told::{is, is_at};
+use pst_explain::{Kind, explanation, kind_named};
+
+const BLOCK_TRAILER: &str =
+    "14 BlockTrailer: the last 16 bytes of a block do not fit the block: it is damaged or overwritten
+  at: the block, where its entry says
+  bid: that of its entry
+  nid: 0x0, nothing
+  to do: Which node has the block: that of which nodes prints the bid as data_bid or sub_bid, or one of longer data. Take the file from a backup
+  [MS-PST]: 2.2.2.8.1
+";
+
+#[test]
+fn a_kind_is_named_by_its_number_or_its_name(rt: HostRuntime) {
+    for (word, kind) in [
+        ("1", Some(Kind::Short)),
+        ("Short", Some(Kind::Short)),
+        ("4", Some(Kind::Encoded(0))),
+        ("Version", Some(Kind::Version(0))),
+        ("14", Some(Kind::BlockTrailer)),
+        ("BlockTrailer", Some(Kind::BlockTrailer)),
+        ("28", Some(Kind::NoMemory)),
+        ("0", None),
+        ("01", None),
+        ("29", None),
+        ("", None),
+        ("blocktrailer", None),
+        ("Encoded(1)", None),
+    ] {
+        is_at(&rt, word, kind_named(word), kind);
+    }
+}
+
+#[test]
+fn a_kind_is_explained(rt: HostRuntime) {
+    is(&rt, explanation(kind_named("14")), BLOCK_TRAILER);
+}
+
+#[test]
+fn all_kinds_have_a_line(rt: HostRuntime) {
+    let mut number = 0;
+    for line in explanation(None).lines() {
+        number += 1;
+        let word = line.split(' ').next().unwrap_or("");
+        let kind = kind_named(word);
+        is_at(&rt, line, kind.map(Kind::number), Some(number));
+    }
+    is(&rt, number, 28);
+}

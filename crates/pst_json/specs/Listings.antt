@@ -1,0 +1,20 @@
+-- Which folders list each message, as it is kept while they are gone through.
+use Rattle.std.specs.Prelude.{ℕ, Bool, true, false, Option, Some, None, List, [], ◌∷◌}
+use Rattle.std.specs.BTreeMap.{get}
+use Rattle.std.specs.Global.{Vec}
+use Rattle.std.specs.Ordering.{nat_cmp}
+use Rattle.pst_json.specs.declared.listings.Listings.{Listings}
+
+-- the folders that are noted
+abbrev pub noted : Option (Vec ℕ) → List ℕ
+noted None = []
+noted (Some folders) = folders.items
+
+-- those of a message
+abbrev pub folders_at : Listings → ℕ → List ℕ
+folders_at l nid = noted (get nat_cmp l.folders nid)
+
+-- a folder, where it lists the message
+abbrev pub if_listed : Bool → ℕ → List ℕ
+if_listed true folder = folder ∷ []
+if_listed false folder = []

@@ -1,0 +1,105 @@
+//! Which folders list each message.
+
+ghost use Rattle.std.specs.Prelude.{◌≡◌, ℕ, IfOk};
+ghost use Rattle.pst_ndb.specs.Views.{table_of_ndb, nodes_of};
+ghost use Rattle.pst_verify.specs.pst_store.View.{ndb_of_store};
+ghost use Rattle.pst_json.specs.Listings.{folders_at};
+ghost use Rattle.pst_json.specs.Messages.{listed_in};
+
+use pst_value_json::{Tc, tc_ids_rise};
+use pst_verify::{Folder, Store};
+use std::alloc::{AllocError, Global};
+use std::collections::BTreeMap;
+
+/// Which folders list each message: they are noted folder by folder, each table gone through once.
+#[derive(Drop)]
+pub(crate) struct Listings {
+    alloc: Global,
+    // By the identifier of a message, those of the folders that list it, rising.
+    folders: BTreeMap<u32, Vec<u32>>,
+}
+
+impl Listings {
+    ghost use Rattle.std.specs.Prelude.{◌≡◌, ◌++◌, ℕ, [], OnOk, nat_eq};
+    ghost use Rattle.std.specs.List.{list_any};
+    ghost use Rattle.pst_ndb.specs.Views.{table_of_node, table_of_ndb, nodes_of, roots_of};
+    ghost use Rattle.pst_value_json.specs.pst_tc.Tc.{node_of_tc};
+    ghost use Rattle.pst_value_json.specs.pst_tc.Values.{tc_rows};
+    ghost use Rattle.pst_verify.specs.pst_msg.View.{ndb_of_folder, folder_roots};
+    ghost use Rattle.pst_json.specs.Listings.{folders_at, if_listed};
+    ghost use Rattle.pst_json.specs.Messages.{lists, names};
+
+    // Nothing is noted.
+    fn new(alloc: Global) -> Listings
+        ensures { (nid : ℕ) → folders_at result nid ≡ [] }
+    {
+        Listings {
+            alloc,
+            folders: BTreeMap::new(alloc),
+        }
+    }
+
+    // A folder lists this message, too.
+    fn note(&mut self, message: u32, folder: u32) -> Result<(), AllocError>
+        ensures { OnOk result ((nid : ℕ) → folders_at self.new nid
+            ≡ folders_at self.old nid ++ if_listed (nat_eq nid message) folder) }
+    {
+        let folders = self.folders.entry(message)?.or_insert(Vec::new(self.alloc));
+        folders.push(folder)?;
+        Ok(())
+    }
+
+    // A folder with this table lists each message that a row names: no two rows name the same.
+    #[tactic(auto, using(crate::proofs::ListingLemmas::row_noted, crate::proofs::ListingLemmas::row_rises_on, crate::proofs::ListingLemmas::rows_noted))]
+    fn note_rows(&mut self, table: Tc, folder: u32) -> Result<(), AllocError>
+        ensures { let node = node_of_tc table.entry in
+            let rows = tc_rows (table_of_node node) (roots_of node) in
+            OnOk result ((nid : ℕ) → folders_at self.new nid
+            ≡ folders_at self.old nid ++ if_listed (list_any (names nid) rows) folder) }
+    {
+        table.is_sound();
+        tc_ids_rise();
+        for row in table.rows() {
+            self.note(row.id(), folder)?;
+        }
+        Ok(())
+    }
+
+    // A folder lists what its contents table has.
+    fn note_folder(&mut self, folder: Folder) -> Result<(), AllocError>
+        ensures { let ndb = ndb_of_folder folder.entry in
+            let r = folder_roots folder.entry in
+            OnOk result ((nid : ℕ) → folders_at self.new nid
+            ≡ folders_at self.old nid ++ if_listed (lists (table_of_ndb ndb) (nodes_of ndb) nid r) r.top) }
+    {
+        folder.is_sound();
+        match folder.contents() {
+            Some(table) => self.note_rows(table, folder.nid()),
+            None => Ok(()),
+        }
+    }
+
+    /// The folders that list a message, their identifiers rising.
+    pub(crate) fn of(&self, message: u32) -> &[u32]
+        ensures { result.now ≡ folders_at self.now message }
+    {
+        match self.folders.get(&message) {
+            Some(folders) => folders,
+            None => &[],
+        }
+    }
+}
+
+/// Which folders of a store list each message. Each contents table is gone through once for each folder that has it.
+#[tactic(auto, unfolding(crate::specs::Messages::listed_in), using(crate::proofs::ListingLemmas::folder_noted, crate::proofs::ListingLemmas::folders_noted))]
+pub(crate) fn listings_of(alloc: Global, store: &Store) -> Result<Listings, AllocError>
+    ensures { let ndb = ndb_of_store store.now in
+        IfOk result (λ l. (nid : ℕ) → folders_at l nid
+        ≡ listed_in (table_of_ndb ndb) (nodes_of ndb) nid) }
+{
+    let mut listings = Listings::new(alloc);
+    for folder in store.folders() {
+        listings.note_folder(folder)?;
+    }
+    Ok(listings)
+}

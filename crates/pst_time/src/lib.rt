@@ -1,0 +1,13 @@
+//! The text of a time of a store: of a FILETIME ([MS-DTYP] 2.3.3), a number of steps of 100 nanoseconds since 1 January 1601.
+//!
+//! Begin with `time_text`:
+//!
+//! ```text
+//! time_text(alloc, 132_000_000_000_000_000)?  // 2019-04-17T18:40:00.0000000Z
+//! ```
+#![tactic(auto)]
+
+mod calendar;
+mod time;
+
+pub use time::time_text;
