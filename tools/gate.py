@@ -23,6 +23,7 @@ TRIED = [
     ["tools/compare_kinds.py"],
     ["tools/write_words.py", "--compare"],
     ["tools/check_examples.py", "--some"],
+    ["tools/try_terminal"],
     REFUSE,
 ]
 LAUNCHER = "tools/try_launcher"

@@ -174,12 +174,12 @@ macro_rules! table {
                 "Take the file from a backup; others of its parts may be whole",
                 "2.3.2";
             [Kind::Property] "24" "Property"
-                "the value of a property has a length that its type does not allow",
-                "the record of the property, or the cell",
+                "the value of a property has a length that its type does not allow, or the map of the names of properties is broken",
+                "the record of the property, or the cell; of that map, the stream or the entry with the breach",
                 "the identifier of the node's or subnode's data, as it is written",
                 "the node",
                 "Take the file from a backup; others of its parts may be whole",
-                "2.3.3";
+                "2.3.3, of that map 2.4.7";
             [Kind::Table] "25" "Table"
                 "a table's description, a column or a row is broken",
                 "the description (TCINFO), the column, or the record of the row",

@@ -13,6 +13,7 @@
 
 mod answers;
 mod input;
+mod progress;
 mod refusal;
 mod running;
 mod said;
@@ -20,6 +21,7 @@ mod source;
 
 pub use answers::{Shown, answer};
 pub use input::{LoadFault, MOST_BYTES, MOST_READS, Reads, load, load_counted};
+pub use progress::Progress;
 pub use refusal::Refusal;
 pub use running::{answer_out, carry_out, decline, run};
 pub use said::refuse;

@@ -4,6 +4,7 @@ ghost use Rattle.std.specs.Io.{ReadsAtMost};
 ghost use Rattle.std.specs.Io.KnownBytes.{ReadConsumes};
 
 use crate::input::{MOST_BYTES, MOST_READS, Reads};
+use crate::progress::Progress;
 use std::alloc::Global;
 use std::fs::File;
 use std::io::{ErrorKind, Read, Stdin, Write};
@@ -72,23 +73,35 @@ impl Read for Source {
     }
 }
 
-/// A reader that remembers how its reads went.
+/// A reader that remembers how its reads went, and says how far they are where there is somebody to look at it.
 #[derive(Drop)]
 pub struct Watched<R> {
     reader: R,
     reads: Reads,
     is_at_end: bool,
     error: Option<io::Error>,
+    progress: Option<Progress>,
 }
 
 impl<R> Watched<R> {
     /// A reader that was not read yet.
-    pub fn new(reader: R) -> Watched<R> {
+    pub fn new(reader: R, progress: Option<Progress>) -> Watched<R> {
         Watched {
             reader,
             reads: Reads { count: 0, bytes: 0 },
             is_at_end: false,
             error: None,
+            progress,
+        }
+    }
+
+    // Says how far it is read; no more where no other read will be made.
+    fn tell(&mut self) {
+        let ends = self.is_at_end || self.error.is_some() || self.reads.count >= MOST_READS;
+        match &mut self.progress {
+            Some(progress) if ends => progress.wipe(),
+            Some(progress) => progress.tell(self.reads.bytes),
+            None => {}
         }
     }
 
@@ -122,6 +135,7 @@ impl<R: Read> Read for Watched<R> {
             Err(error) if error.kind() == ErrorKind::Interrupted => {}
             Err(error) => self.error = Some(error),
         }
+        self.tell();
         got
     }
 }

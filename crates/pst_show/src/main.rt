@@ -2,7 +2,7 @@
 #![tactic(auto)]
 
 use pst_ask::{Order, parse};
-use pst_run::{Refusal, Source, Watched, carry_out, decline, explain, refuse};
+use pst_run::{Progress, Refusal, Source, Watched, carry_out, decline, explain, refuse};
 use std::io::Write;
 use std::process::ExitCode;
 use std::{env, io};
@@ -11,7 +11,7 @@ use std::{env, io};
 fn run_command(rt: &HostRuntime, order: Order<'_>) -> u8 {
     let source = Source::named(rt, order.file);
     let expected = source.expected();
-    let mut input = Watched::new(source);
+    let mut input = Watched::new(source, Progress::on_terminal(rt, expected));
     let (mut out, mut err) = (rt.stdout(), rt.stderr());
     let status = carry_out(rt.alloc(), &order, &mut input, expected, &mut out, &mut err);
     match input.fault() {

@@ -137,7 +137,7 @@ fn a_run_whose_output_fails(rt: HostRuntime) -> Result<(), Fail> {
 
 #[test]
 fn a_run_whose_input_never_ends(rt: HostRuntime) -> Result<(), Fail> {
-    let mut input = Watched::new(Failing::new(1, ErrorKind::Interrupted));
+    let mut input = Watched::new(Failing::new(1, ErrorKind::Interrupted), None);
     let words = ["check", "a.pst"];
     run_of(&rt, &words, &mut input, 3, "", "cannot read the file\n")?;
     is_explained(&rt, &input, "16777216 reads did not show its end")
@@ -178,7 +178,7 @@ impl Read for Long {
 #[test]
 fn the_end_of_a_reader_is_remembered(rt: HostRuntime) -> Result<(), Fail> {
     let mut piece = vec![in rt.alloc(); 0u8; 65_536]?;
-    let mut input = Watched::new(Long { left: 262_145 });
+    let mut input = Watched::new(Long { left: 262_145 }, None);
     for count in 1u32..=262_145 {
         is_at(&rt, count, input.fault().is_some(), false);
         holds(&rt, input.read(&mut piece).is_ok());
@@ -200,7 +200,7 @@ fn the_error_of_a_read_is_remembered(rt: HostRuntime) -> Result<(), Fail> {
     ];
     for (code, reason) in rows {
         let error = io::Error::from_raw_os_error(code);
-        let mut input = Watched::new(Source::Missing(error));
+        let mut input = Watched::new(Source::Missing(error), None);
         let got = load(rt.alloc(), &mut input, 0).map(|bytes| bytes.len());
         is(&rt, got, Err(LoadFault::Read));
         is_explained(&rt, &input, reason)?;
@@ -211,10 +211,10 @@ fn the_error_of_a_read_is_remembered(rt: HostRuntime) -> Result<(), Fail> {
 #[test]
 fn a_word_names_what_is_read(rt: HostRuntime) -> Result<(), Fail> {
     holds(&rt, matches!(Source::named(&rt, "-"), Source::Input(_)));
-    let mut input = Watched::new(Source::named(&rt, "no such folder/a.pst"));
+    let mut input = Watched::new(Source::named(&rt, "no such folder/a.pst"), None);
     holds(&rt, load(rt.alloc(), &mut input, 0).is_err());
     is_explained(&rt, &input, "No such file or directory")?;
-    let mut input = Watched::new(Source::named(&rt, "."));
+    let mut input = Watched::new(Source::named(&rt, "."), None);
     holds(&rt, load(rt.alloc(), &mut input, 0).is_err());
     is_explained(&rt, &input, "Is a directory")?;
     let image = m0(rt.alloc())?;
