@@ -1,9 +1,10 @@
 #!/usr/bin/env python3
 """Compares what the built program answers over samples/ with samples/answers.json, which another program wrote.
 
-An answer has the sample's name, the words (F stands for the sample), the status, the output and the line on standard
-error; and some have changes, bytes in hexadecimal that are set at places in the sample first, which the program then gets
-on standard input. With words, only the commands that are named are compared; --program names the program in place of
+An answer has the sample's name, the words (F stands for the sample), the status, the output (as text, or, where that may be
+none, its bytes in hexadecimal) and the line on standard error, null where only the status and the output are compared; and
+some have changes, bytes in hexadecimal that are set at places in the sample first, which the program then gets on standard
+input. With words, only the commands that are named are compared; --program names the program in place of
 ./pst_show. The status is 0 where all are the same.
 """
 import argparse
@@ -25,17 +26,22 @@ def changed(answer):
     return bytes(held)
 
 
+def wanted_output(answer):
+    """The bytes that have to come on standard output."""
+    return bytes.fromhex(answer["stdout_hex"]) if "stdout_hex" in answer else answer["stdout"].encode()
+
+
 def is_same(program, answer):
     """Whether the program answers so; where it doesn't, what it says is printed."""
     held = changed(answer) if "changes" in answer else None
     name = f"samples/{answer['file']}" if held is None else "-"
     words = [name if word == "F" else word for word in answer["words"]]
     ran = subprocess.run([program, *words], cwd=ROOT, input=held, capture_output=True, check=False)
-    given = (ran.returncode, ran.stdout.decode(), ran.stderr.decode())
-    same = given == (answer["status"], answer["stdout"], answer["stderr"])
-    if not same:
+    given = (ran.returncode, ran.stdout, ran.stderr)
+    wanted = (answer["status"], wanted_output(answer), ran.stderr if answer["stderr"] is None else answer["stderr"].encode())
+    if given != wanted:
         print(f"{answer['file']} {' '.join(words)} {answer.get('changes', '')}: {given}")
-    return same
+    return given == wanted
 
 
 def main():
