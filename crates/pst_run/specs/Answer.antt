@@ -22,10 +22,15 @@ use Rattle.pst_json.specs.Head.{head_line}
 use Rattle.pst_json.specs.Messages.{messages_text}
 use Rattle.pst_json.specs.Node.{props_line}
 use Rattle.pst_json.specs.Nodes.{nodes_line}
+use Rattle.pst_json.specs.Told.{told_of}
+use Rattle.pst_json.specs.Value.{property_at, written_of}
 use Rattle.pst_plain.specs.Twin.{twin_of}
 use Rattle.sha2.specs.Sha256.{sha256}
-use Rattle.pst_run.specs.declared.answers.Shown.{Shown}
-use Rattle.pst_ask.specs.Ask.{Asked, Wanted, report, head, nodes, folders, contents, messages, props}
+use Rattle.pst_datatree.specs.Shown.{bytes_in}
+use Rattle.pst_run.specs.declared.shown.Shown.{Shown}
+use Rattle.pst_run.specs.declared.shown.Text.{Text}
+use Rattle.pst_run.specs.declared.shown.Text.TheVariants.{Made, Lent}
+use Rattle.pst_ask.specs.Ask.{Asked, Wanted, report, head, nodes, folders, contents, messages, props, value}
 use Rattle.pst_run.specs.declared.refusal.Refusal.{Refusal}
 use Rattle.pst_run.specs.Refusal.{Refused, fault, document, input, output, memory, refused_of, refusal_of, refusal_for}
 
@@ -46,8 +51,13 @@ pub record Told : Type 0 where
   pub text : List ℕ
   pub fails : Bool
 
+-- the bytes that are written
+abbrev pub bytes_shown : Text → List ℕ
+bytes_shown (Made text) = text.items
+bytes_shown (Lent value) = bytes_in value
+
 abbrev pub told_in : Shown → Told
-told_in s = record { text = s.text.items; fails = s.fails }
+told_in s = record { text = bytes_shown s.text; fails = s.fails }
 
 abbrev pub plain : List ℕ → Told
 plain text = record { text = text; fails = false }
@@ -89,7 +99,7 @@ table_of_file I = table_in I (store_in I)
 abbrev pub entries_of_file : List ℕ → List NodeEntry
 entries_of_file I = entries_in I (store_in I)
 
--- a line, or that there is none of the folder or at the path with these identifiers
+-- a line or a value, or that there is none of the folder or at the path with these identifiers
 abbrev pub line_at : List ℕ → Result (List ℕ) DocFault → Result Told Refused
 line_at path (Ok line) = Ok (plain line)
 line_at path (Err f) = Err (refusal_for path f)
@@ -121,7 +131,9 @@ answer_with nodes digest I = line_or_fault nodes_line (listed_nodes I)
 answer_with folders digest I = of_store (store_fault I) (Ok (plain (folders_line (table_of_file I) (entries_of_file I))))
 answer_with messages digest I = of_store (store_fault I) (Ok (plain (messages_text (table_of_file I) (entries_of_file I))))
 answer_with (contents nid) digest I = of_store (store_fault I) (line_at (nid ∷ []) (contents_line (table_of_file I) (entries_of_file I) nid))
-answer_with (props paths) digest I = of_store (store_fault I) (lines_of_paths (props_line (table_of_file I) (entries_of_file I)) paths)
+answer_with (props places paths) digest I = of_store (store_fault I) (lines_of_paths (props_line places (table_of_file I) (entries_of_file I)) paths)
+answer_with (value text path id) digest I =
+    of_store (store_fault I) (line_at path (told_of (written_of text) (property_at (table_of_file I) (entries_of_file I) path id)))
 
 -- The same of the bytes of a file: it is of its plain twin where that is asked for, and the digest is of the file as it is.
 abbrev pub answer_to : Asked → List ℕ → Result Told Refused

@@ -42,10 +42,12 @@ is_memory kind = false
 abbrev pub refusal_of : Fault → Refused
 refusal_of f = if is_memory f.kind then memory else fault f
 
--- what comes of a document that there is not, of the folder or at the path with these identifiers
+-- what comes of a document or a property that there is not, of the folder or at the path with these identifiers: a property that is
+-- not there is told without the path
 abbrev pub refusal_for : List ℕ → DocFault → Refused
 refusal_for path (doc.Bad f) = refusal_of f
 refusal_for path doc.Memory = memory
+refusal_for path (doc.NoProperty id) = document [] (doc.NoProperty id)
 refusal_for path f = document path f
 
 -- what may come from reading

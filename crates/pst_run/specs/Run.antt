@@ -2,6 +2,8 @@
 use Rattle.std.specs.Prelude.{◌≡◌, ℕ, Bool, true, false, ◌⊎◌, List, Option, Result, Ok, Err, IfSome, codes}
 use Rattle.std.specs.Io.KnownBytes.{Appends, Keeps}
 use Rattle.pst_json.specs.Output.{AppendsFront}
+use Rattle.pst_fault.specs.declared.kind.Kind.{Kind as FaultKind}
+use Rattle.pst_explain.specs.Text.{explanation}
 use Rattle.pst_ask.specs.clap.Words.{IsAmong, Kinds}
 use Rattle.pst_ask.specs.clap.declared.error.Error.{Error}
 use Rattle.pst_ask.specs.clap.declared.error.kind.ErrorKind.{ErrorKind}
@@ -9,7 +11,7 @@ use Rattle.pst_ask.specs.clap.declared.error.kind.ErrorKind.TheVariants as kind
 use Rattle.pst_json.specs.declared.output.EmitFault.{EmitFault}
 use Rattle.pst_ask.specs.Ask.{Asked}
 use Rattle.pst_ask.specs.declared.ask.Lack.{Lack}
-use Rattle.pst_ask.specs.declared.ask.Lack.TheVariants.{Nid, Nothing}
+use Rattle.pst_ask.specs.declared.ask.Lack.TheVariants.{Nid, Property, Kind, Nothing}
 use Rattle.pst_ask.specs.declared.words.NoOrder.{NoOrder}
 use Rattle.pst_ask.specs.declared.words.NoOrder.TheVariants.{Words, Lacks}
 use Rattle.pst_run.specs.declared.refusal.Refusal.{Refusal}
@@ -81,6 +83,13 @@ CarriesOut a known status old new =
     ((bytes : List ℕ) × IfSome known (λ all. bytes ≡ all) × Answers (answer_to a bytes) status old new)
     ⊎ IsUnread status old new
 
+-- The text that explains a kind of fault, or all of them, is written, and nothing is said; or a front of it, where the output
+-- cannot be written, which is said.
+abbrev pub Explains : Option FaultKind → ℕ → Outputs → Outputs → Type 0
+Explains kind status old new =
+    ((status ≡ 0) × Appends old.out new.out (explanation kind) × Keeps old.err new.err)
+    ⊎ ((f : EmitFault) × (status ≡ 3) × AppendsFront old.out new.out (explanation kind) × Says (output f) old.err new.err)
+
 -- ---- where nothing is done
 
 -- the status where words are declined with an error of this kind
@@ -102,6 +111,8 @@ MatchNone (Lacks lack) P Q = Q
 -- the line for words that are accepted and ask for nothing, without its line feed
 abbrev pub lack_text : Lack → List ℕ
 lack_text Nid = codes "bad node id"
+lack_text Property = codes "bad property id"
+lack_text Kind = codes "bad kind"
 lack_text Nothing = codes "nothing is asked for"
 
 -- words that lack something say so, with status 2; or memory was refused

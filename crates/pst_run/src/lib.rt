@@ -17,12 +17,14 @@ mod progress;
 mod refusal;
 mod running;
 mod said;
+mod shown;
 mod source;
 
-pub use answers::{Shown, answer};
+pub use answers::answer;
 pub use input::{LoadFault, MOST_BYTES, MOST_READS, Reads, load, load_counted};
 pub use progress::Progress;
 pub use refusal::Refusal;
-pub use running::{answer_out, carry_out, decline, run};
+pub use running::{answer_out, carry_out, decline, explain_out, run};
 pub use said::refuse;
-pub use source::{Source, Watched, explain};
+pub use shown::{Shown, Text};
+pub use source::{Source, Watched, say_cause};

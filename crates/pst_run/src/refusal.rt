@@ -13,7 +13,7 @@ use std::alloc::AllocError;
 pub enum Refusal<'a> {
     /// The file is not what it has to be. The kind is not NoMemory.
     Fault(Fault),
-    /// There is no such document, of the folder or at the path with these identifiers.
+    /// There is no such document or property, of the folder or at the path with these identifiers.
     Document(&'a [u32], DocFault),
     /// The file cannot be read, or is too long.
     Input,
@@ -35,13 +35,14 @@ impl<'a> Refusal<'a> {
         }
     }
 
-    /// The refusal for a folder or a path that has no such document.
+    /// The refusal for a folder or a path that has no such document or property.
     pub fn of_document(path: &'a [u32], fault: DocFault) -> Refusal<'a>
         ensures { refused_of result ≡ refusal_for path.now fault }
     {
         match fault {
             DocFault::Bad(fault) => Refusal::from(fault),
             DocFault::Memory => Refusal::Memory,
+            DocFault::NoProperty(_) => Refusal::Document(&[], fault),
             _ => Refusal::Document(path, fault),
         }
     }

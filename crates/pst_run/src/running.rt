@@ -1,19 +1,22 @@
 //! One run of the program.
 
-ghost use Rattle.std.specs.Prelude.{◌≡◌, ◌≢◌, ◌⊎◌, [], Err, IfOk, IfSome};
-ghost use Rattle.pst_ask.specs.Ask.{Asked, order_of, wanted_of};
+ghost use Rattle.std.specs.Prelude.{◌≡◌, ◌≢◌, ◌⊎◌, [], Option, Err, IfOk, IfSome};
+ghost use Rattle.pst_ask.specs.Ask.{Asked, request_of, show, explain, wanted_of};
 ghost use Rattle.pst_ask.specs.Words.{IsAsked, asked, show_app, texts};
 ghost use Rattle.pst_ask.specs.clap.Words.{fault_of, kind_of};
 ghost use Rattle.pst_ask.specs.declared.words.NoOrder.TheVariants.{Lacks};
 ghost use Rattle.pst_run.specs.Answer.{answer_to, bytes_for, digest_for};
 ghost use Rattle.pst_run.specs.Refusal.{memory};
-ghost use Rattle.pst_run.specs.Run.{Answers, CarriesOut, Ends, IsLacking, IsRefused, IsStatusOf, MatchNone, Says, SaysLine, lack_text, outputs};
+ghost use Rattle.pst_ask.specs.pst_fault.declared.kind.Kind.{Kind as FaultKind};
+ghost use Rattle.pst_run.specs.Run.{Answers, CarriesOut, Ends, Explains, IsLacking, IsRefused, IsStatusOf, MatchNone, Says, SaysLine, lack_text, outputs};
 
 use crate::answers::answer;
 use crate::input::load_counted;
 use crate::refusal::Refusal;
 use crate::said::{refuse, say};
-use pst_ask::{Ask, ErrorKind, Lack, NoOrder, Order, parse};
+use crate::shown::emit_text;
+use pst_ask::{Ask, ErrorKind, Kind, Lack, NoOrder, Order, Request, parse};
+use pst_explain::explanation;
 use pst_json::{EmitFault, emit};
 use pst_plain::plain;
 use sha2::{Digest, Sha256};
@@ -44,18 +47,30 @@ fn decode_if(alloc: Global, decode: bool, mut bytes: Vec<u8>) -> Result<Vec<u8>,
 // before anything is decoded.
 fn write_answer<'a, W: Write>(
     alloc: Global,
-    order: &'a Order,
+    request: &'a Request,
     bytes: Vec<u8>,
     out: &mut W,
 ) -> Result<bool, Refusal<'a>>
-    ensures { Ends result (answer_to (order_of order.now) bytes.items)
+    ensures { Ends result (answer_to (request_of request.now) bytes.items)
         (W.contents out.old) (W.contents out.new) }
 {
-    let digest = digest_if(&order.ask, &bytes);
-    let bytes = decode_if(alloc, order.decode, bytes)?;
-    let shown = answer(alloc, &order.ask, digest, &bytes)?;
-    emit(&shown.text, out)?;
+    let digest = digest_if(&request.ask, &bytes);
+    let bytes = decode_if(alloc, request.decode, bytes)?;
+    let shown = answer(alloc, &request.ask, digest, &bytes)?;
+    emit_text(&shown.text, out)?;
     Ok(shown.fails)
+}
+
+// What is said of words that are accepted and ask for nothing that can be done.
+fn words_of(lack: Lack) -> &'static str
+    ensures { result.now ≡ lack_text lack }
+{
+    match lack {
+        Lack::Nid => "bad node id",
+        Lack::Property => "bad property id",
+        Lack::Kind => "bad kind",
+        Lack::Nothing => "nothing is asked for",
+    }
 }
 
 /// Says why nothing is done, and gives the status for it: help and the version on the output, all else on the error output.
@@ -80,12 +95,8 @@ pub fn decline<W: Write, E: Write>(none: NoOrder, out: &mut W, err: &mut E) -> u
                 }
             }
         }
-        NoOrder::Lacks(Lack::Nid) => {
-            say("bad node id", err);
-            2
-        }
-        NoOrder::Lacks(Lack::Nothing) => {
-            say("nothing is asked for", err);
+        NoOrder::Lacks(lack) => {
+            say(words_of(lack), err);
             2
         }
     }
@@ -97,20 +108,20 @@ pub fn decline<W: Write, E: Write>(none: NoOrder, out: &mut W, err: &mut E) -> u
 /// output that is closed; a fault of `err` changes nothing.
 pub fn answer_out<W: Write, E: Write>(
     alloc: Global,
-    order: &Order,
+    request: &Request,
     bytes: Vec<u8>,
     out: &mut W,
     err: &mut E,
 ) -> u8
     // The status, what is written and what is said are the answer to the bytes, decoded where that is asked for.
-    ensures answered { Answers (answer_to (order_of order.now) bytes.items) result
+    ensures answered { Answers (answer_to (request_of request.now) bytes.items) result
         (outputs (W.contents out.old) (E.contents err.old))
         (outputs (W.contents out.new) (E.contents err.new)) }
 
     // It is not that of words that are refused.
     ensures accepted { result ≢ 2 }
 {
-    match write_answer(alloc, order, bytes, out) {
+    match write_answer(alloc, request, bytes, out) {
         Ok(false) => 0,
         Ok(true) => 1,
         Err(refusal) => refuse(refusal, err),
@@ -121,14 +132,14 @@ pub fn answer_out<W: Write, E: Write>(
 /// many bytes are expected of the reader, as `load` says.
 pub fn carry_out<R: Read, W: Write, E: Write>(
     alloc: Global,
-    order: &Order,
+    request: &Request,
     input: &mut R,
     expected: usize,
     out: &mut W,
     err: &mut E,
 ) -> u8
     // The status, what is written and what is said are the answer to the bytes that came, decoded where that is asked for.
-    ensures answered { CarriesOut (order_of order.now) (R.remaining input.old) result
+    ensures answered { CarriesOut (request_of request.now) (R.remaining input.old) result
         (outputs (W.contents out.old) (E.contents err.old))
         (outputs (W.contents out.new) (E.contents err.new)) }
 
@@ -136,7 +147,19 @@ pub fn carry_out<R: Read, W: Write, E: Write>(
     ensures accepted { result ≢ 2 }
 {
     match load_counted(alloc, input, expected).0 {
-        Ok(bytes) => answer_out(alloc, order, bytes, out, err),
+        Ok(bytes) => answer_out(alloc, request, bytes, out, err),
+        Err(fault) => refuse(Refusal::from(fault), err),
+    }
+}
+
+/// Explains a kind of fault, or all of them in a line each, and gives the status with which the program ends: 0 where it is
+/// written, and 3 where the output cannot be, which is said on `err`. No file is read.
+pub fn explain_out<W: Write, E: Write>(kind: Option<Kind>, out: &mut W, err: &mut E) -> u8
+    ensures { Explains kind result (outputs (W.contents out.old) (E.contents err.old))
+        (outputs (W.contents out.new) (E.contents err.new)) }
+{
+    match emit(explanation(kind).as_bytes(), out) {
+        Ok(()) => 0,
         Err(fault) => refuse(Refusal::from(fault), err),
     }
 }
@@ -153,12 +176,17 @@ pub fn run<R: Read, W: Write, E: Write>(
     out: &mut W,
     err: &mut E,
 ) -> u8
-    // Where the words are accepted and ask for something, the status, what is written and what is said are the
-    // answer to the bytes of the file, decoded where the words ask for it.
-    ensures answered { (a : Asked) → IsAsked (texts words.entry.now) a →
+    // Where the words are accepted and ask for something of a file, the status, what is written and what is said are
+    // the answer to the bytes of the file, decoded where the words ask for it.
+    ensures answered { (a : Asked) → IsAsked (texts words.entry.now) (show a) →
         CarriesOut a (R.remaining input.old) result
         (outputs (W.contents out.old) (E.contents err.old))
         (outputs (W.contents out.new) (E.contents err.new)) }
+
+    // Where they ask what a kind of fault is, that is written, and nothing is read.
+    ensures explained { (k : Option FaultKind) → IsAsked (texts words.entry.now) (explain k) →
+        Explains k result (outputs (W.contents out.old) (E.contents err.old))
+        (outputs (W.contents out.new) (E.contents err.new)) × (input.new ≡ input.old) }
 
     // Where the words are refused, or ask for help or the version, nothing is read.
     ensures refused { fault_of show_app (texts words.entry.now) ≢ [] →
@@ -177,7 +205,8 @@ pub fn run<R: Read, W: Write, E: Write>(
         (result ≡ 2) ⊎ (result ≡ 4) → out.new ≡ out.old }
 {
     match parse(alloc, words) {
-        Ok(order) => carry_out(alloc, &order, input, 0, out, err),
+        Ok(Order::Show(request)) => carry_out(alloc, &request, input, 0, out, err),
+        Ok(Order::Explain(kind)) => explain_out(kind, out, err),
         Err(none) => decline(none, out, err),
     }
 }

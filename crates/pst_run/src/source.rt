@@ -150,7 +150,7 @@ fn without_number(text: &str) -> &str {
 
 /// Says below the line of a refusal why the bytes of a file of this name did not come. A line that cannot be written
 /// changes nothing.
-pub fn explain<E: Write>(alloc: Global, name: &str, error: io::Error, err: &mut E) {
+pub fn say_cause<E: Write>(alloc: Global, name: &str, error: io::Error, err: &mut E) {
     let _ = match format!(in alloc; "{error}") {
         Ok(text) => writeln!(err, "  {name}: {}", without_number(text.as_str())),
         Err(_) => writeln!(err, "  {name}: {error}"),

@@ -1,22 +1,24 @@
 //! Checks and shows a Personal Folders File ([MS-PST]).
 #![tactic(auto)]
 
-use pst_ask::{Order, parse};
-use pst_run::{Progress, Refusal, Source, Watched, carry_out, decline, explain, refuse};
+use pst_ask::{Order, Request, parse};
+use pst_run::{
+    Progress, Refusal, Source, Watched, carry_out, decline, explain_out, refuse, say_cause,
+};
 use std::io::Write;
 use std::process::ExitCode;
 use std::{env, io};
 
 // Runs the command on the named file. Where that cannot be read, a line says why.
-fn run_command(rt: &HostRuntime, order: Order<'_>) -> u8 {
-    let source = Source::named(rt, order.file);
+fn run_command(rt: &HostRuntime, request: Request<'_>) -> u8 {
+    let source = Source::named(rt, request.file);
     let expected = source.expected();
     let mut input = Watched::new(source, Progress::on_terminal(rt, expected));
     let (mut out, mut err) = (rt.stdout(), rt.stderr());
-    let status = carry_out(rt.alloc(), &order, &mut input, expected, &mut out, &mut err);
+    let status = carry_out(rt.alloc(), &request, &mut input, expected, &mut out, &mut err);
     match input.fault() {
         Some(error) if status == Refusal::Input.status() => {
-            explain(rt.alloc(), order.file, error, &mut err);
+            say_cause(rt.alloc(), request.file, error, &mut err);
         }
         _ => {}
     }
@@ -38,7 +40,8 @@ fn status(rt: &HostRuntime) -> Result<u8, Refusal> {
         .collect(rt.alloc())
         .map_err(|_| Refusal::Memory)?;
     match parse(rt.alloc(), &words) {
-        Ok(order) => Ok(run_command(rt, order)),
+        Ok(Order::Show(request)) => Ok(run_command(rt, request)),
+        Ok(Order::Explain(kind)) => Ok(explain_out(kind, &mut rt.stdout(), &mut rt.stderr())),
         Err(none) => Ok(decline(none, &mut rt.stdout(), &mut rt.stderr())),
     }
 }

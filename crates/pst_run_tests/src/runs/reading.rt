@@ -6,7 +6,7 @@ use super::{ran, run_of};
 use crate::told::{holds, is, is_at};
 use pst_json::{EmitFault, emit};
 use pst_make::m0;
-use pst_run::{LoadFault, Source, Watched, explain, load};
+use pst_run::{LoadFault, Source, Watched, load, say_cause};
 use std::alloc::Global;
 use std::io;
 use std::io::{ErrorKind, Read, Write};
@@ -151,7 +151,7 @@ fn is_explained<R: Abort + AllocGlobal, I>(
 ) -> Result<(), Fail> {
     let error = input.fault().expect(rt, "no fault");
     let mut said = Vec::new(rt.alloc());
-    explain(rt.alloc(), "a.pst", error, &mut said);
+    say_cause(rt.alloc(), "a.pst", error, &mut said);
     let line = format!(in rt.alloc(); "  a.pst: {reason}\n")?;
     is(rt, said.as_slice(), line.as_bytes());
     Ok(())

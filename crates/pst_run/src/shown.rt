@@ -1,0 +1,55 @@
+//! What a command shows, and the writing of it.
+
+ghost use Rattle.std.specs.Prelude.{◌≡◌, OnOk};
+ghost use Rattle.std.specs.Io.KnownBytes.{Appends};
+ghost use Rattle.pst_json.specs.Output.{AppendsFront};
+ghost use Rattle.pst_run.specs.Answer.{bytes_shown};
+
+use pst_datatree::Value;
+use pst_json::{EmitFault, emit, emit_value};
+use std::io::Write;
+
+/// What a command writes.
+#[derive(Drop)]
+pub enum Text<'a> {
+    /// A text that was made, in memory.
+    Made(Vec<u8>),
+    /// Bytes of the file, where they lie.
+    Lent(Value<'a>),
+}
+
+/// What a command shows.
+#[derive(Drop)]
+pub struct Shown<'a> {
+    /// What it writes.
+    pub text: Text<'a>,
+    /// Whether the run ends with status 1 all the same: where a check is strict, and space is lost.
+    pub fails: bool,
+}
+
+impl<'a> Shown<'a> {
+    ghost use Rattle.std.specs.Prelude.{◌≡◌};
+    ghost use Rattle.pst_run.specs.Answer.{told_in, plain};
+
+    /// A text that was made, with which the run does not fail.
+    pub fn made(text: Vec<u8>) -> Shown<'a>
+        ensures { told_in result ≡ plain text.items }
+    {
+        Shown {
+            text: Text::Made(text),
+            fails: false,
+        }
+    }
+}
+
+/// Writes all of it: a text as one, and bytes of the file piece by piece, for which no memory is taken. After a fault the writer
+/// holds a front of it.
+pub fn emit_text<W: Write>(text: &Text, out: &mut W) -> Result<(), EmitFault>
+    ensures all { OnOk result (Appends (W.contents out.old) (W.contents out.new) (bytes_shown text.now)) }
+    ensures front { AppendsFront (W.contents out.old) (W.contents out.new) (bytes_shown text.now) }
+{
+    match text {
+        Text::Made(text) => emit(text, out),
+        Text::Lent(value) => emit_value(*value, out),
+    }
+}
