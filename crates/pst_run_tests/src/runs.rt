@@ -20,6 +20,7 @@ mod loading;
 mod messages;
 mod names;
 mod nodes;
+mod one_value;
 mod outlook;
 mod reading;
 mod values;

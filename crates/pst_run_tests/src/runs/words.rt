@@ -71,5 +71,9 @@ fn refused_words_are_told_as_an_error(rt: HostRuntime) -> Result<(), Fail> {
     let words = ["props", "a.pst", "0x400024/"];
     are_answered(&rt, &words, 2, "", "bad node id\n")?;
     let words = ["contents", "a.pst", "0x122/0x21"];
+    are_answered(&rt, &words, 2, "", "bad node id\n")?;
+    let words = ["value", "a.pst", "0x400024", "37"];
+    are_answered(&rt, &words, 2, "", "bad property id\n")?;
+    let words = ["value", "a.pst", "400024", "37"];
     are_answered(&rt, &words, 2, "", "bad node id\n")
 }
