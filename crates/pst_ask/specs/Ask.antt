@@ -3,17 +3,23 @@ use Rattle.std.specs.Prelude.{◌≡◌, ℕ, Bool, false, List, [], ◌∷◌, 
 use Rattle.std.specs.Str.{bytes_eq}
 use Rattle.clap.specs.Words.{Text, Row, all_of, first_of, kind_of}
 use Rattle.clap.specs.declared.error.kind.ErrorKind.TheVariants.{OutOfMemory}
+use Rattle.pst_fault.specs.declared.kind.Kind.{Kind}
+use Rattle.pst_explain.specs.Kinds.{kind_in_word}
 use Rattle.pst_ask.specs.declared.ask.Ask.{Ask}
 use Rattle.pst_ask.specs.declared.ask.Ask.TheVariants as ask
 use Rattle.pst_ask.specs.declared.ask.Lack.{Lack}
 use Rattle.pst_ask.specs.declared.ask.Lack.TheVariants.{Nid, Nothing}
+use Rattle.pst_ask.specs.declared.ask.Lack.TheVariants as lack
 use Rattle.pst_ask.specs.declared.ask.Order.{Order}
+use Rattle.pst_ask.specs.declared.ask.Order.TheVariants as order
+use Rattle.pst_ask.specs.declared.ask.Request.{Request}
 use Rattle.pst_ask.specs.declared.verb.Verb.{Verb}
-use Rattle.pst_ask.specs.declared.verb.Verb.TheVariants.{Check, Head, Nodes, Folders, Contents, Messages, Props}
+use Rattle.pst_ask.specs.declared.verb.Verb.TheVariants.{Check, Head, Nodes, Folders, Contents, Messages, Props, Value, Explain}
 use Rattle.pst_ask.specs.declared.words.NoOrder.{NoOrder}
 use Rattle.pst_ask.specs.declared.words.NoOrder.TheVariants.{Words, Lacks}
 use Rattle.pst_ask.specs.declared.path.Path.{Path}
-use Rattle.pst_ask.specs.Nid.{nid_of_word, paths_of}
+use Rattle.pst_ask.specs.Nid.{nid_of_word, path_of_word, paths_of}
+use Rattle.pst_ask.specs.Property.{property_of_word}
 use Rattle.pst_ask.specs.Verbs.{verb_of}
 
 -- ---- what is to be shown
@@ -28,8 +34,10 @@ pub data Wanted : Type 0 where
   contents : ℕ → Wanted
   -- all its messages
   messages : Wanted
-  -- the properties of what these paths lead to, one after another
-  props : List (List ℕ) → Wanted
+  -- the properties of what these paths lead to, one after another, and whether with their places
+  props : Bool → List (List ℕ) → Wanted
+  -- the value of a property of what a path leads to, and whether a text is written as UTF-8
+  value : Bool → List ℕ → ℕ → Wanted
 
 -- the identifiers of a path
 abbrev pub nids_of : Path → List ℕ
@@ -42,7 +50,8 @@ wanted_of ask.Nodes = nodes
 wanted_of ask.Folders = folders
 wanted_of (ask.Contents nid) = contents nid
 wanted_of ask.Messages = messages
-wanted_of (ask.Props paths) = props (map nids_of paths.items)
+wanted_of (ask.Props places paths) = props places (map nids_of paths.items)
+wanted_of (ask.Value text path id) = value text (nids_of path) id
 
 -- what is to be shown, of which file, and whether that is decoded first
 pub record Asked : Type 0 where
@@ -53,8 +62,17 @@ pub record Asked : Type 0 where
 abbrev pub asked_of : Wanted → Bool → Text → Asked
 asked_of ask decode file = record { ask = ask; decode = decode; file = file }
 
-abbrev pub order_of : Order → Asked
-order_of order = asked_of (wanted_of order.ask) order.decode order.file.now
+abbrev pub request_of : Request → Asked
+request_of request = asked_of (wanted_of request.ask) request.decode request.file.now
+
+-- what is to be done: to show something of a file, or to explain a kind of fault, or all kinds
+pub data Ordered : Type 0 where
+  show : Asked → Ordered
+  explain : Option Kind → Ordered
+
+abbrev pub order_of : Order → Ordered
+order_of (order.Show request) = show (request_of request)
+order_of (order.Explain kind) = explain kind
 
 -- nothing is done for want of memory
 abbrev pub IsForMemory : NoOrder → Type 0
@@ -78,40 +96,85 @@ abbrev pub is_used : Text → List Row → Bool
 is_used flag rows = is_true (first_of flag rows)
 
 -- what a word names, or that it names nothing
-abbrev pub or_lack : {X : Type 0} → Option X → Result X Lack
-or_lack None = Err Nid
-or_lack (Some x) = Ok x
+abbrev pub or_lack : {X : Type 0} → Lack → Option X → Result X Lack
+or_lack lack None = Err lack
+or_lack lack (Some x) = Ok x
+
+abbrev pub named : {X : Type 0} → Lack → (Text → Option X) → Option Text → Result X Lack
+named lack name None = Err Nothing
+named lack name (Some word) = or_lack lack (name word)
 
 abbrev pub node_named : Option Text → Result ℕ Lack
-node_named None = Err Nothing
-node_named (Some word) = or_lack (nid_of_word word)
+node_named word = named Nid nid_of_word word
+
+abbrev pub path_named : Option Text → Result (List ℕ) Lack
+path_named word = named Nid path_of_word word
+
+abbrev pub property_named : Option Text → Result ℕ Lack
+property_named word = named lack.Property property_of_word word
 
 abbrev pub paths_named : Option (List Text) → Result (List (List ℕ)) Lack
 paths_named None = Err Nothing
-paths_named (Some words) = or_lack (paths_of words)
+paths_named (Some words) = or_lack Nid (paths_of words)
 
-abbrev pub asking : {X : Type 0} → (X → Wanted) → Result X Lack → Result Wanted Lack
+-- a kind, or all where none is named
+abbrev pub kind_named : Option Text → Result (Option Kind) Lack
+kind_named None = Ok None
+kind_named (Some word) = or_lack lack.Kind (option_map Some (kind_in_word word))
+
+abbrev pub asking : {X Y : Type 0} → (X → Y) → Result X Lack → Result Y Lack
 asking make (Ok x) = Ok (make x)
 asking make (Err lack) = Err lack
 
--- what a command asks for by its matches
-abbrev pub ask_of : Verb → List Row → Result Wanted Lack
-ask_of Check rows = Ok (report (is_used (codes "strict") rows) (is_used (codes "digest") rows))
-ask_of Head rows = Ok head
-ask_of Nodes rows = Ok nodes
-ask_of Folders rows = Ok folders
-ask_of Contents rows = asking contents (node_named (first_of (codes "NID") rows))
-ask_of Messages rows = Ok messages
-ask_of Props rows = asking props (paths_named (all_of (codes "PATH") rows))
+-- the value of a property: its path is looked at first
+abbrev pub value_of : Bool → Result (List ℕ) Lack → Result ℕ Lack → Result Wanted Lack
+value_of text (Err lack) id = Err lack
+value_of text (Ok path) id = asking (value text path) id
 
--- which flags are used: `--strict`, `--digest`, `--decode`
+-- with the file, and whether that is decoded first
+abbrev pub of_named : Wanted → Bool → Option Text → Result Ordered Lack
+of_named ask decode None = Err Nothing
+of_named ask decode (Some file) = Ok (show (asked_of ask decode file))
+
+abbrev pub of_file : List Row → Result Wanted Lack → Result Ordered Lack
+of_file rows (Err lack) = Err lack
+of_file rows (Ok ask) = of_named ask (is_used (codes "decode") rows) (first_of (codes "FILE") rows)
+
+-- what a command asks for by its matches
+abbrev pub asked_by : Verb → List Row → Result Ordered Lack
+asked_by Check rows = of_file rows (Ok (report (is_used (codes "strict") rows) (is_used (codes "digest") rows)))
+asked_by Head rows = of_file rows (Ok head)
+asked_by Nodes rows = of_file rows (Ok nodes)
+asked_by Folders rows = of_file rows (Ok folders)
+asked_by Contents rows = of_file rows (asking contents (node_named (first_of (codes "NID") rows)))
+asked_by Messages rows = of_file rows (Ok messages)
+asked_by Props rows = of_file rows (asking (props (is_used (codes "places") rows)) (paths_named (all_of (codes "PATH") rows)))
+asked_by Value rows =
+    of_file rows (value_of (is_used (codes "text") rows) (path_named (first_of (codes "PATH") rows)) (property_named (first_of (codes "ID") rows)))
+asked_by Explain rows = asking explain (kind_named (first_of (codes "KIND") rows))
+
+abbrev pub asked_with : Option Verb → List Row → Result Ordered Lack
+asked_with None rows = Err Nothing
+asked_with (Some verb) rows = asked_by verb rows
+
+-- of the command that the words name, with its matches
+abbrev pub asked_in : Option (Text × List Row) → Result Ordered Lack
+asked_in None = Err Nothing
+asked_in (Some p) = asked_with (verb_of p.0) p.1
+
+-- ---- by the words themselves
+
+-- which flags are used: of these a command has its own
 pub record Flags : Type 0 where
   pub strict : Bool
   pub digest : Bool
+  pub places : Bool
+  pub text : Bool
   pub decode : Bool
 
-abbrev pub flags_of : Bool → Bool → Bool → Flags
-flags_of strict digest decode = record { strict = strict; digest = digest; decode = decode }
+-- what is shown of a file
+abbrev pub shows : Flags → Text → Option Wanted → Option Ordered
+shows flags file wanted = option_map (λ ask. show (asked_of ask flags.decode file)) wanted
 
 -- the node that is named, where one word stands there
 abbrev pub only_node : List Text → Option ℕ
@@ -124,32 +187,32 @@ abbrev pub some_paths : List Text → Option (List (List ℕ))
 some_paths [] = None
 some_paths (word ∷ rest) = paths_of (word ∷ rest)
 
--- What a command asks for by its flags and the words behind its file, where they are words of it: of `contents` a node, of
--- `props` paths.
-abbrev pub asks : Verb → Flags → List Text → Option Wanted
-asks Check flags words = Some (report flags.strict flags.digest)
-asks Head flags words = Some head
-asks Nodes flags words = Some nodes
-asks Folders flags words = Some folders
-asks Contents flags words = option_map contents (only_node words)
-asks Messages flags words = Some messages
-asks Props flags words = option_map props (some_paths words)
+-- the path and the property that are named, where two words stand there
+abbrev pub both_named : Option (List ℕ) → Option ℕ → Option (List ℕ × ℕ)
+both_named None id = None
+both_named (Some path) id = option_map (λ n. (path, n)) id
 
--- ---- with the file
+abbrev pub only_property : List Text → Option (List ℕ × ℕ)
+only_property [] = None
+only_property (word ∷ []) = None
+only_property (path ∷ id ∷ []) = both_named (path_of_word path) (property_of_word id)
+only_property (path ∷ id ∷ next ∷ rest) = None
 
-abbrev pub of_file : Result Wanted Lack → Bool → Option Text → Result Asked Lack
-of_file (Err lack) decode file = Err lack
-of_file (Ok ask) decode None = Err Nothing
-of_file (Ok ask) decode (Some file) = Ok (asked_of ask decode file)
+-- the kind that is named, or all where no word stands there
+abbrev pub only_kind : List Text → Option (Option Kind)
+only_kind [] = Some None
+only_kind (word ∷ []) = option_map Some (kind_in_word word)
+only_kind (word ∷ next ∷ rest) = None
 
-abbrev pub asked_by : Verb → List Row → Result Asked Lack
-asked_by verb rows = of_file (ask_of verb rows) (is_used (codes "decode") rows) (first_of (codes "FILE") rows)
-
-abbrev pub asked_with : Option Verb → List Row → Result Asked Lack
-asked_with None rows = Err Nothing
-asked_with (Some verb) rows = asked_by verb rows
-
--- of the command that the words name, with its matches
-abbrev pub asked_in : Option (Text × List Row) → Result Asked Lack
-asked_in None = Err Nothing
-asked_in (Some p) = asked_with (verb_of p.0) p.1
+-- What a command asks for by its flags, its file and the words behind that, where they are words of it: of `contents` a node,
+-- of `props` paths, of `value` a path and a property. `explain` has no file: of it they are a kind, or none.
+abbrev pub asks : Verb → Flags → Text → List Text → Option Ordered
+asks Check flags file words = shows flags file (Some (report flags.strict flags.digest))
+asks Head flags file words = shows flags file (Some head)
+asks Nodes flags file words = shows flags file (Some nodes)
+asks Folders flags file words = shows flags file (Some folders)
+asks Contents flags file words = shows flags file (option_map contents (only_node words))
+asks Messages flags file words = shows flags file (Some messages)
+asks Props flags file words = shows flags file (option_map (props flags.places) (some_paths words))
+asks Value flags file words = shows flags file (option_map (λ p. value flags.text p.0 p.1) (only_property words))
+asks Explain flags file words = option_map explain (only_kind words)

@@ -6,7 +6,7 @@ use Rattle.pst_ask.specs.declared.verb.Takes.{Takes}
 use Rattle.pst_ask.specs.declared.verb.Takes.TheVariants.{File, Report, Node}
 use Rattle.pst_ask.specs.declared.verb.Takes.TheVariants as takes
 use Rattle.pst_ask.specs.declared.verb.Verb.{Verb}
-use Rattle.pst_ask.specs.declared.verb.Verb.TheVariants.{Check, Head, Nodes, Folders, Contents, Messages, Props}
+use Rattle.pst_ask.specs.declared.verb.Verb.TheVariants.{Check, Head, Nodes, Folders, Contents, Messages, Props, Value, Explain}
 
 -- its name, and what stands behind that
 abbrev pub line_of_verb : Verb → Text × Takes
@@ -17,6 +17,8 @@ line_of_verb Folders = (codes "folders", File)
 line_of_verb Contents = (codes "contents", Node)
 line_of_verb Messages = (codes "messages", File)
 line_of_verb Props = (codes "props", takes.Paths)
+line_of_verb Value = (codes "value", takes.Property)
+line_of_verb Explain = (codes "explain", takes.Kind)
 
 abbrev pub name_of : Verb → Text
 name_of v = (line_of_verb v).0
@@ -26,7 +28,7 @@ takes_of v = (line_of_verb v).1
 
 -- all commands, in the order in which help shows them
 abbrev pub verbs : List Verb
-verbs = Check ∷ Head ∷ Nodes ∷ Folders ∷ Contents ∷ Messages ∷ Props ∷ []
+verbs = Check ∷ Head ∷ Nodes ∷ Folders ∷ Contents ∷ Messages ∷ Props ∷ Value ∷ Explain ∷ []
 
 -- the command of a name
 abbrev pub verb_of : Text → Option Verb

@@ -12,7 +12,7 @@ use Rattle.pst_ask.specs.declared.verb.Takes.TheVariants as takes
 use Rattle.pst_ask.specs.declared.verb.Verb.{Verb}
 use Rattle.pst_ask.specs.declared.words.NoOrder.{NoOrder}
 use Rattle.pst_ask.specs.declared.words.NoOrder.TheVariants.{Words, Lacks}
-use Rattle.pst_ask.specs.Ask.{Asked, Flags, Wanted, asked_of, asked_in, asks}
+use Rattle.pst_ask.specs.Ask.{Flags, Ordered, asked_in, asks}
 use Rattle.pst_ask.specs.Verbs.{name_of, takes_of, verbs}
 
 abbrev pub texts : List (String Global) → List Text
@@ -32,6 +32,18 @@ node_rule = record (new_rule (codes "NID")) { required = true }
 abbrev pub paths_rule : Rule
 paths_rule = record (new_rule (codes "PATH")) { required = true; action = Some Append }
 
+-- a path, which has to be named
+abbrev pub path_rule : Rule
+path_rule = record (new_rule (codes "PATH")) { required = true }
+
+-- a property, which has to be named
+abbrev pub property_rule : Rule
+property_rule = record (new_rule (codes "ID")) { required = true }
+
+-- a kind of fault, or none
+abbrev pub kind_rule : Rule
+kind_rule = new_rule (codes "KIND")
+
 -- the flag `--strict`
 abbrev pub strict_rule : Rule
 strict_rule = record (new_rule (codes "strict")) { long = Some (codes "strict"); action = Some SetTrue }
@@ -40,20 +52,31 @@ strict_rule = record (new_rule (codes "strict")) { long = Some (codes "strict");
 abbrev pub digest_rule : Rule
 digest_rule = record (new_rule (codes "digest")) { long = Some (codes "digest"); action = Some SetTrue }
 
--- the flag `--decode`, which every command has
+-- the flag `--places`
+abbrev pub places_rule : Rule
+places_rule = record (new_rule (codes "places")) { long = Some (codes "places"); action = Some SetTrue }
+
+-- the flag `--text`
+abbrev pub text_rule : Rule
+text_rule = record (new_rule (codes "text")) { long = Some (codes "text"); action = Some SetTrue }
+
+-- the flag `--decode`, which every command with a file has
 abbrev pub decode_rule : Rule
 decode_rule = record (new_rule (codes "decode")) { long = Some (codes "decode"); action = Some SetTrue }
 
--- a file that may be decoded
-abbrev pub with_file : App → App
-with_file a = with_rule (with_rule a decode_rule) file_rule
-
--- with the flags that not every command has
+-- with the flags that not every command with a file has
 abbrev pub with_flags : Takes → App → App
 with_flags File a = a
 with_flags Report a = with_rule (with_rule a strict_rule) digest_rule
 with_flags Node a = a
-with_flags takes.Paths a = a
+with_flags takes.Paths a = with_rule a places_rule
+with_flags takes.Property a = with_rule a text_rule
+with_flags takes.Kind a = a
+
+-- with a file, which may be decoded
+abbrev pub with_file : Takes → App → App
+with_file takes.Kind a = a
+with_file takes a = with_rule (with_rule a decode_rule) file_rule
 
 -- with what stands behind the file
 abbrev pub with_words : Takes → App → App
@@ -61,10 +84,12 @@ with_words File a = a
 with_words Report a = a
 with_words Node a = with_rule a node_rule
 with_words takes.Paths a = with_rule a paths_rule
+with_words takes.Property a = with_rule (with_rule a path_rule) property_rule
+with_words takes.Kind a = with_rule a kind_rule
 
 -- a command of a name, and what stands behind that
 abbrev pub app_taking : Takes → Text → App
-app_taking takes name = with_words takes (with_file (with_flags takes (new_app name)))
+app_taking takes name = with_words takes (with_file takes (with_flags takes (new_app name)))
 
 abbrev pub app_for : Verb → App
 app_for verb = app_taking (takes_of verb) (name_of verb)
@@ -99,13 +124,13 @@ show_app = with_verbs base verbs
 -- ---- what is asked for
 
 -- what the words ask for, where they are accepted
-unfoldable pub asked : List Text → Result Asked Lack
+unfoldable pub asked : List Text → Result Ordered Lack
 asked words = asked_in (subcommand_of show_app words)
 
 -- the words are accepted, and ask for this
-pub record IsAsked (words : List Text) (a : Asked) : Type 0 where
+pub record IsAsked (words : List Text) (order : Ordered) : Type 0 where
   pub accepted : fault_of show_app words ≡ []
-  pub is : asked words ≡ Ok a
+  pub is : asked words ≡ Ok order
 
 -- a word that begins with no hyphen, or is one
 abbrev pub IsNoOption : Text → Type 0
@@ -113,37 +138,43 @@ IsNoOption [] = ⊤
 IsNoOption (b ∷ []) = ⊤
 IsNoOption (b ∷ c ∷ rest) = b ≢ 45
 
--- a command's words: its name, the flags that are used, a file, and what stands behind it
+-- the words of the flags that are used, of those that a command has
 abbrev pub flag_if : Bool → Text → List Text
 flag_if true flag = flag ∷ []
 flag_if false flag = []
+
+abbrev pub own_flags : Takes → Flags → List Text
+own_flags File flags = []
+own_flags Report flags = flag_if flags.strict (codes "--strict") ++ flag_if flags.digest (codes "--digest")
+own_flags Node flags = []
+own_flags takes.Paths flags = flag_if flags.places (codes "--places")
+own_flags takes.Property flags = flag_if flags.text (codes "--text")
+own_flags takes.Kind flags = []
+
+-- with them a file, and whether that is decoded first
+abbrev pub to_file : Takes → Flags → Text → List Text
+to_file takes.Kind flags file = []
+to_file takes flags file = own_flags takes flags ++ flag_if flags.decode (codes "--decode") ++ file ∷ []
 
 abbrev pub behind_file : Takes → List Text → List Text
 behind_file File words = []
 behind_file Report words = []
 behind_file Node words = words
 behind_file takes.Paths words = words
+behind_file takes.Property words = words
+behind_file takes.Kind words = words
 
-abbrev pub flag_words : Flags → List Text
-flag_words f = flag_if f.strict (codes "--strict") ++ flag_if f.digest (codes "--digest") ++ flag_if f.decode (codes "--decode")
-
+-- a command's words: its name, the flags that are used, a file, and what stands behind it; of `explain` no flag and no file
 abbrev pub words_for : Verb → Flags → Text → List Text → List Text
-words_for v flags file words = name_of v ∷ flag_words flags ++ file ∷ behind_file (takes_of v) words
-
--- only `check` has the flags `--strict` and `--digest`
-abbrev pub MayUse : Takes → Flags → Type 0
-MayUse Report flags = ⊤
-MayUse File flags = (flags.strict ≡ false) × (flags.digest ≡ false)
-MayUse Node flags = (flags.strict ≡ false) × (flags.digest ≡ false)
-MayUse takes.Paths flags = (flags.strict ≡ false) × (flags.digest ≡ false)
+words_for v flags file words = name_of v ∷ to_file (takes_of v) flags file ++ behind_file (takes_of v) words
 
 -- The words of each command, with each of its flags or without, are accepted, and ask for what the command shows of the file
 -- that they name, whatever its name, if it begins with no hyphen, or is one: decoded with `--decode`, of `contents` of the node
--- that they name, and of `props` of all of the paths, however many and however long.
+-- that they name, of `props` of all of the paths, however many and however long, of `value` of the path and the property. The
+-- words of `explain` ask for the kind that they name, or for all.
 abbrev pub WordsLaw : Type 0
-WordsLaw = (v : Verb) (flags : Flags) (file : Text) (words : List Text) (wanted : Wanted)
-    → MayUse (takes_of v) flags → IsNoOption file → asks v flags words ≡ Some wanted
-    → IsAsked (words_for v flags file words) (asked_of wanted flags.decode file)
+WordsLaw = (v : Verb) (flags : Flags) (file : Text) (words : List Text) (order : Ordered)
+    → IsNoOption file → asks v flags file words ≡ Some order → IsAsked (words_for v flags file words) order
 
 -- ---- where nothing is done
 

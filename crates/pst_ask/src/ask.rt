@@ -1,15 +1,18 @@
 //! What is asked for.
 
-ghost use Rattle.std.specs.Prelude.{◌≡◌, codes, map, option_map};
+ghost use Rattle.std.specs.Prelude.{◌≡◌, Ok as Okay, codes, map, option_map};
 ghost use Rattle.clap.specs.Words.{all_of, first_of, found_of, rows_of, subcommand_rows_of};
-ghost use Rattle.pst_ask.specs.Ask.{Reads, is_used, node_named, paths_named, nids_of, or_lack, order_of, wanted_of, ask_of, asked_by, asked_in};
+ghost use Rattle.pst_ask.specs.Ask.{Reads, is_used, kind_named as kind_in_words, node_named, path_named, paths_named, property_named, nids_of, of_file as asked_of_file, or_lack, order_of, value_of, wanted_of, asked_by, asked_in};
+ghost use Rattle.pst_ask.specs.declared.ask.Lack.TheVariants.{Nid};
 ghost use Rattle.pst_ask.specs.Nid.{paths_of as paths_in_words};
 
 use crate::nid::read_nid;
 use crate::path::{Path, read_path};
+use crate::property::read_property_id;
 use crate::verb::Verb;
 use crate::words::NoOrder;
 use clap::ArgMatches;
+use pst_explain::{Kind, kind_named};
 use std::alloc::Global;
 
 /// What a command shows of a file.
@@ -32,13 +35,27 @@ pub enum Ask {
     Contents(u32),
     /// All its messages.
     Messages,
-    /// The properties of what these paths lead to, one after another.
-    Props(Vec<Path>),
+    /// The properties of what paths lead to.
+    Props {
+        /// Whether they have the places of their values in the file.
+        places: bool,
+        /// The paths, in the order of their lines.
+        paths: Vec<Path>,
+    },
+    /// The bytes of the value of one property.
+    Value {
+        /// Whether a text is written as UTF-8.
+        text: bool,
+        /// What has the property.
+        path: Path,
+        /// The identifier of the property.
+        id: u16,
+    },
 }
 
-/// What a command line asks for: what to show, and of which file.
+/// What is asked for of a file.
 #[derive(Debug, PartialEq, Eq, Drop)]
-pub struct Order<'a> {
+pub struct Request<'a> {
     /// What to show.
     pub ask: Ask,
     /// Whether an encoded file is decoded first, in memory.
@@ -47,11 +64,24 @@ pub struct Order<'a> {
     pub file: &'a str,
 }
 
+/// What a command line asks for.
+#[derive(Debug, PartialEq, Eq, Drop)]
+pub enum Order<'a> {
+    /// Something of a file.
+    Show(Request<'a>),
+    /// What a kind of fault says; of no kind, a line for each.
+    Explain(Option<Kind>),
+}
+
 /// Why an accepted command line cannot be carried out.
 #[derive(Clone, Copy, Debug, PartialEq, Eq)]
 pub enum Lack {
     /// A word that is to be the path of a node, or to name one, is none.
     Nid,
+    /// A word that is to name a property is no identifier of one.
+    Property,
+    /// A word that is to name a kind of fault names none.
+    Kind,
     /// They name nothing that is known here.
     Nothing,
 }
@@ -84,11 +114,44 @@ fn node_in(found: &ArgMatches) -> Result<u32, Lack>
     }
 }
 
+// The path that is named.
+fn path_in(alloc: Global, found: &ArgMatches) -> Result<Path, NoOrder>
+    ensures { Reads nids_of result (path_named (first_of (codes "PATH") (rows_of (found_of found.now)))) }
+{
+    match text_in(found, "PATH") {
+        Some(word) => read_path(alloc, word),
+        None => Err(NoOrder::Lacks(Lack::Nothing)),
+    }
+}
+
+// The property that is named.
+fn property_in(found: &ArgMatches) -> Result<u16, Lack>
+    ensures { result ≡ property_named (first_of (codes "ID") (rows_of (found_of found.now))) }
+{
+    match text_in(found, "ID") {
+        Some(word) => read_property_id(word).ok_or(Lack::Property),
+        None => Err(Lack::Nothing),
+    }
+}
+
+// The kind that is named; None where none is.
+fn kind_in(found: &ArgMatches) -> Result<Option<Kind>, Lack>
+    ensures { result ≡ kind_in_words (first_of (codes "KIND") (rows_of (found_of found.now))) }
+{
+    match text_in(found, "KIND") {
+        Some(word) => match kind_named(word) {
+            Some(kind) => Ok(Some(kind)),
+            None => Err(Lack::Kind),
+        },
+        None => Ok(None),
+    }
+}
+
 // The paths that words write.
 #[tactic(auto, using(crate::proofs::WordLemmas::named_next, crate::proofs::WordLemmas::named_end))]
 fn paths_of(alloc: Global, words: &[&str]) -> Result<Vec<Path>, NoOrder>
     ensures { Reads (λ v. map nids_of v.items) result
-        (or_lack (paths_in_words (map (λ w. w.now) words.now))) }
+        (or_lack Nid (paths_in_words (map (λ w. w.now) words.now))) }
 {
     let mut paths = Vec::new(alloc);
     for word in words {
@@ -112,34 +175,53 @@ fn paths_in(alloc: Global, found: &ArgMatches) -> Result<Vec<Path>, NoOrder>
     }
 }
 
-// What a command asks for.
-fn ask_in(alloc: Global, verb: Verb, found: &ArgMatches) -> Result<Ask, NoOrder>
-    ensures { Reads wanted_of result (ask_of verb (rows_of (found_of found.now))) }
+// The value that is named: a bad path is told before a bad identifier.
+fn value_in(alloc: Global, found: &ArgMatches) -> Result<Ask, NoOrder>
+    ensures { Reads wanted_of result (value_of
+        (is_used (codes "text") (rows_of (found_of found.now)))
+        (path_named (first_of (codes "PATH") (rows_of (found_of found.now))))
+        (property_named (first_of (codes "ID") (rows_of (found_of found.now))))) }
 {
-    match verb {
-        Verb::Check => Ok(Ask::Check {
-            strict: is_given(found, "strict"),
-            digest: is_given(found, "digest"),
-        }),
-        Verb::Head => Ok(Ask::Head),
-        Verb::Nodes => Ok(Ask::Nodes),
-        Verb::Folders => Ok(Ask::Folders),
-        Verb::Contents => Ok(Ask::Contents(node_in(found)?)),
-        Verb::Messages => Ok(Ask::Messages),
-        Verb::Props => Ok(Ask::Props(paths_in(alloc, found)?)),
+    let path = path_in(alloc, found)?;
+    let id = property_in(found)?;
+    let text = is_given(found, "text");
+    Ok(Ask::Value { text, path, id })
+}
+
+// What is shown of a file: of which, and whether that is decoded first.
+fn of_file<'a>(found: &ArgMatches<'a>, ask: Ask) -> Result<Order<'a>, NoOrder>
+    ensures { Reads order_of result
+        (asked_of_file (rows_of (found_of found.now)) (Okay (wanted_of ask))) }
+{
+    let decode = is_given(found, "decode");
+    match text_in(found, "FILE") {
+        Some(file) => Ok(Order::Show(Request { ask, decode, file })),
+        None => Err(NoOrder::Lacks(Lack::Nothing)),
     }
 }
 
-// What a command asks for, of which file, and whether that is decoded first.
+// What a command asks for.
 fn order_by<'a>(alloc: Global, verb: Verb, found: &ArgMatches<'a>) -> Result<Order<'a>, NoOrder>
     ensures { Reads order_of result (asked_by verb (rows_of (found_of found.now))) }
 {
-    let ask = ask_in(alloc, verb, found)?;
-    let decode = is_given(found, "decode");
-    match text_in(found, "FILE") {
-        Some(file) => Ok(Order { ask, decode, file }),
-        None => Err(NoOrder::Lacks(Lack::Nothing)),
-    }
+    let ask = match verb {
+        Verb::Check => Ask::Check {
+            strict: is_given(found, "strict"),
+            digest: is_given(found, "digest"),
+        },
+        Verb::Head => Ask::Head,
+        Verb::Nodes => Ask::Nodes,
+        Verb::Folders => Ask::Folders,
+        Verb::Contents => Ask::Contents(node_in(found)?),
+        Verb::Messages => Ask::Messages,
+        Verb::Props => Ask::Props {
+            places: is_given(found, "places"),
+            paths: paths_in(alloc, found)?,
+        },
+        Verb::Value => value_in(alloc, found)?,
+        Verb::Explain => return Ok(Order::Explain(kind_in(found)?)),
+    };
+    of_file(found, ask)
 }
 
 /// What the words were taken for.

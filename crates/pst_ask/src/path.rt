@@ -2,6 +2,7 @@
 
 ghost use Rattle.std.specs.Prelude.{◌≡◌, IfOk, map};
 ghost use Rattle.pst_ask.specs.Ask.{Reads, nids_of, or_lack};
+ghost use Rattle.pst_ask.specs.declared.ask.Lack.TheVariants.{Nid};
 ghost use Rattle.pst_ask.specs.Nid.{all_named, nid_of_word, path_of_word, pieces_of as pieces_in};
 
 use crate::ask::Lack;
@@ -27,7 +28,7 @@ fn pieces_of<'a>(alloc: Global, word: &'a str) -> Result<Vec<&'a str>, AllocErro
 #[tactic(auto, using(crate::proofs::WordLemmas::named_next, crate::proofs::WordLemmas::named_none, crate::proofs::WordLemmas::named_end))]
 fn nodes_of(alloc: Global, words: &[&str]) -> Result<Vec<u32>, NoOrder>
     ensures { Reads (λ v. v.items) result
-        (or_lack (all_named nid_of_word (map (λ w. w.now) words.now))) }
+        (or_lack Nid (all_named nid_of_word (map (λ w. w.now) words.now))) }
 {
     let mut nids = Vec::new(alloc);
     for word in words {
@@ -42,7 +43,7 @@ fn nodes_of(alloc: Global, words: &[&str]) -> Result<Vec<u32>, NoOrder>
 /// The path that a word writes: the words of nodes, as `read_nid` reads them, with a slash between each and the next. Any other
 /// word lacks a node.
 pub fn read_path(alloc: Global, word: &str) -> Result<Path, NoOrder>
-    ensures { Reads nids_of result (or_lack (path_of_word word.now)) }
+    ensures { Reads nids_of result (or_lack Nid (path_of_word word.now)) }
 {
     let pieces = pieces_of(alloc, word)?;
     Ok(Path {

@@ -12,11 +12,15 @@ pub enum Takes {
     Report,
     /// A file, and the identifier of a node.
     Node,
-    /// A file, and paths, one at least.
+    /// A file, and paths, one at least; and `--places` or not.
     Paths,
+    /// A file, a path, and the identifier of a property; and `--text` or not.
+    Property,
+    /// A kind of fault, or nothing; and no file.
+    Kind,
 }
 
-/// A command: it shows something of a file.
+/// A command: it shows something of a file, or explains.
 #[derive(Clone, Copy, Debug, PartialEq, Eq)]
 pub enum Verb {
     /// Whether it is a store.
@@ -33,11 +37,15 @@ pub enum Verb {
     Messages,
     /// The properties of nodes, and of what is inside messages.
     Props,
+    /// The value of one property.
+    Value,
+    /// What a kind of fault says.
+    Explain,
 }
 
 impl Verb {
     /// All commands, in the order in which help shows them.
-    pub const ALL: [Verb; 7] = [
+    pub const ALL: [Verb; 9] = [
         Verb::Check,
         Verb::Head,
         Verb::Nodes,
@@ -45,6 +53,8 @@ impl Verb {
         Verb::Contents,
         Verb::Messages,
         Verb::Props,
+        Verb::Value,
+        Verb::Explain,
     ];
 
     /// Its name, what it is for, and what stands behind its name.
@@ -64,6 +74,8 @@ impl Verb {
                 Takes::File,
             ),
             Verb::Props => ("props", "Shows the properties of nodes", Takes::Paths),
+            Verb::Value => ("value", "Writes the value of a property", Takes::Property),
+            Verb::Explain => ("explain", "Explains the kinds of fault", Takes::Kind),
         }
     }
 

@@ -6,7 +6,7 @@ ghost use Rattle.std.specs.Prelude.{◌≡◌, IfOk, IfErr, false};
 ghost use Rattle.clap.specs.Words.{FailsBy, HasMatchesOf, app_of, fault_of, rule_of};
 ghost use Rattle.pst_ask.specs.Ask.{IsForMemory, order_of};
 ghost use Rattle.pst_ask.specs.declared.words.NoOrder.TheVariants.{Lacks};
-ghost use Rattle.pst_ask.specs.Words.{AddsAs, IsAlone, IsOwn, decode_rule, digest_rule, file_rule, node_rule, paths_rule, strict_rule, app_for, base, with_flags, with_verb, with_words, show_app, texts, IsAsked, Declines};
+ghost use Rattle.pst_ask.specs.Words.{AddsAs, IsAlone, IsOwn, decode_rule, digest_rule, file_rule, kind_rule, node_rule, path_rule, paths_rule, places_rule, property_rule, strict_rule, text_rule, app_for, base, with_file as file_behind, with_flags, with_verb, with_words, show_app, texts, IsAsked, Declines};
 
 use crate::ask::{Lack, Order, order_in};
 use crate::verb::{Takes, Verb};
@@ -81,6 +81,34 @@ fn paths_arg<'a>(alloc: Global) -> Arg<'a>
         .action(ArgAction::Append)
 }
 
+// The argument that names a path.
+fn path_arg<'a>(alloc: Global) -> Arg<'a>
+    ensures rule { rule_of result ≡ path_rule }
+    ensures local { result.global ≡ false }
+{
+    Arg::new(alloc, "PATH")
+        .help("A node, as 0x122, or what is inside a message, as 0x200024/0x8025")
+        .required(true)
+}
+
+// The argument that names a property.
+fn property_arg<'a>(alloc: Global) -> Arg<'a>
+    ensures rule { rule_of result ≡ property_rule }
+    ensures local { result.global ≡ false }
+{
+    Arg::new(alloc, "ID")
+        .help("The identifier of a property, as 0037")
+        .required(true)
+}
+
+// The argument that names a kind of fault.
+fn kind_arg<'a>(alloc: Global) -> Arg<'a>
+    ensures rule { rule_of result ≡ kind_rule }
+    ensures local { result.global ≡ false }
+{
+    Arg::new(alloc, "KIND").help("A kind of fault, by its number or its name")
+}
+
 // The flag of a strict check.
 fn strict_arg<'a>(alloc: Global) -> Arg<'a>
     ensures rule { rule_of result ≡ strict_rule }
@@ -100,6 +128,28 @@ fn digest_arg<'a>(alloc: Global) -> Arg<'a>
     Arg::new(alloc, "digest")
         .long("digest")
         .help("Adds the SHA-256 of the file as it is stored")
+        .action(ArgAction::SetTrue)
+}
+
+// The flag of properties with the places of their values.
+fn places_arg<'a>(alloc: Global) -> Arg<'a>
+    ensures rule { rule_of result ≡ places_rule }
+    ensures local { result.global ≡ false }
+{
+    Arg::new(alloc, "places")
+        .long("places")
+        .help("Adds where in the file each value lies")
+        .action(ArgAction::SetTrue)
+}
+
+// The flag of a text that is written as UTF-8.
+fn text_arg<'a>(alloc: Global) -> Arg<'a>
+    ensures rule { rule_of result ≡ text_rule }
+    ensures local { result.global ≡ false }
+{
+    Arg::new(alloc, "text")
+        .long("text")
+        .help("Writes a text as UTF-8")
         .action(ArgAction::SetTrue)
 }
 
@@ -125,7 +175,24 @@ fn with_flags<'a>(
 {
     match takes {
         Takes::Report => command.arg(strict_arg(alloc))?.arg(digest_arg(alloc)),
-        Takes::File | Takes::Node | Takes::Paths => Ok(command),
+        Takes::Paths => command.arg(places_arg(alloc)),
+        Takes::Property => command.arg(text_arg(alloc)),
+        Takes::File | Takes::Node | Takes::Kind => Ok(command),
+    }
+}
+
+// A command with its file, and whether that is decoded first.
+fn with_file<'a>(
+    alloc: Global,
+    command: Command<'a>,
+    takes: Takes,
+) -> Result<Command<'a>, AllocError>
+    requires { IsAlone command }
+    ensures { IfOk result (IsOwn (file_behind takes (app_of command.entry))) }
+{
+    match takes {
+        Takes::Kind => Ok(command),
+        _ => command.arg(decode_arg(alloc))?.arg(file_arg(alloc)),
     }
 }
 
@@ -141,6 +208,8 @@ fn with_words<'a>(
     match takes {
         Takes::Node => command.arg(node_arg(alloc)),
         Takes::Paths => command.arg(paths_arg(alloc)),
+        Takes::Property => command.arg(path_arg(alloc))?.arg(property_arg(alloc)),
+        Takes::Kind => command.arg(kind_arg(alloc)),
         Takes::File | Takes::Report => Ok(command),
     }
 }
@@ -154,7 +223,7 @@ fn command_for<'a>(alloc: Global, verb: Verb) -> Result<Command<'a>, AllocError>
         .about(about)
         .after_help(ending_of(verb));
     let command = with_flags(alloc, command, takes)?;
-    let command = command.arg(decode_arg(alloc))?.arg(file_arg(alloc))?;
+    let command = with_file(alloc, command, takes)?;
     with_words(alloc, command, takes)
 }
 

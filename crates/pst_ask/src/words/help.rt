@@ -20,14 +20,15 @@ macro_rules! ending {
 
 /// The end of the help of the program.
 pub(super) const PROGRAM: &str =
-    "The answer is one line of JSON on standard output, of messages and props one for each.
-Where there is none, one line on standard error says why. FILE is the name of a file,
-or - for standard input; the program only reads it.
+    "The answer is one line of JSON on standard output, of messages and props one for each;
+of value it is the bytes of the value, and of explain plain words. Where there is none,
+one line on standard error says why. FILE is the name of a file, or - for standard
+input; the program only reads it.
 
 Exit status:
   0    The answer is printed; of check: the file is a store
-  1    The file breaks a rule of the format, or has no such folder or node; or, with
-       check --strict, space is lost
+  1    The file breaks a rule of the format, or has no such folder, node or property;
+       or, with check --strict, space is lost
   2    The words are refused
   3    The file cannot be read or is too long, or the output cannot be written
   4    Memory was refused
@@ -86,11 +87,35 @@ const PROPS: &str = ending!(
 its type and its value; of a message also the attachments and the recipients. PATH is a
 node; and, with a slash between each and the next, from a message an attachment of it,
 from an attachment the message that it embeds, and so on. Of several paths it prints a
-line for each, in their order; and none where one of them leads nowhere.",
+line for each, in their order; and none where one of them leads nowhere. With --places
+it also prints of each value the pieces of the file in which it lies: place and length.",
     "The properties are printed",
     "The file breaks a rule of the format, or has no such node, or that has no properties:
      standard error tells which"
 );
+
+const VALUE: &str = ending!(
+    "Checks the whole file, and writes the bytes of the value of one property of what PATH
+leads to, as the file has them, and nothing else. ID is four hexadecimal digits, as
+props prints them. With --text a text (type 001F), which the file has as UTF-16, is
+written as UTF-8; values of other types are written as they are.",
+    "The value is written",
+    "The file breaks a rule of the format, or has no such node or property: standard
+     error tells which"
+);
+
+// It reads no file, so it has no answer of one.
+const EXPLAIN: &str =
+    "Says in plain words what a kind of fault says of a file, what at, bid and nid are in
+its line, what to do next, and the section of [MS-PST] that has the rule. KIND is as in
+the line of the fault, as 14 or BlockTrailer. Without it, prints a line for each of the
+28 kinds.
+
+Exit status:
+  0  The words are printed
+  2  The words are refused
+  3  The output cannot be written
+  4  Memory was refused";
 
 /// The end of the help of a command.
 pub(super) fn ending_of<'a>(verb: Verb) -> &'a str {
@@ -102,5 +127,7 @@ pub(super) fn ending_of<'a>(verb: Verb) -> &'a str {
         Verb::Contents => CONTENTS,
         Verb::Messages => MESSAGES,
         Verb::Props => PROPS,
+        Verb::Value => VALUE,
+        Verb::Explain => EXPLAIN,
     }
 }

@@ -2,7 +2,9 @@
 
 use super::words_of;
 use crate::told::{holds_at, is, is_at};
-use pst_ask::{Ask, Lack, NoOrder, Order, Path, parse, read_nid, read_path};
+use pst_ask::{
+    Ask, Kind, Lack, NoOrder, Order, Path, Request, parse, read_nid, read_path, read_property_id,
+};
 use std::process::Abort;
 use std::test::Fail;
 
@@ -34,7 +36,16 @@ fn is_asked<R: Abort + AllocGlobal>(
     file: &str,
 ) -> Result<(), Fail> {
     let decode = false;
-    is_order(rt, words, Order { ask, decode, file })
+    is_request(rt, words, Request { ask, decode, file })
+}
+
+// Compares what words ask for of a file.
+fn is_request<R: Abort + AllocGlobal>(
+    rt: &R,
+    words: &[&str],
+    expected: Request<'_>,
+) -> Result<(), Fail> {
+    is_order(rt, words, Order::Show(expected))
 }
 
 // Compares what words ask for.
@@ -49,11 +60,11 @@ fn is_order<R: Abort + AllocGlobal>(
     Ok(())
 }
 
-// Compares of which paths words ask for the properties.
+// Compares of which paths words ask for the properties, and whether with their places.
 fn are_paths<R: Abort + AllocGlobal>(
     rt: &R,
     words: &[&str],
-    decode: bool,
+    (places, decode): (bool, bool),
     expected: &[&[u32]],
 ) -> Result<(), Fail> {
     let mut paths = Vec::new(rt.alloc());
@@ -62,33 +73,141 @@ fn are_paths<R: Abort + AllocGlobal>(
         paths.push(Path { nids })?;
     }
     let file = "a.pst";
-    let ask = Ask::Props(paths);
-    is_order(rt, words, Order { ask, decode, file })
+    let ask = Ask::Props { places, paths };
+    is_request(rt, words, Request { ask, decode, file })
+}
+
+// Compares of which property words ask for the value.
+fn is_value<R: Abort + AllocGlobal>(
+    rt: &R,
+    words: &[&str],
+    (text, decode): (bool, bool),
+    nids: &[u32],
+    id: u16,
+) -> Result<(), Fail> {
+    let nids = Vec::from_slice(rt.alloc(), nids)?;
+    let path = Path { nids };
+    let file = "a.pst";
+    let ask = Ask::Value { text, path, id };
+    is_request(rt, words, Request { ask, decode, file })
+}
+
+// Whether words that are accepted lack this.
+fn lacks<R: Abort + AllocGlobal>(rt: &R, words: &[&str], wanted: Lack) -> Result<(), Fail> {
+    let all = words_of(rt.alloc(), words)?;
+    let asked = parse(rt.alloc(), &all);
+    let is_so = matches!(asked, Err(NoOrder::Lacks(lack)) if lack == wanted);
+    holds_at(rt, words, is_so);
+    Ok(())
 }
 
 #[test]
 fn props_takes_paths_in_their_order(rt: HostRuntime) -> Result<(), Fail> {
-    for (words, decode, paths) in [
-        (&["props", "a.pst", "0x12D"][..], false, &[&[0x12d][..]][..]),
-        (&["props", "a.pst", "--decode", "0x21"], true, &[&[0x21]]),
-        (&["props", "a.pst", "0x21", "--decode"], true, &[&[0x21]]),
+    for (words, flags, paths) in [
         (
-            &["props", "a.pst", "0x122", "0x21", "0x122"],
-            false,
+            &["props", "a.pst", "0x12D"][..],
+            (false, false),
+            &[&[0x12d][..]][..],
+        ),
+        (
+            &["props", "a.pst", "--decode", "0x21"],
+            (false, true),
+            &[&[0x21]],
+        ),
+        (
+            &["props", "a.pst", "0x21", "--decode"],
+            (false, true),
+            &[&[0x21]],
+        ),
+        (
+            &["props", "--places", "a.pst", "0x122", "0x21", "0x122"],
+            (true, false),
             &[&[0x122], &[0x21], &[0x122]],
         ),
         (
             &["props", "a.pst", "0x21", "--decode", "0x61/0x0/0x021"],
-            true,
+            (false, true),
             &[&[0x21], &[0x61, 0, 0x21]],
         ),
         (
+            &["props", "a.pst", "--places", "0x21", "--decode", "0x61"],
+            (true, true),
+            &[&[0x21], &[0x61]],
+        ),
+        (
             &["props", "a.pst", "0x200024/0x8025/0xffFFffFF"],
-            false,
+            (false, false),
             &[&[0x200024, 0x8025, u32::MAX]],
         ),
     ] {
-        are_paths(&rt, words, decode, paths)?;
+        are_paths(&rt, words, flags, paths)?;
+    }
+    Ok(())
+}
+
+#[test]
+fn value_takes_a_path_and_a_property(rt: HostRuntime) -> Result<(), Fail> {
+    for (words, flags, nids, id) in [
+        (
+            &["value", "a.pst", "0x21", "0037"][..],
+            (false, false),
+            &[0x21][..],
+            0x37,
+        ),
+        (
+            &["value", "--text", "a.pst", "0x200024", "1000"],
+            (true, false),
+            &[0x200024],
+            0x1000,
+        ),
+        (
+            &["value", "a.pst", "0x21", "fFFf", "--decode"],
+            (false, true),
+            &[0x21],
+            u16::MAX,
+        ),
+        (
+            &[
+                "value",
+                "a.pst",
+                "--text",
+                "0x200024/0x8025",
+                "--decode",
+                "3701",
+            ],
+            (true, true),
+            &[0x200024, 0x8025],
+            0x3701,
+        ),
+    ] {
+        is_value(&rt, words, flags, nids, id)?;
+    }
+    Ok(())
+}
+
+#[test]
+fn explain_takes_a_kind_or_none(rt: HostRuntime) -> Result<(), Fail> {
+    for (words, kind) in [
+        (&["explain"][..], None),
+        (&["explain", "14"], Some(Kind::BlockTrailer)),
+        (&["explain", "BlockTrailer"], Some(Kind::BlockTrailer)),
+        (&["explain", "--", "1"], Some(Kind::Short)),
+        (&["explain", "Encoded"], Some(Kind::Encoded(0))),
+        (&["explain", "28"], Some(Kind::NoMemory)),
+    ] {
+        is_order(&rt, words, Order::Explain(kind))?;
+    }
+    for word in [
+        "",
+        "0",
+        "29",
+        "99",
+        "014",
+        "blocktrailer",
+        "Encoded(1)",
+        "BlockTraile",
+    ] {
+        lacks(&rt, &["explain", word], Lack::Kind)?;
     }
     Ok(())
 }
@@ -110,7 +229,7 @@ fn each_command_takes_a_file_that_is_decoded_first(rt: HostRuntime) -> Result<()
             Ask::Contents(0x8082),
         ),
     ] {
-        is_order(&rt, words, Order { ask, decode, file })?;
+        is_request(&rt, words, Request { ask, decode, file })?;
     }
     Ok(())
 }
@@ -173,10 +292,9 @@ fn other_words_name_no_node(rt: HostRuntime) -> Result<(), Fail> {
             &["contents", "a.pst", word][..],
             &["props", "a.pst", word],
             &["props", "a.pst", "0x21", word],
+            &["value", "a.pst", word, "0037"],
         ] {
-            let words = words_of(rt.alloc(), words)?;
-            let asked = parse(rt.alloc(), &words);
-            holds_at(&rt, word, matches!(asked, Err(NoOrder::Lacks(Lack::Nid))));
+            lacks(&rt, words, Lack::Nid)?;
         }
     }
     Ok(())
@@ -207,15 +325,31 @@ fn slashes_stand_between_the_nodes_of_a_path(rt: HostRuntime) -> Result<(), Fail
             &["contents", "a.pst", word][..],
             &["props", "a.pst", word],
             &["props", "a.pst", "0x21", word],
+            &["value", "a.pst", word, "0037"],
         ] {
-            let words = words_of(rt.alloc(), words)?;
-            let asked = parse(rt.alloc(), &words);
-            holds_at(&rt, word, matches!(asked, Err(NoOrder::Lacks(Lack::Nid))));
+            lacks(&rt, words, Lack::Nid)?;
         }
     }
-    let words = words_of(rt.alloc(), &["contents", "a.pst", "0x122/0x21"])?;
-    let asked = parse(rt.alloc(), &words);
-    let refused = matches!(asked, Err(NoOrder::Lacks(Lack::Nid)));
-    holds_at(&rt, "contents", refused);
-    Ok(())
+    lacks(&rt, &["contents", "a.pst", "0x122/0x21"], Lack::Nid)
+}
+
+#[test]
+fn four_hexadecimal_digits_name_a_property(rt: HostRuntime) -> Result<(), Fail> {
+    for (word, id) in [
+        ("0000", 0),
+        ("0037", 0x37),
+        ("0e1F", 0xe1f),
+        ("ffff", u16::MAX),
+        ("FFFF", u16::MAX),
+    ] {
+        is_at(&rt, word, read_property_id(word), Some(id));
+    }
+    for word in [
+        "", "37", "037", "00037", "0x37", "0x0037", "003g", "+037", " 037", "é37", "00٣",
+    ] {
+        is_at(&rt, word, read_property_id(word), None);
+        lacks(&rt, &["value", "a.pst", "0x400024", word], Lack::Property)?;
+    }
+    // a bad path is told first
+    lacks(&rt, &["value", "a.pst", "zz", "37"], Lack::Nid)
 }

@@ -15,20 +15,23 @@ Commands:
   contents  Lists the messages of a folder
   messages  Lists all messages, a line for each
   props     Shows the properties of nodes
+  value     Writes the value of a property
+  explain   Explains the kinds of fault
   help      Print this message or the help of the given subcommand(s)
 
 Options:
   -h, --help     Print help
   -V, --version  Print version
 
-The answer is one line of JSON on standard output, of messages and props one for each.
-Where there is none, one line on standard error says why. FILE is the name of a file,
-or - for standard input; the program only reads it.
+The answer is one line of JSON on standard output, of messages and props one for each;
+of value it is the bytes of the value, and of explain plain words. Where there is none,
+one line on standard error says why. FILE is the name of a file, or - for standard
+input; the program only reads it.
 
 Exit status:
   0    The answer is printed; of check: the file is a store
-  1    The file breaks a rule of the format, or has no such folder or node; or, with
-       check --strict, space is lost
+  1    The file breaks a rule of the format, or has no such folder, node or property;
+       or, with check --strict, space is lost
   2    The words are refused
   3    The file cannot be read or is too long, or the output cannot be written
   4    Memory was refused
@@ -36,7 +39,7 @@ Exit status:
 ";
 
 // The help of each command.
-const HELP_OF: [(&str, &str); 7] = [
+const HELP_OF: [(&str, &str); 9] = [
     (
         "check",
         "Checks whether it is a store
@@ -201,6 +204,7 @@ Arguments:
   <PATH>...  Nodes, as 0x122, and what is inside messages, as 0x200024/0x8025
 
 Options:
+      --places  Adds where in the file each value lies
       --decode  Decodes an encoded file first, in memory
   -h, --help    Print help
 
@@ -208,7 +212,8 @@ Checks the whole file, and prints of each property of what PATH leads to its ide
 its type and its value; of a message also the attachments and the recipients. PATH is a
 node; and, with a slash between each and the next, from a message an attachment of it,
 from an attachment the message that it embeds, and so on. Of several paths it prints a
-line for each, in their order; and none where one of them leads nowhere.
+line for each, in their order; and none where one of them leads nowhere. With --places
+it also prints of each value the pieces of the file in which it lies: place and length.
 
 Exit status:
   0  The properties are printed
@@ -216,6 +221,60 @@ Exit status:
      standard error tells which
   2  The words are refused
   3  The file cannot be read or is too long, or the output cannot be written
+  4  Memory was refused
+",
+    ),
+    (
+        "value",
+        "Writes the value of a property
+
+Usage: pst_show value [OPTIONS] <FILE> <PATH> <ID>
+
+Arguments:
+  <FILE>  The file to read, or - for standard input
+  <PATH>  A node, as 0x122, or what is inside a message, as 0x200024/0x8025
+  <ID>    The identifier of a property, as 0037
+
+Options:
+      --text    Writes a text as UTF-8
+      --decode  Decodes an encoded file first, in memory
+  -h, --help    Print help
+
+Checks the whole file, and writes the bytes of the value of one property of what PATH
+leads to, as the file has them, and nothing else. ID is four hexadecimal digits, as
+props prints them. With --text a text (type 001F), which the file has as UTF-16, is
+written as UTF-8; values of other types are written as they are.
+
+Exit status:
+  0  The value is written
+  1  The file breaks a rule of the format, or has no such node or property: standard
+     error tells which
+  2  The words are refused
+  3  The file cannot be read or is too long, or the output cannot be written
+  4  Memory was refused
+",
+    ),
+    (
+        "explain",
+        "Explains the kinds of fault
+
+Usage: pst_show explain [KIND]
+
+Arguments:
+  [KIND]  A kind of fault, by its number or its name
+
+Options:
+  -h, --help  Print help
+
+Says in plain words what a kind of fault says of a file, what at, bid and nid are in
+its line, what to do next, and the section of [MS-PST] that has the rule. KIND is as in
+the line of the fault, as 14 or BlockTrailer. Without it, prints a line for each of the
+28 kinds.
+
+Exit status:
+  0  The words are printed
+  2  The words are refused
+  3  The output cannot be written
   4  Memory was refused
 ",
     ),

@@ -10,7 +10,7 @@ const NO_COMMAND: [Refused; 5] = [
     (
         &[],
         "error: 'pst_show' requires a subcommand but one was not provided
-  [subcommands: check, head, nodes, folders, contents, messages, props, help]
+  [subcommands: check, head, nodes, folders, contents, messages, props, value, explain, help]
 
 Usage: pst_show <COMMAND>
 ",
@@ -47,7 +47,7 @@ Usage: pst_show <COMMAND>
     ),
 ];
 
-const TOO_FEW: [Refused; 5] = [
+const TOO_FEW: [Refused; 7] = [
     (
         &["head"],
         "error: the following required arguments were not provided:
@@ -89,9 +89,27 @@ Usage: pst_show contents <FILE> <NID>
 Usage: pst_show props <FILE> <PATH>...
 ",
     ),
+    (
+        &["value", "a.pst", "0x21"],
+        "error: the following required arguments were not provided:
+  <ID>
+
+Usage: pst_show value <FILE> <PATH> <ID>
+",
+    ),
+    (
+        &["value", "--text"],
+        "error: the following required arguments were not provided:
+  <FILE>
+  <PATH>
+  <ID>
+
+Usage: pst_show value --text <FILE> <PATH> <ID>
+",
+    ),
 ];
 
-const TOO_MANY: [Refused; 7] = [
+const TOO_MANY: [Refused; 12] = [
     (
         &["nodes", "a.pst", "b.pst"],
         "error: unexpected argument 'b.pst' found
@@ -143,6 +161,45 @@ Usage: pst_show check [OPTIONS] <FILE>
         "error: unexpected value 'yes' for '--strict' found; no more were expected
 
 Usage: pst_show check --strict <FILE>
+",
+    ),
+    (
+        &["messages", "a.pst", "0x21"],
+        "error: unexpected argument '0x21' found
+
+Usage: pst_show messages [OPTIONS] <FILE>
+",
+    ),
+    (
+        &["value", "a.pst", "0x21", "0037", "0x21"],
+        "error: unexpected argument '0x21' found
+
+Usage: pst_show value [OPTIONS] <FILE> <PATH> <ID>
+",
+    ),
+    (
+        &["props", "--text", "a.pst", "0x21"],
+        "error: unexpected argument '--text' found
+
+  tip: to pass '--text' as a value, use '-- --text'
+
+Usage: pst_show props [OPTIONS] <FILE> <PATH>...
+",
+    ),
+    (
+        &["explain", "--decode"],
+        "error: unexpected argument '--decode' found
+
+  tip: to pass '--decode' as a value, use '-- --decode'
+
+Usage: pst_show explain [KIND]
+",
+    ),
+    (
+        &["explain", "14", "15"],
+        "error: unexpected argument '15' found
+
+Usage: pst_show explain [KIND]
 ",
     ),
 ];
