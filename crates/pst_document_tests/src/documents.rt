@@ -46,7 +46,7 @@ fn properties_are_shown(rt: HostRuntime) -> Result<(), Fail> {
         return Err(Fail::from("no properties"));
     };
     let shown = "[{\"id\":\"3001\",\"type\":\"001F\",\"value\":\"M0\"}]";
-    is_shown(&rt, alloc, &pc_doc(alloc, &pc, None)?, shown)
+    is_shown(&rt, alloc, &pc_doc(alloc, &pc, None, false)?, shown)
 }
 
 const HEAD: &str =

@@ -35,7 +35,7 @@ fn parts_of<'a>(alloc: Global, pc: &Pc<'a>) -> Result<Vec<Part<PropRows<'a>>>, A
 {
     let parts = vec![in alloc;
         Part::Value("nid", Made::Nid(Some(0x21))),
-        Part::Rows("props", prop_rows(pc, None)),
+        Part::Rows("props", prop_rows(pc, None, false)),
     ]?;
     Ok(parts)
 }
@@ -44,7 +44,7 @@ fn parts_of<'a>(alloc: Global, pc: &Pc<'a>) -> Result<Vec<Part<PropRows<'a>>>, A
 fn table_parts<'a>(alloc: Global, tc: &Tc<'a>) -> Result<Vec<Part<TableRows<'a>>>, AllocError>
     ensures { IfOk result (λ parts. KeysRise table_rows_left parts.items) }
 {
-    let rows = table_rows(alloc, tc)?;
+    let rows = table_rows(alloc, tc, false)?;
     let parts = vec![in alloc;
         Part::Value("kind", Made::Word("table")),
         Part::Rows("rows", rows),
@@ -105,7 +105,7 @@ fn a_document_has_its_line(rt: HostRuntime) -> Result<(), Fail> {
     let Ok(tc) = check_tc(node) else {
         return Err(Fail::from("no table"));
     };
-    let line = text(alloc, &table_doc(alloc, &tc)?)?;
+    let line = text(alloc, &table_doc(alloc, &tc, false)?)?;
     is(
         &rt,
         line.as_slice(),

@@ -2,6 +2,7 @@ pub use Rattle.pst_value_json.specs.Line
 pub use Rattle.pst_value_json.specs.Parts
 pub use Rattle.pst_value_json.specs.Names
 pub use Rattle.pst_value_json.specs.Value
+pub use Rattle.pst_value_json.specs.Places
 pub use Rattle.pst_value_json.specs.Props
 pub use Rattle.pst_value_json.specs.Cells
 pub mod Head
@@ -17,9 +18,12 @@ pub mod NamesIndex
 pub mod Path
 pub mod Node
 pub mod Found
+pub mod Property
 pub mod Lists
 pub mod Output
 pub use Rattle.pst_verify.specs as pst_verify
 pub use Rattle.pst_verify.specs.pst_store as pst_store
 pub use Rattle.pst_verify.specs.pst_msg as pst_msg
 pub use Rattle.pst_ndb.specs as pst_ndb
+pub use Rattle.pst_value_json.specs.pst_pc as pst_pc
+pub use Rattle.pst_value_json.specs.pst_datatree as pst_datatree

@@ -12,7 +12,7 @@ use Rattle.pst_json.specs.Node.{attachment_data}
 
 abbrev pub attachment_rows_left : AttachmentRows → List Data
 attachment_rows_left rows =
-    map (attachment_data (names_told rows.names) (table_of_node (holder_left rows.attachments))) (attachments_left rows.attachments)
+    map (attachment_data (names_told rows.names) rows.places (table_of_node (holder_left rows.attachments))) (attachments_left rows.attachments)
 
 abbrev pub list_left : MessageRows → List Data
 list_left (Attachments rows) = attachment_rows_left rows

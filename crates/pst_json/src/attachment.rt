@@ -31,25 +31,28 @@ pub(crate) fn attachment_parts<'a>(
     alloc: Global,
     attachment: Attachment<'a>,
     names: Option<NameMap<'a>>,
+    places: bool,
 ) -> Result<Vec<Part<PropRows<'a>>>, AllocError>
     ensures shown { let t = table_of_node (node_of_attachment attachment.entry) in
-        let shown = attachment_data (names_told names.entry) t (attachment_shown attachment.entry) in
-        IfOk result (λ parts. parts_data prop_rows_left parts.items ≡ shown) }
+        let shown = attachment_shown attachment.entry in let told = names_told names.entry in
+        IfOk result (λ parts.
+        parts_data prop_rows_left parts.items ≡ attachment_data told places t shown) }
     ensures keys { IfOk result (λ parts. KeysRise prop_rows_left parts.items) }
 {
     let parts = vec![in alloc;
         Part::Value("embedded", Made::Nid(embedded_nid(attachment))),
         Part::Value("nid", Made::Nid(Some(attachment.nid()))),
-        Part::Rows("props", prop_rows(&attachment.pc(), names)),
+        Part::Rows("props", prop_rows(&attachment.pc(), names, places)),
     ]?;
     Ok(parts)
 }
 
-/// The attachments that are left, and the names that their properties are shown with.
+/// The attachments that are left, the names that their properties are shown with, and whether with their places.
 #[derive(Drop)]
 pub(crate) struct AttachmentRows<'a> {
     pub(crate) attachments: Attachments<'a>,
     pub(crate) names: Option<NameMap<'a>>,
+    pub(crate) places: bool,
 }
 
 #[tactic(auto, using(crate::proofs::NodeLemmas::attachment_has_none, pst_value_json::proofs::RowLemmas::puts_next))]
@@ -59,7 +62,7 @@ impl Rows for AttachmentRows<'_> {
     fn next_doc(&mut self, alloc: Global) -> Result<Option<Doc>, AllocError> {
         match self.attachments.next() {
             Some(attachment) => {
-                let parts = attachment_parts(alloc, attachment, self.names)?;
+                let parts = attachment_parts(alloc, attachment, self.names, self.places)?;
                 Ok(Some(Tree::object(alloc, parts)?))
             }
             None => Ok(None),
@@ -76,7 +79,7 @@ impl Rows for AttachmentRows<'_> {
         let Some(attachment) = self.attachments.next() else {
             return Ok(false);
         };
-        let parts = attachment_parts(alloc, attachment, self.names)?;
+        let parts = attachment_parts(alloc, attachment, self.names, self.places)?;
         put_object(alloc, parts, later, text)?;
         Ok(true)
     }

@@ -18,11 +18,13 @@ pub enum DocFault {
     NoNode,
     /// The node is neither a message nor a property context: its first fault as one.
     Bad(Fault),
+    /// What a path leads to has no property with this identifier.
+    NoProperty(u16),
     /// Memory was refused.
     Memory,
 }
 
-/// What is said of it, without the identifier that was asked for and without a line feed.
+/// What is said of it, without the path that was asked for and without a line feed.
 impl fmt::Display for DocFault {
     ghost output = { λ f. Some (doc_fault_text f) };
 
@@ -31,6 +33,10 @@ impl fmt::Display for DocFault {
             DocFault::NoFolder => write!(f, "no folder"),
             DocFault::NoNode => write!(f, "no node"),
             DocFault::Bad(fault) => write!(f, "{fault}"),
+            DocFault::NoProperty(id) => {
+                let [high, low] = id.to_be_bytes();
+                write!(f, "no property {high:02X}{low:02X}")
+            }
             DocFault::Memory => write!(f, "out of memory"),
         }
     }

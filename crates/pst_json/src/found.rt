@@ -141,6 +141,23 @@ fn reached_by<'a>(store: &Store<'a>, path: &[u32]) -> Option<Reached<'a>>
     walk_from(store, *nid, steps)
 }
 
+impl<'a> Found<'a> {
+    ghost use Rattle.std.specs.Prelude.{◌≡◌};
+    ghost use Rattle.pst_value_json.specs.pst_pc.View.{node_of_pc};
+    ghost use Rattle.pst_json.specs.Found.{node_of_found};
+
+    /// Its properties.
+    pub(crate) fn pc(&self) -> Pc<'a>
+        ensures { node_of_pc result ≡ node_of_found self.now }
+    {
+        match self {
+            Found::Message(message) => message.pc(),
+            Found::Attachment(attachment) => attachment.pc(),
+            Found::Pc(pc) => *pc,
+        }
+    }
+}
+
 /// What a path leads to that has properties, or why there is none.
 #[tactic(auto, unfolding(crate::specs::Path::found_at))]
 pub(crate) fn found_in<'a>(store: &Store<'a>, path: &[u32]) -> Result<Found<'a>, DocFault>

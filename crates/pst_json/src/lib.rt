@@ -25,6 +25,7 @@ mod names;
 mod node;
 mod nodes;
 mod output;
+mod property;
 mod texts;
 
 pub use check::{check_doc, check_line};
@@ -36,7 +37,11 @@ pub use messages::messages_text;
 pub use names::names_index;
 pub use node::{props_doc, props_line};
 pub use nodes::{nodes_doc, nodes_line};
-pub use output::{EmitFault, emit};
+pub use output::{EmitFault, emit, emit_value};
+pub use property::property_at;
 pub use pst_ndb::read_nodes;
-pub use pst_value_json::{NameIndex, hex_doc, pc_doc, table_doc, text, value_doc};
+pub use pst_value_json::{
+    NameIndex, Prop, PropType, Value, hex_doc, pc_doc, table_doc, text, text_of, value_doc,
+};
 pub use pst_verify::{Store, verify};
+pub use texts::TEXT;

@@ -33,19 +33,23 @@ fn shown_lists<'a, S: Sink>(
     nid: u32,
     message: Message<'a>,
     names: Option<NameMap<'a>>,
+    places: bool,
     recipients: MessageRows<'a>,
 ) -> Result<S::Out, AllocError>
     requires { let node = node_of_message message in
         let t = table_of_node node in let r = roots_of node in
-        array (items_of (list_left recipients)) ≡ recipients_there t (subnode_of t r recipient_nid) }
+        array (items_of (list_left recipients))
+        ≡ recipients_there places t (subnode_of t r recipient_nid) }
     ensures { let node = node_of_message message.entry in let told = names_told names.entry in
-        IfOk result (λ out. S.Shows out (message_data told (table_of_node node) (roots_of node) nid)) }
+        IfOk result (λ out.
+        S.Shows out (message_data told places (table_of_node node) (roots_of node) nid)) }
 {
     let attachments = MessageRows::Attachments(AttachmentRows {
         attachments: message.attachments(),
         names,
+        places,
     });
-    let props = MessageRows::Props(prop_rows(&message.pc(), names));
+    let props = MessageRows::Props(prop_rows(&message.pc(), names, places));
     let parts = vec![in alloc;
         Part::Rows("attachments", attachments),
         Part::Value("nid", Made::Nid(Some(nid))),
@@ -61,17 +65,26 @@ fn shown_message<'a, S: Sink>(
     nid: u32,
     message: Message<'a>,
     names: Option<NameMap<'a>>,
+    places: bool,
 ) -> Result<S::Out, AllocError>
     ensures { let node = node_of_message message.entry in let told = names_told names.entry in
-        IfOk result (λ out. S.Shows out (message_data told (table_of_node node) (roots_of node) nid)) }
+        IfOk result (λ out.
+        S.Shows out (message_data told places (table_of_node node) (roots_of node) nid)) }
 {
     match message.recipients() {
         Some(table) => {
             let index = index_of(alloc, table.node())?;
-            let rows = table_rows(alloc, &table.indexed(&index))?;
-            shown_lists::<S>(alloc, nid, message, names, MessageRows::Recipients(rows))
+            let rows = table_rows(alloc, &table.indexed(&index), places)?;
+            shown_lists::<S>(
+                alloc,
+                nid,
+                message,
+                names,
+                places,
+                MessageRows::Recipients(rows),
+            )
         }
-        None => shown_lists::<S>(alloc, nid, message, names, MessageRows::Nobody),
+        None => shown_lists::<S>(alloc, nid, message, names, places, MessageRows::Nobody),
     }
 }
 
@@ -82,14 +95,15 @@ fn shown_node<'a, S: Sink>(
     nid: u32,
     pc: &Pc<'a>,
     names: Option<NameMap<'a>>,
+    places: bool,
 ) -> Result<S::Out, AllocError>
     ensures { let node = node_of_pc pc.now in let told = names_told names.entry in
         IfOk result (λ out.
-        S.Shows out (node_props_data told (table_of_node node) (roots_of node) nid)) }
+        S.Shows out (node_props_data told places (table_of_node node) (roots_of node) nid)) }
 {
     let parts = vec![in alloc;
         Part::Value("nid", Made::Nid(Some(nid))),
-        Part::Rows("props", prop_rows(pc, names)),
+        Part::Rows("props", prop_rows(pc, names, places)),
     ]?;
     S::object(alloc, parts)
 }
@@ -99,12 +113,13 @@ fn shown_attachment<S: Sink>(
     alloc: Global,
     attachment: Attachment,
     names: Option<NameMap>,
+    places: bool,
 ) -> Result<S::Out, AllocError>
     ensures { let t = table_of_node (node_of_attachment attachment.entry) in
         let shown = attachment_shown attachment.entry in let told = names_told names.entry in
-        IfOk result (λ out. S.Shows out (attachment_data told t shown)) }
+        IfOk result (λ out. S.Shows out (attachment_data told places t shown)) }
 {
-    S::object(alloc, attachment_parts(alloc, attachment, names)?)
+    S::object(alloc, attachment_parts(alloc, attachment, names, places)?)
 }
 
 // The document of what has one.
@@ -112,19 +127,20 @@ fn shown_found<'a, S: Sink>(
     alloc: Global,
     found: Found<'a>,
     names: Option<NameMap<'a>>,
+    places: bool,
 ) -> Result<S::Out, AllocError>
     ensures { let t = table_of_node (node_of_found found.entry) in let told = names_told names.entry in
-        IfOk result (λ out. S.Shows out (place_data told t (place_of_found found.entry))) }
+        IfOk result (λ out. S.Shows out (place_data told places t (place_of_found found.entry))) }
 {
     match found {
         Found::Message(message) => {
             let index = index_of(alloc, message.node())?;
-            shown_message::<S>(alloc, message.nid(), message.indexed(&index), names)
+            shown_message::<S>(alloc, message.nid(), message.indexed(&index), names, places)
         }
-        Found::Attachment(attachment) => shown_attachment::<S>(alloc, attachment, names),
+        Found::Attachment(attachment) => shown_attachment::<S>(alloc, attachment, names, places),
         Found::Pc(pc) => {
             let index = index_of(alloc, pc.node())?;
-            shown_node::<S>(alloc, pc.node().nid(), &pc.indexed(&index), names)
+            shown_node::<S>(alloc, pc.node().nid(), &pc.indexed(&index), names, places)
         }
     }
 }
@@ -134,21 +150,23 @@ fn shown_found<'a, S: Sink>(
 /// identifier of the message that it embeds or null, its own, and its properties; and its recipients, as `table_doc` gives them; of
 /// an attachment that same object. A path is a node, and behind a message an attachment of it, behind an attachment the message that
 /// it embeds: NoNode where a step leads nowhere; Bad with the fault of `check_pc` where the node is neither a message nor a property
-/// context. The index of names is that of `names_index`, made once however many paths are shown.
+/// context. With places, each property and each cell has also a list of `[place,length]`: the pieces of its value in the file. The
+/// index of names is that of `names_index`, made once however many paths are shown.
 #[tactic(auto, using(crate::proofs::FoundLemmas::told_found, crate::proofs::FoundLemmas::told_refused), unfolding(crate::specs::Node::props_told))]
 pub fn props_doc<'a>(
     alloc: Global,
     store: &Store<'a>,
     index: &'a NameIndex,
     path: &[u32],
+    places: bool,
 ) -> Result<Doc, DocFault>
     requires { let ndb = ndb_of_store store.now in
         IsNamesIndex (table_of_ndb ndb) (nodes_of ndb) index.now }
     ensures { let ndb = ndb_of_store store.now in
-        TellsDoc view result (props_told (table_of_ndb ndb) (nodes_of ndb) path.now) }
+        TellsDoc view result (props_told places (table_of_ndb ndb) (nodes_of ndb) path.now) }
 {
     let found = found_in(store, path)?;
-    Ok(shown_found::<Tree>(alloc, found, names_in(store, index))?)
+    Ok(shown_found::<Tree>(alloc, found, names_in(store, index), places)?)
 }
 
 /// The line that shows the properties of what a path leads to: the compact text of their document, and a line feed; or why there is
@@ -159,12 +177,14 @@ pub fn props_line<'a>(
     store: &Store<'a>,
     index: &'a NameIndex,
     path: &[u32],
+    places: bool,
 ) -> Result<Vec<u8>, DocFault>
     requires { let ndb = ndb_of_store store.now in
         IsNamesIndex (table_of_ndb ndb) (nodes_of ndb) index.now }
     ensures { let ndb = ndb_of_store store.now in
-        TellsDoc (λ t. t.items) result (line_of_props (table_of_ndb ndb) (nodes_of ndb) path.now) }
+        let line = line_of_props places (table_of_ndb ndb) (nodes_of ndb) path.now in
+        TellsDoc (λ t. t.items) result line }
 {
     let found = found_in(store, path)?;
-    Ok(shown_found::<Line>(alloc, found, names_in(store, index))?)
+    Ok(shown_found::<Line>(alloc, found, names_in(store, index), places)?)
 }

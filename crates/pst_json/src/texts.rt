@@ -22,8 +22,8 @@ pub(crate) const SENDER: u16 = 0x0C1A;
 /// The subject of a message (PidTagSubject).
 pub(crate) const SUBJECT: u16 = 0x0037;
 
-// The type of texts of 16-bit units (PtypString).
-const TEXT: PropType = PropType(0x001F);
+/// The type of texts of 16-bit units (PtypString).
+pub const TEXT: PropType = PropType(0x001F);
 
 /// The text of the property with an identifier; null where there is none, or it has another type.
 #[tactic(auto, unfolding(crate::specs::Folders::text_property))]

@@ -5,8 +5,8 @@ use pst_bytes::Image;
 use pst_header::read_header;
 use pst_json::{
     check_doc, check_line, contents_doc, contents_line, folders_doc, folders_line, head_doc,
-    head_line, hex_doc, messages_text, names_index, nodes_doc, nodes_line, pc_doc, props_doc, props_line,
-    read_nodes, table_doc, text, value_doc, verify,
+    head_line, hex_doc, messages_text, names_index, nodes_doc, nodes_line, pc_doc, props_doc,
+    props_line, read_nodes, table_doc, text, value_doc, verify,
 };
 use pst_verify::Verified;
 use serde_json::Value as Doc;
@@ -61,30 +61,42 @@ pub(crate) fn nodes(alloc: Global, bytes: &[u8]) -> Result<(), Refused> {
     }
     for message in store.messages() {
         let nid = message.node().nid();
-        let doc = props_doc(alloc, &store, &index, &[nid])?;
-        is_line(alloc, &doc, &props_line(alloc, &store, &index, &[nid])?)?;
+        let doc = props_doc(alloc, &store, &index, &[nid], false)?;
+        is_line(
+            alloc,
+            &doc,
+            &props_line(alloc, &store, &index, &[nid], false)?,
+        )?;
         for attachment in message.attachments() {
             let path = [nid, attachment.node().nid()];
-            let doc = props_doc(alloc, &store, &index, &path)?;
-            is_line(alloc, &doc, &props_line(alloc, &store, &index, &path)?)?;
+            let doc = props_doc(alloc, &store, &index, &path, false)?;
+            is_line(
+                alloc,
+                &doc,
+                &props_line(alloc, &store, &index, &path, false)?,
+            )?;
         }
     }
     let _lines = messages_text(alloc, &store)?;
-    let doc = props_doc(alloc, &store, &index, &[0x21])?;
-    is_line(alloc, &doc, &props_line(alloc, &store, &index, &[0x21])?)
+    let doc = props_doc(alloc, &store, &index, &[0x21], false)?;
+    is_line(
+        alloc,
+        &doc,
+        &props_line(alloc, &store, &index, &[0x21], false)?,
+    )
 }
 
 /// The values of the store's own properties, and the rows of the root folder's table.
 pub(crate) fn values(alloc: Global, bytes: &[u8]) -> Result<(), Refused> {
     let store = verify(alloc, bytes)?.store;
     let pc = store.props();
-    let _all = pc_doc(alloc, &pc, store.names())?;
+    let _all = pc_doc(alloc, &pc, store.names(), false)?;
     for prop in pc.props() {
         let _shown = value_doc(alloc, prop.kind, prop.value)?;
         let _bytes = hex_doc(alloc, prop.value)?;
     }
     if let Some(table) = store.root().hierarchy() {
-        let _rows = table_doc(alloc, &table)?;
+        let _rows = table_doc(alloc, &table, false)?;
     }
     Ok(())
 }

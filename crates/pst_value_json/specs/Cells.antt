@@ -3,7 +3,6 @@ use Rattle.std.specs.Prelude.{ℕ, Bool, ◌%◌, nat_eq, List, [], ◌∷◌, �
 use Rattle.std.specs.List.{list_any}
 use Rattle.serde_json.specs.Data.{Data, string, object, member, no_members}
 use Rattle.pst_block.specs.Table.{Table}
-use Rattle.pst_datatree.specs.Spans.{joined_bytes}
 use Rattle.pst_ndb.specs.Roots.{Roots}
 use Rattle.pst_ndb.specs.Views.{table_of_node, roots_of}
 use Rattle.pst_value.specs.Class.{cell_width_of}
@@ -15,6 +14,7 @@ use Rattle.pst_tc.specs.Values.{ColumnParts, RowParts, tc_cell, tc_columns}
 use Rattle.pst_value_json.specs.declared.cells.TableRows.{TableRows}
 use Rattle.pst_value_json.specs.Names.{nid_data, tag_text}
 use Rattle.pst_value_json.specs.Parts.{list_data}
+use Rattle.pst_value_json.specs.Places.{Content, content_of, places_data, if_asked, member_if}
 use Rattle.pst_value_json.specs.Value.{value_data, hex_data}
 
 -- ---- the columns that are shown
@@ -37,11 +37,11 @@ distinct_columns columns = with_columns [] columns
 
 -- ---- cells
 
--- a cell that a row has: the tag and the width of its column, and the bytes of its value
+-- a cell that a row has: the tag and the width of its column, and what is told of its value
 pub record Cell : Type 0 where
   pub tag : ℕ
   pub width : ℕ
-  pub bytes : List ℕ
+  pub content : Content
 
 -- the type of a column
 abbrev pub tag_kind : ℕ → ℕ
@@ -50,41 +50,51 @@ tag_kind tag = tag % 0x10000
 -- a value of the column's type, where the column has the width of its type; else only bytes
 abbrev pub cell_value : Cell → Data
 cell_value c =
-    if has_width (cell_width_of (tag_kind c.tag)) c.width then value_data (tag_kind c.tag) c.bytes else hex_data c.bytes
+    if has_width (cell_width_of (tag_kind c.tag)) c.width then value_data (tag_kind c.tag) c.content.bytes
+    else hex_data c.content.bytes
 
-unfoldable pub cell_data : Cell → Data
-cell_data c = object (member (codes "tag") (string (tag_text c.tag)) (member (codes "value") (cell_value c) no_members))
+-- its places where they are told, its tag and its value
+unfoldable pub cell_data : Bool → Cell → Data
+cell_data places c =
+    object
+    (member_if (codes "places") (option_map places_data (if_asked places c.content.places))
+    (member (codes "tag") (string (tag_text c.tag))
+    (member (codes "value") (cell_value c)
+    no_members)))
 
-abbrev pub cell_with : ColumnParts → List ℕ → Cell
-cell_with c bytes = record { tag = c.tag; width = c.width; bytes = bytes }
+abbrev pub cell_with : ColumnParts → Content → Cell
+cell_with c content = record { tag = c.tag; width = c.width; content = content }
 
 -- the cell of a column, where the row has it
-abbrev pub cell_in : ColumnParts → Option (List ℕ) → List Cell
+abbrev pub cell_in : ColumnParts → Option Content → List Cell
 cell_in c None = []
-cell_in c (Some bytes) = cell_with c bytes ∷ []
+cell_in c (Some content) = cell_with c content ∷ []
 
--- the bytes of the cell that the row at a place has in the first column with a tag
-abbrev pub cell_bytes : Table → Roots → ℕ → ℕ → Option (List ℕ)
-cell_bytes t r row tag = option_map (joined_bytes t.image) (tc_cell t r row tag)
+-- what is told of the cell that the row at a place has in the first column with a tag
+abbrev pub cell_content : Table → Roots → ℕ → ℕ → Option Content
+cell_content t r row tag = option_map (content_of t.image) (tc_cell t r row tag)
 
 -- the cells that it has in these columns
 unfoldable pub cells_of : Table → Roots → ℕ → List ColumnParts → List Cell
 cells_of t r row [] = []
-cells_of t r row (c ∷ rest) = cell_in c (cell_bytes t r row c.tag) ++ cells_of t r row rest
+cells_of t r row (c ∷ rest) = cell_in c (cell_content t r row c.tag) ++ cells_of t r row rest
 
 -- ---- rows
 
 -- a row: its cells in these columns, and its identifier
-unfoldable pub row_data : Table → Roots → List ColumnParts → RowParts → Data
-row_data t r columns x =
-    object (member (codes "cells") (list_data cell_data (cells_of t r x.place.at columns)) (member (codes "row") (nid_data x.id) no_members))
+unfoldable pub row_data : Bool → Table → Roots → List ColumnParts → RowParts → Data
+row_data places t r columns x =
+    object
+    (member (codes "cells") (list_data (cell_data places) (cells_of t r x.place.at columns))
+    (member (codes "row") (nid_data x.id)
+    no_members))
 
 -- a row of the table context of a node, with its cells in all columns that are shown
-abbrev pub table_row_data : Table → Roots → RowParts → Data
-table_row_data t r = row_data t r (distinct_columns (tc_columns t r))
+abbrev pub table_row_data : Bool → Table → Roots → RowParts → Data
+table_row_data places t r = row_data places t r (distinct_columns (tc_columns t r))
 
 -- the rows that are left, with the cells in the columns that are shown
 unfoldable pub table_rows_left : TableRows → List Data
 table_rows_left x =
     let node = node_of_tc (tc_left x.rows) in
-    map (row_data (table_of_node node) (roots_of node) (map column_of x.columns.items)) (tc_rows_left x.rows)
+    map (row_data x.places (table_of_node node) (roots_of node) (map column_of x.columns.items)) (tc_rows_left x.rows)

@@ -5,11 +5,14 @@ pub mod Plain
 pub mod Form
 pub mod Value
 pub mod Time
+pub mod Places
 pub mod Props
 pub mod Cells
 pub mod Rows
 pub mod Made
 pub mod Object
+pub use Rattle.pst_datatree.specs as pst_datatree
+pub use Rattle.pst_value.specs as pst_value
 pub use Rattle.pst_names.specs as pst_names
 pub use Rattle.pst_pc.specs as pst_pc
 pub use Rattle.pst_tc.specs as pst_tc

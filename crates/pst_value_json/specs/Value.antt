@@ -17,9 +17,12 @@ use Rattle.pst_value_json.specs.Form.{form_of}
 abbrev pub hex_data : List ℕ → Data
 hex_data bytes = string (encode_lower bytes)
 
--- the text that the 16-bit units spell; a surrogate without a partner is U+FFFD
+-- the text that the 16-bit units spell, in UTF-8; a surrogate without a partner is U+FFFD
+abbrev pub utf8_of : List ℕ → List ℕ
+utf8_of bytes = encode_utf8_all (utf16_lossy_chars (units_of bytes))
+
 abbrev pub text_data : List ℕ → Data
-text_data bytes = string (encode_utf8_all (utf16_lossy_chars (units_of bytes)))
+text_data bytes = string (utf8_of bytes)
 
 -- the hyphenated form in lower case
 abbrev pub guid_data : List ℕ → Data

@@ -2,22 +2,23 @@
 
 ghost use Rattle.std.specs.Prelude.{◌≡◌, ◌++◌, IfOk, OnOk, map, option_map};
 ghost use Rattle.serde_json.specs.View.{view};
-ghost use Rattle.pst_datatree.specs.Shown.{bytes_in};
 ghost use Rattle.pst_ndb.specs.Views.{table_of_node, roots_of};
 ghost use Rattle.pst_tc.specs.Left.{columns_left};
 ghost use Rattle.pst_tc.specs.Tc.{node_of_tc};
 ghost use Rattle.pst_tc.specs.Values.{tc_rows};
 ghost use Rattle.pst_tc.specs.View.{column_of, row_parts, tc_of_row};
-ghost use Rattle.pst_value_json.specs.Cells.{has_tag, distinct_columns, cell_with, cell_in, cell_bytes, cell_value, cell_data, cells_of, row_data, table_row_data, table_rows_left};
+ghost use Rattle.pst_value_json.specs.Cells.{has_tag, distinct_columns, cell_with, cell_in, cell_content, cell_value, cell_data, cells_of, row_data, table_row_data, table_rows_left};
 ghost use Rattle.pst_value_json.specs.Parts.{list_data};
+ghost use Rattle.pst_value_json.specs.Places.{content_in};
 
 use crate::listing::{self, list_doc};
 use crate::names::{nid_text, tag_text};
+use crate::places::places_doc;
 use crate::value::{hex_doc, value_doc};
 use pst_datatree::Value;
 use pst_tc::{Column, Columns, Row, Rows, Tc};
 use pst_value::PropType;
-use serde_json::{Value as Doc, json};
+use serde_json::{Map, Value as Doc, json, put};
 use std::alloc::{AllocError, Global};
 
 // Whether a column with this tag is among these.
@@ -50,7 +51,7 @@ fn shown_columns(alloc: Global, columns: Columns) -> Result<Vec<Column>, AllocEr
 // The value of a cell.
 fn cell_value_doc(alloc: Global, column: Column, value: Value) -> Result<Doc, AllocError>
     ensures { IfOk result (λ d.
-        view d ≡ cell_value (cell_with (column_of column) (bytes_in value.entry))) }
+        view d ≡ cell_value (cell_with (column_of column) (content_in value.entry))) }
 {
     let kind = PropType((column.tag % 0x1_0000) as u16);
     if kind.cell_width() == Some(column.width) {
@@ -62,20 +63,34 @@ fn cell_value_doc(alloc: Global, column: Column, value: Value) -> Result<Doc, Al
 
 // A cell as an object.
 #[tactic(auto, unfolding(crate::specs::Cells::cell_data))]
-fn cell_doc(alloc: Global, column: Column, value: Value) -> Result<Doc, AllocError>
+fn cell_doc(alloc: Global, column: Column, value: Value, places: bool) -> Result<Doc, AllocError>
     ensures { IfOk result (λ d.
-        view d ≡ cell_data (cell_with (column_of column) (bytes_in value.entry))) }
+        view d ≡ cell_data places (cell_with (column_of column) (content_in value.entry))) }
 {
-    let tag = tag_text(alloc, column.tag)?;
-    let value = cell_value_doc(alloc, column, value)?;
-    json!(in alloc; {"tag": tag, "value": value})
+    let mut map = Map::new(alloc);
+    if places {
+        put(&mut map, alloc, "places", places_doc(alloc, value)?)?;
+    }
+    put(
+        &mut map,
+        alloc,
+        "tag",
+        Doc::from(tag_text(alloc, column.tag)?),
+    )?;
+    put(
+        &mut map,
+        alloc,
+        "value",
+        cell_value_doc(alloc, column, value)?,
+    )?;
+    Ok(Doc::from(map))
 }
 
 // The value of the cell that a row has in the first column with a tag.
-#[tactic(auto, using(crate::proofs::CellLemmas::value_bytes))]
+#[tactic(auto, using(crate::proofs::PlaceLemmas::value_content))]
 fn cell_at<'a>(row: Row<'a>, tag: u32) -> Option<Value<'a>>
     ensures { let node = node_of_tc (tc_of_row row.entry) in
-        option_map bytes_in result ≡ cell_bytes (table_of_node node) (roots_of node)
+        option_map content_in result ≡ cell_content (table_of_node node) (roots_of node)
         (row_parts row.entry).place.at tag }
 {
     row.cell(tag)
@@ -86,61 +101,66 @@ fn push_cell(
     alloc: Global,
     column: Column,
     value: Option<Value>,
+    places: bool,
     docs: &mut Vec<Doc>,
 ) -> Result<(), AllocError>
-    ensures { let cell = cell_in (column_of column) (option_map bytes_in value.entry) in
-        OnOk result (map view docs.new.items ≡ map view docs.old.items ++ map cell_data cell) }
+    ensures { let cell = cell_in (column_of column) (option_map content_in value.entry) in
+        OnOk result (map view docs.new.items
+        ≡ map view docs.old.items ++ map (cell_data places) cell) }
 {
     if let Some(value) = value {
-        docs.push(cell_doc(alloc, column, value)?)?;
+        docs.push(cell_doc(alloc, column, value, places)?)?;
     }
     Ok(())
 }
 
 // The cells that a row has in these columns, as a list of objects.
 #[tactic(auto, using(crate::proofs::CellLemmas::cells_at, crate::proofs::CellLemmas::cells_past))]
-fn cells_doc(alloc: Global, row: Row, columns: &[Column]) -> Result<Doc, AllocError>
+fn cells_doc(alloc: Global, row: Row, columns: &[Column], places: bool) -> Result<Doc, AllocError>
     ensures { let node = node_of_tc (tc_of_row row.entry) in
         let cells = cells_of (table_of_node node) (roots_of node) (row_parts row.entry).place.at
         (map column_of columns.now) in
-        IfOk result (λ d. view d ≡ list_data cell_data cells) }
+        IfOk result (λ d. view d ≡ list_data (cell_data places) cells) }
 {
     let mut docs = Vec::new(alloc);
     for column in columns {
-        push_cell(alloc, *column, cell_at(row, column.tag), &mut docs)?;
+        push_cell(alloc, *column, cell_at(row, column.tag), places, &mut docs)?;
     }
     Ok(Doc::from(docs))
 }
 
 // A row as an object.
 #[tactic(auto, unfolding(crate::specs::Cells::row_data))]
-fn row_doc(alloc: Global, row: Row, columns: &[Column]) -> Result<Doc, AllocError>
+fn row_doc(alloc: Global, row: Row, columns: &[Column], places: bool) -> Result<Doc, AllocError>
     ensures { let node = node_of_tc (tc_of_row row.entry) in
-        IfOk result (λ d. view d ≡ row_data (table_of_node node) (roots_of node)
+        IfOk result (λ d. view d ≡ row_data places (table_of_node node) (roots_of node)
         (map column_of columns.now) (row_parts row.entry)) }
 {
-    let cells = cells_doc(alloc, row, columns)?;
+    let cells = cells_doc(alloc, row, columns, places)?;
     let id = nid_text(alloc, row.id())?;
     json!(in alloc; {"cells": cells, "row": id})
 }
 
-/// The rows of a table that are left, with the columns that are shown of each.
+/// The rows of a table that are left, with the columns that are shown of each, and whether with the places of their cells.
 #[derive(Drop)]
 pub struct TableRows<'a> {
     rows: Rows<'a>,
     columns: Vec<Column>,
+    places: bool,
 }
 
-/// All rows of a table.
+/// All rows of a table; with the places of their cells where these are asked for.
 #[tactic(auto, unfolding(crate::specs::Cells::table_rows_left))]
-pub fn table_rows<'a>(alloc: Global, tc: &Tc<'a>) -> Result<TableRows<'a>, AllocError>
+pub fn table_rows<'a>(alloc: Global, tc: &Tc<'a>, places: bool) -> Result<TableRows<'a>, AllocError>
     ensures { let node = node_of_tc tc.now in let t = table_of_node node in let r = roots_of node in
-        IfOk result (λ rows. table_rows_left rows ≡ map (table_row_data t r) (tc_rows t r)) }
+        IfOk result (λ rows.
+        table_rows_left rows ≡ map (table_row_data places t r) (tc_rows t r)) }
 {
     let columns = shown_columns(alloc, tc.columns())?;
     Ok(TableRows {
         rows: tc.rows(),
         columns,
+        places,
     })
 }
 
@@ -150,7 +170,7 @@ impl listing::Rows for TableRows<'_> {
 
     fn next_doc(&mut self, alloc: Global) -> Result<Option<Doc>, AllocError> {
         match self.rows.next() {
-            Some(row) => Ok(Some(row_doc(alloc, row, &self.columns)?)),
+            Some(row) => Ok(Some(row_doc(alloc, row, &self.columns, self.places)?)),
             None => Ok(None),
         }
     }
@@ -159,10 +179,10 @@ impl listing::Rows for TableRows<'_> {
 /// The rows of a table as a JSON array of objects, in order of their identifiers, each with its cells, in order of the
 /// columns, and its identifier. Cells that a row has not, and columns whose tag an earlier one has, are left out. A cell
 /// has the tag of its column, and its value, as `value_doc` gives it, or, in a column that has not the width of its type,
-/// as `hex_doc` does.
-pub fn table_doc(alloc: Global, tc: &Tc) -> Result<Doc, AllocError>
+/// as `hex_doc` does. With places, each has also a list of `[place,length]`, as the properties of `pc_doc` have.
+pub fn table_doc(alloc: Global, tc: &Tc, places: bool) -> Result<Doc, AllocError>
     ensures { let node = node_of_tc tc.now in let t = table_of_node node in let r = roots_of node in
-        IfOk result (λ d. view d ≡ list_data (table_row_data t r) (tc_rows t r)) }
+        IfOk result (λ d. view d ≡ list_data (table_row_data places t r) (tc_rows t r)) }
 {
-    list_doc(alloc, table_rows(alloc, tc)?)
+    list_doc(alloc, table_rows(alloc, tc, places)?)
 }

@@ -10,10 +10,11 @@
 //!     nid: u32,
 //!     pc: &Pc,
 //!     names: Option<NameMap>,
+//!     places: bool,
 //! ) -> Result<S::Out, AllocError> {
 //!     let parts = vec![in alloc;
 //!         Part::Value("nid", Made::Nid(Some(nid))),
-//!         Part::Rows("props", prop_rows(pc, names)),
+//!         Part::Rows("props", prop_rows(pc, names, places)),
 //!     ]?;
 //!     S::object(alloc, parts)
 //! }
@@ -26,6 +27,7 @@ mod form;
 mod listing;
 mod names;
 mod parts;
+mod places;
 mod props;
 mod scalar;
 mod sinks;
@@ -38,11 +40,12 @@ pub use listing::Rows;
 pub use names::nid_text;
 pub use parts::{Made, Part};
 pub use props::{PropRows, pc_doc, prop_rows};
+pub use pst_datatree::Value;
 pub use pst_names::{NameIndex, NameMap};
-pub use pst_pc::{Pc, check_pc};
+pub use pst_pc::{Pc, Prop, check_pc};
 pub use pst_tc::{Row, Rows as TcRows, Tc, check_tc, tc_ids_rise};
 pub use pst_value::PropType;
-pub use scalar::text_doc;
+pub use scalar::{text_doc, text_of};
 pub use sinks::{Line, Sink, Tree, put_object};
 pub use time::{i32_or_null_doc, time_or_null_doc};
 pub use value::{hex_doc, value_doc};

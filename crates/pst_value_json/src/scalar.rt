@@ -10,7 +10,7 @@ ghost use Rattle.pst_value.specs.Units.{units_of};
 ghost use Rattle.serde_json.specs.Data.{boolean};
 ghost use Rattle.pst_value.specs.Read.{exactly, i16_of, i32_of, i64_of, u32_of, u64_of, bool_of, guid_of, object_of};
 ghost use Rattle.pst_value_json.specs.Parts.{natural, integer};
-ghost use Rattle.pst_value_json.specs.Value.{hex_data, text_data, guid_data, object_data, null_or_hex, or_hex};
+ghost use Rattle.pst_value_json.specs.Value.{hex_data, utf8_of, text_data, guid_data, object_data, null_or_hex, or_hex};
 
 use crate::names::nid_text;
 use pst_datatree::{Pieces, Value};
@@ -29,12 +29,19 @@ fn units(alloc: Global, value: Value) -> Result<Vec<u16>, AllocError>
     Ok(units)
 }
 
+/// The text that 16-bit units spell, as UTF-8; a surrogate without a partner is U+FFFD.
+pub fn text_of(alloc: Global, value: Value) -> Result<String, AllocError>
+    ensures { IfOk result (λ s. string_bytes s ≡ utf8_of (bytes_in value.entry)) }
+{
+    let units = units(alloc, value)?;
+    String::from_utf16_lossy(alloc, &units)
+}
+
 /// Text of 16-bit units.
 pub fn text_doc(alloc: Global, value: Value) -> Result<Doc, AllocError>
     ensures { IfOk result (λ d. view d ≡ text_data (bytes_in value.entry)) }
 {
-    let units = units(alloc, value)?;
-    Ok(Doc::from(String::from_utf16_lossy(alloc, &units)?))
+    Ok(Doc::from(text_of(alloc, value)?))
 }
 
 // The bytes of pieces in hexadecimal.

@@ -66,7 +66,7 @@ fn rows_are_shown(rt: HostRuntime) -> Result<(), Fail> {
         let Ok(tc) = check_tc(node) else {
             return Err(Fail::from("no table"));
         };
-        is_shown(&rt, alloc, &table_doc(alloc, &tc)?, shown)?;
+        is_shown(&rt, alloc, &table_doc(alloc, &tc, false)?, shown)?;
     }
     Ok(())
 }

@@ -1,0 +1,28 @@
+//! One property of what a path leads to.
+
+ghost use Rattle.std.specs.Prelude.{◌≡◌, IfOk};
+ghost use Rattle.pst_ndb.specs.Views.{table_of_ndb, nodes_of, image_of_ndb};
+ghost use Rattle.pst_value_json.specs.pst_pc.View.{property_of};
+ghost use Rattle.pst_verify.specs.pst_store.View.{ndb_of_store};
+ghost use Rattle.pst_json.specs.Told.{told_of};
+ghost use Rattle.pst_json.specs.Property.{property_at as property_told, IsLentAt};
+
+use crate::fault::DocFault;
+use crate::found::found_in;
+use pst_value_json::Prop;
+use pst_verify::Store;
+
+/// The property with an identifier of what a path leads to, lent from the file's own memory; no memory is taken. Paths are those of
+/// `props_doc`, and its faults come first: NoNode where a step leads nowhere; Bad with the fault of `check_pc` where the node is
+/// neither a message nor a property context; NoProperty where there is no property with the identifier.
+pub fn property_at<'a>(store: &Store<'a>, path: &[u32], id: u16) -> Result<Prop<'a>, DocFault>
+    ensures told { let ndb = ndb_of_store store.now in
+        told_of property_of result ≡ property_told (table_of_ndb ndb) (nodes_of ndb) path.now id }
+    ensures lent { let ndb = ndb_of_store store.now in
+        IfOk result (IsLentAt (image_of_ndb ndb) (table_of_ndb ndb) (nodes_of ndb) path.now id) }
+{
+    match found_in(store, path)?.pc().get(id) {
+        Some(prop) => Ok(prop),
+        None => Err(DocFault::NoProperty(id)),
+    }
+}
