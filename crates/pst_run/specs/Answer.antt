@@ -23,7 +23,7 @@ use Rattle.pst_json.specs.Messages.{messages_text}
 use Rattle.pst_json.specs.Node.{props_line}
 use Rattle.pst_json.specs.Nodes.{nodes_line}
 use Rattle.pst_json.specs.Told.{told_of}
-use Rattle.pst_json.specs.Value.{property_at, written_of}
+use Rattle.pst_json.specs.Property.{property_at, written_of}
 use Rattle.pst_plain.specs.Twin.{twin_of}
 use Rattle.sha2.specs.Sha256.{sha256}
 use Rattle.pst_datatree.specs.Shown.{bytes_in}

@@ -5,7 +5,7 @@ ghost use Rattle.pst_ask.specs.Ask.{report, head, nodes, folders, contents, mess
 ghost use Rattle.pst_json.specs.NamesIndex.{IsNamesIndex};
 ghost use Rattle.pst_json.specs.Node.{props_line as line_of_props};
 ghost use Rattle.pst_json.specs.pst_ndb.Views.{table_of_ndb, nodes_of};
-ghost use Rattle.pst_json.specs.Value.{written_of};
+ghost use Rattle.pst_json.specs.Property.{written_of};
 ghost use Rattle.pst_json.specs.pst_pc.View.{property_of};
 ghost use Rattle.pst_json.specs.pst_store.View.{ndb_of_store};
 ghost use Rattle.pst_run.specs.Answer.{Gives, answer_with, lines_of_paths, plain, told_in};
@@ -16,8 +16,8 @@ use pst_ask::{Ask, Path};
 use pst_bytes::Image;
 use pst_header::read_header;
 use pst_json::{
-    NameIndex, Prop, Store, TEXT, check_line, contents_line, folders_line, head_line, messages_text, names_index,
-    nodes_line, property_at, props_line, read_nodes, utf8_text, verify,
+    NameIndex, Prop, Store, TEXT, check_line, contents_line, folders_line, head_line,
+    messages_text, names_index, nodes_line, property_at, props_line, read_nodes, text_of, verify,
 };
 use std::alloc::{AllocError, Global};
 use std::slice;
@@ -74,7 +74,11 @@ fn folders_answer(alloc: Global, bytes: &[u8]) -> Result<Shown<'static>, Refusal
 
 // `contents`: the messages of a folder.
 #[tactic(auto, unfolding(crate::specs::Answer::answer_with))]
-fn contents_answer<'a>(alloc: Global, nid: &'a u32, bytes: &[u8]) -> Result<Shown<'a>, Refusal<'a>>
+fn contents_answer<'p>(
+    alloc: Global,
+    nid: &'p u32,
+    bytes: &[u8],
+) -> Result<Shown<'static>, Refusal<'p>>
     ensures { (digest : Option (List ℕ)) → Gives result (answer_with (contents nid.now) digest bytes.now) }
 {
     let store = verify(alloc, bytes)?.store;
@@ -115,7 +119,7 @@ fn props_lines<'p, 'a>(
     paths: &'p [Path],
     store: &Store<'a>,
     index: &'a NameIndex,
-) -> Result<Shown<'p>, Refusal<'p>>
+) -> Result<Shown<'static>, Refusal<'p>>
     requires { let ndb = ndb_of_store store.now in
         IsNamesIndex (table_of_ndb ndb) (nodes_of ndb) index.now }
     ensures { let ndb = ndb_of_store store.now in
@@ -134,12 +138,12 @@ fn props_lines<'p, 'a>(
 
 // `props`: the properties of what paths lead to, one after another.
 #[tactic(auto, unfolding(crate::specs::Answer::answer_with))]
-fn props_answer<'a>(
+fn props_answer<'p>(
     alloc: Global,
     places: bool,
-    paths: &'a [Path],
+    paths: &'p [Path],
     bytes: &[u8],
-) -> Result<Shown<'a>, Refusal<'a>>
+) -> Result<Shown<'static>, Refusal<'p>>
     ensures { (digest : Option (List ℕ)) → Gives result
         (answer_with (props places (map nids_of paths.now)) digest bytes.now) }
 {
@@ -154,7 +158,7 @@ fn shown_value<'a>(alloc: Global, text: bool, prop: Prop<'a>) -> Result<Shown<'a
     ensures { IfOk result (λ s. told_in s ≡ plain (written_of text (property_of prop.entry))) }
 {
     if text && prop.kind == TEXT {
-        return Ok(Shown::made(utf8_text(alloc, prop.value)?));
+        return Ok(Shown::made(text_of(alloc, prop.value)?.into_bytes()));
     }
     Ok(Shown {
         text: Text::Lent(prop.value),
@@ -164,13 +168,13 @@ fn shown_value<'a>(alloc: Global, text: bool, prop: Prop<'a>) -> Result<Shown<'a
 
 // `value`: the value of one property of what a path leads to.
 #[tactic(auto, unfolding(crate::specs::Answer::answer_with))]
-fn value_answer<'a>(
+fn value_answer<'p, 'a>(
     alloc: Global,
     text: bool,
-    path: &'a Path,
+    path: &'p Path,
     id: u16,
     bytes: &'a [u8],
-) -> Result<Shown<'a>, Refusal<'a>>
+) -> Result<Shown<'a>, Refusal<'p>>
     ensures { (digest : Option (List ℕ)) → Gives result
         (answer_with (value text (nids_of path.now) id) digest bytes.now) }
 {
@@ -184,12 +188,12 @@ fn value_answer<'a>(
 
 /// What a command shows of a file with these bytes, and with this digest where it shows one; or why it refuses them. The fault
 /// NoMemory comes as want of memory, and not as a refusal of the file.
-pub fn answer<'a>(
+pub fn answer<'p, 'a>(
     alloc: Global,
-    ask: &'a Ask,
+    ask: &'p Ask,
     digest: Option<[u8; 32]>,
     bytes: &'a [u8],
-) -> Result<Shown<'a>, Refusal<'a>>
+) -> Result<Shown<'a>, Refusal<'p>>
     ensures { Gives result (answer_with (wanted_of ask.now) digest bytes.now) }
 {
     match ask {
