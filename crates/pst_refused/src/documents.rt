@@ -6,7 +6,7 @@ use pst_header::read_header;
 use pst_json::{
     check_doc, check_line, contents_doc, contents_line, folders_doc, folders_line, head_doc,
     head_line, hex_doc, messages_text, names_index, nodes_doc, nodes_line, pc_doc, props_doc,
-    props_line, read_nodes, table_doc, text, value_doc, verify,
+    props_line, read_nodes, table_doc, text, text_of, value_doc, verify,
 };
 use pst_verify::Verified;
 use serde_json::Value as Doc;
@@ -61,11 +61,11 @@ pub(crate) fn nodes(alloc: Global, bytes: &[u8]) -> Result<(), Refused> {
     }
     for message in store.messages() {
         let nid = message.node().nid();
-        let doc = props_doc(alloc, &store, &index, &[nid], false)?;
+        let doc = props_doc(alloc, &store, &index, &[nid], true)?;
         is_line(
             alloc,
             &doc,
-            &props_line(alloc, &store, &index, &[nid], false)?,
+            &props_line(alloc, &store, &index, &[nid], true)?,
         )?;
         for attachment in message.attachments() {
             let path = [nid, attachment.node().nid()];
@@ -86,7 +86,7 @@ pub(crate) fn nodes(alloc: Global, bytes: &[u8]) -> Result<(), Refused> {
     )
 }
 
-/// The values of the store's own properties, and the rows of the root folder's table.
+/// The values of the store's own properties, as documents and as text, and the rows of the root folder's table.
 pub(crate) fn values(alloc: Global, bytes: &[u8]) -> Result<(), Refused> {
     let store = verify(alloc, bytes)?.store;
     let pc = store.props();
@@ -94,6 +94,7 @@ pub(crate) fn values(alloc: Global, bytes: &[u8]) -> Result<(), Refused> {
     for prop in pc.props() {
         let _shown = value_doc(alloc, prop.kind, prop.value)?;
         let _bytes = hex_doc(alloc, prop.value)?;
+        let _text = text_of(alloc, prop.value)?;
     }
     if let Some(table) = store.root().hierarchy() {
         let _rows = table_doc(alloc, &table, false)?;
