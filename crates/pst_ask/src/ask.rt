@@ -2,7 +2,7 @@
 
 ghost use Rattle.std.specs.Prelude.{◌≡◌, Ok as Okay, codes, map, option_map};
 ghost use Rattle.clap.specs.Words.{all_of, first_of, found_of, rows_of, subcommand_rows_of};
-ghost use Rattle.pst_ask.specs.Ask.{Reads, is_used, kind_named as kind_in_words, node_named, path_named, paths_named, property_named, nids_of, of_file as asked_of_file, or_lack, order_of, value_of, wanted_of, asked_by, asked_in};
+ghost use Rattle.pst_ask.specs.Ask.{Reads, is_used, kind_named as kind_in_words, node_named, path_named, paths_named, property_named, both_of, nids_of, of_file as asked_of_file, or_lack, order_of, value as value_wanted, wanted_of, asked_by, asked_in};
 ghost use Rattle.pst_ask.specs.declared.ask.Lack.TheVariants.{Nid};
 ghost use Rattle.pst_ask.specs.Nid.{paths_of as paths_in_words};
 
@@ -177,8 +177,8 @@ fn paths_in(alloc: Global, found: &ArgMatches) -> Result<Vec<Path>, NoOrder>
 
 // The value that is named: a bad path is told before a bad identifier.
 fn value_in(alloc: Global, found: &ArgMatches) -> Result<Ask, NoOrder>
-    ensures { Reads wanted_of result (value_of
-        (is_used (codes "text") (rows_of (found_of found.now)))
+    ensures { Reads wanted_of result (both_of
+        (value_wanted (is_used (codes "text") (rows_of (found_of found.now))))
         (path_named (first_of (codes "PATH") (rows_of (found_of found.now))))
         (property_named (first_of (codes "ID") (rows_of (found_of found.now))))) }
 {

@@ -192,7 +192,9 @@ fn with_file<'a>(
 {
     match takes {
         Takes::Kind => Ok(command),
-        _ => command.arg(decode_arg(alloc))?.arg(file_arg(alloc)),
+        Takes::File | Takes::Report | Takes::Node | Takes::Paths | Takes::Property => {
+            command.arg(decode_arg(alloc))?.arg(file_arg(alloc))
+        }
     }
 }
 
