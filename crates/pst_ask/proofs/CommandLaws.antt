@@ -12,7 +12,7 @@ use Rattle.pst_ask.specs.declared.verb.Takes.TheVariants as takes
 use Rattle.pst_ask.specs.declared.verb.Verb.{Verb}
 use Rattle.pst_ask.specs.declared.verb.Verb.TheVariants.{Check, Head, Nodes, Folders, Contents, Messages, Props, Value, Explain}
 use Rattle.pst_ask.specs.Ask.{Flags, Ordered, Wanted, asked_by, asked_of, asking, both_named, both_of, contents, explain, folders, head, is_used, kind_named, messages, node_named, nodes, of_file, of_named, only_kind, only_node, only_property, or_lack, path_named, paths_named, property_named, props, report, show, shows, some_paths, value}
-use Rattle.pst_ask.specs.Nid.{nid_of_word, path_of_word, paths_of}
+use Rattle.pst_ask.specs.Nid.{path_of_word}
 use Rattle.pst_ask.specs.Property.{property_of_word}
 use Rattle.pst_ask.specs.Verbs.{name_of, takes_of}
 use Rattle.pst_ask.specs.Words.{IsAsked, IsNoOption, WordsLaw, to_file}

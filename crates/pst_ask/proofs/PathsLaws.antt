@@ -1,5 +1,5 @@
 -- What a command that takes paths finds of its words: the file and the paths, however many.
-use Rattle.std.proofs.Common.{◌≡◌, ℕ, Bool, true, false, List, [], ◌∷◌, ◌++◌, Some, None, refl, sym, ap, subst, ◌∙◌, append_assoc}
+use Rattle.std.proofs.Common.{◌≡◌, ℕ, Bool, true, false, List, [], ◌∷◌, ◌++◌, Some, refl, sym, ap, subst, ◌∙◌, append_assoc}
 use Rattle.std.specs.Prelude.{nat_eq, codes, fold}
 use Rattle.clap.specs.Words.{Row, Shape, Text, all_of}
 use Rattle.clap.specs.Kinds.{or_else}

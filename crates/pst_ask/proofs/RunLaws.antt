@@ -4,7 +4,7 @@ use Rattle.std.specs.Prelude.{nat_eq, fold, codes}
 use Rattle.clap.specs.Words.{Kinds, Row, Rule, Shape, Text}
 use Rattle.clap.specs.Kinds.{or_else}
 use Rattle.clap.specs.Faults.{check_fault, defaults_fault, level_fault, settle_fault, turn_fault, walk_fault}
-use Rattle.clap.specs.Walk.{Held, Names, Waiting, Walk, finished, idle, nothing_held, settled, walk, walk_from, walked}
+use Rattle.clap.specs.Walk.{Held, Names, Waiting, Walk, finished, idle, nothing_held, settled, walk, walked}
 use Rattle.clap.specs.declared.builder.value_parser.Reading.TheVariants.{AsWritten}
 use Rattle.clap.specs.declared.parser.matches.ValueSource.TheVariants.{CommandLine}
 use Rattle.clap.proofs.OnLiterals.{clap_on_literals}
@@ -52,9 +52,10 @@ fault_behind s names w (x ∷ xs) ys good behind =
     ap (λ k. or_else k (walk_fault s names (walked s.rules names w x) (xs ++ ys))) parts.0 ∙ rest
 
 pub runs_on : (s : Shape) (w mid end : Walk) (xs ys : List Text) → Runs s w xs mid → Runs s mid ys end → Runs s w (xs ++ ys) end
-runs_on s w mid end xs ys first then =
-    (walk_behind s.rules [] w xs ys ∙ ap (λ m. fold (walked s.rules []) m ys) first.0 ∙ then.0,
-    fault_behind s [] w xs ys first.1 (ap (λ m. walk_fault s [] m ys) first.0 ∙ then.1))
+runs_on s w mid end xs ys first then = (
+  walk_behind s.rules [] w xs ys ∙ ap (λ m. fold (walked s.rules []) m ys) first.0 ∙ then.0,
+  fault_behind s [] w xs ys first.1 (ap (λ m. walk_fault s [] m ys) first.0 ∙ then.1),
+)
 
 -- ---- where a walk ends
 
@@ -73,6 +74,7 @@ level_good s words end runs ends =
   where
     held : Held
     held = (walk s.rules [] nothing_held words).held
+
     rest : Kinds
     rest = or_else (defaults_fault (settled s.rules held).rows s.rules) (check_fault s (finished s.rules held) false)
 

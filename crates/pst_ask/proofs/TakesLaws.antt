@@ -1,8 +1,8 @@
 -- What a command finds of its words, by what it takes: a file, flags, and behind the file a node, or a path and a property.
-use Rattle.std.proofs.Common.{◌≡◌, ℕ, Bool, true, false, List, [], ◌∷◌, ◌++◌, Some, None, Ok, refl, ap}
+use Rattle.std.proofs.Common.{◌≡◌, ℕ, Bool, true, false, List, [], ◌∷◌, ◌++◌, Some, None, refl}
 use Rattle.std.specs.Prelude.{nat_eq, codes}
-use Rattle.clap.specs.Words.{Row, Shape, Text, first_of}
-use Rattle.clap.specs.Walk.{Held, Walk, finished, idle}
+use Rattle.clap.specs.Words.{Row, Text, first_of}
+use Rattle.clap.specs.Walk.{Walk, finished, idle}
 use Rattle.clap.proofs.OnLiterals.{clap_on_literals}
 use Rattle.pst_ask.specs.declared.verb.Takes.{Takes}
 use Rattle.pst_ask.specs.declared.verb.Takes.TheVariants.{File, Report, Node}
@@ -10,7 +10,7 @@ use Rattle.pst_ask.specs.declared.verb.Takes.TheVariants as takes
 use Rattle.pst_ask.specs.Ask.{Flags, is_used}
 use Rattle.pst_ask.specs.Words.{IsNoOption, to_file}
 use Rattle.pst_ask.proofs.PlainLemmas.{IsPlain}
-use Rattle.pst_ask.proofs.RunLaws.{Ends, Goes, Runs, before, behind_file, finds, flag_row, flag_rows, found, found_row, goes_on, holds, stays}
+use Rattle.pst_ask.proofs.RunLaws.{Ends, Goes, behind_file, finds, flag_row, flag_rows, found, found_row, goes_on, holds, stays}
 use Rattle.pst_ask.proofs.TopLaws.{Finds, level, start}
 
 -- the file of these rows, and whether it is decoded first

@@ -204,24 +204,25 @@ fn of_file<'a>(found: &ArgMatches<'a>, ask: Ask) -> Result<Order<'a>, NoOrder>
 fn order_by<'a>(alloc: Global, verb: Verb, found: &ArgMatches<'a>) -> Result<Order<'a>, NoOrder>
     ensures { Reads order_of result (asked_by verb (rows_of (found_of found.now))) }
 {
-    let ask = match verb {
-        Verb::Check => Ask::Check {
-            strict: is_given(found, "strict"),
-            digest: is_given(found, "digest"),
-        },
-        Verb::Head => Ask::Head,
-        Verb::Nodes => Ask::Nodes,
-        Verb::Folders => Ask::Folders,
-        Verb::Contents => Ask::Contents(node_in(found)?),
-        Verb::Messages => Ask::Messages,
-        Verb::Props => Ask::Props {
-            places: is_given(found, "places"),
-            paths: paths_in(alloc, found)?,
-        },
-        Verb::Value => value_in(alloc, found)?,
-        Verb::Explain => return Ok(Order::Explain(kind_in(found)?)),
-    };
-    of_file(found, ask)
+    match verb {
+        Verb::Check => {
+            let strict = is_given(found, "strict");
+            let digest = is_given(found, "digest");
+            of_file(found, Ask::Check { strict, digest })
+        }
+        Verb::Head => of_file(found, Ask::Head),
+        Verb::Nodes => of_file(found, Ask::Nodes),
+        Verb::Folders => of_file(found, Ask::Folders),
+        Verb::Contents => of_file(found, Ask::Contents(node_in(found)?)),
+        Verb::Messages => of_file(found, Ask::Messages),
+        Verb::Props => {
+            let places = is_given(found, "places");
+            let paths = paths_in(alloc, found)?;
+            of_file(found, Ask::Props { places, paths })
+        }
+        Verb::Value => of_file(found, value_in(alloc, found)?),
+        Verb::Explain => Ok(Order::Explain(kind_in(found)?)),
+    }
 }
 
 /// What the words were taken for.
