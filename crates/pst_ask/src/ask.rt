@@ -139,10 +139,7 @@ fn kind_in(found: &ArgMatches) -> Result<Option<Kind>, Lack>
     ensures { result ≡ kind_in_words (first_of (codes "KIND") (rows_of (found_of found.now))) }
 {
     match text_in(found, "KIND") {
-        Some(word) => match kind_named(word) {
-            Some(kind) => Ok(Some(kind)),
-            None => Err(Lack::Kind),
-        },
+        Some(word) => Ok(Some(kind_named(word).ok_or(Lack::Kind)?)),
         None => Ok(None),
     }
 }
