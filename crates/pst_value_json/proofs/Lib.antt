@@ -2,6 +2,7 @@ pub mod CellLemmas
 pub mod HexLemmas
 pub mod PartLemmas
 pub mod PlainLemmas
+pub mod PlaceLemmas
 pub mod PropLemmas
 pub mod RowLemmas
 pub mod TimeLemmas

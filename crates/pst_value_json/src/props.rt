@@ -110,7 +110,7 @@ pub fn prop_rows<'a>(pc: &Pc<'a>, names: Option<NameMap<'a>>, places: bool) -> P
     }
 }
 
-#[tactic(auto, unfolding(crate::specs::Props::prop_rows_left), using(crate::proofs::PropLemmas::prop_has_none))]
+#[tactic(auto, unfolding(crate::specs::Props::prop_rows_left), using(crate::proofs::PropLemmas::prop_has_none, crate::proofs::PropLemmas::record_next))]
 impl Rows for PropRows<'_> {
     ghost left = { prop_rows_left };
 
