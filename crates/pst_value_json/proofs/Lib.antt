@@ -1,5 +1,6 @@
 pub mod CellLemmas
 pub mod HexLemmas
+pub mod NameLemmas
 pub mod PartLemmas
 pub mod PlainLemmas
 pub mod PlaceLemmas

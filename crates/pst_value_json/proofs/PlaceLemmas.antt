@@ -1,5 +1,5 @@
 -- Where the pieces of values lie.
-use Rattle.std.proofs.Common.{◌≡◌, ℕ, Bool, true, false, ◌+◌, ◌<◌, ◌≤◌, ⊤, List, [], ◌∷◌, ◌++◌, map, length, take, drop, Option, Some, None, refl, sym, ap, ◌∙◌, arith, inl, inr, length-take, length-drop}
+use Rattle.std.proofs.Common.{◌≡◌, ℕ, ◌+◌, ◌<◌, ◌≤◌, List, [], ◌∷◌, ◌++◌, map, length, take, drop, Option, Some, None, refl, sym, ap, ◌∙◌, arith, inl, inr, length-take, length-drop}
 use Rattle.std.specs.Prelude.{IfSome, nat_lt, option_map, if◌then◌else◌}
 use Rattle.std.proofs.lemmas.Bool.{cases_lt}
 use Rattle.std.proofs.lemmas.List.{take_min}
@@ -7,13 +7,11 @@ use Rattle.std.proofs.lemmas.Grind.{common_steps}
 use Rattle.pst_bytes.specs.declared.Image.{Image}
 use Rattle.pst_bytes.specs.declared.span.Span.{Span}
 use Rattle.pst_bytes.specs.Image.{bytes_of, bytes_at, IsInside}
-use Rattle.pst_block.specs.Table.{Table}
 use Rattle.pst_datatree.specs.declared.value_view.Value.{Value}
 use Rattle.pst_datatree.specs.declared.value_view.Value.TheVariants.{Whole, Pieces}
 use Rattle.pst_datatree.specs.Shown.{ShowsSpans}
 use Rattle.pst_datatree.specs.Spans.{nonempty, joined_bytes, first_span, AreInside}
 use Rattle.pst_datatree.proofs.ValueLemmas.{with_bytes, without_bytes, length_bytes}
-use Rattle.pst_ndb.specs.Roots.{Roots}
 use Rattle.pst_pc.specs.Values.{spans_in}
 use Rattle.pst_tc.specs.Values.{tc_cell}
 use Rattle.pst_value.specs.View.{IsValueOf}

@@ -1,5 +1,5 @@
 -- Documents of properties: each is that of its record, and has no floating-point number.
-use Rattle.std.proofs.Common.{◌≡◌, ℕ, Bool, true, false, List, [], ◌∷◌, map, Option, Some, None, refl, sym, ap, ◌∙◌}
+use Rattle.std.proofs.Common.{◌≡◌, ℕ, Bool, false, List, ◌∷◌, map, Option, Some, None, refl, sym, ap, ◌∙◌}
 use Rattle.serde_json.specs.Written.{has_float}
 use Rattle.pst_bytes.specs.declared.span.Span.{Span}
 use Rattle.pst_block.specs.Table.{Table}

@@ -4,7 +4,6 @@ ghost use Rattle.pst_value_json.specs.Laws.{PropPlacesLaw, CellPlacesLaw};
 
 /// The bytes of the file at the places that are told of a property, one after another, are its value; each of them lies in the file,
 /// and has bytes.
-#[tactic(auto, using(crate::proofs::PlaceLemmas::prop_places))]
 pub fn prop_places_hold()
     ensures { PropPlacesLaw }
 {}
