@@ -44,68 +44,38 @@ level takes name = built_leaf (inherited (with_leaf_noted show_app.top) (app_tak
 abbrev command : Verb → Shape
 command v = level (takes_of v) (name_of v)
 
-is_command : (v : Verb) → find (λ s. answers_to (name_of v) (label_of s)) whole.subs ≡ Some (command v)
-unfolding clap_on_literals
-is_command Check = refl
-is_command Head = refl
-is_command Nodes = refl
-is_command Folders = refl
-is_command Contents = refl
-is_command Messages = refl
-is_command Props = refl
-is_command Value = refl
-is_command Explain = refl
-
-is_verb : (v : Verb) → verb_of (command v).name ≡ Some v
-unfolding clap_on_literals
-is_verb Check = refl
-is_verb Head = refl
-is_verb Nodes = refl
-is_verb Folders = refl
-is_verb Contents = refl
-is_verb Messages = refl
-is_verb Props = refl
-is_verb Value = refl
-is_verb Explain = refl
-
 -- where the walk stands before any word
 abbrev pub start : Walk
 start = walk_from nothing_held
 
--- the walk meets the command by its name
-name_met : (v : Verb) → walked whole.top.rules (names_of whole) start (name_of v) ≡ stopped_at start (name_of v) []
-unfolding clap_on_literals
-name_met Check = refl
-name_met Head = refl
-name_met Nodes = refl
-name_met Folders = refl
-name_met Contents = refl
-name_met Messages = refl
-name_met Props = refl
-name_met Value = refl
-name_met Explain = refl
+-- the program meets a command by its name: this is its level, it is no other command, and the walk stops at it, without a fault
+record Meets (v : Verb) : Type 0 where
+  pub shape : find (λ s. answers_to (name_of v) (label_of s)) whole.subs ≡ Some (command v)
+  pub verb : verb_of (command v).name ≡ Some v
+  pub walk : walked whole.top.rules (names_of whole) start (name_of v) ≡ stopped_at start (name_of v) []
+  pub good : turn_fault whole.top (names_of whole) start (name_of v) ≡ []
 
-name_good : (v : Verb) → turn_fault whole.top (names_of whole) start (name_of v) ≡ []
+meets : (v : Verb) → Meets v
 unfolding clap_on_literals
-name_good Check = refl
-name_good Head = refl
-name_good Nodes = refl
-name_good Folders = refl
-name_good Contents = refl
-name_good Messages = refl
-name_good Props = refl
-name_good Value = refl
-name_good Explain = refl
+meets Check = record { shape = refl; verb = refl; walk = refl; good = refl }
+meets Head = record { shape = refl; verb = refl; walk = refl; good = refl }
+meets Nodes = record { shape = refl; verb = refl; walk = refl; good = refl }
+meets Folders = record { shape = refl; verb = refl; walk = refl; good = refl }
+meets Contents = record { shape = refl; verb = refl; walk = refl; good = refl }
+meets Messages = record { shape = refl; verb = refl; walk = refl; good = refl }
+meets Props = record { shape = refl; verb = refl; walk = refl; good = refl }
+meets Value = record { shape = refl; verb = refl; walk = refl; good = refl }
+meets Explain = record { shape = refl; verb = refl; walk = refl; good = refl }
 
 top_stops : (v : Verb) (words : List Text) → fold (walked whole.top.rules (names_of whole)) start (name_of v ∷ words) ≡ stopped_at start (name_of v) words
 top_stops v words =
-    ap (λ w. fold (walked whole.top.rules (names_of whole)) w words) (name_met v) ∙ stops whole.top.rules (names_of whole) start (name_of v) [] words
+    ap (λ w. fold (walked whole.top.rules (names_of whole)) w words) (meets v).walk ∙ stops whole.top.rules (names_of whole) start (name_of v) [] words
 
 top_good : (v : Verb) (words : List Text) → walk_fault whole.top (names_of whole) start (name_of v ∷ words) ≡ []
 unfolding walk_fault
 top_good v words =
-    ap (λ k. or_else k (walk_fault whole.top (names_of whole) (walked whole.top.rules (names_of whole) start (name_of v)) words)) (name_good v)
-    ∙ ap (λ w. walk_fault whole.top (names_of whole) w words) (name_met v) ∙ stops_well whole.top (names_of whole) start (name_of v) [] words
+    ap (λ k. or_else k (walk_fault whole.top (names_of whole) (walked whole.top.rules (names_of whole) start (name_of v)) words)) (meets v).good
+    ∙ ap (λ w. walk_fault whole.top (names_of whole) w words) (meets v).walk ∙ stops_well whole.top (names_of whole) start (name_of v) [] words
 
 -- ---- what is made of them
 
@@ -137,14 +107,14 @@ unfolding entered_with left_fault
 top_fault v words =
     let there : fault_of show_app (name_of v ∷ words) ≡ entered_with words (find (λ s. answers_to (name_of v) (label_of s)) whole.subs) =
     built_is whole (name_of v ∷ words) (stopped_at start (name_of v) words) (top_stops v words) (top_good v words) in
-    there ∙ ap (entered_with words) (is_command v) ∙ ap (or_else (level_fault (command v) [] nothing_held words false [])) nothing_left
+    there ∙ ap (entered_with words) (meets v).shape ∙ ap (or_else (level_fault (command v) [] nothing_held words false [])) nothing_left
     ∙ nothing_behind (level_fault (command v) [] nothing_held words false [])
 
 top_asked : (v : Verb) (words : List Text) → asked (name_of v ∷ words) ≡ asked_by v (finished (command v).rules (walk (command v).rules [] nothing_held words).held)
 unfolding asked
 top_asked v words =
-    ap (λ w. asked_in (entered whole w.stopped)) (top_stops v words) ∙ ap (λ o. asked_in (option_map (λ s. rows_at s words) o)) (is_command v)
-    ∙ ap (λ o. asked_with o (finished (command v).rules (walk (command v).rules [] nothing_held words).held)) (is_verb v)
+    ap (λ w. asked_in (entered whole w.stopped)) (top_stops v words) ∙ ap (λ o. asked_in (option_map (λ s. rows_at s words) o)) (meets v).shape
+    ∙ ap (λ o. asked_with o (finished (command v).rules (walk (command v).rules [] nothing_held words).held)) (meets v).verb
 
 -- a level takes these words, and finds these rows
 pub record Finds (s : Shape) (words : List Text) (rows : List Row) : Type 0 where

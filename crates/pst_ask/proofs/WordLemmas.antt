@@ -1,6 +1,6 @@
 -- What the matches of the words ask for.
-use Rattle.std.proofs.Common.{◌≡◌, ◌+◌, ◌<◌, true, Bool, List, [], ◌∷◌, ◌++◌, length, drop, get_or, Option, Some, None, Result, Ok, Err, inl, refl, sym, ap, ◌∙◌, append_assoc, append-nil, ◌≤◌}
-use Rattle.std.specs.Prelude.{IfErr, IfOk, option_map, find, map, ℕ, false}
+use Rattle.std.proofs.Common.{◌≡◌, ◌+◌, ◌<◌, true, List, [], ◌∷◌, ◌++◌, length, drop, get_or, Option, Some, None, Result, Ok, Err, inl, refl, sym, ap, ◌∙◌, append_assoc, append-nil, ◌≤◌}
+use Rattle.std.specs.Prelude.{IfErr, IfOk, option_map, map, ℕ}
 use Rattle.std.specs.Borrow.{Bor}
 use Rattle.std.proofs.lemmas.List.{at_drop_more, drop_all}
 use Rattle.clap.specs.Words.{App, Text, Row, fault_of, all_of, first_of, first_value, found_of, matched_of, raw_values, rows_of, subcommand_name_of, subcommand_rows_of, is_simple, is_simple_and_free, HasMatchesOf}
@@ -54,13 +54,6 @@ unfolding asked
 asked_is words m h = ap asked_in (sym (h is_simple_show).1)
 
 -- ---- a command by its name
-
--- it is none of those before
-pub find_next : {X : Type 0} (test : X → Bool) (xs : List X) (i : ℕ) (d : X) (whole : Option X) → i < length xs → test (get_or xs i d) ≡ false
-    → find test (drop i xs) ≡ whole → find test (drop (i + 1) xs) ≡ whole
-find_next test xs i d whole inside other so_far =
-    let next = at_drop_more (find test) xs i d inside in
-    sym (rw other at next) ∙ so_far
 
 -- what is asked for by the command that was used, with its matches
 pub order_is : (m inner : ArgMatches) (n : Text) → Some n ≡ subcommand_name_of m → Some (rows_of (found_of inner)) ≡ option_map (λ (p : Text × List Row). p.1) (subcommand_rows_of m)
