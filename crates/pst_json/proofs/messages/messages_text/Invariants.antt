@@ -7,6 +7,6 @@ use Rattle.pst_json.proofs.messages.messages_text.Given as goal
 -- the text so far, with the lines of the messages that are left, is all
 abbrev pub invariant-loop-message : goal.invariant-loop-message
 invariant-loop-message l = let ndb = ndb_of_store l.store in record {
-  ndb : messages_ndb l.message-iterator ≡ ndb;
+  same : messages_ndb l.message-iterator ≡ ndb;
   lines : l.text.items ++ summary_lines (table_of_ndb ndb) (nodes_of ndb) (messages_left l.message-iterator) ≡ messages_text (table_of_ndb ndb) (nodes_of ndb);
 }
