@@ -25,6 +25,7 @@ mod names;
 mod node;
 mod nodes;
 mod output;
+mod row_counts;
 mod texts;
 
 pub use check::{check_doc, check_line};
