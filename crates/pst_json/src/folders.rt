@@ -22,8 +22,8 @@ use pst_verify::{Folder, Reach, Verified, path_from_root};
 use serde_json::{Value as Doc, json};
 use std::alloc::{AllocError, Global};
 
-/// How many rows a table has, 0 where it is not there.
-pub(crate) fn count_of(table: Option<Tc>) -> u64
+// How many rows a table has, 0 where it is not there.
+fn count_of(table: Option<Tc>) -> u64
     ensures { (t : Table) → IfSome table.entry (λ x. table_of_node (node_of_tc x) ≡ t)
         → result ≡ length (rows_there t (option_map tc_roots table.entry)) }
 {
@@ -46,9 +46,9 @@ fn row_nids_doc(alloc: Global, tc: &Tc) -> Result<Doc, AllocError>
     Ok(Doc::from(docs))
 }
 
-// Identifiers as a list.
+/// Identifiers as a list.
 #[tactic(auto, using(crate::proofs::RowsLemmas::nids_more, crate::proofs::RowsLemmas::nids_end))]
-fn nid_list_doc(alloc: Global, nids: &[u32]) -> Result<Doc, AllocError>
+pub(crate) fn nid_list_doc(alloc: Global, nids: &[u32]) -> Result<Doc, AllocError>
     ensures { IfOk result (λ d. view d ≡ list_data nid_data nids.now) }
 {
     let mut docs = Vec::new(alloc);

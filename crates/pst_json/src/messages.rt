@@ -13,6 +13,7 @@ ghost use Rattle.pst_json.specs.Listings.{folders_at};
 ghost use Rattle.pst_json.specs.Messages.{time_property, number_property, shown_data, summary_data, messages_text as text_of_messages};
 ghost use Rattle.pst_json.specs.RowCounts.{AreCountsTrue, IsHeld};
 
+use crate::folders::nid_list_doc;
 use crate::listings::{Listings, listings_of};
 use crate::row_counts::{Held, RowCounts};
 use crate::texts::{CLASS, SENDER, SUBJECT, text_property_doc};
@@ -57,17 +58,6 @@ fn number_property_doc(pc: &Pc, id: u16) -> Doc
         Some(prop) if prop.kind == NUMBER => i32_or_null_doc(prop.value),
         _ => Doc::Null,
     }
-}
-
-// Identifiers as a list.
-fn nids_doc(alloc: Global, nids: &[u32]) -> Result<Doc, AllocError>
-    ensures { IfOk result (λ d. view d ≡ list_data nid_data nids.now) }
-{
-    let mut docs = Vec::new(alloc);
-    for nid in nids {
-        docs.push(Doc::from(nid_text(alloc, *nid)?))?;
-    }
-    Ok(Doc::from(docs))
 }
 
 // What is shown of a message.
@@ -118,7 +108,7 @@ fn summary_doc(
 {
     let pc = message.pc();
     let class = text_property_doc(alloc, &pc, CLASS)?;
-    let folders = nids_doc(alloc, folders)?;
+    let folders = nid_list_doc(alloc, folders)?;
     let received = time_property_doc(alloc, &pc, RECEIVED)?;
     let sender = text_property_doc(alloc, &pc, SENDER)?;
     let sent = time_property_doc(alloc, &pc, SENT)?;
