@@ -40,9 +40,9 @@ fn a_kind_is_explained(rt: HostRuntime) {
 
 #[test]
 fn all_kinds_have_a_line(rt: HostRuntime) {
-    let mut number = 0;
+    let mut number: u8 = 0;
     for line in explanation(None).lines() {
-        number += 1;
+        number = number.saturating_add(1);
         let word = line.split(' ').next().unwrap_or("");
         let kind = kind_named(word);
         is_at(&rt, line, kind.map(Kind::number), Some(number));
