@@ -86,7 +86,7 @@ def html_of(props):
         return prop.read().decode("latin-1")
 
 
-def set_body(message, node, say):
+def set_body(message, node):
     text, html = node.props.text("1000"), html_of(node.props)
     if text is not None or html is None:
         message.set_content(text or "")
@@ -98,10 +98,10 @@ def set_body(message, node, say):
         say(f"{node.path}: its body is compressed RTF")
 
 
-def add_attachment(message, attachment, nodes, say):
+def add_attachment(message, attachment, nodes):
     name = plain(attachment.name) or None
     if attachment.embedded is not None:
-        message.add_attachment(message_of(nodes[attachment.embedded], nodes, say), filename=name)
+        message.add_attachment(message_of(nodes[attachment.embedded], nodes), filename=name)
         return
     if attachment.data is None:
         say(f"{attachment.path}: it is neither bytes nor a message")
@@ -112,13 +112,13 @@ def add_attachment(message, attachment, nodes, say):
     message.add_attachment(attachment.data.read(), maintype=main, subtype=sub, filename=name)
 
 
-def message_of(node, nodes, say):
+def message_of(node, nodes):
     """A message with all that is in it."""
     message = EmailMessage(email.policy.SMTP)
     set_headers(message, node)
-    set_body(message, node, say)
+    set_body(message, node)
     for attachment in node.attachments:
-        add_attachment(message, attachment, nodes, say)
+        add_attachment(message, attachment, nodes)
     return message
 
 
@@ -154,19 +154,24 @@ def write(path, message):
         out.write(message.as_bytes())
 
 
+def say(text):
+    print(f"left out: {text}", file=sys.stderr)
+
+
 def main():
     if len(sys.argv) != 3:
         print(f"usage: {sys.argv[0]} FILE FOLDER", file=sys.stderr)
         return 2
     path, folder = sys.argv[1:]
-    say = lambda text: print(f"left out: {text}", file=sys.stderr)
+    # Messages lie in one another up to 128 deep, and Python's email writes each by some calls within those of the one around it.
+    sys.setrecursionlimit(20_000)
     try:
         with pst.open(path, decode=True) as store:
             places = places_of(store)
             messages = store.messages()
             nodes = nodes_of(store, (it.nid for it in messages))
             for it in messages:
-                message = message_of(nodes[it.nid], nodes, say)
+                message = message_of(nodes[it.nid], nodes)
                 for place in [places[nid] for nid in it.folders] or ["lost"]:
                     write(os.path.join(folder, place, f"{it.nid}.eml"), message)
     except (pst.Error, OSError) as error:
