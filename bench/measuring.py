@@ -89,6 +89,11 @@ class Bench:
         told = subprocess.run([f"{OUT}/run_alone", str(self.limit), *words], check=True, capture_output=True)
         return *map(int, told.stdout.split()), told.stderr.decode(errors="replace").split("\n")[0]
 
+    @staticmethod
+    def printed(words):
+        """How many bytes a command writes on standard output."""
+        return len(subprocess.run(words, check=False, stdout=subprocess.PIPE).stdout)
+
     def judge(self, cost, value, aim):
         """Says whether a value is at most what is aimed at; it is missed where a run did not end well."""
         if value <= aim and not cost.ending:

@@ -2,7 +2,7 @@
 
 _pst_show() {
     local word=${COMP_WORDS[COMP_CWORD]} command='' index files=0
-    local commands='check head nodes folders contents props help'
+    local commands='check head nodes folders contents messages props value explain help'
     COMPREPLY=()
     for ((index = 1; index < COMP_CWORD; index++)); do
         case ${COMP_WORDS[index]} in
@@ -29,7 +29,9 @@ _pst_show() {
             nodes) options='--help --decode' ;;
             folders) options='--help --decode' ;;
             contents) options='--help --decode' ;;
-            props) options='--help --decode' ;;
+            messages) options='--help --decode' ;;
+            props) options='--help --places --decode' ;;
+            value) options='--help --text --decode' ;;
         esac
         mapfile -t COMPREPLY < <(compgen -W "$options" -- "$word")
         return
@@ -37,7 +39,7 @@ _pst_show() {
     ((files == 0)) || return
     case $command in
         help) mapfile -t COMPREPLY < <(compgen -W "$commands" -- "$word") ;;
-        check | head | nodes | folders | contents | props)
+        check | head | nodes | folders | contents | messages | props | value)
             compopt -o filenames 2>/dev/null
             mapfile -t COMPREPLY < <(compgen -d -- "$word"; compgen -f -X '!*.[pP][sS][tT]' -- "$word")
             ;;

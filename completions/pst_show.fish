@@ -1,6 +1,6 @@
 # Completion of pst_show for fish.
 
-set -l commands check head nodes folders contents props help
+set -l commands check head nodes folders contents messages props value explain help
 
 complete -c pst_show -f
 complete -c pst_show -n "not __fish_seen_subcommand_from $commands" -s h -l help -d 'Show help'
@@ -10,7 +10,10 @@ complete -c pst_show -n "not __fish_seen_subcommand_from $commands" -a head -d '
 complete -c pst_show -n "not __fish_seen_subcommand_from $commands" -a nodes -d 'Lists the nodes'
 complete -c pst_show -n "not __fish_seen_subcommand_from $commands" -a folders -d 'Lists the folders'
 complete -c pst_show -n "not __fish_seen_subcommand_from $commands" -a contents -d 'Lists the messages of a folder'
+complete -c pst_show -n "not __fish_seen_subcommand_from $commands" -a messages -d 'Lists all messages, a line for each'
 complete -c pst_show -n "not __fish_seen_subcommand_from $commands" -a props -d 'Shows the properties of nodes'
+complete -c pst_show -n "not __fish_seen_subcommand_from $commands" -a value -d 'Writes the value of a property'
+complete -c pst_show -n "not __fish_seen_subcommand_from $commands" -a explain -d 'Explains the kinds of fault'
 complete -c pst_show -n "not __fish_seen_subcommand_from $commands" -a help -d 'Shows help'
 complete -c pst_show -n "__fish_seen_subcommand_from check" -l strict -d 'Ends with status 1 where space is lost, too'
 complete -c pst_show -n "__fish_seen_subcommand_from check" -l digest -d 'Adds the SHA-256 of the file as it is stored'
@@ -19,8 +22,12 @@ complete -c pst_show -n "__fish_seen_subcommand_from head" -l decode -d 'Decodes
 complete -c pst_show -n "__fish_seen_subcommand_from nodes" -l decode -d 'Decodes an encoded file first, in memory'
 complete -c pst_show -n "__fish_seen_subcommand_from folders" -l decode -d 'Decodes an encoded file first, in memory'
 complete -c pst_show -n "__fish_seen_subcommand_from contents" -l decode -d 'Decodes an encoded file first, in memory'
+complete -c pst_show -n "__fish_seen_subcommand_from messages" -l decode -d 'Decodes an encoded file first, in memory'
+complete -c pst_show -n "__fish_seen_subcommand_from props" -l places -d 'Adds where in the file each value lies'
 complete -c pst_show -n "__fish_seen_subcommand_from props" -l decode -d 'Decodes an encoded file first, in memory'
-complete -c pst_show -n "__fish_seen_subcommand_from check head nodes folders contents props" -s h -l help -d 'Show help'
-complete -c pst_show -n "__fish_seen_subcommand_from check head nodes folders contents props" \
+complete -c pst_show -n "__fish_seen_subcommand_from value" -l text -d 'Writes a text as UTF-8'
+complete -c pst_show -n "__fish_seen_subcommand_from value" -l decode -d 'Decodes an encoded file first, in memory'
+complete -c pst_show -n "__fish_seen_subcommand_from check head nodes folders contents messages props value explain" -s h -l help -d 'Show help'
+complete -c pst_show -n "__fish_seen_subcommand_from check head nodes folders contents messages props value" \
     -k -a "(__fish_complete_suffix .pst)"
 complete -c pst_show -n "__fish_seen_subcommand_from help" -a "$commands"

@@ -18,9 +18,16 @@ ROOT = os.path.dirname(os.path.dirname(os.path.abspath(__file__)))
 STORE = "*.(#i)pst(-.)"
 
 
+class Word(NamedTuple):
+    """A word behind the name of a command: its name, its help, whether there may be several, and whether there may be none."""
+    name: str
+    text: str
+    is_many: bool
+    is_optional: bool
+
+
 class Command(NamedTuple):
-    """A command: its name, what it is for, its flags and its words, each with its help (and of a word whether there may be
-    several), and what it does, in lines."""
+    """A command: its name, what it is for, its flags, each with its help, its words, and what it does, in lines."""
     name: str
     about: str
     flags: list
@@ -28,7 +35,7 @@ class Command(NamedTuple):
     does: list
 
     def takes_file(self):
-        return any(name == "FILE" for name, _, _ in self.words)
+        return any(word.name == "FILE" for word in self.words)
 
 
 def help_of(program, *words):
@@ -51,7 +58,10 @@ def command_of(program, name, about):
         return Command(name, "Shows help", [], [], ["Shows help, or that of a command."])
     lines = help_of(program, name)
     flags = [(flag.split()[-1], text) for flag, text in rows(lines, "Options:") if "--help" not in flag]
-    words = [(word.strip("<>[]."), text, word.endswith("...")) for word, text in rows(lines, "Arguments:")]
+    words = [
+        Word(word.strip("<>[]."), text, word.endswith("..."), word.startswith("["))
+        for word, text in rows(lines, "Arguments:")
+    ]
     end = lines.index("Exit status:")
     start = max(index for index in range(end - 1) if lines[index] == "") + 1
     return Command(name, about, flags, words, lines[start:end - 1])
@@ -59,6 +69,11 @@ def command_of(program, name, about):
 
 def commands_of(program):
     return [command_of(program, *row) for row in rows(help_of(program), "Commands:")]
+
+
+def own(commands):
+    """The commands but for `help`, which clap adds."""
+    return [command for command in commands if command.name != "help"]
 
 
 # ---- bash
@@ -156,17 +171,18 @@ _pst_show "$@"
 """
 
 
-def zsh_word(place, name, text, is_many):
+def zsh_word(place, word):
     """What stands at a place, or from there on: a store, or a word of which only the help is shown."""
-    if name == "FILE":
+    if word.name == "FILE":
         return f"'{place}:store:_files -g \"{STORE}\"'"
-    return f"'{'*' if is_many else place}:{text}: '"
+    where = "*" if word.is_many else place
+    return f"'{where}:{':' if word.is_optional else ''}{word.text}: '"
 
 
 def zsh_case(command):
     given = ["'(- *)'{-h,--help}'[show help]'"]
     given += [f"'{flag}[{text}]'" for flag, text in command.flags]
-    given += [zsh_word(place, *word) for place, word in enumerate(command.words, 1)]
+    given += [zsh_word(place, word) for place, word in enumerate(command.words, 1)]
     arguments = " \\\n                ".join(given)
     return f"        {command.name})\n            _arguments {arguments}\n            ;;"
 
@@ -174,7 +190,7 @@ def zsh_case(command):
 def zsh(commands):
     return ZSH.format(
         names="\n".join(f"        '{command.name}:{command.about}'" for command in commands),
-        cases="\n".join(zsh_case(command) for command in commands if command.takes_file()),
+        cases="\n".join(zsh_case(command) for command in own(commands)),
     )
 
 
@@ -182,6 +198,7 @@ def zsh(commands):
 
 def fish(commands):
     names = " ".join(command.name for command in commands)
+    helped = " ".join(command.name for command in own(commands))
     files = " ".join(command.name for command in commands if command.takes_file())
     none = 'complete -c pst_show -n "not __fish_seen_subcommand_from $commands"'
     lines = ["# Completion of pst_show for fish.", "", f"set -l commands {names}", "", "complete -c pst_show -f"]
@@ -191,7 +208,7 @@ def fish(commands):
         seen = f'complete -c pst_show -n "__fish_seen_subcommand_from {command.name}"'
         lines += [f"{seen} -l {flag.lstrip('-')} -d '{text}'" for flag, text in command.flags]
     lines += [
-        f"complete -c pst_show -n \"__fish_seen_subcommand_from {files}\" -s h -l help -d 'Show help'",
+        f"complete -c pst_show -n \"__fish_seen_subcommand_from {helped}\" -s h -l help -d 'Show help'",
         f'complete -c pst_show -n "__fish_seen_subcommand_from {files}" \\',
         '    -k -a "(__fish_complete_suffix .pst)"',
         'complete -c pst_show -n "__fish_seen_subcommand_from help" -a "$commands"',
@@ -204,8 +221,10 @@ def fish(commands):
 def usage(command):
     lines = [f".B pst_show {command.name}"]
     lines += [f".RB [ {flag} ]".replace("-", "\\-") for flag, _ in command.flags]
-    words = [f"{name} ..." if is_many else name for name, _, is_many in command.words]
-    return "\n".join([*lines, ".I " + " ".join(words)])
+    words = [f"{word.name} ..." if word.is_many else word.name for word in command.words if not word.is_optional]
+    lines += [".I " + " ".join(words)] if words else []
+    lines += [f".RI [ {word.name} ]" for word in command.words if word.is_optional]
+    return "\n".join(lines)
 
 
 def shared_flags(commands):
@@ -230,7 +249,7 @@ def with_section(page, title, text):
 
 def manual(commands, page):
     """The page with its synopsis and its commands written anew."""
-    synopsis = "\n.br\n".join(usage(command) for command in commands if command.takes_file())
+    synopsis = "\n.br\n".join(usage(command) for command in own(commands))
     shared = shared_flags(commands)
     page = with_section(page, "SYNOPSIS", synopsis)
     return with_section(page, "COMMANDS", "\n".join(described(command, shared) for command in commands))

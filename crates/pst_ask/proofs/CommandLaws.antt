@@ -1,217 +1,163 @@
--- What each command's words ask for: by whether the file's name is empty, a hyphen, or begins with another byte.
-use Rattle.std.proofs.Common.{◌≡◌, ℕ, Bool, true, false, List, [], ◌∷◌, Option, Some, None, Result, refl, sym, ap, subst, ◌∙◌}
-use Rattle.std.specs.Prelude.{nat_eq, option_map}
-use Rattle.clap.specs.Words.{Text}
-use Rattle.clap.proofs.OnLiterals.{clap_on_literals}
+-- The law of the words: by what a command takes, and then a line for each command.
+use Rattle.std.proofs.Common.{◌≡◌, ℕ, Bool, List, [], ◌∷◌, ◌++◌, Option, Some, None, Ok, refl, sym, ap, subst, ◌∙◌}
+use Rattle.std.specs.Prelude.{codes, option_map}
+use Rattle.clap.specs.Words.{Row, Text, all_of, first_of}
+use Rattle.pst_fault.specs.declared.kind.Kind.{Kind}
+use Rattle.pst_explain.specs.Kinds.{kind_in_word}
+use Rattle.pst_ask.specs.declared.ask.Lack.TheVariants.{Nid}
+use Rattle.pst_ask.specs.declared.ask.Lack.TheVariants as lack
+use Rattle.pst_ask.specs.declared.verb.Takes.{Takes}
+use Rattle.pst_ask.specs.declared.verb.Takes.TheVariants.{File, Report, Node}
+use Rattle.pst_ask.specs.declared.verb.Takes.TheVariants as takes
 use Rattle.pst_ask.specs.declared.verb.Verb.{Verb}
-use Rattle.pst_ask.specs.declared.verb.Verb.TheVariants.{Check, Head, Nodes, Folders, Contents, Messages, Props}
-use Rattle.pst_ask.specs.declared.ask.Lack.{Lack}
-use Rattle.pst_ask.specs.Ask.{Asked, Flags, Wanted, asked_of, asking, contents, flags_of, folders, head, messages, nodes, of_file, only_node, or_lack, props, report, some_paths}
-use Rattle.pst_ask.specs.Nid.{nid_of_word, paths_of}
-use Rattle.pst_ask.proofs.FileLemmas.{by_file, no_empty, no_hyphen}
-use Rattle.pst_ask.proofs.PathsLaws.{props_are}
-use Rattle.pst_ask.specs.Words.{IsAsked, IsNoOption, WordsLaw, asked, words_for}
+use Rattle.pst_ask.specs.declared.verb.Verb.TheVariants.{Check, Head, Nodes, Folders, Contents, Messages, Props, Value, Explain}
+use Rattle.pst_ask.specs.Ask.{Flags, Ordered, Wanted, asked_by, asked_of, asking, both_named, both_of, contents, explain, folders, head, is_used, kind_named, messages, node_named, nodes, of_file, of_named, only_kind, only_node, only_property, or_lack, path_named, paths_named, property_named, props, report, show, shows, some_paths, value}
+use Rattle.pst_ask.specs.Nid.{path_of_word}
+use Rattle.pst_ask.specs.Property.{property_of_word}
+use Rattle.pst_ask.specs.Verbs.{name_of, takes_of}
+use Rattle.pst_ask.specs.Words.{IsAsked, IsNoOption, WordsLaw, to_file}
+use Rattle.pst_ask.proofs.PathsLaws.{paths_found}
+use Rattle.pst_ask.proofs.PlainLemmas.{kind_plain, node_plain, path_plain, paths_plain, property_plain}
+use Rattle.pst_ask.proofs.TakesLaws.{OfFile, file_found, kind_found, node_found, none_found, property_found, report_found}
+use Rattle.pst_ask.proofs.TopLaws.{Finds, is_asked, level}
 
--- the words of a command with these flags ask for what it shows of a file
-abbrev Asks : Verb → Flags → List Text → Wanted → Text → Type 0
-Asks v flags words wanted file = IsAsked (words_for v flags file words) (asked_of wanted flags.decode file)
+-- ---- what is asked for of something that is there
 
--- only `--decode`, which every command has
-abbrev plain : Bool → Flags
-plain decode = flags_of false false decode
+some_is : {X : Type 0} (a b : X) → Some a ≡ Some b → a ≡ b
+some_is a b e = cc
 
--- ---- a command and a file
+made : {X Y : Type 0} (make : X → Y) (o : Option X) (y : Y) → option_map make o ≡ Some y → (x : X) × (o ≡ Some x) × (make x ≡ y)
+made make None y is = absurd cc
+made make (Some x) y is = (x, refl, some_is (make x) y is)
 
-check_other : (s g d : Bool) (b : ℕ) (rest : List ℕ) → nat_eq b 45 ≡ false → Asks Check (flags_of s g d) [] (report s g) (b ∷ rest)
-unfolding clap_on_literals asked
-check_other false false false b rest other = record { accepted = rw other (rw other refl); is = rw other (rw other refl) }
-check_other false false true b rest other = record { accepted = rw other (rw other refl); is = rw other (rw other refl) }
-check_other false true false b rest other = record { accepted = rw other (rw other refl); is = rw other (rw other refl) }
-check_other false true true b rest other = record { accepted = rw other (rw other refl); is = rw other (rw other refl) }
-check_other true false false b rest other = record { accepted = rw other (rw other refl); is = rw other (rw other refl) }
-check_other true false true b rest other = record { accepted = rw other (rw other refl); is = rw other (rw other refl) }
-check_other true true false b rest other = record { accepted = rw other (rw other refl); is = rw other (rw other refl) }
-check_other true true true b rest other = record { accepted = rw other (rw other refl); is = rw other (rw other refl) }
+-- the words ask for what is made of it
+asked_so : {X : Type 0} (words : List Text) (make : X → Ordered) (o : Option X) (order : Ordered) → ((x : X) → o ≡ Some x → IsAsked words (make x)) → option_map make o ≡ Some order
+    → IsAsked words order
+asked_so words make o order asks is =
+    let there = made make o order is in
+    subst (IsAsked words) there.2 (asks there.0 there.1)
 
-check_empty : (s g d : Bool) → Asks Check (flags_of s g d) [] (report s g) []
-unfolding clap_on_literals asked
-check_empty false false false = record { accepted = refl; is = refl }
-check_empty false false true = record { accepted = refl; is = refl }
-check_empty false true false = record { accepted = refl; is = refl }
-check_empty false true true = record { accepted = refl; is = refl }
-check_empty true false false = record { accepted = refl; is = refl }
-check_empty true false true = record { accepted = refl; is = refl }
-check_empty true true false = record { accepted = refl; is = refl }
-check_empty true true true = record { accepted = refl; is = refl }
+-- ---- by what a command takes
 
-check_hyphen : (s g d : Bool) → Asks Check (flags_of s g d) [] (report s g) (45 ∷ [])
-unfolding clap_on_literals asked
-check_hyphen false false false = record { accepted = refl; is = refl }
-check_hyphen false false true = record { accepted = refl; is = refl }
-check_hyphen false true false = record { accepted = refl; is = refl }
-check_hyphen false true true = record { accepted = refl; is = refl }
-check_hyphen true false false = record { accepted = refl; is = refl }
-check_hyphen true false true = record { accepted = refl; is = refl }
-check_hyphen true true false = record { accepted = refl; is = refl }
-check_hyphen true true true = record { accepted = refl; is = refl }
+-- what a command shows of a file
+abbrev showing : Flags → Text → Wanted → Ordered
+showing flags file ask = show (asked_of ask flags.decode file)
 
-head_other : (d : Bool) (b : ℕ) (rest : List ℕ) → nat_eq b 45 ≡ false → Asks Head (plain d) [] head (b ∷ rest)
-unfolding clap_on_literals asked
-head_other false b rest other = record { accepted = rw other (rw other refl); is = rw other (rw other refl) }
-head_other true b rest other = record { accepted = rw other (rw other refl); is = rw other (rw other refl) }
+-- the words of a command whose rows ask for this
+shown : (v : Verb) (t : Takes) (flags : Flags) (file : Text) (words : List Text) (rows : List Row) (ask : Wanted) → takes_of v ≡ t → Finds (level t (name_of v)) words rows
+    → OfFile rows flags.decode file → asked_by v rows ≡ of_file rows (Ok ask) → IsAsked (name_of v ∷ words) (showing flags file ask)
+shown v t flags file words rows ask which finds of asks =
+    is_asked v words rows (showing flags file ask) (subst (λ k. Finds (level k (name_of v)) words rows) (sym which) finds)
+    (asks ∙ ap (λ d. of_named ask d (first_of (codes "FILE") rows)) of.0 ∙ ap (of_named ask flags.decode) of.1)
 
-head_empty : (d : Bool) → Asks Head (plain d) [] head []
-unfolding clap_on_literals asked
-head_empty false = record { accepted = refl; is = refl }
-head_empty true = record { accepted = refl; is = refl }
+by_file : (v : Verb) (ask : Wanted) → takes_of v ≡ File → ((rows : List Row) → asked_by v rows ≡ of_file rows (Ok ask)) → (flags : Flags) (file : Text) → IsNoOption file
+    → IsAsked (name_of v ∷ (to_file File flags file ++ [])) (showing flags file ask)
+by_file v ask which asks flags file no_option =
+    let found = file_found (name_of v) flags file no_option in
+    shown v File flags file (to_file File flags file ++ []) found.0 ask which found.1 found.2 (asks found.0)
 
-head_hyphen : (d : Bool) → Asks Head (plain d) [] head (45 ∷ [])
-unfolding clap_on_literals asked
-head_hyphen false = record { accepted = refl; is = refl }
-head_hyphen true = record { accepted = refl; is = refl }
+by_report : (v : Verb) (make : Bool → Bool → Wanted) → takes_of v ≡ Report
+    → ((rows : List Row) → asked_by v rows ≡ of_file rows (Ok (make (is_used (codes "strict") rows) (is_used (codes "digest") rows)))) → (flags : Flags) (file : Text) → IsNoOption file
+    → IsAsked (name_of v ∷ (to_file Report flags file ++ [])) (showing flags file (make flags.strict flags.digest))
+by_report v make which asks flags file no_option =
+    let found = report_found (name_of v) flags file no_option in
+    let rows = found.0 in
+    shown v Report flags file (to_file Report flags file ++ []) rows (make flags.strict flags.digest) which found.1 found.2
+    (asks rows ∙ ap (λ s. of_file rows (Ok (make s (is_used (codes "digest") rows)))) found.3.0 ∙ ap (λ g. of_file rows (Ok (make flags.strict g))) found.3.1)
 
-nodes_other : (d : Bool) (b : ℕ) (rest : List ℕ) → nat_eq b 45 ≡ false → Asks Nodes (plain d) [] nodes (b ∷ rest)
-unfolding clap_on_literals asked
-nodes_other false b rest other = record { accepted = rw other (rw other refl); is = rw other (rw other refl) }
-nodes_other true b rest other = record { accepted = rw other (rw other refl); is = rw other (rw other refl) }
+by_node : (v : Verb) (make : ℕ → Wanted) → takes_of v ≡ Node → ((rows : List Row) → asked_by v rows ≡ of_file rows (asking make (node_named (first_of (codes "NID") rows))))
+    → (flags : Flags) (file : Text) (words : List Text) (nid : ℕ) → IsNoOption file → only_node words ≡ Some nid
+    → IsAsked (name_of v ∷ (to_file Node flags file ++ words)) (showing flags file (make nid))
+by_node v make which asks flags file [] nid no_option named = absurd cc
+by_node v make which asks flags file (word ∷ []) nid no_option named =
+    let found = node_found (name_of v) flags file word no_option (node_plain word nid named) in
+    let rows = found.0 in
+    shown v Node flags file (to_file Node flags file ++ word ∷ []) rows (make nid) which found.1 found.2
+    (asks rows ∙ ap (λ w. of_file rows (asking make (node_named w))) found.3 ∙ ap (λ o. of_file rows (asking make (or_lack Nid o))) named)
+by_node v make which asks flags file (word ∷ next ∷ rest) nid no_option named = absurd cc
 
-nodes_empty : (d : Bool) → Asks Nodes (plain d) [] nodes []
-unfolding clap_on_literals asked
-nodes_empty false = record { accepted = refl; is = refl }
-nodes_empty true = record { accepted = refl; is = refl }
+by_paths : (v : Verb) (make : Bool → List (List ℕ) → Wanted) → takes_of v ≡ takes.Paths
+    → ((rows : List Row) → asked_by v rows ≡ of_file rows (asking (make (is_used (codes "places") rows)) (paths_named (all_of (codes "PATH") rows))))
+    → (flags : Flags) (file : Text) (words : List Text) (paths : List (List ℕ)) → IsNoOption file → some_paths words ≡ Some paths
+    → IsAsked (name_of v ∷ (to_file takes.Paths flags file ++ words)) (showing flags file (make flags.places paths))
+by_paths v make which asks flags file [] paths no_option named = absurd cc
+by_paths v make which asks flags file (word ∷ rest) paths no_option named =
+    let found = paths_found (name_of v) flags file word rest no_option (paths_plain (word ∷ rest) paths named) in
+    let rows = found.0 in
+    shown v takes.Paths flags file (to_file takes.Paths flags file ++ word ∷ rest) rows (make flags.places paths) which found.1 found.2
+    (asks rows ∙ ap (λ p. of_file rows (asking (make p) (paths_named (all_of (codes "PATH") rows)))) found.3.0
+    ∙ ap (λ w. of_file rows (asking (make flags.places) (paths_named w))) found.3.1 ∙ ap (λ o. of_file rows (asking (make flags.places) (or_lack Nid o))) named)
 
-nodes_hyphen : (d : Bool) → Asks Nodes (plain d) [] nodes (45 ∷ [])
-unfolding clap_on_literals asked
-nodes_hyphen false = record { accepted = refl; is = refl }
-nodes_hyphen true = record { accepted = refl; is = refl }
+-- the path and the property that two words name
+two_named : (p : Option (List ℕ)) (o : Option ℕ) (both : List ℕ × ℕ) → both_named p o ≡ Some both → (p ≡ Some both.0) × (o ≡ Some both.1)
+two_named None o both is = absurd cc
+two_named (Some path) None both is = absurd cc
+two_named (Some path) (Some id) both is =
+    let same = some_is (path, id) both is in
+    (ap (λ b. Some b.0) same, ap (λ b. Some b.1) same)
 
-folders_other : (d : Bool) (b : ℕ) (rest : List ℕ) → nat_eq b 45 ≡ false → Asks Folders (plain d) [] folders (b ∷ rest)
-unfolding clap_on_literals asked
-folders_other false b rest other = record { accepted = rw other (rw other refl); is = rw other (rw other refl) }
-folders_other true b rest other = record { accepted = rw other (rw other refl); is = rw other (rw other refl) }
+by_property : (v : Verb) (make : Bool → List ℕ → ℕ → Wanted) → takes_of v ≡ takes.Property
+    → ((rows : List Row) → asked_by v rows ≡ of_file rows (both_of (make (is_used (codes "text") rows)) (path_named (first_of (codes "PATH") rows)) (property_named (first_of (codes "ID") rows))))
+    → (flags : Flags) (file : Text) (words : List Text) (both : List ℕ × ℕ) → IsNoOption file → only_property words ≡ Some both
+    → IsAsked (name_of v ∷ (to_file takes.Property flags file ++ words)) (showing flags file (make flags.text both.0 both.1))
+by_property v make which asks flags file [] both no_option named = absurd cc
+by_property v make which asks flags file (word ∷ []) both no_option named = absurd cc
+by_property v make which asks flags file (path ∷ id ∷ []) both no_option named =
+    let two = two_named (path_of_word path) (property_of_word id) both named in
+    let found = property_found (name_of v) flags file path id no_option (path_plain path both.0 two.0) (property_plain id both.1 two.1) in
+    let rows = found.0 in
+    let words = to_file takes.Property flags file ++ path ∷ id ∷ [] in
+    shown v takes.Property flags file words rows (make flags.text both.0 both.1) which found.1 found.2
+    (asks rows ∙ ap (λ t. of_file rows (both_of (make t) (path_named (first_of (codes "PATH") rows)) (property_named (first_of (codes "ID") rows)))) found.3.0
+    ∙ ap (λ w. of_file rows (both_of (make flags.text) (path_named w) (property_named (first_of (codes "ID") rows)))) found.3.1
+    ∙ ap (λ w. of_file rows (both_of (make flags.text) (path_named (Some path)) (property_named w))) found.3.2
+    ∙ ap (λ o. of_file rows (both_of (make flags.text) (or_lack Nid o) (property_named (Some id)))) two.0
+    ∙ ap (λ o. of_file rows (both_of (make flags.text) (Ok both.0) (or_lack lack.Property o))) two.1)
+by_property v make which asks flags file (path ∷ id ∷ next ∷ rest) both no_option named = absurd cc
 
-folders_empty : (d : Bool) → Asks Folders (plain d) [] folders []
-unfolding clap_on_literals asked
-folders_empty false = record { accepted = refl; is = refl }
-folders_empty true = record { accepted = refl; is = refl }
-
-folders_hyphen : (d : Bool) → Asks Folders (plain d) [] folders (45 ∷ [])
-unfolding clap_on_literals asked
-folders_hyphen false = record { accepted = refl; is = refl }
-folders_hyphen true = record { accepted = refl; is = refl }
-
-messages_other : (d : Bool) (b : ℕ) (rest : List ℕ) → nat_eq b 45 ≡ false → Asks Messages (plain d) [] messages (b ∷ rest)
-unfolding clap_on_literals asked
-messages_other false b rest other = record { accepted = rw other (rw other refl); is = rw other (rw other refl) }
-messages_other true b rest other = record { accepted = rw other (rw other refl); is = rw other (rw other refl) }
-
-messages_empty : (d : Bool) → Asks Messages (plain d) [] messages []
-unfolding clap_on_literals asked
-messages_empty false = record { accepted = refl; is = refl }
-messages_empty true = record { accepted = refl; is = refl }
-
-messages_hyphen : (d : Bool) → Asks Messages (plain d) [] messages (45 ∷ [])
-unfolding clap_on_literals asked
-messages_hyphen false = record { accepted = refl; is = refl }
-messages_hyphen true = record { accepted = refl; is = refl }
-
--- ---- a node behind the file
-
--- what is asked for of what is named
-made : {X : Type 0} (make : X → Wanted) (o : Option X) (wanted : Wanted) → option_map make o ≡ Some wanted → (x : X) × (o ≡ Some x) × (make x ≡ wanted)
-made make None wanted is = absurd cc
-made make (Some x) wanted is = (x, refl, cc)
-
--- what is asked for of the node that a word names
-abbrev at_node : Bool → Text → Option ℕ → Result Asked Lack
-at_node decode file nid = of_file (asking contents (or_lack nid)) decode (Some file)
-
-contents_other : (d : Bool) (e : ℕ) (more : List ℕ) (nid : ℕ) → nat_eq e 45 ≡ false → nid_of_word (e ∷ more) ≡ Some nid
-    → (b : ℕ) (rest : List ℕ) → nat_eq b 45 ≡ false → Asks Contents (plain d) ((e ∷ more) ∷ []) (contents nid) (b ∷ rest)
-unfolding clap_on_literals asked
-contents_other false e more nid next named b rest other = record { accepted = rw other (rw other (rw next (rw next refl))); is = rw other (rw other (rw next (rw next (rw named refl)))) }
-contents_other true e more nid next named b rest other = record { accepted = rw other (rw other (rw next (rw next refl))); is = rw other (rw other (rw next (rw next (rw named refl)))) }
-
-contents_empty : (d : Bool) (e : ℕ) (more : List ℕ) (nid : ℕ) → nat_eq e 45 ≡ false → nid_of_word (e ∷ more) ≡ Some nid → Asks Contents (plain d) ((e ∷ more) ∷ []) (contents nid) []
-unfolding clap_on_literals asked
-contents_empty false e more nid next named =
-    let found : asked (words_for Contents (plain false) [] ((e ∷ more) ∷ [])) ≡ at_node false [] (nid_of_word (e ∷ more)) = rw next (rw next refl) in
-    record { accepted = rw next (rw next refl); is = found ∙ ap (at_node false []) named }
-contents_empty true e more nid next named =
-    let found : asked (words_for Contents (plain true) [] ((e ∷ more) ∷ [])) ≡ at_node true [] (nid_of_word (e ∷ more)) = rw next (rw next refl) in
-    record { accepted = rw next (rw next refl); is = found ∙ ap (at_node true []) named }
-
-contents_hyphen : (d : Bool) (e : ℕ) (more : List ℕ) (nid : ℕ) → nat_eq e 45 ≡ false → nid_of_word (e ∷ more) ≡ Some nid → Asks Contents (plain d) ((e ∷ more) ∷ []) (contents nid) (45 ∷ [])
-unfolding clap_on_literals asked
-contents_hyphen false e more nid next named =
-    let found : asked (words_for Contents (plain false) (45 ∷ []) ((e ∷ more) ∷ [])) ≡ at_node false (45 ∷ []) (nid_of_word (e ∷ more)) = rw next (rw next refl) in
-    record { accepted = rw next (rw next refl); is = found ∙ ap (at_node false (45 ∷ [])) named }
-contents_hyphen true e more nid next named =
-    let found : asked (words_for Contents (plain true) (45 ∷ []) ((e ∷ more) ∷ [])) ≡ at_node true (45 ∷ []) (nid_of_word (e ∷ more)) = rw next (rw next refl) in
-    record { accepted = rw next (rw next refl); is = found ∙ ap (at_node true (45 ∷ [])) named }
-
-contents_is : (d : Bool) (word : Text) (nid : ℕ) → nid_of_word word ≡ Some nid → (file : Text) → IsNoOption file → Asks Contents (plain d) (word ∷ []) (contents nid) file
-contents_is d [] nid named = absurd (no_empty nid named)
-contents_is d (e ∷ more) nid named =
-    let next = no_hyphen e more nid (nat_eq e 45) refl named in
-    by_file (Asks Contents (plain d) ((e ∷ more) ∷ []) (contents nid)) (contents_empty d e more nid next named) (contents_hyphen d e more nid next named) (contents_other d e more nid next named)
-
-contents_of : (d : Bool) (words : List Text) (wanted : Wanted) → option_map contents (only_node words) ≡ Some wanted → (file : Text) → IsNoOption file → Asks Contents (plain d) words wanted file
-contents_of d [] wanted named file no_option = absurd cc
-contents_of d (word ∷ []) wanted named file no_option =
-    let node = made contents (nid_of_word word) wanted named in
-    subst (λ w. Asks Contents (plain d) (word ∷ []) w file) node.2 (contents_is d word node.0 node.1 file no_option)
-contents_of d (word ∷ next ∷ rest) wanted named file no_option = absurd cc
-
--- ---- paths behind the file
-
-props_of : (d : Bool) (words : List Text) (wanted : Wanted) → option_map props (some_paths words) ≡ Some wanted → (file : Text) → IsNoOption file → Asks Props (plain d) words wanted file
-props_of d [] wanted named file no_option = absurd cc
-props_of d (word ∷ rest) wanted named file no_option =
-    let paths = made props (paths_of (word ∷ rest)) wanted named in
-    subst (λ w. Asks Props (plain d) (word ∷ rest) w file) paths.2 (props_are d file word rest paths.0 paths.1 no_option)
+by_kind : (words : List Text) (kind : Option Kind) → only_kind words ≡ Some kind → IsAsked (name_of Explain ∷ words) (explain kind)
+by_kind [] kind named =
+    let found = none_found (name_of Explain) in
+    is_asked Explain [] found.0 (explain kind) found.1 (ap (λ w. asking explain (kind_named w)) found.2 ∙ ap (λ k. Ok (explain k)) (some_is None kind named))
+by_kind (word ∷ []) kind named =
+    let there = made Some (kind_in_word word) kind named in
+    let found = kind_found (name_of Explain) word (kind_plain word there.0 there.1) in
+    is_asked Explain (word ∷ []) found.0 (explain kind) found.1
+    (ap (λ w. asking explain (kind_named w)) found.2 ∙ ap (λ o. asking explain (or_lack lack.Kind (option_map Some o))) there.1 ∙ ap (λ k. Ok (explain k)) there.2)
+by_kind (word ∷ next ∷ rest) kind named = absurd cc
 
 -- ---- all commands
 
--- the flags of a command that has only `--decode`
-is_plain : (f : Flags) → (f.strict ≡ false) × (f.digest ≡ false) → plain f.decode ≡ f
-is_plain f none = ap (λ s. flags_of s false f.decode) (sym none.0) ∙ ap (λ g. flags_of f.strict g f.decode) (sym none.1)
+-- what is shown of something that is named
+abbrev Gives : {X : Type 0} → Verb → Flags → Text → List Text → (X → Wanted) → Option X → Type 0
+Gives v flags file words make o = (order : Ordered) → shows flags file (option_map make o) ≡ Some order → IsAsked (name_of v ∷ words) order
 
-at_plain : (v : Verb) (flags : Flags) (words : List Text) (wanted : Wanted) (file : Text) → (flags.strict ≡ false) × (flags.digest ≡ false)
-    → Asks v (plain flags.decode) words wanted file → Asks v flags words wanted file
-at_plain v flags words wanted file none done = subst (λ f. Asks v f words wanted file) (is_plain flags none) done
+mapped : {X : Type 0} (flags : Flags) (file : Text) (make : X → Wanted) (o : Option X) → option_map (λ x. showing flags file (make x)) o ≡ shows flags file (option_map make o)
+mapped flags file make None = refl
+mapped flags file make (Some x) = refl
 
--- one that takes nothing behind its file
-at_file : (v : Verb) (flags : Flags) (words : List Text) (known wanted : Wanted) (file : Text) → Some known ≡ Some wanted → Asks v flags words known file → Asks v flags words wanted file
-at_file v flags words known wanted file is done = subst (λ w. Asks v flags words w file) (some_is known wanted is) done
-  where
-    some_is : (a b : Wanted) → Some a ≡ Some b → a ≡ b
-    some_is a b e = cc
+gives : {X : Type 0} (v : Verb) (flags : Flags) (file : Text) (words : List Text) (make : X → Wanted) (o : Option X)
+    → ((x : X) → o ≡ Some x → IsAsked (name_of v ∷ words) (showing flags file (make x))) → Gives v flags file words make o
+gives v flags file words make o asks order is = asked_so (name_of v ∷ words) (λ x. showing flags file (make x)) o order asks (mapped flags file make o ∙ is)
 
-check_is : (flags : Flags) (words : List Text) (file : Text) → IsNoOption file → Asks Check flags words (report flags.strict flags.digest) file
-check_is flags words file no_option =
-    let s = flags.strict in let g = flags.digest in let d = flags.decode in
-    by_file (Asks Check flags words (report s g)) (check_empty s g d) (check_hyphen s g d) (check_other s g d) file no_option
-
-head_is : (d : Bool) (words : List Text) (file : Text) → IsNoOption file → Asks Head (plain d) words head file
-head_is d words file no_option = by_file (Asks Head (plain d) words head) (head_empty d) (head_hyphen d) (head_other d) file no_option
-
-nodes_is : (d : Bool) (words : List Text) (file : Text) → IsNoOption file → Asks Nodes (plain d) words nodes file
-nodes_is d words file no_option = by_file (Asks Nodes (plain d) words nodes) (nodes_empty d) (nodes_hyphen d) (nodes_other d) file no_option
-
-folders_is : (d : Bool) (words : List Text) (file : Text) → IsNoOption file → Asks Folders (plain d) words folders file
-folders_is d words file no_option = by_file (Asks Folders (plain d) words folders) (folders_empty d) (folders_hyphen d) (folders_other d) file no_option
-
-messages_is : (d : Bool) (words : List Text) (file : Text) → IsNoOption file → Asks Messages (plain d) words messages file
-messages_is d words file no_option = by_file (Asks Messages (plain d) words messages) (messages_empty d) (messages_hyphen d) (messages_other d) file no_option
+exactly : (words : List Text) (one order : Ordered) → Some one ≡ Some order → IsAsked words one → IsAsked words order
+exactly words one order is asks = subst (IsAsked words) (some_is one order is) asks
 
 pub words_law : WordsLaw
-words_law Check flags file words wanted may no_option asks_it = at_file Check flags words (report flags.strict flags.digest) wanted file asks_it (check_is flags words file no_option)
-words_law Head flags file words wanted may no_option asks_it = at_file Head flags words head wanted file asks_it (at_plain Head flags words head file may (head_is flags.decode words file no_option))
-words_law Nodes flags file words wanted may no_option asks_it = at_file Nodes flags words nodes wanted file asks_it (at_plain Nodes flags words nodes file may (nodes_is flags.decode words file no_option))
-words_law Folders flags file words wanted may no_option asks_it =
-    at_file Folders flags words folders wanted file asks_it (at_plain Folders flags words folders file may (folders_is flags.decode words file no_option))
-words_law Messages flags file words wanted may no_option asks_it =
-    at_file Messages flags words messages wanted file asks_it (at_plain Messages flags words messages file may (messages_is flags.decode words file no_option))
-words_law Contents flags file words wanted may no_option asks_it = at_plain Contents flags words wanted file may (contents_of flags.decode words wanted asks_it file no_option)
-words_law Props flags file words wanted may no_option asks_it = at_plain Props flags words wanted file may (props_of flags.decode words wanted asks_it file no_option)
+words_law Check flags file words order no_option is =
+    exactly (name_of Check ∷ (to_file Report flags file ++ [])) _ order is (by_report Check report refl (λ rows. refl) flags file no_option)
+words_law Head flags file words order no_option is = exactly (name_of Head ∷ (to_file File flags file ++ [])) _ order is (by_file Head head refl (λ rows. refl) flags file no_option)
+words_law Nodes flags file words order no_option is = exactly (name_of Nodes ∷ (to_file File flags file ++ [])) _ order is (by_file Nodes nodes refl (λ rows. refl) flags file no_option)
+words_law Folders flags file words order no_option is =
+    exactly (name_of Folders ∷ (to_file File flags file ++ [])) _ order is (by_file Folders folders refl (λ rows. refl) flags file no_option)
+words_law Messages flags file words order no_option is =
+    exactly (name_of Messages ∷ (to_file File flags file ++ [])) _ order is (by_file Messages messages refl (λ rows. refl) flags file no_option)
+words_law Contents flags file words order no_option is =
+    gives Contents flags file (to_file Node flags file ++ words) contents (only_node words) (λ nid. by_node Contents contents refl (λ rows. refl) flags file words nid no_option) order is
+words_law Props flags file words order no_option is =
+    gives Props flags file (to_file takes.Paths flags file ++ words) (props flags.places) (some_paths words)
+    (λ paths. by_paths Props props refl (λ rows. refl) flags file words paths no_option) order is
+words_law Value flags file words order no_option is =
+    gives Value flags file (to_file takes.Property flags file ++ words) (λ p. value flags.text p.0 p.1) (only_property words)
+    (λ both. by_property Value value refl (λ rows. refl) flags file words both no_option) order is
+words_law Explain flags file words order no_option is = asked_so (name_of Explain ∷ words) explain (only_kind words) order (by_kind words) is

@@ -1,9 +1,8 @@
--- What a word is that names a file, and one that names a node: by its first byte.
-use Rattle.std.proofs.Common.{◌≡◌, ℕ, Bool, true, false, List, [], ◌∷◌, Some, None, refl}
+-- What a word is that names a file: by its first byte.
+use Rattle.std.proofs.Common.{◌≡◌, ℕ, Bool, true, false, List, [], ◌∷◌, refl}
 use Rattle.std.specs.Prelude.{nat_eq}
 use Rattle.std.proofs.lemmas.Bool.{ne_eqb, eqb-true}
 use Rattle.clap.specs.Words.{Text}
-use Rattle.pst_ask.specs.Nid.{nid_of_word}
 use Rattle.pst_ask.specs.Words.{IsNoOption}
 
 -- ---- a byte is a hyphen or another
@@ -17,19 +16,3 @@ pub by_file : (P : Text → Type 0) → P [] → P (45 ∷ []) → ((b : ℕ) (r
 by_file P empty hyphen other [] no_option = empty
 by_file P empty hyphen other (b ∷ []) no_option = by_hyphen b (nat_eq b 45) refl (λ none. other b [] none) (λ e. rw e hyphen)
 by_file P empty hyphen other (b ∷ c ∷ rest) no_option = other b (c ∷ rest) (ne_eqb b 45 no_option)
-
--- ---- nodes
-
--- a word that names a node begins with no hyphen
-pub no_hyphen : (e : ℕ) (more : List ℕ) (nid : ℕ) (b : Bool) → nat_eq e 45 ≡ b → nid_of_word (e ∷ more) ≡ Some nid → b ≡ false
-unfolding nid_of_word
-no_hyphen e more nid false is named = refl
-no_hyphen e more nid true is named =
-    let none : None ≡ Some nid = rw (eqb-true e 45 is) at named in
-    absurd cc
-
-pub no_empty : (nid : ℕ) → nid_of_word [] ≡ Some nid → ⊥
-unfolding nid_of_word
-no_empty nid named =
-    let none : None ≡ Some nid = named in
-    absurd cc

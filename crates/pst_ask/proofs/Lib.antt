@@ -2,4 +2,8 @@ pub mod CommandLaws
 pub mod FileLemmas
 pub mod NidLemmas
 pub mod PathsLaws
+pub mod PlainLemmas
+pub mod RunLaws
+pub mod TakesLaws
+pub mod TopLaws
 pub mod WordLemmas

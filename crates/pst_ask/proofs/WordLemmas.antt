@@ -1,6 +1,6 @@
 -- What the matches of the words ask for.
-use Rattle.std.proofs.Common.{◌≡◌, ◌+◌, ◌<◌, true, Bool, List, [], ◌∷◌, ◌++◌, length, drop, get_or, Option, Some, None, Result, Ok, Err, inl, refl, sym, ap, ◌∙◌, append_assoc, append-nil, ◌≤◌}
-use Rattle.std.specs.Prelude.{IfErr, IfOk, option_map, find, map, ℕ, false}
+use Rattle.std.proofs.Common.{◌≡◌, ◌+◌, ◌<◌, true, List, [], ◌∷◌, ◌++◌, length, drop, get_or, Option, Some, None, Result, Ok, Err, inl, refl, sym, ap, ◌∙◌, append_assoc, append-nil, ◌≤◌}
+use Rattle.std.specs.Prelude.{IfErr, IfOk, option_map, map, ℕ}
 use Rattle.std.specs.Borrow.{Bor}
 use Rattle.std.proofs.lemmas.List.{at_drop_more, drop_all}
 use Rattle.clap.specs.Words.{App, Text, Row, fault_of, all_of, first_of, first_value, found_of, matched_of, raw_values, rows_of, subcommand_name_of, subcommand_rows_of, is_simple, is_simple_and_free, HasMatchesOf}
@@ -55,13 +55,6 @@ asked_is words m h = ap asked_in (sym (h is_simple_show).1)
 
 -- ---- a command by its name
 
--- it is none of those before
-pub find_next : {X : Type 0} (test : X → Bool) (xs : List X) (i : ℕ) (d : X) (whole : Option X) → i < length xs → test (get_or xs i d) ≡ false
-    → find test (drop i xs) ≡ whole → find test (drop (i + 1) xs) ≡ whole
-find_next test xs i d whole inside other so_far =
-    let next = at_drop_more (find test) xs i d inside in
-    sym (rw other at next) ∙ so_far
-
 -- what is asked for by the command that was used, with its matches
 pub order_is : (m inner : ArgMatches) (n : Text) → Some n ≡ subcommand_name_of m → Some (rows_of (found_of inner)) ≡ option_map (λ (p : Text × List Row). p.1) (subcommand_rows_of m)
     → asked_in (subcommand_rows_of m) ≡ asked_with (verb_of n) (rows_of (found_of inner))
@@ -112,24 +105,24 @@ named_end name words i so_far whole outside is =
     is ∙ ap (λ l. option_map (λ rest. so_far ++ rest) (all_named name (texts_of l))) (drop_all i words outside) ∙ ap (λ l. Some l) (append-nil so_far)
 
 -- what a word names that does not lack it, and that it names nothing where it does
-pub named_there : {X : Type 0} (o : Option X) (x : X) → or_lack o ≡ Ok x → Some x ≡ o
+pub named_there : {X : Type 0} (o : Option X) (x : X) → or_lack Nid o ≡ Ok x → Some x ≡ o
 named_there None x is = absurd cc
 named_there (Some y) x is = cc
 
-pub named_lacks : {X : Type 0} (o : Option X) (lack : Lack) → or_lack o ≡ Err lack → None ≡ o
+pub named_lacks : {X : Type 0} (o : Option X) (lack : Lack) → or_lack Nid o ≡ Err lack → None ≡ o
 named_lacks None lack is = refl
 named_lacks (Some x) lack is = absurd cc
 
 -- what is answered where a word is refused
 pub named_refused : {X Y Z : Type 0} (name : Text → Option X) (shown : Y → X) (all : Z → List X) (words : List (Bor Text)) (i : ℕ) (d : Bor Text) (so_far : List X) (none : NoOrder)
-    (whole : Option (List X)) → i < length words → Reads {X = Y} {Y = X} shown (Err none) (or_lack (name (get_or words i d).now))
-    → whole ≡ option_map (λ rest. so_far ++ rest) (all_named name (texts_of (drop i words))) → Reads {X = Z} {Y = List X} all (Err none) (or_lack whole)
+    (whole : Option (List X)) → i < length words → Reads {X = Y} {Y = X} shown (Err none) (or_lack Nid (name (get_or words i d).now))
+    → whole ≡ option_map (λ rest. so_far ++ rest) (all_named name (texts_of (drop i words))) → Reads {X = Z} {Y = List X} all (Err none) (or_lack Nid whole)
 named_refused name shown all words i d so_far (Words e) whole inside reads is = reads
 named_refused name shown all words i d so_far (Lacks lack) whole inside reads is =
     let o = name (get_or words i d).now in
-    ap or_lack (named_none name words i d so_far whole inside (named_lacks o lack reads) is) ∙ ap Err (lack_is o lack reads)
+    ap (or_lack Nid) (named_none name words i d so_far whole inside (named_lacks o lack reads) is) ∙ ap Err (lack_is o lack reads)
   where
-    lack_is : {X : Type 0} (o : Option X) (lack : Lack) → or_lack o ≡ Err lack → Nid ≡ lack
+    lack_is : {X : Type 0} (o : Option X) (lack : Lack) → or_lack Nid o ≡ Err lack → Nid ≡ lack
     lack_is None lack e = cc
     lack_is (Some x) lack e = absurd cc
 

@@ -126,10 +126,10 @@ abbrev pub asking : {X Y : Type 0} → (X → Y) → Result X Lack → Result Y 
 asking make (Ok x) = Ok (make x)
 asking make (Err lack) = Err lack
 
--- the value of a property: its path is looked at first
-abbrev pub value_of : Bool → Result (List ℕ) Lack → Result ℕ Lack → Result Wanted Lack
-value_of text (Err lack) id = Err lack
-value_of text (Ok path) id = asking (value text path) id
+-- two words: what the first one lacks is told first
+abbrev pub both_of : {X Y Z : Type 0} → (X → Y → Z) → Result X Lack → Result Y Lack → Result Z Lack
+both_of make (Err lack) y = Err lack
+both_of make (Ok x) y = asking (make x) y
 
 -- with the file, and whether that is decoded first
 abbrev pub of_named : Wanted → Bool → Option Text → Result Ordered Lack
@@ -150,7 +150,7 @@ asked_by Contents rows = of_file rows (asking contents (node_named (first_of (co
 asked_by Messages rows = of_file rows (Ok messages)
 asked_by Props rows = of_file rows (asking (props (is_used (codes "places") rows)) (paths_named (all_of (codes "PATH") rows)))
 asked_by Value rows =
-    of_file rows (value_of (is_used (codes "text") rows) (path_named (first_of (codes "PATH") rows)) (property_named (first_of (codes "ID") rows)))
+    of_file rows (both_of (value (is_used (codes "text") rows)) (path_named (first_of (codes "PATH") rows)) (property_named (first_of (codes "ID") rows)))
 asked_by Explain rows = asking explain (kind_named (first_of (codes "KIND") rows))
 
 abbrev pub asked_with : Option Verb → List Row → Result Ordered Lack

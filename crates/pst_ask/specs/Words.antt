@@ -20,72 +20,40 @@ texts = map string_bytes
 
 -- ---- the command line
 
--- a file, which has to be named
-abbrev pub file_rule : Rule
-file_rule = record (new_rule (codes "FILE")) { required = true }
+-- a word that has to be there
+abbrev pub word_rule : Text → Rule
+word_rule id = record (new_rule id) { required = true }
 
--- a node, which has to be named
-abbrev pub node_rule : Rule
-node_rule = record (new_rule (codes "NID")) { required = true }
+-- words, of which one has to be there at least
+abbrev pub several_rule : Text → Rule
+several_rule id = record (word_rule id) { action = Some Append }
 
--- paths, of which one has to be named at least
-abbrev pub paths_rule : Rule
-paths_rule = record (new_rule (codes "PATH")) { required = true; action = Some Append }
-
--- a path, which has to be named
-abbrev pub path_rule : Rule
-path_rule = record (new_rule (codes "PATH")) { required = true }
-
--- a property, which has to be named
-abbrev pub property_rule : Rule
-property_rule = record (new_rule (codes "ID")) { required = true }
-
--- a kind of fault, or none
-abbrev pub kind_rule : Rule
-kind_rule = new_rule (codes "KIND")
-
--- the flag `--strict`
-abbrev pub strict_rule : Rule
-strict_rule = record (new_rule (codes "strict")) { long = Some (codes "strict"); action = Some SetTrue }
-
--- the flag `--digest`
-abbrev pub digest_rule : Rule
-digest_rule = record (new_rule (codes "digest")) { long = Some (codes "digest"); action = Some SetTrue }
-
--- the flag `--places`
-abbrev pub places_rule : Rule
-places_rule = record (new_rule (codes "places")) { long = Some (codes "places"); action = Some SetTrue }
-
--- the flag `--text`
-abbrev pub text_rule : Rule
-text_rule = record (new_rule (codes "text")) { long = Some (codes "text"); action = Some SetTrue }
-
--- the flag `--decode`, which every command with a file has
-abbrev pub decode_rule : Rule
-decode_rule = record (new_rule (codes "decode")) { long = Some (codes "decode"); action = Some SetTrue }
+-- a flag: two hyphens, and its name
+abbrev pub flag_rule : Text → Rule
+flag_rule id = record (new_rule id) { long = Some id; action = Some SetTrue }
 
 -- with the flags that not every command with a file has
 abbrev pub with_flags : Takes → App → App
 with_flags File a = a
-with_flags Report a = with_rule (with_rule a strict_rule) digest_rule
+with_flags Report a = with_rule (with_rule a (flag_rule (codes "strict"))) (flag_rule (codes "digest"))
 with_flags Node a = a
-with_flags takes.Paths a = with_rule a places_rule
-with_flags takes.Property a = with_rule a text_rule
+with_flags takes.Paths a = with_rule a (flag_rule (codes "places"))
+with_flags takes.Property a = with_rule a (flag_rule (codes "text"))
 with_flags takes.Kind a = a
 
 -- with a file, which may be decoded
 abbrev pub with_file : Takes → App → App
 with_file takes.Kind a = a
-with_file takes a = with_rule (with_rule a decode_rule) file_rule
+with_file takes a = with_rule (with_rule a (flag_rule (codes "decode"))) (word_rule (codes "FILE"))
 
 -- with what stands behind the file
 abbrev pub with_words : Takes → App → App
 with_words File a = a
 with_words Report a = a
-with_words Node a = with_rule a node_rule
-with_words takes.Paths a = with_rule a paths_rule
-with_words takes.Property a = with_rule (with_rule a path_rule) property_rule
-with_words takes.Kind a = with_rule a kind_rule
+with_words Node a = with_rule a (word_rule (codes "NID"))
+with_words takes.Paths a = with_rule a (several_rule (codes "PATH"))
+with_words takes.Property a = with_rule (with_rule a (word_rule (codes "PATH"))) (word_rule (codes "ID"))
+with_words takes.Kind a = with_rule a (new_rule (codes "KIND"))
 
 -- a command of a name, and what stands behind that
 abbrev pub app_taking : Takes → Text → App

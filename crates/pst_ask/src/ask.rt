@@ -2,7 +2,7 @@
 
 ghost use Rattle.std.specs.Prelude.{◌≡◌, Ok as Okay, codes, map, option_map};
 ghost use Rattle.clap.specs.Words.{all_of, first_of, found_of, rows_of, subcommand_rows_of};
-ghost use Rattle.pst_ask.specs.Ask.{Reads, is_used, kind_named as kind_in_words, node_named, path_named, paths_named, property_named, nids_of, of_file as asked_of_file, or_lack, order_of, value_of, wanted_of, asked_by, asked_in};
+ghost use Rattle.pst_ask.specs.Ask.{Reads, is_used, kind_named as kind_in_words, node_named, path_named, paths_named, property_named, both_of, nids_of, of_file as asked_of_file, or_lack, order_of, value as value_wanted, wanted_of, asked_by, asked_in};
 ghost use Rattle.pst_ask.specs.declared.ask.Lack.TheVariants.{Nid};
 ghost use Rattle.pst_ask.specs.Nid.{paths_of as paths_in_words};
 
@@ -139,10 +139,7 @@ fn kind_in(found: &ArgMatches) -> Result<Option<Kind>, Lack>
     ensures { result ≡ kind_in_words (first_of (codes "KIND") (rows_of (found_of found.now))) }
 {
     match text_in(found, "KIND") {
-        Some(word) => match kind_named(word) {
-            Some(kind) => Ok(Some(kind)),
-            None => Err(Lack::Kind),
-        },
+        Some(word) => Ok(Some(kind_named(word).ok_or(Lack::Kind)?)),
         None => Ok(None),
     }
 }
@@ -177,8 +174,8 @@ fn paths_in(alloc: Global, found: &ArgMatches) -> Result<Vec<Path>, NoOrder>
 
 // The value that is named: a bad path is told before a bad identifier.
 fn value_in(alloc: Global, found: &ArgMatches) -> Result<Ask, NoOrder>
-    ensures { Reads wanted_of result (value_of
-        (is_used (codes "text") (rows_of (found_of found.now)))
+    ensures { Reads wanted_of result (both_of
+        (value_wanted (is_used (codes "text") (rows_of (found_of found.now))))
         (path_named (first_of (codes "PATH") (rows_of (found_of found.now))))
         (property_named (first_of (codes "ID") (rows_of (found_of found.now))))) }
 {
@@ -204,24 +201,25 @@ fn of_file<'a>(found: &ArgMatches<'a>, ask: Ask) -> Result<Order<'a>, NoOrder>
 fn order_by<'a>(alloc: Global, verb: Verb, found: &ArgMatches<'a>) -> Result<Order<'a>, NoOrder>
     ensures { Reads order_of result (asked_by verb (rows_of (found_of found.now))) }
 {
-    let ask = match verb {
-        Verb::Check => Ask::Check {
-            strict: is_given(found, "strict"),
-            digest: is_given(found, "digest"),
-        },
-        Verb::Head => Ask::Head,
-        Verb::Nodes => Ask::Nodes,
-        Verb::Folders => Ask::Folders,
-        Verb::Contents => Ask::Contents(node_in(found)?),
-        Verb::Messages => Ask::Messages,
-        Verb::Props => Ask::Props {
-            places: is_given(found, "places"),
-            paths: paths_in(alloc, found)?,
-        },
-        Verb::Value => value_in(alloc, found)?,
-        Verb::Explain => return Ok(Order::Explain(kind_in(found)?)),
-    };
-    of_file(found, ask)
+    match verb {
+        Verb::Check => {
+            let strict = is_given(found, "strict");
+            let digest = is_given(found, "digest");
+            of_file(found, Ask::Check { strict, digest })
+        }
+        Verb::Head => of_file(found, Ask::Head),
+        Verb::Nodes => of_file(found, Ask::Nodes),
+        Verb::Folders => of_file(found, Ask::Folders),
+        Verb::Contents => of_file(found, Ask::Contents(node_in(found)?)),
+        Verb::Messages => of_file(found, Ask::Messages),
+        Verb::Props => {
+            let places = is_given(found, "places");
+            let paths = paths_in(alloc, found)?;
+            of_file(found, Ask::Props { places, paths })
+        }
+        Verb::Value => of_file(found, value_in(alloc, found)?),
+        Verb::Explain => Ok(Order::Explain(kind_in(found)?)),
+    }
 }
 
 /// What the words were taken for.

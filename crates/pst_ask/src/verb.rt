@@ -80,7 +80,7 @@ impl Verb {
     }
 
     /// The command of a name; None exactly where there is none.
-    #[tactic(auto, using(crate::proofs::WordLemmas::find_next))]
+    #[tactic(auto, using(pst_explain::proofs::KindLemmas::find_next))]
     pub fn named(name: &str) -> Option<Verb>
         ensures { result ≡ verb_of name.now }
     {

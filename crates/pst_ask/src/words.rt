@@ -3,10 +3,10 @@
 mod help;
 
 ghost use Rattle.std.specs.Prelude.{◌≡◌, IfOk, IfErr, false};
-ghost use Rattle.clap.specs.Words.{FailsBy, HasMatchesOf, app_of, fault_of, rule_of};
+ghost use Rattle.clap.specs.Words.{FailsBy, HasMatchesOf, app_of, fault_of, new_rule, rule_of};
 ghost use Rattle.pst_ask.specs.Ask.{IsForMemory, order_of};
 ghost use Rattle.pst_ask.specs.declared.words.NoOrder.TheVariants.{Lacks};
-ghost use Rattle.pst_ask.specs.Words.{AddsAs, IsAlone, IsOwn, decode_rule, digest_rule, file_rule, kind_rule, node_rule, path_rule, paths_rule, places_rule, property_rule, strict_rule, text_rule, app_for, base, with_file as file_behind, with_flags, with_verb, with_words, show_app, texts, IsAsked, Declines};
+ghost use Rattle.pst_ask.specs.Words.{AddsAs, IsAlone, IsOwn, flag_rule, several_rule, word_rule, app_for, base, with_file as file_behind, with_flags, with_verb, with_words, show_app, texts, IsAsked, Declines};
 
 use crate::ask::{Lack, Order, order_in};
 use crate::verb::{Takes, Verb};
@@ -50,117 +50,38 @@ impl From<AllocError> for NoOrder {
     }
 }
 
-// The argument that names the file.
-fn file_arg<'a>(alloc: Global) -> Arg<'a>
-    ensures rule { rule_of result ≡ file_rule }
+// A word that has to be there.
+fn word<'a>(alloc: Global, id: &'a str, help: &'a str) -> Arg<'a>
+    ensures rule { rule_of result ≡ word_rule id.now }
     ensures local { result.global ≡ false }
 {
-    Arg::new(alloc, "FILE")
-        .help("The file to read, or - for standard input")
-        .required(true)
+    Arg::new(alloc, id).help(help).required(true)
 }
 
-// The argument that names a node.
-fn node_arg<'a>(alloc: Global) -> Arg<'a>
-    ensures rule { rule_of result ≡ node_rule }
+// Words, of which one has to be there at least.
+fn several<'a>(alloc: Global, id: &'a str, help: &'a str) -> Arg<'a>
+    ensures rule { rule_of result ≡ several_rule id.now }
     ensures local { result.global ≡ false }
 {
-    Arg::new(alloc, "NID")
-        .help("The identifier of a node, as 0x122")
-        .required(true)
+    word(alloc, id, help).action(ArgAction::Append)
 }
 
-// The argument that names paths.
-fn paths_arg<'a>(alloc: Global) -> Arg<'a>
-    ensures rule { rule_of result ≡ paths_rule }
+// A word that may be there.
+fn optional<'a>(alloc: Global, id: &'a str, help: &'a str) -> Arg<'a>
+    ensures rule { rule_of result ≡ new_rule id.now }
     ensures local { result.global ≡ false }
 {
-    Arg::new(alloc, "PATH")
-        .help("Nodes, as 0x122, and what is inside messages, as 0x200024/0x8025")
-        .required(true)
-        .action(ArgAction::Append)
+    Arg::new(alloc, id).help(help)
 }
 
-// The argument that names a path.
-fn path_arg<'a>(alloc: Global) -> Arg<'a>
-    ensures rule { rule_of result ≡ path_rule }
+// A flag: two hyphens, and its name.
+fn flag<'a>(alloc: Global, id: &'a str, help: &'a str) -> Arg<'a>
+    ensures rule { rule_of result ≡ flag_rule id.now }
     ensures local { result.global ≡ false }
 {
-    Arg::new(alloc, "PATH")
-        .help("A node, as 0x122, or what is inside a message, as 0x200024/0x8025")
-        .required(true)
-}
-
-// The argument that names a property.
-fn property_arg<'a>(alloc: Global) -> Arg<'a>
-    ensures rule { rule_of result ≡ property_rule }
-    ensures local { result.global ≡ false }
-{
-    Arg::new(alloc, "ID")
-        .help("The identifier of a property, as 0037")
-        .required(true)
-}
-
-// The argument that names a kind of fault.
-fn kind_arg<'a>(alloc: Global) -> Arg<'a>
-    ensures rule { rule_of result ≡ kind_rule }
-    ensures local { result.global ≡ false }
-{
-    Arg::new(alloc, "KIND").help("A kind of fault, by its number or its name")
-}
-
-// The flag of a strict check.
-fn strict_arg<'a>(alloc: Global) -> Arg<'a>
-    ensures rule { rule_of result ≡ strict_rule }
-    ensures local { result.global ≡ false }
-{
-    Arg::new(alloc, "strict")
-        .long("strict")
-        .help("Ends with status 1 where space is lost, too")
-        .action(ArgAction::SetTrue)
-}
-
-// The flag of a report that has the digest of the file.
-fn digest_arg<'a>(alloc: Global) -> Arg<'a>
-    ensures rule { rule_of result ≡ digest_rule }
-    ensures local { result.global ≡ false }
-{
-    Arg::new(alloc, "digest")
-        .long("digest")
-        .help("Adds the SHA-256 of the file as it is stored")
-        .action(ArgAction::SetTrue)
-}
-
-// The flag of properties with the places of their values.
-fn places_arg<'a>(alloc: Global) -> Arg<'a>
-    ensures rule { rule_of result ≡ places_rule }
-    ensures local { result.global ≡ false }
-{
-    Arg::new(alloc, "places")
-        .long("places")
-        .help("Adds where in the file each value lies")
-        .action(ArgAction::SetTrue)
-}
-
-// The flag of a text that is written as UTF-8.
-fn text_arg<'a>(alloc: Global) -> Arg<'a>
-    ensures rule { rule_of result ≡ text_rule }
-    ensures local { result.global ≡ false }
-{
-    Arg::new(alloc, "text")
-        .long("text")
-        .help("Writes a text as UTF-8")
-        .action(ArgAction::SetTrue)
-}
-
-// The flag of a file that is decoded first.
-fn decode_arg<'a>(alloc: Global) -> Arg<'a>
-    ensures rule { rule_of result ≡ decode_rule }
-    ensures local { result.global ≡ false }
-{
-    Arg::new(alloc, "decode")
-        .long("decode")
-        .help("Decodes an encoded file first, in memory")
+    Arg::new(alloc, id)
+        .long(id)
+        .help(help)
         .action(ArgAction::SetTrue)
 }
 
@@ -174,9 +95,23 @@ fn with_flags<'a>(
     ensures { IfOk result (IsOwn (with_flags takes (app_of command.entry))) }
 {
     match takes {
-        Takes::Report => command.arg(strict_arg(alloc))?.arg(digest_arg(alloc)),
-        Takes::Paths => command.arg(places_arg(alloc)),
-        Takes::Property => command.arg(text_arg(alloc)),
+        Takes::Report => command
+            .arg(flag(
+                alloc,
+                "strict",
+                "Ends with status 1 where space is lost, too",
+            ))?
+            .arg(flag(
+                alloc,
+                "digest",
+                "Adds the SHA-256 of the file as it is stored",
+            )),
+        Takes::Paths => command.arg(flag(
+            alloc,
+            "places",
+            "Adds where in the file each value lies",
+        )),
+        Takes::Property => command.arg(flag(alloc, "text", "Writes a text as UTF-8")),
         Takes::File | Takes::Node | Takes::Kind => Ok(command),
     }
 }
@@ -192,7 +127,11 @@ fn with_file<'a>(
 {
     match takes {
         Takes::Kind => Ok(command),
-        _ => command.arg(decode_arg(alloc))?.arg(file_arg(alloc)),
+        Takes::File | Takes::Report | Takes::Node | Takes::Paths | Takes::Property => {
+            command
+                .arg(flag(alloc, "decode", "Decodes an encoded file first, in memory"))?
+                .arg(word(alloc, "FILE", "The file to read, or - for standard input"))
+        }
     }
 }
 
@@ -206,10 +145,24 @@ fn with_words<'a>(
     ensures { IfOk result (IsOwn (with_words takes (app_of command.entry))) }
 {
     match takes {
-        Takes::Node => command.arg(node_arg(alloc)),
-        Takes::Paths => command.arg(paths_arg(alloc)),
-        Takes::Property => command.arg(path_arg(alloc))?.arg(property_arg(alloc)),
-        Takes::Kind => command.arg(kind_arg(alloc)),
+        Takes::Node => command.arg(word(alloc, "NID", "The identifier of a node, as 0x122")),
+        Takes::Paths => command.arg(several(
+            alloc,
+            "PATH",
+            "Nodes, as 0x122, and what is inside messages, as 0x200024/0x8025",
+        )),
+        Takes::Property => command
+            .arg(word(
+                alloc,
+                "PATH",
+                "A node, as 0x122, or what is inside a message, as 0x200024/0x8025",
+            ))?
+            .arg(word(alloc, "ID", "The identifier of a property, as 0037")),
+        Takes::Kind => command.arg(optional(
+            alloc,
+            "KIND",
+            "A kind of fault, by its number or its name",
+        )),
         Takes::File | Takes::Report => Ok(command),
     }
 }

@@ -2,10 +2,11 @@
 
 mod asked;
 mod help;
+mod named;
 mod refused;
 
-use crate::told::is;
-use pst_ask::{NoOrder, parse};
+use crate::told::{holds_at, is};
+use pst_ask::{Lack, NoOrder, parse};
 use std::alloc::Global;
 use std::process::Abort;
 use std::test::Fail;
@@ -35,4 +36,13 @@ fn is_answered<R: Abort + AllocGlobal>(
         }
         _ => Err(Fail::from("the words are accepted")),
     }
+}
+
+// Compares what words lack, which are accepted and ask for nothing that can be done.
+fn lacks<R: Abort + AllocGlobal>(rt: &R, words: &[&str], wanted: Lack) -> Result<(), Fail> {
+    let all = words_of(rt.alloc(), words)?;
+    let asked = parse(rt.alloc(), &all);
+    let is_so = matches!(asked, Err(NoOrder::Lacks(lack)) if lack == wanted);
+    holds_at(rt, words, is_so);
+    Ok(())
 }

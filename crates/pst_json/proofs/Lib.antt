@@ -8,4 +8,5 @@ pub mod NameLemmas
 pub mod NodeLemmas
 pub mod OutputLemmas
 pub mod PathLemmas
+pub mod PropertyLemmas
 pub mod RowsLemmas

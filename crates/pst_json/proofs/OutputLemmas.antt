@@ -1,7 +1,8 @@
 -- Outputs that gain some bytes, and then others.
-use Rattle.std.proofs.Common.{◌≡◌, ◌+◌, ◌≤◌, ℕ, List, [], ◌++◌, length, take, Option, arith, refl, sym, subst, ◌∙◌, append_assoc, append-nil}
+use Rattle.std.proofs.Common.{◌≡◌, ◌+◌, ◌≤◌, ℕ, List, [], ◌∷◌, ◌++◌, length, take, Option, arith, refl, sym, subst, ◌∙◌, append_assoc, append-nil}
 use Rattle.std.specs.Prelude.{min}
 use Rattle.std.specs.Io.KnownBytes.{Appends}
+use Rattle.std.specs.List.{concat}
 use Rattle.std.proofs.KnownBytes.{Appends-nil, Appends-trans}
 use Rattle.std.proofs.lemmas.List.{take_min, take-append-le}
 use Rattle.std.proofs.Math.Seq.{take-append-add, take-length}
@@ -50,6 +51,24 @@ written_front old now new whole piece rest w front =
 -- all of them
 pub written_all : (old now : Option (List ℕ)) (whole : List ℕ) → Written old now whole [] → Appends old now whole
 written_all old now whole w = subst (Appends old now) (sym (append-nil w.front) ∙ w.all) w.is
+
+-- ---- the slices of a value, one after another
+
+pub slices_begin : (old : Option (List ℕ)) (whole : List ℕ) (left : List (List ℕ)) → concat left ≡ whole → Written old old whole (concat left)
+slices_begin old whole left is = subst (Written old old whole) (sym is) (written_none old whole)
+
+pub slice_written : (old now new : Option (List ℕ)) (whole piece : List ℕ) (left behind : List (List ℕ)) → left ≡ piece ∷ behind → Written old now whole (concat left) → Appends now new piece
+    → Written old new whole (concat behind)
+slice_written old now new whole piece left behind is w more = written_more old now new whole piece (concat behind) (subst (λ l. Written old now whole (concat l)) is w) more
+
+-- one that failed
+pub slice_front : (old now new : Option (List ℕ)) (whole piece : List ℕ) (left behind : List (List ℕ)) → left ≡ piece ∷ behind → Written old now whole (concat left) → AppendsFront now new piece
+    → AppendsFront old new whole
+slice_front old now new whole piece left behind is w front = written_front old now new whole piece (concat behind) (subst (λ l. Written old now whole (concat l)) is w) front
+
+-- none is left
+pub slices_end : (old now : Option (List ℕ)) (whole : List ℕ) (left : List (List ℕ)) → left ≡ [] → Written old now whole (concat left) → Appends old now whole
+slices_end old now whole left is w = written_all old now whole (subst (λ l. Written old now whole (concat l)) is w)
 
 pub front_of_all : (old new : Option (List ℕ)) (bytes : List ℕ) → Appends old new bytes → AppendsFront old new bytes
 front_of_all old new bytes all = (length bytes, subst (Appends old new) (sym (take-length bytes)) all)

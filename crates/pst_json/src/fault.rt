@@ -28,6 +28,7 @@ pub enum DocFault {
 impl fmt::Display for DocFault {
     ghost output = { λ f. Some (doc_fault_text f) };
 
+    #[tactic(auto, using(pst_value_json::proofs::NameLemmas::id_digits))]
     fn fmt<W: fmt::Write>(&self, f: &mut fmt::Formatter<W>) -> fmt::Result {
         match self {
             DocFault::NoFolder => write!(f, "no folder"),

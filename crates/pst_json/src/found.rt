@@ -1,12 +1,12 @@
 //! What a path leads to.
 
 ghost use Rattle.std.specs.Prelude.{◌≡◌, IfOk, IfSome, option_map, fold, Some};
-ghost use Rattle.pst_ndb.specs.Views.{table_of_ndb, nodes_of, table_of_node, roots_of};
+ghost use Rattle.pst_ndb.specs.Views.{image_of_ndb, table_of_ndb, nodes_of, image_of_node, table_of_node, roots_of};
 ghost use Rattle.pst_verify.specs.pst_msg.View.{node_of_attachment, node_of_message};
 ghost use Rattle.pst_verify.specs.pst_store.View.{ndb_of_store};
 ghost use Rattle.pst_json.specs.Found.{node_of_reached, place_of, node_of_found, place_of_found};
 ghost use Rattle.pst_json.specs.Path.{message, attachment, place_of_shown, attachment_with, embedded_with, first_place, found_at, place_at, step, step_from};
-ghost use Rattle.pst_json.specs.Told.{TellsDoc};
+ghost use Rattle.pst_json.specs.Told.{told_of};
 
 use crate::fault::DocFault;
 use pst_ndb::Node as NodeView;
@@ -42,6 +42,8 @@ fn first<'a>(store: &Store<'a>, nid: u32) -> Option<Reached<'a>>
         option_map place_of result ≡ first_place nodes nid }
     ensures table { let t = table_of_ndb (ndb_of_store store.now) in
         IfSome result (λ r. table_of_node (node_of_reached r) ≡ t) }
+    ensures image { let file = image_of_ndb (ndb_of_store store.now) in
+        IfSome result (λ r. image_of_node (node_of_reached r) ≡ file) }
 {
     if is_message(nid) {
         return match store.message(nid) {
@@ -62,6 +64,8 @@ fn attachment_in(message: Message<'_>, nid: u32) -> Option<Reached<'_>>
         option_map place_of result ≡ place_of_shown attachment there }
     ensures table { let t = table_of_node (node_of_message message.entry) in
         IfSome result (λ r. table_of_node (node_of_reached r) ≡ t) }
+    ensures image { let file = image_of_node (node_of_message message.entry) in
+        IfSome result (λ r. image_of_node (node_of_reached r) ≡ file) }
 {
     match message.attachment(nid) {
         Some(attachment) => Some(Reached::Attachment(attachment)),
@@ -76,6 +80,8 @@ fn embedded_in(holder: Attachment<'_>, nid: u32) -> Option<Reached<'_>>
         option_map place_of result ≡ place_of_shown message there }
     ensures table { let t = table_of_node (node_of_attachment holder.entry) in
         IfSome result (λ r. table_of_node (node_of_reached r) ≡ t) }
+    ensures image { let file = image_of_node (node_of_attachment holder.entry) in
+        IfSome result (λ r. image_of_node (node_of_reached r) ≡ file) }
 {
     match holder.embedded() {
         Some(message) if message.nid() == nid => Some(Reached::Message(message)),
@@ -89,6 +95,8 @@ fn next(from: Reached<'_>, nid: u32) -> Option<Reached<'_>>
         option_map place_of result ≡ step_from t (place_of from.entry) nid }
     ensures table { let t = table_of_node (node_of_reached from.entry) in
         IfSome result (λ r. table_of_node (node_of_reached r) ≡ t) }
+    ensures image { let file = image_of_node (node_of_reached from.entry) in
+        IfSome result (λ r. image_of_node (node_of_reached r) ≡ file) }
 {
     match from {
         Reached::Message(message) => attachment_in(message, nid),
@@ -104,6 +112,8 @@ fn walk<'a>(from: Reached<'a>, steps: &[u32]) -> Option<Reached<'a>>
         option_map place_of result ≡ fold (step t) (Some (place_of from.entry)) steps.now }
     ensures table { let t = table_of_node (node_of_reached from.entry) in
         IfSome result (λ r. table_of_node (node_of_reached r) ≡ t) }
+    ensures image { let file = image_of_node (node_of_reached from.entry) in
+        IfSome result (λ r. image_of_node (node_of_reached r) ≡ file) }
 {
     let mut at = from;
     for nid in steps {
@@ -122,6 +132,8 @@ fn walk_from<'a>(store: &Store<'a>, nid: u32, steps: &[u32]) -> Option<Reached<'
         option_map place_of result ≡ fold (step t) (first_place nodes nid) steps.now }
     ensures table { let t = table_of_ndb (ndb_of_store store.now) in
         IfSome result (λ r. table_of_node (node_of_reached r) ≡ t) }
+    ensures image { let file = image_of_ndb (ndb_of_store store.now) in
+        IfSome result (λ r. image_of_node (node_of_reached r) ≡ file) }
 {
     match first(store, nid) {
         Some(reached) => walk(reached, steps),
@@ -136,6 +148,8 @@ fn reached_by<'a>(store: &Store<'a>, path: &[u32]) -> Option<Reached<'a>>
         option_map place_of result ≡ place_at (table_of_ndb ndb) (nodes_of ndb) path.now }
     ensures table { let t = table_of_ndb (ndb_of_store store.now) in
         IfSome result (λ r. table_of_node (node_of_reached r) ≡ t) }
+    ensures image { let file = image_of_ndb (ndb_of_store store.now) in
+        IfSome result (λ r. image_of_node (node_of_reached r) ≡ file) }
 {
     let (nid, steps) = path.split_first()?;
     walk_from(store, *nid, steps)
@@ -162,9 +176,11 @@ impl<'a> Found<'a> {
 #[tactic(auto, unfolding(crate::specs::Path::found_at))]
 pub(crate) fn found_in<'a>(store: &Store<'a>, path: &[u32]) -> Result<Found<'a>, DocFault>
     ensures place { let ndb = ndb_of_store store.now in
-        TellsDoc place_of_found result (found_at (table_of_ndb ndb) (nodes_of ndb) path.now) }
+        told_of place_of_found result ≡ found_at (table_of_ndb ndb) (nodes_of ndb) path.now }
     ensures table { let t = table_of_ndb (ndb_of_store store.now) in
         IfOk result (λ f. table_of_node (node_of_found f) ≡ t) }
+    ensures image { let file = image_of_ndb (ndb_of_store store.now) in
+        IfOk result (λ f. image_of_node (node_of_found f) ≡ file) }
 {
     match reached_by(store, path) {
         Some(Reached::Message(message)) => Ok(Found::Message(message)),

@@ -15,6 +15,7 @@ use pst_verify::Store;
 /// The property with an identifier of what a path leads to, lent from the file's own memory; no memory is taken. Paths are those of
 /// `props_doc`, and its faults come first: NoNode where a step leads nowhere; Bad with the fault of `check_pc` where the node is
 /// neither a message nor a property context; NoProperty where there is no property with the identifier.
+#[tactic(auto, unfolding(crate::specs::Property::property_at), using(crate::proofs::PropertyLemmas::property_there, crate::proofs::PropertyLemmas::property_lent))]
 pub fn property_at<'a>(store: &Store<'a>, path: &[u32], id: u16) -> Result<Prop<'a>, DocFault>
     ensures told { let ndb = ndb_of_store store.now in
         told_of property_of result ≡ property_told (table_of_ndb ndb) (nodes_of ndb) path.now id }

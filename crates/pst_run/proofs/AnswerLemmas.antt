@@ -14,7 +14,7 @@ use Rattle.pst_json.specs.Check.{report_parts}
 use Rattle.pst_ask.specs.declared.path.Path.{Path}
 use Rattle.pst_ask.specs.Ask.{nids_of, report}
 use Rattle.pst_json.specs.declared.fault.DocFault.{DocFault}
-use Rattle.pst_json.specs.declared.fault.DocFault.TheVariants.{NoFolder, NoNode, Bad, Memory}
+use Rattle.pst_json.specs.declared.fault.DocFault.TheVariants.{NoFolder, NoNode, NoProperty, Bad, Memory}
 use Rattle.pst_json.specs.Told.{TellsDoc}
 use Rattle.pst_run.specs.declared.refusal.Refusal.{Refusal}
 use Rattle.pst_run.specs.Refusal.{Refused, fault, is_memory, memory, refusal_for, refusal_of, refused_of}
@@ -88,6 +88,7 @@ gives_for : (path : List ℕ) (f : DocFault) (whole : Result Told Refused) (line
     → (line ≡ Err f → whole ≡ Err (refusal_for path f)) → GivesNone (refusal_for path f) whole
 gives_for path NoFolder whole line tells is = is tells
 gives_for path NoNode whole line tells is = is tells
+gives_for path (NoProperty id) whole line tells is = is tells
 gives_for path (Bad f) whole line tells is = gives_fault f (is_memory f.kind) whole (is tells)
 gives_for path Memory whole line tells is = tt
 

@@ -54,7 +54,7 @@ pub record Told : Type 0 where
 -- the bytes that are written
 abbrev pub bytes_shown : Text → List ℕ
 bytes_shown (Made text) = text.items
-bytes_shown (Lent value) = bytes_in value
+bytes_shown (Lent lent) = bytes_in lent
 
 abbrev pub told_in : Shown → Told
 told_in s = record { text = bytes_shown s.text; fails = s.fails }

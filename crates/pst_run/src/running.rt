@@ -7,7 +7,7 @@ ghost use Rattle.pst_ask.specs.clap.Words.{fault_of, kind_of};
 ghost use Rattle.pst_ask.specs.declared.words.NoOrder.TheVariants.{Lacks};
 ghost use Rattle.pst_run.specs.Answer.{answer_to, bytes_for, digest_for};
 ghost use Rattle.pst_run.specs.Refusal.{memory};
-ghost use Rattle.pst_ask.specs.pst_fault.declared.kind.Kind.{Kind as FaultKind};
+ghost use Rattle.pst_fault.specs.declared.kind.Kind.{Kind as FaultKind};
 ghost use Rattle.pst_run.specs.Run.{Answers, CarriesOut, Ends, Explains, IsLacking, IsRefused, IsStatusOf, MatchNone, Says, SaysLine, lack_text, outputs};
 
 use crate::answers::answer;

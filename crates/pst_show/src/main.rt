@@ -15,7 +15,14 @@ fn run_command(rt: &HostRuntime, request: Request<'_>) -> u8 {
     let expected = source.expected();
     let mut input = Watched::new(source, Progress::on_terminal(rt, expected));
     let (mut out, mut err) = (rt.stdout(), rt.stderr());
-    let status = carry_out(rt.alloc(), &request, &mut input, expected, &mut out, &mut err);
+    let status = carry_out(
+        rt.alloc(),
+        &request,
+        &mut input,
+        expected,
+        &mut out,
+        &mut err,
+    );
     match input.fault() {
         Some(error) if status == Refusal::Input.status() => {
             say_cause(rt.alloc(), request.file, error, &mut err);

@@ -1,7 +1,9 @@
 pub mod CellLemmas
 pub mod HexLemmas
+pub mod NameLemmas
 pub mod PartLemmas
 pub mod PlainLemmas
+pub mod PlaceLemmas
 pub mod PropLemmas
 pub mod RowLemmas
 pub mod TimeLemmas

@@ -8,6 +8,7 @@ pub mod Time
 pub mod Places
 pub mod Props
 pub mod Cells
+pub mod Laws
 pub mod Rows
 pub mod Made
 pub mod Object

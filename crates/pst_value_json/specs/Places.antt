@@ -1,29 +1,39 @@
 -- Where the pieces of a value lie in the file.
-use Rattle.std.specs.Prelude.{ℕ, Bool, true, false, Option, Some, None, List, [], ◌∷◌, length}
+use Rattle.std.specs.Prelude.{ℕ, Bool, true, false, Option, Some, None, List, [], ◌∷◌, map, length}
 use Rattle.serde_json.specs.Data.{Data, array, Members, member}
 use Rattle.serde_json.specs.View.{items_of}
 use Rattle.pst_bytes.specs.declared.span.Span.{Span}
+use Rattle.pst_bytes.specs.Image.{bytes_of, bytes_at}
 use Rattle.pst_datatree.specs.declared.value_view.Value.{Value}
 use Rattle.pst_datatree.specs.declared.value_view.Value.TheVariants.{Whole, Pieces}
-use Rattle.pst_datatree.specs.Left.{spans_left}
+use Rattle.pst_datatree.specs.Left.{spans_left, file_of}
 use Rattle.pst_datatree.specs.Shown.{bytes_in}
 use Rattle.pst_datatree.specs.Spans.{nonempty, joined_bytes}
 use Rattle.pst_value_json.specs.Parts.{natural, list_data}
 
--- ---- what is told of a value: its bytes, and the pieces that they are, in order, without those that have no byte
+-- ---- the pieces of a value, in order, without those that have no byte
+
+-- a span, as far as it lies in the file
+abbrev pub in_file : List ℕ → Span → Span
+in_file I s = record { at = s.at; len = length (bytes_at I s) }
+
+-- of the value of these spans of a file
+abbrev pub places_of : List ℕ → List Span → List Span
+places_of I spans = nonempty (map (in_file I) spans)
+
+-- of a value that is lent
+abbrev pub places_in : Value → List Span
+places_in (Whole at slice) = nonempty (record { at = at; len = length slice.now } ∷ [])
+places_in (Pieces p) = places_of (bytes_of (file_of p)) (spans_left p)
+
+-- ---- what is told of a value: its bytes, and the pieces that they are
 
 pub record Content : Type 0 where
   pub bytes : List ℕ
   pub places : List Span
 
--- of the value of these spans of a file
 abbrev pub content_of : List ℕ → List Span → Content
-content_of I spans = record { bytes = joined_bytes I spans; places = nonempty spans }
-
--- of a value that is lent
-abbrev pub places_in : Value → List Span
-places_in (Whole at slice) = nonempty (record { at = at; len = length slice.now } ∷ [])
-places_in (Pieces p) = nonempty (spans_left p)
+content_of I spans = record { bytes = joined_bytes I spans; places = places_of I spans }
 
 abbrev pub content_in : Value → Content
 content_in v = record { bytes = bytes_in v; places = places_in v }

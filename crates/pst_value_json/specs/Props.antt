@@ -3,7 +3,6 @@ use Rattle.std.specs.Prelude.{ℕ, Bool, Option, Some, None, option_map, List, m
 use Rattle.serde_json.specs.Data.{Data, null, string, object, member, no_members}
 use Rattle.pst_bytes.specs.declared.span.Span.{Span}
 use Rattle.pst_block.specs.Table.{Table}
-use Rattle.pst_datatree.specs.Spans.{nonempty}
 use Rattle.pst_ndb.specs.Roots.{Roots}
 use Rattle.pst_ndb.specs.Views.{table_of_node, roots_of}
 use Rattle.pst_names.specs.declared.name_map.NameMap.{NameMap}
@@ -15,7 +14,7 @@ use Rattle.pst_pc.specs.View.{node_of_pc}
 use Rattle.pst_value_json.specs.declared.props.PropRows.{PropRows}
 use Rattle.pst_value_json.specs.Names.{id_text}
 use Rattle.pst_value_json.specs.Parts.{natural}
-use Rattle.pst_value_json.specs.Places.{places_data, if_asked, member_if}
+use Rattle.pst_value_json.specs.Places.{places_of, places_data, if_asked, member_if}
 use Rattle.pst_value_json.specs.Value.{value_data, text_data, guid_data}
 
 -- ---- a name: a number, or a text as a value of type 001F; and the GUID of its set, or null
@@ -50,7 +49,7 @@ prop_data name places p =
 
 -- that of a record of a property context, of which properties are called so
 abbrev pub record_data : (ℕ → Option NameParts) → Bool → Table → Roots → ℕ × Span → Data
-record_data names places t r x = prop_data (names x.0) (if_asked places (nonempty (spans_in t r x))) (property_at t r x)
+record_data names places t r x = prop_data (names x.0) (if_asked places (places_of t.image (spans_in t r x))) (property_at t r x)
 
 -- what properties are called by a name map; where there is none, no property has a name
 abbrev pub names_told : Option NameMap → ℕ → Option NameParts

@@ -71,18 +71,10 @@ fn cell_doc(alloc: Global, column: Column, value: Value, places: bool) -> Result
     if places {
         put(&mut map, alloc, "places", places_doc(alloc, value)?)?;
     }
-    put(
-        &mut map,
-        alloc,
-        "tag",
-        Doc::from(tag_text(alloc, column.tag)?),
-    )?;
-    put(
-        &mut map,
-        alloc,
-        "value",
-        cell_value_doc(alloc, column, value)?,
-    )?;
+    let tag = tag_text(alloc, column.tag)?;
+    put(&mut map, alloc, "tag", Doc::from(tag))?;
+    let shown = cell_value_doc(alloc, column, value)?;
+    put(&mut map, alloc, "value", shown)?;
     Ok(Doc::from(map))
 }
 

@@ -24,6 +24,7 @@
 mod cells;
 mod compact;
 mod form;
+mod laws;
 mod listing;
 mod names;
 mod parts;
@@ -36,6 +37,7 @@ mod value;
 
 pub use cells::{TableRows, table_doc, table_rows};
 pub use compact::{line_text, text};
+pub use laws::{cell_places_hold, prop_places_hold};
 pub use listing::Rows;
 pub use names::nid_text;
 pub use parts::{Made, Part};

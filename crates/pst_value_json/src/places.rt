@@ -1,10 +1,11 @@
 //! Where the pieces of a value lie in the file.
 
-ghost use Rattle.std.specs.Prelude.{◌≡◌, IfOk, map, length};
+ghost use Rattle.std.specs.Prelude.{◌≡◌, IfOk, map, length, [], ◌∷◌};
 ghost use Rattle.serde_json.specs.View.{view};
-ghost use Rattle.pst_datatree.specs.Left.{spans_left};
+ghost use Rattle.pst_bytes.specs.Image.{bytes_of};
+ghost use Rattle.pst_datatree.specs.Left.{spans_left, file_of};
 ghost use Rattle.pst_datatree.specs.Spans.{nonempty};
-ghost use Rattle.pst_value_json.specs.Places.{place_data, places_data, places_in};
+ghost use Rattle.pst_value_json.specs.Places.{in_file, place_data, places_data, places_in};
 
 use pst_bytes::Span;
 use pst_datatree::{Pieces, Value};
@@ -20,8 +21,10 @@ fn place_doc(alloc: Global, place: Span) -> Result<Doc, AllocError>
 
 // The spans that are left.
 fn span_docs(alloc: Global, pieces: Pieces) -> Result<Vec<Doc>, AllocError>
-    ensures { IfOk result (λ v.
+    ensures shown { IfOk result (λ v.
         map view v.items ≡ map place_data (spans_left pieces.entry)) }
+    ensures inside { let I = bytes_of (file_of pieces.entry) in
+        IfOk result (λ v. map (in_file I) (spans_left pieces.entry) ≡ spans_left pieces.entry) }
 {
     let mut rest = pieces;
     let mut docs = Vec::new(alloc);
@@ -45,6 +48,7 @@ fn slice_docs(alloc: Global, at: u64, slice: &[u8]) -> Result<Vec<Doc>, AllocErr
 }
 
 /// The pieces of a value in their order, but for those without bytes: a list that has `[place,length]` for each.
+#[tactic(auto, using(crate::proofs::PlaceLemmas::places_of_nonempty, crate::proofs::PlaceLemmas::nonempty_twice))]
 pub(crate) fn places_doc(alloc: Global, value: Value) -> Result<Doc, AllocError>
     ensures { IfOk result (λ d. view d ≡ places_data (places_in value.entry)) }
 {

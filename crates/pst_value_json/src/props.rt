@@ -72,18 +72,10 @@ fn prop_doc(
     if places {
         put(&mut map, alloc, "places", places_doc(alloc, prop.value)?)?;
     }
-    put(
-        &mut map,
-        alloc,
-        "type",
-        Doc::from(id_text(alloc, prop.kind.0)?),
-    )?;
-    put(
-        &mut map,
-        alloc,
-        "value",
-        value_doc(alloc, prop.kind, prop.value)?,
-    )?;
+    let kind = id_text(alloc, prop.kind.0)?;
+    put(&mut map, alloc, "type", Doc::from(kind))?;
+    let value = value_doc(alloc, prop.kind, prop.value)?;
+    put(&mut map, alloc, "value", value)?;
     Ok(Doc::from(map))
 }
 

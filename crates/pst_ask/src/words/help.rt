@@ -106,10 +106,9 @@ written as UTF-8; values of other types are written as they are.",
 
 // It reads no file, so it has no answer of one.
 const EXPLAIN: &str =
-    "Says in plain words what a kind of fault says of a file, what at, bid and nid are in
-its line, what to do next, and the section of [MS-PST] that has the rule. KIND is as in
-the line of the fault, as 14 or BlockTrailer. Without it, prints a line for each of the
-28 kinds.
+    "Prints in plain words what a kind of fault says of a file, what at, bid and nid are in
+its line, what to do next, and the section of [MS-PST] with the rule. KIND is as that
+line has it, as 14 or BlockTrailer. Without KIND it prints a line for each of the 28.
 
 Exit status:
   0  The words are printed

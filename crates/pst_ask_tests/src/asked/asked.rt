@@ -1,10 +1,8 @@
-//! What accepted words ask for, and the words that name a node or a path.
+//! What accepted words ask for.
 
-use super::words_of;
-use crate::told::{holds_at, is, is_at};
-use pst_ask::{
-    Ask, Kind, Lack, NoOrder, Order, Path, Request, parse, read_nid, read_path, read_property_id,
-};
+use super::{lacks, words_of};
+use crate::told::is;
+use pst_ask::{Ask, Kind, Lack, Order, Path, Request, parse};
 use std::process::Abort;
 use std::test::Fail;
 
@@ -90,15 +88,6 @@ fn is_value<R: Abort + AllocGlobal>(
     let file = "a.pst";
     let ask = Ask::Value { text, path, id };
     is_request(rt, words, Request { ask, decode, file })
-}
-
-// Whether words that are accepted lack this.
-fn lacks<R: Abort + AllocGlobal>(rt: &R, words: &[&str], wanted: Lack) -> Result<(), Fail> {
-    let all = words_of(rt.alloc(), words)?;
-    let asked = parse(rt.alloc(), &all);
-    let is_so = matches!(asked, Err(NoOrder::Lacks(lack)) if lack == wanted);
-    holds_at(rt, words, is_so);
-    Ok(())
 }
 
 #[test]
@@ -257,99 +246,4 @@ fn each_command_is_asked_for(rt: HostRuntime) -> Result<(), Fail> {
     is_asked(&rt, &["messages", "a.pst"], Ask::Messages, "a.pst")?;
     let contents = Ask::Contents(0x8082);
     is_asked(&rt, &["contents", "a b", "0x8082"], contents, "a b")
-}
-
-#[test]
-fn hexadecimal_digits_name_a_node(rt: HostRuntime) {
-    for (word, nid) in [
-        ("0x0", 0),
-        ("0x21", 0x21),
-        ("0x00000122", 0x122),
-        ("0xabcdef", 0x00ab_cdef),
-        ("0xABCDEF", 0x00ab_cdef),
-        ("0xffffffff", u32::MAX),
-    ] {
-        is_at(&rt, word, read_nid(word), Some(nid));
-    }
-}
-
-#[test]
-fn other_words_name_no_node(rt: HostRuntime) -> Result<(), Fail> {
-    for word in [
-        "",
-        "21",
-        "0x",
-        "0x123456789",
-        "0xg",
-        "0X21",
-        "x21",
-        "0x+1",
-        "0x 1",
-        "١",
-    ] {
-        is_at(&rt, word, read_nid(word), None);
-        for words in [
-            &["contents", "a.pst", word][..],
-            &["props", "a.pst", word],
-            &["props", "a.pst", "0x21", word],
-            &["value", "a.pst", word, "0037"],
-        ] {
-            lacks(&rt, words, Lack::Nid)?;
-        }
-    }
-    Ok(())
-}
-
-#[test]
-fn slashes_stand_between_the_nodes_of_a_path(rt: HostRuntime) -> Result<(), Fail> {
-    for (word, nids) in [
-        ("0x0", &[0][..]),
-        ("0x21/0x8025", &[0x21, 0x8025]),
-        ("0x1/0x2/0x3/0x00000004", &[1, 2, 3, 4]),
-    ] {
-        let path = read_path(rt.alloc(), word).map_err(|_| "refused")?;
-        is_at(&rt, word, &path.nids[..], nids);
-    }
-    for word in [
-        "/",
-        "/0x21",
-        "0x21/",
-        "0x21//0x22",
-        "0x21/22",
-        "0x21/0x",
-        "0x21/0x123456789",
-        "0x21\\0x22",
-        "0x21 /0x22",
-    ] {
-        for words in [
-            &["contents", "a.pst", word][..],
-            &["props", "a.pst", word],
-            &["props", "a.pst", "0x21", word],
-            &["value", "a.pst", word, "0037"],
-        ] {
-            lacks(&rt, words, Lack::Nid)?;
-        }
-    }
-    lacks(&rt, &["contents", "a.pst", "0x122/0x21"], Lack::Nid)
-}
-
-#[test]
-fn four_hexadecimal_digits_name_a_property(rt: HostRuntime) -> Result<(), Fail> {
-    for (word, id) in [
-        ("0000", 0),
-        ("0037", 0x37),
-        ("0e1F", 0xe1f),
-        ("ffff", u16::MAX),
-        ("FFFF", u16::MAX),
-    ] {
-        is_at(&rt, word, read_property_id(word), Some(id));
-    }
-    for word in [
-        "", "37", "037", "00037", "0x37", "0x0037", "003g", "+037", " 037", "é37", "00٣",
-    ] {
-        is_at(&rt, word, read_property_id(word), None);
-        lacks(&rt, &["value", "a.pst", "0x400024", word], Lack::Property)?;
-    }
-    // a bad path is told first
-    lacks(&rt, &["value", "a.pst", "zz", "37"], Lack::Nid)
 }

@@ -130,7 +130,8 @@ fn a_front_of_its_pieces_is_left(rt: HostRuntime) -> Result<(), Fail> {
 }
 
 // What is said of the kind that the small store has in a_damaged_file_has_no_value.
-const EXPLAINED: &str = "14 BlockTrailer: the last 16 bytes of a block do not fit the block: it is damaged or overwritten
+const EXPLAINED: &str =
+    "14 BlockTrailer: the last 16 bytes of a block do not fit the block: it is damaged or overwritten
   at: the block, where its entry says
   bid: that of its entry
   nid: 0x0, nothing

@@ -1,6 +1,7 @@
 use Rattle.std.proofs.Common.{rules, ap, sym, map, option_map, drop, Vec, ◌+◌, ◌++◌, ◌∙◌}
 use Rattle.std.specs.Global.{Global}
 use Rattle.pst_ask.specs.declared.path.Path.{Path}
+use Rattle.pst_ask.specs.declared.ask.Lack.TheVariants.{Nid}
 use Rattle.pst_ask.specs.Ask.{nids_of, or_lack}
 use Rattle.pst_ask.specs.Nid.{path_of_word, paths_of}
 use Rattle.pst_ask.proofs.WordLemmas.{mapped_behind, named_end, named_next, named_refused, named_there}
@@ -27,4 +28,4 @@ loop-word-preserved c =
 pub returns : goal.returns
 returns c =
     let words = c.args.words.now in
-    ap or_lack (named_end path_of_word words c.loop-word.word-index (map nids_of c.loop-word.paths.items) (paths_of (map (λ w. w.now) words)) (search rules) c.loop-word.invariant.left)
+    ap (or_lack Nid) (named_end path_of_word words c.loop-word.word-index (map nids_of c.loop-word.paths.items) (paths_of (map (λ w. w.now) words)) (search rules) c.loop-word.invariant.left)

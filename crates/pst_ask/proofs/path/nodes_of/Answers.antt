@@ -1,4 +1,5 @@
 use Rattle.std.proofs.Common.{rules, ap, sym, map, option_map, drop, ◌+◌, ◌++◌, ◌∙◌}
+use Rattle.pst_ask.specs.declared.ask.Lack.TheVariants.{Nid}
 use Rattle.pst_ask.specs.Ask.{or_lack}
 use Rattle.pst_ask.specs.Nid.{all_named, nid_of_word}
 use Rattle.pst_ask.proofs.WordLemmas.{named_end, named_next, named_none}
@@ -6,7 +7,7 @@ use Rattle.pst_ask.proofs.path.nodes_of.Goals as goal
 
 pub returns-in-None : goal.returns-in-None
 returns-in-None c =
-    ap or_lack (named_none nid_of_word c.args.words.now c.loop-word.word-index _ c.loop-word.nids.items (all_named nid_of_word (map (λ w. w.now) c.args.words.now))
+    ap (or_lack Nid) (named_none nid_of_word c.args.words.now c.loop-word.word-index _ c.loop-word.nids.items (all_named nid_of_word (map (λ w. w.now) c.args.words.now))
     (search rules) c.in-None.ensures c.loop-word.invariant.left)
 
 pub loop-word-preserved : goal.loop-word-preserved
@@ -18,5 +19,5 @@ loop-word-preserved c = record {
 
 pub returns : goal.returns
 returns c =
-    ap or_lack (named_end nid_of_word c.args.words.now c.loop-word.word-index c.loop-word.nids.items (all_named nid_of_word (map (λ w. w.now) c.args.words.now))
+    ap (or_lack Nid) (named_end nid_of_word c.args.words.now c.loop-word.word-index c.loop-word.nids.items (all_named nid_of_word (map (λ w. w.now) c.args.words.now))
     (search rules) c.loop-word.invariant.left)

@@ -1,7 +1,7 @@
 use Rattle.std.proofs.Common.{map, ap, ◌∙◌}
 use Rattle.pst_ndb.specs.Views.{table_of_node, roots_of}
-use Rattle.pst_value_json.specs.Props.{named_prop_data, names_told}
-use Rattle.pst_value_json.specs.pst_pc.Values.{props_of}
+use Rattle.pst_value_json.specs.Props.{record_data, names_told}
+use Rattle.pst_value_json.specs.pst_pc.Values.{pc_records}
 use Rattle.pst_verify.specs.pst_msg.View.{attachments_left}
 use Rattle.pst_json.specs.Node.{attachment_data, message_data}
 use Rattle.pst_json.proofs.node.shown_lists.Goals as goal
@@ -10,6 +10,7 @@ pub returns : goal.returns
 unfolding message_data
 returns g c =
     let told = names_told c.args.names in
-    let attachments = ap (λ n. map (attachment_data told (table_of_node n)) (attachments_left c.attachments.result)) c.attachments.ensures.holder in
-    let props = c.prop_rows.ensures ∙ ap (λ n. map (named_prop_data told) (props_of (table_of_node n) (roots_of n))) c.pc.ensures in
+    let places = c.args.places in
+    let attachments = ap (λ n. map (attachment_data told places (table_of_node n)) (attachments_left c.attachments.result)) c.attachments.ensures.holder in
+    let props = c.prop_rows.ensures ∙ ap (λ n. map (record_data told places (table_of_node n) (roots_of n)) (pc_records (table_of_node n) (roots_of n))) c.pc.ensures in
     rw (c.in_ok-parts.ensures.items, attachments, c.attachments.ensures.left, props, c.requires) at c.object.ensures

@@ -10,7 +10,7 @@ use Rattle.pst_run.proofs.answers.props_lines.Goals as goal
 pub returns-in-Err : goal.returns-in-Err
 returns-in-Err c =
     let ndb = ndb_of_store c.args.store.now in
-    let line = props_line (table_of_ndb ndb) (nodes_of ndb) in
+    let line = props_line c.args.places (table_of_ndb ndb) (nodes_of ndb) in
     let paths = c.args.paths.now in
     line_refused line paths c.loop-path.path-index _ c.loop-path.text.items c.in-Err.fault c.of_document.result (lines_of_paths line (map nids_of paths))
     (search rules) c.in-Err.ensures c.of_document.ensures c.loop-path.invariant.left
@@ -18,6 +18,6 @@ returns-in-Err c =
 pub returns : goal.returns
 returns c =
     let ndb = ndb_of_store c.args.store.now in
-    let line = props_line (table_of_ndb ndb) (nodes_of ndb) in
+    let line = props_line c.args.places (table_of_ndb ndb) (nodes_of ndb) in
     let paths = c.args.paths.now in
     lines_end line paths c.loop-path.path-index c.loop-path.text.items (lines_of_paths line (map nids_of paths)) (search rules) c.loop-path.invariant.left

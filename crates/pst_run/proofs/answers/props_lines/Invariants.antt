@@ -9,6 +9,6 @@ use Rattle.pst_run.proofs.answers.props_lines.Given as goal
 
 -- the lines so far, with those of the paths that are left, are all
 abbrev pub invariant-loop-path : goal.invariant-loop-path
-invariant-loop-path l = let ndb = ndb_of_store l.store in let line = props_line (table_of_ndb ndb) (nodes_of ndb) in record {
+invariant-loop-path l = let ndb = ndb_of_store l.store in let line = props_line l.places (table_of_ndb ndb) (nodes_of ndb) in record {
   left : lines_of_paths line (map nids_of l.paths) ≡ behind l.text.items (lines_left line (drop l.path-index l.paths));
 }

@@ -10,10 +10,10 @@ use Rattle.pst_value_json.proofs.cells.cells_doc.Goals as goal
 pub loop-column-preserved : goal.loop-column-preserved
 loop-column-preserved c =
     let node = node_of_tc (tc_of_row c.args.row) in
-    cells_at (table_of_node node) (roots_of node) _ c.args.columns.now c.loop-column.column-index _ _ _ _ _ (search rules) c.cell_at.ensures c.in_ok-push_cell.ensures c.loop-column.invariant
+    cells_at c.args.places (table_of_node node) (roots_of node) _ c.args.columns.now c.loop-column.column-index _ _ _ _ _ (search rules) c.cell_at.ensures c.in_ok-push_cell.ensures c.loop-column.invariant
 
 pub returns : goal.returns
 returns c =
     let node = node_of_tc (tc_of_row c.args.row) in
     c.from.ensures
-    ∙ ap (λ ds. array (items_of ds)) (cells_past (table_of_node node) (roots_of node) _ c.args.columns.now c.loop-column.column-index _ _ (search rules) c.loop-column.invariant)
+    ∙ ap (λ ds. array (items_of ds)) (cells_past c.args.places (table_of_node node) (roots_of node) _ c.args.columns.now c.loop-column.column-index _ _ (search rules) c.loop-column.invariant)

@@ -11,4 +11,4 @@ abbrev pub invariant-loop-column : goal.invariant-loop-column
 invariant-loop-column l =
     let node = node_of_tc (tc_of_row l.row) in
     let cells = cells_of (table_of_node node) (roots_of node) (row_parts l.row).place.at in
-    map view l.docs.items ++ map cell_data (cells (map column_of (drop l.column-index l.columns))) ≡ map cell_data (cells (map column_of l.columns))
+    map view l.docs.items ++ map (cell_data l.places) (cells (map column_of (drop l.column-index l.columns))) ≡ map (cell_data l.places) (cells (map column_of l.columns))

@@ -2,7 +2,7 @@ use Rattle.std.proofs.Common.{refl, rules}
 use Rattle.std.specs.Str.{bytes_eq}
 use Rattle.pst_ask.specs.declared.verb.Verb.TheVariants.{Check}
 use Rattle.pst_ask.specs.Verbs.{name_of, verbs}
-use Rattle.pst_ask.proofs.WordLemmas.{find_next}
+use Rattle.pst_explain.proofs.KindLemmas.{find_next}
 use Rattle.pst_ask.proofs.verb.Verb.named.Goals as goal
 
 pub loop-verb-preserved : goal.loop-verb-preserved
