@@ -14,6 +14,8 @@ use Rattle.pst_run.specs.Answer.{GivesNone, Told, answer_to}
 use Rattle.pst_run.specs.Refusal.{Refused, fault, document, input, output, memory, line_of_text, refusal_text, refused_of, status_of}
 use Rattle.pst_run.specs.Run.{IsStatusOf, MatchNone, SaysLine, lack_text, shown_status}
 use Rattle.pst_c.specs.declared.answer.Answer.{Answer}
+use Rattle.pst_c.specs.declared.words.NoWords.{NoWords}
+use Rattle.pst_c.specs.declared.words.NoWords.TheVariants.{Endless, NoText, Memory}
 use Rattle.pst_c.specs.Words.{IsEndless, IsNoText, IsWords}
 
 -- the status, what is written, and what is said on the error output
@@ -62,11 +64,15 @@ AnswersWords words bytes a =
     ⊎ (((kind : Option Kind) × IsAsked words (explain kind) × Explains kind a)
     ⊎ (((none : NoOrder) × Declines words none × Declined none a) ⊎ IsMemory a))
 
--- the answer to bytes that are no words
+-- the answer to bytes that are no words, for a reason
+abbrev pub WordlessBy : NoWords → Answer → Type 0
+WordlessBy Endless a = Says 2 (codes "the last word has no end") a
+WordlessBy NoText a = Says 2 (codes "a word is not UTF-8") a
+WordlessBy Memory a = IsMemory a
+
+-- and of a right reason
 abbrev pub Wordless : List ℕ → Answer → Type 0
-Wordless bytes a =
-    (IsEndless bytes × Says 2 (codes "the last word has no end") a)
-    ⊎ (IsNoText bytes × Says 2 (codes "a word is not UTF-8") a)
+Wordless bytes a = (IsEndless bytes × WordlessBy Endless a) ⊎ (IsNoText bytes × WordlessBy NoText a)
 
 -- The answer to the words that lie in some bytes, over the bytes of a file.
 abbrev pub Answers : List ℕ → List ℕ → Answer → Type 0

@@ -1,15 +1,10 @@
 //! The answer to words and bytes.
 
-ghost use Rattle.std.specs.Prelude.{◌≡◌, ◌≢◌, ◌≤◌, ◌<◌, [], Err, Option, length, IfErr, IfOk};
-ghost use Rattle.pst_ask.specs.Ask.{Asked, show, explain, request_of};
-ghost use Rattle.pst_ask.specs.Words.{IsAsked, asked, show_app, texts};
-ghost use Rattle.pst_ask.specs.clap.Words.{fault_of};
-ghost use Rattle.pst_ask.specs.declared.ask.Lack.{Lack};
-ghost use Rattle.pst_ask.specs.pst_fault.declared.kind.Kind.{Kind as FaultKind};
-ghost use Rattle.pst_run.specs.Answer.{answer_to};
-ghost use Rattle.pst_run.specs.Refusal.{input};
-ghost use Rattle.pst_c.specs.Answer.{IsAnswer, IsDeclined, IsExplained, IsLacking, IsMemory, IsOnlySaid, IsSaid};
-ghost use Rattle.pst_c.specs.Words.{ended_words};
+ghost use Rattle.std.specs.Prelude.{◌≡◌, ◌⊎◌, MatchResult, []};
+ghost use Rattle.pst_ask.specs.Ask.{request_of};
+ghost use Rattle.pst_ask.specs.Words.{texts};
+ghost use Rattle.pst_run.specs.Refusal.{refused_of};
+ghost use Rattle.pst_c.specs.Answer.{Answers, AnswersWords, Declined, Explains, Is, IsMemory, Refuses, Shows, WordlessBy};
 
 use crate::line::line_of;
 use crate::shown::shown_of;
@@ -41,7 +36,9 @@ fn of_memory(alloc: Global) -> Answer
 }
 
 // A line alone, with its status; or want of memory.
-fn said(alloc: Global, status: u8, line: Result<Vec<u8>, AllocError>) -> Answer {
+fn said(alloc: Global, status: u8, line: Result<Vec<u8>, AllocError>) -> Answer
+    ensures { MatchResult line (λ l. Is status [] l.items result) (λ _. IsMemory result) }
+{
     match line {
         Ok(line) => Answer {
             status,
@@ -53,12 +50,19 @@ fn said(alloc: Global, status: u8, line: Result<Vec<u8>, AllocError>) -> Answer 
 }
 
 // The answer where nothing is shown.
-fn refused(alloc: Global, refusal: Refusal) -> Answer {
-    said(alloc, refusal.status(), line_of(alloc, refusal))
+fn refused(alloc: Global, refusal: Refusal) -> Answer
+    ensures { Refuses (refused_of refusal.entry) result }
+{
+    match refusal {
+        Refusal::Memory => of_memory(alloc),
+        _ => said(alloc, refusal.status(), line_of(alloc, refusal)),
+    }
 }
 
 // What is asked for of a file with these bytes.
-fn shown(alloc: Global, request: &Request, bytes: &[u8]) -> Answer {
+fn shown(alloc: Global, request: &Request, bytes: &[u8]) -> Answer
+    ensures { Shows (request_of request.now) bytes.now result }
+{
     if bytes.len() > MOST_BYTES {
         return refused(alloc, Refusal::Input);
     }
@@ -73,7 +77,9 @@ fn shown(alloc: Global, request: &Request, bytes: &[u8]) -> Answer {
 }
 
 // What a kind of fault says, or all of them.
-fn explained(alloc: Global, kind: Option<Kind>) -> Answer {
+fn explained(alloc: Global, kind: Option<Kind>) -> Answer
+    ensures { Explains kind result }
+{
     let (mut text, mut line) = (Vec::new(alloc), Vec::new(alloc));
     match explain_out(kind, &mut text, &mut line) {
         0 => Answer {
@@ -86,16 +92,21 @@ fn explained(alloc: Global, kind: Option<Kind>) -> Answer {
 }
 
 // Why nothing is done, or help, or the version. A text that cannot be written is want of memory here.
-fn declined(alloc: Global, none: NoOrder) -> Answer {
+fn declined(alloc: Global, none: NoOrder) -> Answer
+    ensures { Declined none result ⊎ IsMemory result }
+{
     let (mut text, mut line) = (Vec::new(alloc), Vec::new(alloc));
-    match decline(none, &mut text, &mut line) {
-        status @ (0 | 2) => Answer { status, text, line },
-        _ => of_memory(alloc),
+    let status = decline(none, &mut text, &mut line);
+    if status == 0 || status == 2 {
+        return Answer { status, text, line };
     }
+    of_memory(alloc)
 }
 
 // The answer where bytes are no words.
-fn wordless(alloc: Global, none: NoWords) -> Answer {
+fn wordless(alloc: Global, none: NoWords) -> Answer
+    ensures { WordlessBy none result }
+{
     match none {
         NoWords::Endless => said(alloc, 2, Vec::from_slice(alloc, b"the last word has no end\n")),
         NoWords::NoText => said(alloc, 2, Vec::from_slice(alloc, b"a word is not UTF-8\n")),
@@ -103,17 +114,25 @@ fn wordless(alloc: Global, none: NoWords) -> Answer {
     }
 }
 
-/// What the program answers to words, each ended by a zero byte, over these bytes in place of the file that they name, whatever
-/// name that is: the status with which it ends, what it writes, and what it says on the error output. With status 4, where
-/// memory is refused, both texts are empty.
-pub fn answer_text(alloc: Global, words: &[u8], bytes: &[u8]) -> Answer {
-    let words = match words_in(alloc, words) {
-        Ok(words) => words,
-        Err(none) => return wordless(alloc, none),
-    };
-    match parse(alloc, &words) {
+// The answer to words.
+fn answer_words(alloc: Global, words: &[String], bytes: &[u8]) -> Answer
+    ensures { AnswersWords (texts words.entry.now) bytes.now result }
+{
+    match parse(alloc, words) {
         Ok(Order::Show(request)) => shown(alloc, &request, bytes),
         Ok(Order::Explain(kind)) => explained(alloc, kind),
         Err(none) => declined(alloc, none),
+    }
+}
+
+/// What the program answers to words, each ended by a zero byte, over these bytes in place of the file that they name, whatever
+/// name that is: the status with which it ends, what it writes, and what it says on the error output. With status 4, where
+/// memory is refused, both texts are empty.
+pub fn answer_text(alloc: Global, words: &[u8], bytes: &[u8]) -> Answer
+    ensures { Answers words.now bytes.now result }
+{
+    match words_in(alloc, words) {
+        Ok(words) => answer_words(alloc, &words, bytes),
+        Err(none) => wordless(alloc, none),
     }
 }

@@ -42,7 +42,7 @@ fn document_text(alloc: Global, fault: DocFault, path: &[u32]) -> Result<String,
 
 // What is said of a refusal, without a line feed.
 fn refusal_said(alloc: Global, refusal: Refusal) -> Result<String, AllocError>
-    ensures { IfOk result (λ t. string_bytes t ≡ refusal_text (refused_of refusal)) }
+    ensures { IfOk result (λ t. string_bytes t ≡ refusal_text (refused_of refusal.entry)) }
 {
     match refusal {
         Refusal::Fault(fault) => format!(in alloc; "{fault}"),
@@ -55,7 +55,7 @@ fn refusal_said(alloc: Global, refusal: Refusal) -> Result<String, AllocError>
 
 /// The line of a refusal.
 pub fn line_of(alloc: Global, refusal: Refusal) -> Result<Vec<u8>, AllocError>
-    ensures { IfOk result (λ line. line.items ≡ line_of_text (refusal_text (refused_of refusal))) }
+    ensures { IfOk result (λ line. line.items ≡ line_of_text (refusal_text (refused_of refusal.entry))) }
 {
     let mut line = refusal_said(alloc, refusal)?;
     line.push_str("\n")?;

@@ -37,7 +37,7 @@ fn copied(alloc: Global, value: Value) -> Result<Vec<u8>, AllocError>
 
 // A text that outlives the bytes that it is of.
 fn text_of(alloc: Global, text: Text) -> Result<Vec<u8>, AllocError>
-    ensures { IfOk result (λ v. v.items ≡ bytes_shown text) }
+    ensures { IfOk result (λ v. v.items ≡ bytes_shown text.entry) }
 {
     match text {
         Text::Made(text) => Ok(text),

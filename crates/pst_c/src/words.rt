@@ -3,6 +3,7 @@
 ghost use Rattle.std.specs.Prelude.{◌≡◌, IfOk, IsErrOf, map};
 ghost use Rattle.pst_c.specs.Words.{IsEndless, IsNoText, IsWords, cut_words};
 ghost use Rattle.pst_ask.specs.Words.{texts};
+ghost use Rattle.pst_c.specs.declared.words.NoWords.TheVariants.{Memory};
 
 use std::alloc::{AllocError, Global};
 use std::str;
@@ -19,6 +20,8 @@ pub enum NoWords {
 }
 
 impl From<AllocError> for NoWords {
+    ghost from_gives = { λ _ n. n ≡ Memory };
+
     fn from(_error: AllocError) -> NoWords {
         NoWords::Memory
     }
