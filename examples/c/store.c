@@ -27,7 +27,7 @@ static bool map(struct store *store, int file)
     return true;
 }
 
-bool store_open(struct store *store, const char *path)
+bool store_map(struct store *store, const char *path)
 {
     int file = open(path, O_RDONLY);
 
@@ -38,6 +38,13 @@ bool store_open(struct store *store, const char *path)
         return false;
     }
     close(file);
+    return true;
+}
+
+bool store_open(struct store *store, const char *path)
+{
+    if (!store_map(store, path))
+        return false;
     if (pst_decode(store->bytes, store->length) != PST_YES) {
         fprintf(stderr, "%s: out of memory\n", path);
         store_close(store);

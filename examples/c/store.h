@@ -11,7 +11,10 @@ struct store {
     size_t length;
 };
 
-/* Maps a file and decodes it, or says why not on the error output. Nobody may write to the file until it is closed. */
+/* Maps a file, or says why not on the error output. Nobody may write to the file until it is closed. */
+bool store_map(struct store *store, const char *path);
+
+/* The same, and decodes it where it is encoded. */
 bool store_open(struct store *store, const char *path);
 
 void store_close(struct store *store);

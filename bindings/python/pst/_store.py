@@ -2,6 +2,7 @@
 
 from __future__ import annotations
 
+import itertools
 import json
 import mmap
 import os
@@ -92,7 +93,11 @@ class Store:
     def __init__(self, data: Any) -> None:
         self._data = data
         self._all = memoryview(data).toreadonly()
-        self._lent: weakref.WeakSet[memoryview] = weakref.WeakSet()
+        # The views that were given out and are still there, by numbers: a memoryview is hashed by all of its bytes, or not at all.
+        self._lent: weakref.WeakValueDictionary[int, memoryview] = (
+            weakref.WeakValueDictionary()
+        )
+        self._numbers = itertools.count()
 
     # ---- answers
 
@@ -167,7 +172,7 @@ class Store:
 
     def _slice(self, at: int, length: int) -> memoryview:
         view = self._all[at : at + length]
-        self._lent.add(view)
+        self._lent[next(self._numbers)] = view
         return view
 
     def close(self) -> None:
@@ -176,7 +181,7 @@ class Store:
         The views that values gave are over: to use one is a ValueError from now on. InUse where a view that was made of such a
         one, as by a slice, is still there, or another thread is at an answer: then the bytes are kept.
         """
-        for view in list(self._lent):
+        for view in list(self._lent.values()):
             _release(view)
         self._lent.clear()
         _release(self._all)
