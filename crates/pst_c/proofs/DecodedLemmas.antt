@@ -1,5 +1,5 @@
 -- A file that is not encoded is its own plain twin.
-use Rattle.std.proofs.Common.{◌≡◌, ◌∙◌, ◌<◌, ap, sym, refl, ℕ, List, length, Option, None, Some, arith}
+use Rattle.std.proofs.Common.{◌≡◌, ◌<◌, ap, sym, refl, ℕ, List, length, Option, None, Some, arith}
 use Rattle.std.specs.Prelude.{Bool, true, false, if◌then◌else◌, IfNone, nat_le}
 use Rattle.std.proofs.lemmas.Bool.Decides.{nat_tests}
 use Rattle.pst_bytes.specs.Image.{num}

@@ -1,6 +1,6 @@
 -- A text with a path behind it, identifier by identifier.
-use Rattle.std.proofs.Common.{◌≡◌, ◌∙◌, ◌+◌, ◌<◌, ◌≤◌, ap, sym, ℕ, List, [], ◌∷◌, ◌++◌, length, drop, get_or, append_assoc, append-nil}
-use Rattle.std.specs.Prelude.{Bool, true, false}
+use Rattle.std.proofs.Common.{◌≡◌, ◌∙◌, ◌+◌, ◌<◌, ◌≤◌, ap, sym, ℕ, List, ◌++◌, length, drop, get_or, append_assoc, append-nil}
+use Rattle.std.specs.Prelude.{Bool, false}
 use Rattle.pst_run.specs.Refusal.{path_text, step_text}
 use Rattle.pst_run.proofs.SaidLemmas.{path_end, path_next}
 

@@ -1,5 +1,5 @@
 -- What is answered to words and bytes.
-use Rattle.std.specs.Prelude.{◌≡◌, ◌≤◌, ◌<◌, ◌⊎◌, ℕ, Bool, List, [], ◌∷◌, length, Option, Some, Result, Ok, Err, Vec, codes}
+use Rattle.std.specs.Prelude.{◌≡◌, ◌≤◌, ◌<◌, ◌⊎◌, ℕ, Bool, List, [], length, Option, Some, Result, Ok, Err, Vec, codes}
 use Rattle.std.specs.Global.{Global}
 use Rattle.pst_ask.specs.Ask.{Asked, show, explain}
 use Rattle.pst_ask.specs.Words.{Declines, IsAsked}
@@ -11,7 +11,7 @@ use Rattle.pst_explain.specs.Text.{explanation}
 use Rattle.pst_fault.specs.declared.kind.Kind.{Kind}
 use Rattle.pst_run.specs.declared.refusal.Refusal.{Refusal}
 use Rattle.pst_run.specs.Answer.{GivesNone, Told, answer_to}
-use Rattle.pst_run.specs.Refusal.{Refused, fault, document, input, output, memory, line_of_text, refusal_text, refused_of, status_of}
+use Rattle.pst_run.specs.Refusal.{Refused, input, memory, line_of_text, refusal_text, refused_of, status_of}
 use Rattle.pst_run.specs.Run.{IsStatusOf, MatchNone, SaysLine, lack_text, shown_status}
 use Rattle.pst_c.specs.declared.answer.Answer.{Answer}
 use Rattle.pst_c.specs.declared.words.NoWords.{NoWords}
