@@ -9,4 +9,5 @@ pub mod NodeLemmas
 pub mod OutputLemmas
 pub mod PathLemmas
 pub mod PropertyLemmas
+pub mod RowCountLemmas
 pub mod RowsLemmas

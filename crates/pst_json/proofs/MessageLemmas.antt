@@ -59,15 +59,15 @@ summary_has_none t r folders =
 -- ---- line after line
 
 -- those of type 04 are among the messages
+among_more : (r : Roots) (rs : List Roots) (m a : Bool) → is_type MESSAGE r.top ≡ m → of_kind (is_type MESSAGE) (of_kind is_message rs) ≡ of_kind (is_type MESSAGE) rs
+    → of_kind (is_type MESSAGE) (cond (m || a) (r ∷ of_kind is_message rs) (of_kind is_message rs)) ≡ cond m (r ∷ of_kind (is_type MESSAGE) rs) (of_kind (is_type MESSAGE) rs)
+among_more r rs true a e same = rw e (ap (λ l. r ∷ l) same)
+among_more r rs false true e same = rw e same
+among_more r rs false false e same = same
+
 among : (rs : List Roots) → of_kind (is_type MESSAGE) (of_kind is_message rs) ≡ of_kind (is_type MESSAGE) rs
 among [] = refl
-among (r ∷ rs) = by_type (is_type MESSAGE r.top) (is_type ASSOCIATED r.top) refl
-  where
-    by_type : (m a : Bool) → is_type MESSAGE r.top ≡ m
-        → filter (λ (x : Roots). is_type MESSAGE x.top) (cond (m || a) (r ∷ of_kind is_message rs) (of_kind is_message rs)) ≡ cond m (r ∷ of_kind (is_type MESSAGE) rs) (of_kind (is_type MESSAGE) rs)
-    by_type true a e = rw e (ap (λ l. r ∷ l) (among rs))
-    by_type false true e = rw e (among rs)
-    by_type false false e = among rs
+among (r ∷ rs) = among_more r rs (is_type MESSAGE r.top) (is_type ASSOCIATED r.top) refl (among rs)
 
 -- all lines are those of the messages
 pub lines_are : (t : Table) (nodes : List NodeEntry) → summary_lines t nodes (of_kind is_message (all_roots nodes)) ≡ messages_text t nodes

@@ -3,7 +3,7 @@ use Rattle.std.proofs.Common.{◌≡◌, ℕ, List, Option, Some, None, sym, ap,
 use Rattle.pst_page.specs.declared.entry.NodeEntry.{NodeEntry}
 use Rattle.pst_block.specs.Table.{Table}
 use Rattle.pst_ndb.specs.Roots.{Roots, node_in}
-use Rattle.pst_ndb.specs.Views.{table_of_node, roots_of}
+use Rattle.pst_ndb.specs.Views.{table_of_node}
 use Rattle.pst_value_json.specs.pst_names.declared.index.NameIndex.{NameIndex}
 use Rattle.pst_value_json.specs.pst_names.declared.name_map.NameMap.{NameMap}
 use Rattle.pst_value_json.specs.pst_names.declared.name_map.TheConstants.{NAME_MAP}

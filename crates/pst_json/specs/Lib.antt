@@ -14,6 +14,7 @@ pub mod FolderRows
 pub mod Contents
 pub mod Messages
 pub mod Listings
+pub mod RowCounts
 pub mod NamesIndex
 pub mod Path
 pub mod Node

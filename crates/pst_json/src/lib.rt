@@ -27,6 +27,7 @@ mod node;
 mod nodes;
 mod output;
 mod property;
+mod row_counts;
 mod texts;
 
 pub use check::{check_doc, check_line};

@@ -10,10 +10,11 @@ ghost use Rattle.pst_verify.specs.pst_msg.View.{node_of_message, message_roots};
 ghost use Rattle.pst_verify.specs.pst_store.View.{ndb_of_store};
 ghost use Rattle.pst_value_json.specs.Line.{line_of};
 ghost use Rattle.pst_json.specs.Listings.{folders_at};
-ghost use Rattle.pst_json.specs.Messages.{time_property, number_property, summary_data, messages_text as text_of_messages};
+ghost use Rattle.pst_json.specs.Messages.{time_property, number_property, shown_data, summary_data, messages_text as text_of_messages};
+ghost use Rattle.pst_json.specs.RowCounts.{AreCountsTrue, IsHeld};
 
-use crate::folders::count_of;
 use crate::listings::{Listings, listings_of};
+use crate::row_counts::{Held, RowCounts};
 use crate::texts::{CLASS, SENDER, SUBJECT, text_property_doc};
 use pst_value_json::{Pc, PropType, i32_or_null_doc, line_text, nid_text, time_or_null_doc};
 use pst_verify::{MESSAGE, Message, Store, is_type};
@@ -69,36 +70,72 @@ fn nids_doc(alloc: Global, nids: &[u32]) -> Result<Doc, AllocError>
     Ok(Doc::from(docs))
 }
 
+// What is shown of a message.
+#[derive(Drop)]
+struct Summary {
+    held: Held,
+    nid: u32,
+    class: Doc,
+    folders: Doc,
+    received: Doc,
+    sender: Doc,
+    sent: Doc,
+    size: Doc,
+    subject: Doc,
+}
+
+// The same as an object.
+fn shown_doc(alloc: Global, summary: Summary) -> Result<Doc, AllocError>
+    ensures { IfOk result (λ d. view d ≡ shown_data summary) }
+{
+    let nid = nid_text(alloc, summary.nid)?;
+    json!(in alloc; {
+        "attachments": summary.held.attachments,
+        "class": summary.class,
+        "folders": summary.folders,
+        "nid": nid,
+        "received": summary.received,
+        "recipients": summary.held.recipients,
+        "sender": summary.sender,
+        "sent": summary.sent,
+        "size": summary.size,
+        "subject": summary.subject,
+    })
+}
+
 // A message in short, as an object.
 #[tactic(auto, unfolding(crate::specs::Messages::summary_data))]
-fn summary_doc(alloc: Global, message: Message, folders: &[u32]) -> Result<Doc, AllocError>
-    requires { nid_of (node_of_message message) ≡ top_of (node_of_message message) }
+fn summary_doc(
+    alloc: Global,
+    message: Message,
+    held: Held,
+    folders: &[u32],
+) -> Result<Doc, AllocError>
+    requires nid { nid_of (node_of_message message) ≡ top_of (node_of_message message) }
+    requires held { IsHeld (table_of_node (node_of_message message)) (message_roots message) held }
     ensures { let t = table_of_node (node_of_message message.entry) in
         IfOk result (λ d. view d ≡ summary_data t (message_roots message.entry) folders.now) }
 {
     let pc = message.pc();
-    let attachments = count_of(message.attachment_table());
     let class = text_property_doc(alloc, &pc, CLASS)?;
     let folders = nids_doc(alloc, folders)?;
-    let nid = nid_text(alloc, message.nid())?;
     let received = time_property_doc(alloc, &pc, RECEIVED)?;
-    let recipients = count_of(message.recipients());
     let sender = text_property_doc(alloc, &pc, SENDER)?;
     let sent = time_property_doc(alloc, &pc, SENT)?;
     let size = number_property_doc(&pc, SIZE);
     let subject = text_property_doc(alloc, &pc, SUBJECT)?;
-    json!(in alloc; {
-        "attachments": attachments,
-        "class": class,
-        "folders": folders,
-        "nid": nid,
-        "received": received,
-        "recipients": recipients,
-        "sender": sender,
-        "sent": sent,
-        "size": size,
-        "subject": subject,
-    })
+    let summary = Summary {
+        held,
+        nid: message.nid(),
+        class,
+        folders,
+        received,
+        sender,
+        sent,
+        size,
+        subject,
+    };
+    shown_doc(alloc, summary)
 }
 
 // Puts the line of a message behind a text.
@@ -107,15 +144,19 @@ fn put_summary(
     alloc: Global,
     message: Message,
     listings: &Listings,
+    counts: &mut RowCounts,
     text: &mut Vec<u8>,
 ) -> Result<(), AllocError>
-    requires { nid_of (node_of_message message) ≡ top_of (node_of_message message) }
-    ensures { let t = table_of_node (node_of_message message.entry) in
+    requires nid { nid_of (node_of_message message) ≡ top_of (node_of_message message) }
+    requires known { AreCountsTrue (table_of_node (node_of_message message)) counts.old }
+    ensures known { AreCountsTrue (table_of_node (node_of_message message.entry)) counts.new }
+    ensures put { let t = table_of_node (node_of_message message.entry) in
         let r = message_roots message.entry in
         OnOk result (text.new.items ≡ text.old.items
         ++ line_of (summary_data t r (folders_at listings.now r.top))) }
 {
-    let doc = summary_doc(alloc, message, listings.of(message.nid()))?;
+    let held = counts.held_by(message)?;
+    let doc = summary_doc(alloc, message, held, listings.of(message.nid()))?;
     let line = line_text(alloc, &doc)?;
     text.extend_from_slice(&line)?;
     Ok(())
@@ -131,10 +172,11 @@ pub fn messages_text(alloc: Global, store: &Store) -> Result<Vec<u8>, AllocError
         IfOk result (λ t. t.items ≡ text_of_messages (table_of_ndb ndb) (nodes_of ndb)) }
 {
     let listings = listings_of(alloc, store)?;
+    let mut counts = RowCounts::new(alloc);
     let mut text = Vec::new(alloc);
     for message in store.messages() {
         if is_type(MESSAGE, message.nid()) {
-            put_summary(alloc, message, &listings, &mut text)?;
+            put_summary(alloc, message, &listings, &mut counts, &mut text)?;
         }
     }
     Ok(text)

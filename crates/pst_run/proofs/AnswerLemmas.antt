@@ -84,17 +84,18 @@ gives_fault f true whole e = tt
 gives_fault f false whole e = e
 
 -- what is told of a line that there is not is the refusal for it
-gives_for : (path : List ℕ) (f : DocFault) (whole : Result Told Refused) (line : Result (List ℕ) DocFault) → TellsDoc {X = List ℕ} {Y = List ℕ} (λ t. t) (Err f) line
+gives_for : {Y : Type 0} (shown : Y → List ℕ) (path : List ℕ) (f : DocFault) (whole : Result Told Refused) (line : Result (List ℕ) DocFault) → TellsDoc shown (Err f) line
     → (line ≡ Err f → whole ≡ Err (refusal_for path f)) → GivesNone (refusal_for path f) whole
-gives_for path NoFolder whole line tells is = is tells
-gives_for path NoNode whole line tells is = is tells
-gives_for path (NoProperty id) whole line tells is = is tells
-gives_for path (Bad f) whole line tells is = gives_fault f (is_memory f.kind) whole (is tells)
-gives_for path Memory whole line tells is = tt
+gives_for shown path NoFolder whole line tells is = is tells
+gives_for shown path NoNode whole line tells is = is tells
+gives_for shown path (NoProperty id) whole line tells is = is tells
+gives_for shown path (Bad f) whole line tells is = gives_fault f (is_memory f.kind) whole (is tells)
+gives_for shown path Memory whole line tells is = tt
 
-pub line_refused : (line : List ℕ → Result (List ℕ) DocFault) (paths : List Path) (i : ℕ) (d : Path) (text : List ℕ) (f : DocFault) (r : Refusal) (whole : Result Told Refused)
-    → i < length paths → TellsDoc {X = List ℕ} {Y = List ℕ} (λ t. t) (Err f) (line (nids_of (get_or paths i d))) → refused_of r ≡ refusal_for (nids_of (get_or paths i d)) f
-    → whole ≡ behind text (lines_left line (drop i paths)) → GivesNone (refused_of r) whole
-line_refused line paths i d text f r whole inside tells is so_far =
+pub line_refused : {Y : Type 0} (shown : Y → List ℕ) (line : List ℕ → Result (List ℕ) DocFault) (paths : List Path) (i : ℕ) (d : Path) (given told text : List ℕ) (f : DocFault)
+    (r : Refusal) (whole : Result Told Refused) → i < length paths → given ≡ nids_of (get_or paths i d) → told ≡ nids_of (get_or paths i d) → TellsDoc shown (Err f) (line given)
+    → refused_of r ≡ refusal_for told f → whole ≡ behind text (lines_left line (drop i paths)) → GivesNone (refused_of r) whole
+line_refused shown line paths i d given told text f r whole inside this same tells is so_far =
     let path = nids_of (get_or paths i d) in
-    subst (λ x. GivesNone x whole) (sym is) (gives_for path f whole (line path) tells (λ none. line_none line paths i d text f whole inside none so_far))
+    let here : TellsDoc shown (Err f) (line path) = subst (λ p. TellsDoc shown (Err f) (line p)) this tells in
+    subst (λ x. GivesNone x whole) (sym (is ∙ ap (λ p. refusal_for p f) same)) (gives_for shown path f whole (line path) here (λ none. line_none line paths i d text f whole inside none so_far))

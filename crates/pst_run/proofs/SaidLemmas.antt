@@ -1,5 +1,5 @@
 -- What is said on the error output.
-use Rattle.std.proofs.Common.{◌≡◌, ◌∙◌, ◌+◌, ◌<◌, ◌≤◌, ap, sym, subst, ℕ, List, [], ◌∷◌, ◌++◌, length, drop, get_or, Option, Some, None, append_assoc, append-nil, refl}
+use Rattle.std.proofs.Common.{◌≡◌, ◌∙◌, ◌+◌, ◌<◌, ◌≤◌, ap, subst, ℕ, List, [], ◌∷◌, ◌++◌, length, drop, get_or, Option, Some, None}
 use Rattle.std.specs.Prelude.{Bool, true, false, IfSome}
 use Rattle.std.specs.Fmt.{WritesText, with_newline}
 use Rattle.std.specs.Io.KnownBytes.{Appends}

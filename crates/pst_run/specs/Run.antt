@@ -61,6 +61,10 @@ abbrev pub Ends : Result Bool Refusal → Result Told Refused → Option (List �
 Ends (Ok fails) answer old new = Shows answer fails old new
 Ends (Err r) answer old new = EndsWith (refused_of r) answer old new
 
+-- memory was refused, which is said, and nothing is written
+abbrev pub IsOutOfMemory : ℕ → Outputs → Outputs → Type 0
+IsOutOfMemory status old new = (status ≡ 4) × Keeps old.out new.out × Says memory old.err new.err
+
 -- The answer is written, its status is the run's, and nothing is said on the error output; or the answer is a refusal, the
 -- status is its, and its line is said there and nothing written. Only an output that cannot be written (3) and want of memory
 -- (4) give another status, and say so.
@@ -69,13 +73,12 @@ Answers answer status old new =
     ((fails : Bool) × (status ≡ shown_status fails) × Shows answer fails old.out new.out × Keeps old.err new.err)
     ⊎ (((r : Refused) × (answer ≡ Err r) × (status ≡ status_of r) × Keeps old.out new.out × Says r old.err new.err)
     ⊎ (((f : EmitFault) × (status ≡ 3) × ShowsFront answer old.out new.out × Says (output f) old.err new.err)
-    ⊎ ((status ≡ 4) × Keeps old.out new.out × Says memory old.err new.err)))
+    ⊎ IsOutOfMemory status old new))
 
 -- the bytes did not come: the file cannot be read, or memory was refused, which is said, and nothing is written
 abbrev pub IsUnread : ℕ → Outputs → Outputs → Type 0
 IsUnread status old new =
-    ((status ≡ 3) × Keeps old.out new.out × Says input old.err new.err)
-    ⊎ ((status ≡ 4) × Keeps old.out new.out × Says memory old.err new.err)
+    ((status ≡ 3) × Keeps old.out new.out × Says input old.err new.err) ⊎ IsOutOfMemory status old new
 
 -- The answer to some bytes, which are those of the reader where it tells them; or these did not come.
 abbrev pub CarriesOut : Asked → Option (List ℕ) → ℕ → Outputs → Outputs → Type 0

@@ -8,7 +8,7 @@ ghost use Rattle.pst_ask.specs.declared.words.NoOrder.TheVariants.{Lacks};
 ghost use Rattle.pst_run.specs.Answer.{answer_to, bytes_for, digest_for};
 ghost use Rattle.pst_run.specs.Refusal.{memory};
 ghost use Rattle.pst_fault.specs.declared.kind.Kind.{Kind as FaultKind};
-ghost use Rattle.pst_run.specs.Run.{Answers, CarriesOut, Ends, Explains, IsLacking, IsRefused, IsStatusOf, MatchNone, Says, SaysLine, lack_text, outputs};
+ghost use Rattle.pst_run.specs.Run.{Answers, CarriesOut, Ends, Explains, IsLacking, IsOutOfMemory, IsRefused, IsStatusOf, MatchNone, Says, SaysLine, lack_text, outputs};
 
 use crate::answers::answer;
 use crate::input::load_counted;
@@ -183,10 +183,11 @@ pub fn run<R: Read, W: Write, E: Write>(
         (outputs (W.contents out.old) (E.contents err.old))
         (outputs (W.contents out.new) (E.contents err.new)) }
 
-    // Where they ask what a kind of fault is, that is written, and nothing is read.
+    // Where they ask what a kind of fault is, that is written, or memory was refused; and nothing is read.
     ensures explained { (k : Option FaultKind) → IsAsked (texts words.entry.now) (explain k) →
-        Explains k result (outputs (W.contents out.old) (E.contents err.old))
-        (outputs (W.contents out.new) (E.contents err.new)) × (input.new ≡ input.old) }
+        let old = outputs (W.contents out.old) (E.contents err.old) in
+        let new = outputs (W.contents out.new) (E.contents err.new) in
+        (Explains k result old new ⊎ IsOutOfMemory result old new) × (input.new ≡ input.old) }
 
     // Where the words are refused, or ask for help or the version, nothing is read.
     ensures refused { fault_of show_app (texts words.entry.now) ≢ [] →

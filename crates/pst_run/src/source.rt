@@ -94,29 +94,14 @@ impl<R> Watched<R> {
             progress,
         }
     }
+}
 
-    // Says how far it is read; no more where no other read will be made.
-    fn tell(&mut self) {
-        let ends = self.is_at_end || self.error.is_some() || self.reads.count >= MOST_READS;
-        match &mut self.progress {
-            Some(progress) if ends => progress.wipe(),
-            Some(progress) => progress.tell(self.reads.bytes),
-            None => {}
-        }
-    }
-
-    /// Why `load` could not take all of its bytes: the error of a read, or the limit that was reached before the end.
-    /// None where it was read to its end.
-    pub fn fault(&self) -> Option<io::Error> {
-        if self.error.is_some() || self.is_at_end {
-            self.error
-        } else if self.reads.bytes > MOST_BYTES as u64 {
-            Some(too_long())
-        } else if self.reads.count >= MOST_READS {
-            Some(endless())
-        } else {
-            None
-        }
+// Says how far a file is read, where there is somebody to look at it; and that no other read will be made.
+fn tell(progress: &mut Option<Progress>, reads: Reads, ends: bool) {
+    match progress {
+        Some(progress) if ends => progress.wipe(),
+        Some(progress) => progress.tell(reads.bytes),
+        None => {}
     }
 }
 
@@ -135,7 +120,8 @@ impl<R: Read> Read for Watched<R> {
             Err(error) if error.kind() == ErrorKind::Interrupted => {}
             Err(error) => self.error = Some(error),
         }
-        self.tell();
+        let ends = self.is_at_end || self.error.is_some() || self.reads.count >= MOST_READS;
+        tell(&mut self.progress, self.reads, ends);
         got
     }
 }

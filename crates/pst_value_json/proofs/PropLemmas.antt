@@ -12,7 +12,7 @@ use Rattle.pst_pc.specs.declared.props.Props.{Props}
 use Rattle.pst_pc.specs.Left.{pc_left, rest_of, LendsProp}
 use Rattle.pst_pc.specs.Values.{Property, property_at, spans_in}
 use Rattle.pst_pc.specs.View.{node_of_pc, property_of, IsPropAt}
-use Rattle.pst_value_json.specs.Places.{place_data, places_data, places_in, places_of, if_asked}
+use Rattle.pst_value_json.specs.Places.{piece_data, places_data, places_in, places_of, if_asked}
 use Rattle.pst_value_json.specs.Plain.{IsPlain}
 use Rattle.pst_value_json.specs.Props.{kind_data, set_data, prop_data, record_data}
 use Rattle.pst_value_json.proofs.PlaceLemmas.{value_places}
@@ -50,7 +50,7 @@ set_is_plain None = record { no_float = refl }
 set_is_plain (Some guid) = record { no_float = refl }
 
 pub places_are_plain : (places : List Span) → IsPlain (places_data places)
-places_are_plain places = list_is_plain place_data (λ s. record { no_float = refl }) places
+places_are_plain places = list_is_plain piece_data (λ s. record { no_float = refl }) places
 
 prop_is_plain : (name : Option NameParts) (places : Option (List Span)) (p : Property) → IsPlain (prop_data name places p)
 unfolding prop_data

@@ -40,11 +40,11 @@ content_in v = record { bytes = bytes_in v; places = places_in v }
 
 -- ---- the places as a list: of each piece where it begins, and how long it is
 
-abbrev pub place_data : Span → Data
-place_data s = array (items_of (natural s.at ∷ natural s.len ∷ []))
+abbrev pub piece_data : Span → Data
+piece_data s = array (items_of (natural s.at ∷ natural s.len ∷ []))
 
 abbrev pub places_data : List Span → Data
-places_data places = list_data place_data places
+places_data places = list_data piece_data places
 
 -- what is there only where it is asked for
 abbrev pub if_asked : {X : Type 0} → Bool → X → Option X

@@ -45,7 +45,7 @@ pub use props::{PropRows, pc_doc, prop_rows};
 pub use pst_datatree::Value;
 pub use pst_names::{NameIndex, NameMap};
 pub use pst_pc::{Pc, Prop, check_pc};
-pub use pst_tc::{Row, Rows as TcRows, Tc, check_tc, tc_ids_rise};
+pub use pst_tc::{Row, Rows as TcRows, Tc, check_tc, tc_ids_rise, tc_is_of_keys};
 pub use pst_value::PropType;
 pub use scalar::{text_doc, text_of};
 pub use sinks::{Line, Sink, Tree, put_object};

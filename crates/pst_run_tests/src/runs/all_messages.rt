@@ -7,14 +7,15 @@ use super::messages::MESSAGES;
 use pst_make::Change::Flip;
 use std::test::Fail;
 
-// Times: 17 April 2019, 18:40, and a step of 100 nanoseconds later; the last step of the year 9999, and the one behind it.
-const SENT: [u8; 8] = 132_000_000_000_000_000u64.to_le_bytes();
+// Times, the lowest byte first: 132,000,000,000,000,000 steps of 100 nanoseconds, which is 17 April 2019, 18:40, and one more;
+// 2,650,467,743,999,999,999 of them, the last of the year 9999, and one more.
+const SENT: [u8; 8] = [0x00, 0x00, 0x5a, 0xf6, 0x4c, 0xf5, 0xd4, 0x01];
 
-const RECEIVED: [u8; 8] = 132_000_000_000_000_001u64.to_le_bytes();
+const RECEIVED: [u8; 8] = [0x01, 0x00, 0x5a, 0xf6, 0x4c, 0xf5, 0xd4, 0x01];
 
-const LAST: [u8; 8] = 2_650_467_743_999_999_999u64.to_le_bytes();
+const LAST: [u8; 8] = [0xff, 0x3f, 0xc0, 0xd1, 0x5e, 0x5a, 0xc8, 0x24];
 
-const BEHIND: [u8; 8] = 2_650_467_744_000_000_000u64.to_le_bytes();
+const BEHIND: [u8; 8] = [0x00, 0x40, 0xc0, 0xd1, 0x5e, 0x5a, 0xc8, 0x24];
 
 // Five messages, with texts of other types, times of other types and behind the year 9999, and sizes of other types. Folders 0x142
 // and 0x162 list them; the last is in no folder. Search folder 0x163 has no contents table, though there is a node that would be

@@ -9,7 +9,7 @@ use Rattle.pst_json.proofs.listings.listings_of.Given as goal
 -- what is noted, with the folders that are left, is all
 abbrev pub invariant-loop-folder : goal.invariant-loop-folder
 invariant-loop-folder l = let ndb = ndb_of_store l.store in record {
-  ndb : folders_ndb l.folder-iterator ≡ ndb;
+  same : folders_ndb l.folder-iterator ≡ ndb;
   noted : (nid : ℕ) → folders_at l.listings nid ++ map top_of_roots (filter (lists (table_of_ndb ndb) (nodes_of ndb) nid) (folders_left l.folder-iterator))
       ≡ listed_in (table_of_ndb ndb) (nodes_of ndb) nid;
 }

@@ -1,4 +1,4 @@
-use Rattle.std.proofs.Common.{◌≡◌, ap, ◌∙◌}
+use Rattle.std.proofs.Common.{ap, ◌∙◌}
 use Rattle.std.specs.Prelude.{Some}
 use Rattle.pst_ndb.specs.Views.{table_of_ndb, nodes_of, table_of_node, roots_of}
 use Rattle.pst_verify.specs.pst_store.View.{ndb_of_store}
