@@ -6,6 +6,7 @@ ghost use Rattle.pst_ask.specs.Words.{texts};
 ghost use Rattle.pst_run.specs.Refusal.{refused_of};
 ghost use Rattle.pst_c.specs.Answer.{Answers, AnswersWords, Declined, Explains, Is, IsMemory, Refuses, Shows, WordlessBy};
 
+use crate::kept::Kept;
 use crate::line::line_of;
 use crate::shown::shown_of;
 use crate::words::{NoWords, words_in};
@@ -91,16 +92,20 @@ fn explained(alloc: Global, kind: Option<Kind>) -> Answer
     }
 }
 
-// Why nothing is done, or help, or the version. A text that cannot be written is want of memory here.
+// Why nothing is done, or help, or the version. A text that cannot be written whole is want of memory here.
 fn declined(alloc: Global, none: NoOrder) -> Answer
     ensures { Declined none result ⊎ IsMemory result }
 {
-    let (mut text, mut line) = (Vec::new(alloc), Vec::new(alloc));
+    let (mut text, mut line) = (Kept::new(alloc), Kept::new(alloc));
     let status = decline(none, &mut text, &mut line);
-    if status == 0 || status == 2 {
-        return Answer { status, text, line };
+    if text.is_refused || line.is_refused || (status != 0 && status != 2) {
+        return of_memory(alloc);
     }
-    of_memory(alloc)
+    Answer {
+        status,
+        text: text.bytes,
+        line: line.bytes,
+    }
 }
 
 // The answer where bytes are no words.

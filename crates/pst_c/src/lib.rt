@@ -12,6 +12,7 @@
 mod answer;
 mod decoded;
 mod exported;
+mod kept;
 mod line;
 mod shown;
 mod words;
