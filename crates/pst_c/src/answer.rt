@@ -113,7 +113,11 @@ fn wordless(alloc: Global, none: NoWords) -> Answer
     ensures { WordlessBy none result }
 {
     match none {
-        NoWords::Endless => said(alloc, 2, Vec::from_slice(alloc, b"the last word has no end\n")),
+        NoWords::Endless => said(
+            alloc,
+            2,
+            Vec::from_slice(alloc, b"the last word has no end\n"),
+        ),
         NoWords::NoText => said(alloc, 2, Vec::from_slice(alloc, b"a word is not UTF-8\n")),
         NoWords::Memory => of_memory(alloc),
     }

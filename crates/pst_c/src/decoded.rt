@@ -22,11 +22,7 @@ fn method_in(image: Image) -> Option<Method>
 /// The bytes of the plain twin, where decoding is asked for and the file can be encoded: in memory of their own, since the caller's
 /// are only lent. None where the file is its own twin, or is not to be decoded: then nothing is copied.
 #[tactic(auto, using(crate::proofs::DecodedLemmas::own_twin))]
-pub fn decoded_if(
-    alloc: Global,
-    decode: bool,
-    bytes: &[u8],
-) -> Result<Option<Vec<u8>>, AllocError>
+pub fn decoded_if(alloc: Global, decode: bool, bytes: &[u8]) -> Result<Option<Vec<u8>>, AllocError>
     ensures twin { IfOk result (λ twin. IfSome twin (λ v. v.items ≡ bytes_for decode bytes.now)) }
     ensures file { IfOk result (λ twin. IfNone twin (bytes.now ≡ bytes_for decode bytes.now)) }
 {

@@ -11,7 +11,13 @@ use std::{env, fs, process};
 
 /// A name with no character that a file name may not have.
 fn file_name(name: Option<&str>) -> String {
-    let allowed = |c: char| if c < ' ' || c == '/' || c == '\\' { '_' } else { c };
+    let allowed = |c: char| {
+        if c < ' ' || c == '/' || c == '\\' {
+            '_'
+        } else {
+            c
+        }
+    };
     name.unwrap_or("unnamed").chars().map(allowed).collect()
 }
 

@@ -19,7 +19,10 @@ fn row(message: &Message, names: &HashMap<String, String>) -> String {
         maybe(&message.sent),
         maybe(&message.sender),
         quoted(message.title()),
-        message.size.map(|size| size.to_string()).unwrap_or_default(),
+        message
+            .size
+            .map(|size| size.to_string())
+            .unwrap_or_default(),
         quoted(&folders.join("; ")),
     ]
     .join(",")

@@ -34,8 +34,15 @@ fn verdict(path: &Path) -> (u8, String) {
         return (Refusal::Memory.status(), String::new());
     }
     let answer = answer(&["check", "-"], &bytes);
-    let said = if answer.status == 0 { &answer.text } else { &answer.line };
-    (answer.status, String::from_utf8_lossy(said).trim_end().to_string())
+    let said = if answer.status == 0 {
+        &answer.text
+    } else {
+        &answer.line
+    };
+    (
+        answer.status,
+        String::from_utf8_lossy(said).trim_end().to_string(),
+    )
 }
 
 fn verdicts(paths: &[PathBuf]) -> Vec<(u8, String)> {
