@@ -1,7 +1,7 @@
 -- The lines of messages, one after another.
 use Rattle.std.proofs.Common.{◌≡◌, ℕ, Bool, true, false, cond, List, [], ◌∷◌, ◌++◌, refl, sym, ap, ◌∙◌, append_assoc, append-nil}
 use Rattle.std.specs.Prelude.{nat_eq, ◌||◌, map, Option, Some, None}
-use Rattle.std.specs.List.{concat, filter}
+use Rattle.std.specs.List.{concat}
 use Rattle.serde_json.specs.Data.{null}
 use Rattle.serde_json.specs.Written.{has_float}
 use Rattle.pst_page.specs.declared.entry.NodeEntry.{NodeEntry}

@@ -15,7 +15,7 @@ use Rattle.pst_ndb.specs.Roots.{Roots, sub_roots, subnode_of}
 use Rattle.pst_ndb.proofs.pst_subnode.HeightLaws.{subs_same}
 use Rattle.pst_value_json.specs.pst_tc.Laws.{AlikeTcLaw}
 use Rattle.pst_value_json.specs.pst_tc.Values.{info_of, tc_records, tc_rows, row_parts_at}
-use Rattle.pst_verify.specs.pst_msg.Shown.{attachment_rows, rows_there}
+use Rattle.pst_verify.specs.pst_msg.Shown.{attachment_rows}
 use Rattle.pst_json.specs.declared.row_counts.Held.{Held}
 use Rattle.pst_json.specs.declared.row_counts.RowCounts.{RowCounts}
 use Rattle.pst_json.specs.Folders.{row_total}

@@ -165,7 +165,8 @@ fn put_summary(
 /// The lines of all messages of a store, of the nodes of type 04 in the order of their identifiers: of each an object with how
 /// many attachments and recipients it has, its class, the folders that list it, its identifier, when it was received and sent,
 /// who sent it, its size, and its subject. A message that no folder lists is there, too. Beside the text, memory is taken for
-/// one message at a time, and for what folders list: about as much as the text has of it.
+/// one message at a time; some 100 bytes for each message that folders list, and up to 8 for each folder that lists it; and some
+/// 60 for each list of subnodes, and 40 for each table of more than 2,048 bytes, that messages name.
 #[tactic(auto, using(crate::proofs::MessageLemmas::lines_are, crate::proofs::MessageLemmas::line_put, crate::proofs::MessageLemmas::line_passed, crate::proofs::MessageLemmas::lines_end))]
 pub fn messages_text(alloc: Global, store: &Store) -> Result<Vec<u8>, AllocError>
     ensures { let ndb = ndb_of_store store.now in

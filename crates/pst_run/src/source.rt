@@ -94,6 +94,20 @@ impl<R> Watched<R> {
             progress,
         }
     }
+
+    /// Why `load` could not take all of its bytes: the error of a read, or the limit that was reached before the end.
+    /// None where it was read to its end.
+    pub fn fault(&self) -> Option<io::Error> {
+        if self.error.is_some() || self.is_at_end {
+            self.error
+        } else if self.reads.bytes > MOST_BYTES as u64 {
+            Some(too_long())
+        } else if self.reads.count >= MOST_READS {
+            Some(endless())
+        } else {
+            None
+        }
+    }
 }
 
 // Says how far a file is read, where there is somebody to look at it; and that no other read will be made.

@@ -1,4 +1,4 @@
-use Rattle.std.proofs.Common.{◌≡◌, ◌∙◌}
+use Rattle.std.proofs.Common.{◌∙◌}
 use Rattle.pst_json.proofs.ListingLemmas.{row_noted, row_rises_on}
 use Rattle.pst_json.proofs.listings.Listings.note_rows.Goals as goal
 

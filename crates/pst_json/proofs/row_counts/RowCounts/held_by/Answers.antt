@@ -4,7 +4,7 @@ use Rattle.std.specs.Ordering.{nat_cmp}
 use Rattle.pst_block.specs.Block.{bid_key}
 use Rattle.pst_ndb.specs.Views.{table_of_node}
 use Rattle.pst_verify.specs.pst_msg.View.{node_of_message, message_roots}
-use Rattle.pst_json.specs.RowCounts.{IsHeld, IsHeldBy}
+use Rattle.pst_json.specs.RowCounts.{IsHeld}
 use Rattle.pst_json.proofs.RowCountLemmas.{list_known, is_held}
 use Rattle.pst_json.proofs.row_counts.RowCounts.held_by.Goals as goal
 
