@@ -1,0 +1,132 @@
+//! Why there is no answer.
+
+use std::error::Error;
+use std::fmt;
+
+/// The first rule of the format that bytes break, and where. What there is nothing to say of is 0.
+#[derive(Clone, Debug, PartialEq, Eq)]
+pub struct Fault {
+    /// The number of its kind, from 1 on.
+    pub number: u8,
+    /// The name of its kind, as `BlockTrailer`.
+    pub kind: String,
+    /// The version of a file, or the number of its encoding, of `Version` and `Encoded`.
+    pub value: Option<u64>,
+    /// The place in the file.
+    pub at: u64,
+    /// The identifier of the block or page.
+    pub bid: u64,
+    /// The identifier of the node.
+    pub nid: u32,
+}
+
+impl Fault {
+    /// Whether it says that the file is damaged. `Version`, `Encoded` and `MapsInvalid` say only that it is outside of what is
+    /// checked.
+    pub fn damage(&self) -> bool {
+        !matches!(self.number, 3 | 4 | 7)
+    }
+
+    /// What a line `no: 14 BlockTrailer at 0x4c40 bid 0x8 nid 0x0` says.
+    fn of(line: &str) -> Option<Fault> {
+        let mut words = line.strip_prefix("no: ")?.split(' ');
+        let number = words.next()?.parse().ok()?;
+        let (kind, value) = kind_of(words.next()?)?;
+        Some(Fault {
+            number,
+            kind,
+            value,
+            at: place_of("at", &mut words)?,
+            bid: place_of("bid", &mut words)?,
+            nid: place_of("nid", &mut words)?.try_into().ok()?,
+        })
+    }
+}
+
+/// A kind as `Encoded(1)` or `Short`.
+fn kind_of(word: &str) -> Option<(String, Option<u64>)> {
+    match word.split_once('(') {
+        Some((kind, value)) => {
+            let value = value.strip_suffix(')')?.parse().ok()?;
+            Some((kind.to_string(), Some(value)))
+        }
+        None => Some((word.to_string(), None)),
+    }
+}
+
+/// The hexadecimal number behind a word.
+fn place_of<'a>(word: &str, words: &mut impl Iterator<Item = &'a str>) -> Option<u64> {
+    if words.next()? != word {
+        return None;
+    }
+    u64::from_str_radix(words.next()?.strip_prefix("0x")?, 16).ok()
+}
+
+impl fmt::Display for Fault {
+    fn fmt(&self, f: &mut fmt::Formatter<'_>) -> fmt::Result {
+        write!(f, "no: {} {}", self.number, self.kind)?;
+        if let Some(value) = self.value {
+            write!(f, "({value})")?;
+        }
+        write!(
+            f,
+            " at 0x{:x} bid 0x{:x} nid 0x{:x}",
+            self.at, self.bid, self.nid
+        )
+    }
+}
+
+/// Why there is no answer.
+#[derive(Clone, Debug, PartialEq, Eq)]
+pub enum Refusal {
+    /// The bytes break a rule of the format.
+    Fault(Fault),
+    /// The store has no such folder, node or property, as the line says.
+    Missing(String),
+    /// The words are refused, as the line says.
+    Words(String),
+    /// The bytes are more than 17,179,869,184.
+    TooLong,
+    /// Memory was refused.
+    Memory,
+}
+
+impl Refusal {
+    /// What a status and a line say.
+    pub(crate) fn of(status: u8, line: &[u8]) -> Refusal {
+        let text = String::from_utf8_lossy(line);
+        let text = text.trim_end_matches('\n');
+        match status {
+            1 => match Fault::of(text) {
+                Some(fault) => Refusal::Fault(fault),
+                None => Refusal::Missing(text.to_string()),
+            },
+            2 => Refusal::Words(text.to_string()),
+            3 => Refusal::TooLong,
+            _ => Refusal::Memory,
+        }
+    }
+
+    /// The status with which the program ends.
+    pub fn status(&self) -> u8 {
+        match self {
+            Refusal::Fault(_) | Refusal::Missing(_) => 1,
+            Refusal::Words(_) => 2,
+            Refusal::TooLong => 3,
+            Refusal::Memory => 4,
+        }
+    }
+}
+
+impl fmt::Display for Refusal {
+    fn fmt(&self, f: &mut fmt::Formatter<'_>) -> fmt::Result {
+        match self {
+            Refusal::Fault(fault) => write!(f, "{fault}"),
+            Refusal::Missing(line) | Refusal::Words(line) => write!(f, "{line}"),
+            Refusal::TooLong => write!(f, "the bytes are more than 17179869184"),
+            Refusal::Memory => write!(f, "out of memory"),
+        }
+    }
+}
+
+impl Error for Refusal {}

@@ -1,0 +1,96 @@
+//! The samples of the repository, by the public calls.
+
+use pst_verify::{answer, check, decode, Refusal, Store};
+use std::thread;
+
+fn sample(name: &str) -> Vec<u8> {
+    let path = format!("{}/../../samples/{name}", env!("CARGO_MANIFEST_DIR"));
+    std::fs::read(path).expect("the sample is there")
+}
+
+#[test]
+fn counts() {
+    let report = check(&sample("mail.pst")).expect("it is a store");
+    assert_eq!((report.folders, report.messages), (5, 4));
+    assert!(report.lost.is_empty());
+}
+
+#[test]
+fn faults() {
+    let mut bytes = sample("m0.pst");
+    bytes[19550] = b'X';
+    match check(&bytes) {
+        Err(Refusal::Fault(fault)) => {
+            assert_eq!((fault.number, fault.at, fault.bid), (14, 0x4c40, 8));
+            assert_eq!(fault.kind, "BlockTrailer");
+            assert!(fault.damage());
+            assert_eq!(
+                fault.to_string(),
+                "no: 14 BlockTrailer at 0x4c40 bid 0x8 nid 0x0"
+            );
+        }
+        other => panic!("{other:?}"),
+    }
+}
+
+#[test]
+fn decoded() {
+    let mut bytes = sample("mail_permute.pst");
+    match check(&bytes) {
+        Err(Refusal::Fault(fault)) => {
+            assert_eq!((fault.number, fault.value), (4, Some(1)));
+            assert!(!fault.damage());
+        }
+        other => panic!("{other:?}"),
+    }
+    decode(&mut bytes).expect("there is memory");
+    let plain = sample("mail.pst");
+    let store = Store::new(&bytes);
+    assert_eq!(
+        store.messages().expect("it is a store"),
+        Store::new(&plain).messages().expect("it is a store")
+    );
+}
+
+#[test]
+fn values() {
+    let bytes = sample("mail.pst");
+    let store = Store::new(&bytes);
+    let folders = store.folders().expect("it is a store");
+    assert_eq!(folders[1].name.as_deref(), Some("Top of Personal Folders"));
+    let nodes = store
+        .all_props(&["0x400004", "0x400024"])
+        .expect("both are there");
+    assert_eq!(nodes[0].attachments[0].name(), Some("file0.bin"));
+    let data = nodes[0].attachments[0].data().expect("it has bytes");
+    let slice = data.as_slice().expect("it lies in one piece");
+    assert_eq!(slice.len(), 100);
+    // A slice of the caller's own bytes.
+    assert!(bytes.as_ptr_range().contains(&slice.as_ptr()));
+    let value = answer(&["value", "-", "0x400004/0x8025", "3701"], &bytes);
+    assert_eq!(&*value.text, slice);
+    let embedded = nodes[1].attachments[0].embedded.as_deref();
+    assert_eq!(embedded, Some("0x400024/0x8045/0x200024"));
+}
+
+#[test]
+fn what_there_is_not() {
+    let bytes = sample("mail.pst");
+    let store = Store::new(&bytes);
+    let missing = Err(Refusal::Missing("no node 0x999".to_string()));
+    assert_eq!(store.props("0x999"), missing);
+    let words = Err(Refusal::Words("bad node id".to_string()));
+    assert_eq!(store.props("none"), words);
+    assert!(store.all_props::<&str>(&[]).expect("none").is_empty());
+}
+
+#[test]
+fn threads_share_a_store() {
+    let bytes = sample("mail.pst");
+    let whole = check(&bytes);
+    thread::scope(|scope| {
+        for _ in 0..4 {
+            scope.spawn(|| (0..50).for_each(|_| assert_eq!(check(&bytes), whole)));
+        }
+    });
+}

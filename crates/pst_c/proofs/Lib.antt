@@ -1,0 +1,2 @@
+mod DecodedLemmas
+mod LineLemmas

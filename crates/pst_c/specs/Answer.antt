@@ -1,0 +1,85 @@
+-- What is answered to words and bytes.
+use Rattle.std.specs.Prelude.{◌≡◌, ◌≤◌, ◌<◌, ◌⊎◌, ℕ, Bool, List, [], length, Option, Some, Result, Ok, Err, Vec, codes}
+use Rattle.std.specs.Global.{Global}
+use Rattle.pst_ask.specs.Ask.{Asked, show, explain}
+use Rattle.pst_ask.specs.Words.{Declines, IsAsked}
+use Rattle.pst_ask.specs.clap.Words.{kind_of}
+use Rattle.pst_ask.specs.declared.ask.Lack.{Lack}
+use Rattle.pst_ask.specs.declared.words.NoOrder.{NoOrder}
+use Rattle.pst_ask.specs.declared.words.NoOrder.TheVariants.{Lacks}
+use Rattle.pst_explain.specs.Text.{explanation}
+use Rattle.pst_fault.specs.declared.kind.Kind.{Kind}
+use Rattle.pst_run.specs.declared.refusal.Refusal.{Refusal}
+use Rattle.pst_run.specs.Answer.{GivesNone, Told, answer_to}
+use Rattle.pst_run.specs.Refusal.{Refused, input, memory, line_of_text, refusal_text, refused_of, status_of}
+use Rattle.pst_run.specs.Run.{IsStatusOf, MatchNone, SaysLine, lack_text, shown_status}
+use Rattle.pst_c.specs.declared.answer.Answer.{Answer}
+use Rattle.pst_c.specs.declared.words.NoWords.{NoWords}
+use Rattle.pst_c.specs.declared.words.NoWords.TheVariants.{Endless, NoText, Memory}
+use Rattle.pst_c.specs.Words.{IsEndless, IsNoText, IsWords}
+
+-- the status, what is written, and what is said on the error output
+abbrev pub Is : ℕ → List ℕ → List ℕ → Answer → Type 0
+Is status text line a = (a.status ≡ status) × (a.text.items ≡ text) × (a.line.items ≡ line)
+
+-- memory was refused: nothing is said
+abbrev pub IsMemory : Answer → Type 0
+IsMemory a = Is 4 [] [] a
+
+-- a line alone, unless memory was refused
+abbrev pub Says : ℕ → List ℕ → Answer → Type 0
+Says status text a = Is status [] (line_of_text text) a ⊎ IsMemory a
+
+-- why nothing is shown, unless memory was refused
+abbrev pub Refuses : Refused → Answer → Type 0
+Refuses memory a = IsMemory a
+Refuses r a = Says (status_of r) (refusal_text r) a
+
+-- what a command shows, or why it refuses
+abbrev pub Tells : Result Told Refused → Answer → Type 0
+Tells (Ok told) a = Is (shown_status told.fails) told.text [] a ⊎ IsMemory a
+Tells (Err r) a = Says (status_of r) (refusal_text r) a
+
+-- The answer to what is asked for of a file with these bytes is that of the program, which takes no longer file.
+abbrev pub Shows : Asked → List ℕ → Answer → Type 0
+Shows asked bytes a =
+    (length bytes ≤ 17179869184 → Tells (answer_to asked bytes) a)
+    × (17179869184 < length bytes → Says 3 (refusal_text input) a)
+
+-- the text that explains a kind of fault, or all of them
+abbrev pub Explains : Option Kind → Answer → Type 0
+Explains kind a = Is 0 (explanation kind) [] a ⊎ IsMemory a
+
+-- why nothing is done: help or the version, or a line, which is that of what the words lack, or a front of it
+pub record Declined (none : NoOrder) (a : Answer) : Type 0 where
+  pub status : MatchNone none (λ e. IsStatusOf (kind_of e) a.status) (a.status ≡ 2)
+  pub lacking : (lack : Lack) → none ≡ Lacks lack → SaysLine (lack_text lack) (Some []) (Some a.line.items)
+  pub quiet : a.status ≡ 2 → a.text.items ≡ []
+
+-- The answer to words, of which one of these holds: they ask for something of a file, or what a kind of fault is, or for nothing
+-- that can be done.
+abbrev pub AnswersWords : List (List ℕ) → List ℕ → Answer → Type 0
+AnswersWords words bytes a =
+    ((asked : Asked) × IsAsked words (show asked) × Shows asked bytes a)
+    ⊎ (((kind : Option Kind) × IsAsked words (explain kind) × Explains kind a)
+    ⊎ (((none : NoOrder) × Declines words none × Declined none a) ⊎ IsMemory a))
+
+-- the answer to bytes that are no words, for a reason
+abbrev pub WordlessBy : NoWords → Answer → Type 0
+WordlessBy Endless a = Says 2 (codes "the last word has no end") a
+WordlessBy NoText a = Says 2 (codes "a word is not UTF-8") a
+WordlessBy Memory a = IsMemory a
+
+-- and of a right reason
+abbrev pub Wordless : List ℕ → Answer → Type 0
+Wordless bytes a = (IsEndless bytes × WordlessBy Endless a) ⊎ (IsNoText bytes × WordlessBy NoText a)
+
+-- The answer to the words that lie in some bytes, over the bytes of a file.
+abbrev pub Answers : List ℕ → List ℕ → Answer → Type 0
+Answers words bytes a =
+    ((these : List (List ℕ)) × IsWords words these × AnswersWords these bytes a) ⊎ (Wordless words a ⊎ IsMemory a)
+
+-- what is shown of a file, or why it is refused, unless memory ran out
+abbrev pub Yields : Result (Vec ℕ Global × Bool) Refusal → Result Told Refused → Type 0
+Yields (Ok shown) told = told ≡ Ok (record { text = shown.0.items; fails = shown.1 })
+Yields (Err r) told = GivesNone (refused_of r) told

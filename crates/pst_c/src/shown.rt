@@ -1,0 +1,76 @@
+//! What is shown of the caller's bytes.
+
+ghost use Rattle.std.specs.Prelude.{◌≡◌, IfOk};
+ghost use Rattle.pst_ask.specs.Ask.{request_of, wanted_of};
+ghost use Rattle.pst_datatree.specs.Shown.{bytes_in};
+ghost use Rattle.pst_run.specs.Answer.{answer_to, answer_with, bytes_shown, digest_for};
+ghost use Rattle.pst_c.specs.Answer.{Yields};
+
+use crate::decoded::decoded_if;
+use pst_ask::{Ask, Request};
+use pst_datatree::Value;
+use pst_json::emit_value;
+use pst_run::{Refusal, Text, answer};
+use sha2::{Digest, Sha256};
+use std::alloc::{AllocError, Global};
+
+// The SHA-256 of the caller's bytes, where it is asked for.
+fn digest_if(ask: &Ask, bytes: &[u8]) -> Option<[u8; 32]>
+    ensures { result ≡ digest_for (wanted_of ask.now) bytes.now }
+{
+    match ask {
+        Ask::Check { digest: true, .. } => Some(Sha256::digest(bytes)),
+        _ => None,
+    }
+}
+
+// The bytes of a value, in memory of their own.
+fn copied(alloc: Global, value: Value) -> Result<Vec<u8>, AllocError>
+    ensures { IfOk result (λ v. v.items ≡ bytes_in value.entry) }
+{
+    let mut bytes = Vec::new(alloc);
+    match emit_value(value, &mut bytes) {
+        Ok(()) => Ok(bytes),
+        Err(_) => Err(AllocError),
+    }
+}
+
+// A text that outlives the bytes that it is of.
+fn text_of(alloc: Global, text: Text) -> Result<Vec<u8>, AllocError>
+    ensures { IfOk result (λ v. v.items ≡ bytes_shown text.entry) }
+{
+    match text {
+        Text::Made(text) => Ok(text),
+        Text::Lent(value) => copied(alloc, value),
+    }
+}
+
+// What a command shows of these bytes with this digest, and whether the run fails all the same; or why it refuses them.
+fn shown_with<'p>(
+    alloc: Global,
+    ask: &'p Ask,
+    digest: Option<[u8; 32]>,
+    bytes: &[u8],
+) -> Result<(Vec<u8>, bool), Refusal<'p>>
+    ensures { Yields result (answer_with (wanted_of ask.now) digest bytes.now) }
+{
+    let shown = answer(alloc, ask, digest, bytes)?;
+    let text = text_of(alloc, shown.text)?;
+    Ok((text, shown.fails))
+}
+
+/// What is asked for of these bytes, and whether the run fails all the same; or why they are refused. The digest is taken before
+/// anything is decoded.
+pub fn shown_of<'p>(
+    alloc: Global,
+    request: &'p Request,
+    bytes: &[u8],
+) -> Result<(Vec<u8>, bool), Refusal<'p>>
+    ensures { Yields result (answer_to (request_of request.now) bytes.now) }
+{
+    let digest = digest_if(&request.ask, bytes);
+    match decoded_if(alloc, request.decode, bytes)? {
+        Some(twin) => shown_with(alloc, &request.ask, digest, &twin),
+        None => shown_with(alloc, &request.ask, digest, bytes),
+    }
+}
