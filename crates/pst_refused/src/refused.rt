@@ -68,7 +68,7 @@ impl From<DocFault> for Refused {
         match fault {
             DocFault::Memory => Refused::Memory,
             DocFault::Bad(fault) => Refused::from(fault),
-            DocFault::NoFolder | DocFault::NoNode => Refused::Otherwise,
+            DocFault::NoFolder | DocFault::NoNode | DocFault::NoProperty(_) => Refused::Otherwise,
         }
     }
 }
