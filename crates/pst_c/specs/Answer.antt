@@ -27,28 +27,28 @@ abbrev pub IsMemory : Answer → Type 0
 IsMemory a = Is 4 [] [] a
 
 -- a line alone, unless memory was refused
-abbrev pub Says : ℕ → List ℕ → Answer → Type 0
-Says status text a = Is status [] (line_of_text text) a ⊎ IsMemory a
+abbrev pub HasLine : ℕ → List ℕ → Answer → Type 0
+HasLine status text a = Is status [] (line_of_text text) a ⊎ IsMemory a
 
 -- why nothing is shown, unless memory was refused
 abbrev pub Refuses : Refused → Answer → Type 0
 Refuses memory a = IsMemory a
-Refuses r a = Says (status_of r) (refusal_text r) a
+Refuses r a = HasLine (status_of r) (refusal_text r) a
 
 -- what a command shows, or why it refuses
-abbrev pub Tells : Result Told Refused → Answer → Type 0
-Tells (Ok told) a = Is (shown_status told.fails) told.text [] a ⊎ IsMemory a
-Tells (Err r) a = Says (status_of r) (refusal_text r) a
+abbrev pub AnswersCommand : Result Told Refused → Answer → Type 0
+AnswersCommand (Ok told) a = Is (shown_status told.fails) told.text [] a ⊎ IsMemory a
+AnswersCommand (Err r) a = HasLine (status_of r) (refusal_text r) a
 
 -- The answer to what is asked for of a file with these bytes is that of the program, which takes no longer file.
-abbrev pub Shows : Asked → List ℕ → Answer → Type 0
-Shows asked bytes a =
-    (length bytes ≤ 17179869184 → Tells (answer_to asked bytes) a)
-    × (17179869184 < length bytes → Says 3 (refusal_text input) a)
+abbrev pub AnswersRequest : Asked → List ℕ → Answer → Type 0
+AnswersRequest asked bytes a =
+    (length bytes ≤ 17179869184 → AnswersCommand (answer_to asked bytes) a)
+    × (17179869184 < length bytes → HasLine 3 (refusal_text input) a)
 
 -- the text that explains a kind of fault, or all of them
-abbrev pub Explains : Option Kind → Answer → Type 0
-Explains kind a = Is 0 (explanation kind) [] a ⊎ IsMemory a
+abbrev pub AnswersKind : Option Kind → Answer → Type 0
+AnswersKind kind a = Is 0 (explanation kind) [] a ⊎ IsMemory a
 
 -- why nothing is done: help or the version, or a line, which is that of what the words lack, or a front of it
 pub record Declined (none : NoOrder) (a : Answer) : Type 0 where
@@ -60,14 +60,14 @@ pub record Declined (none : NoOrder) (a : Answer) : Type 0 where
 -- that can be done.
 abbrev pub AnswersWords : List (List ℕ) → List ℕ → Answer → Type 0
 AnswersWords words bytes a =
-    ((asked : Asked) × IsAsked words (show asked) × Shows asked bytes a)
-    ⊎ (((kind : Option Kind) × IsAsked words (explain kind) × Explains kind a)
+    ((asked : Asked) × IsAsked words (show asked) × AnswersRequest asked bytes a)
+    ⊎ (((kind : Option Kind) × IsAsked words (explain kind) × AnswersKind kind a)
     ⊎ (((none : NoOrder) × Declines words none × Declined none a) ⊎ IsMemory a))
 
 -- the answer to bytes that are no words, for a reason
 abbrev pub WordlessBy : NoWords → Answer → Type 0
-WordlessBy Endless a = Says 2 (codes "the last word has no end") a
-WordlessBy NoText a = Says 2 (codes "a word is not UTF-8") a
+WordlessBy Endless a = HasLine 2 (codes "the last word has no end") a
+WordlessBy NoText a = HasLine 2 (codes "a word is not UTF-8") a
 WordlessBy Memory a = IsMemory a
 
 -- and of a right reason
@@ -75,8 +75,8 @@ abbrev pub Wordless : List ℕ → Answer → Type 0
 Wordless bytes a = (IsEndless bytes × WordlessBy Endless a) ⊎ (IsNoText bytes × WordlessBy NoText a)
 
 -- The answer to the words that lie in some bytes, over the bytes of a file.
-abbrev pub Answers : List ℕ → List ℕ → Answer → Type 0
-Answers words bytes a =
+abbrev pub AnswersCall : List ℕ → List ℕ → Answer → Type 0
+AnswersCall words bytes a =
     ((these : List (List ℕ)) × IsWords words these × AnswersWords these bytes a) ⊎ (Wordless words a ⊎ IsMemory a)
 
 -- what is shown of a file, or why it is refused, unless memory ran out

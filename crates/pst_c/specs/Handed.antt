@@ -5,7 +5,7 @@ use Rattle.std.specs.Vec.{vec_ptr}
 use Rattle.pst_c.specs.declared.answer.Answer.{Answer}
 use Rattle.pst_c.specs.declared.exported.PstAnswer.{PstAnswer}
 use Rattle.pst_c.specs.declared.exported.PstText.{PstText}
-use Rattle.pst_c.specs.Answer.{Answers}
+use Rattle.pst_c.specs.Answer.{AnswersCall}
 
 -- the place, the length and the room of a text's block
 pub record IsHanded (text : Vec ℕ Global) (handed : PstText) : Type 0 where
@@ -16,7 +16,7 @@ pub record IsHanded (text : Vec ℕ Global) (handed : PstText) : Type 0 where
 -- the status and both texts of the answer to words, over the bytes of a file
 pub record Hands (words bytes : List ℕ) (status : ℕ) (handed : PstAnswer) : Type 0 where
   pub answer : Answer
-  pub is : Answers words bytes answer
+  pub is : AnswersCall words bytes answer
   pub status_is : status ≡ answer.status
   pub text : IsHanded answer.text handed.text
   pub line : IsHanded answer.line handed.line

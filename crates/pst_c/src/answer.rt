@@ -4,7 +4,7 @@ ghost use Rattle.std.specs.Prelude.{◌≡◌, ◌⊎◌, MatchResult, []};
 ghost use Rattle.pst_ask.specs.Ask.{request_of};
 ghost use Rattle.pst_ask.specs.Words.{texts};
 ghost use Rattle.pst_run.specs.Refusal.{refused_of};
-ghost use Rattle.pst_c.specs.Answer.{Answers, AnswersWords, Declined, Explains, Is, IsMemory, Refuses, Shows, WordlessBy};
+ghost use Rattle.pst_c.specs.Answer.{AnswersCall, AnswersWords, Declined, AnswersKind, Is, IsMemory, Refuses, AnswersRequest, WordlessBy};
 
 use crate::kept::Kept;
 use crate::line::line_of;
@@ -62,7 +62,7 @@ fn refused(alloc: Global, refusal: Refusal) -> Answer
 
 // What is asked for of a file with these bytes.
 fn shown(alloc: Global, request: &Request, bytes: &[u8]) -> Answer
-    ensures { Shows (request_of request.now) bytes.now result }
+    ensures { AnswersRequest (request_of request.now) bytes.now result }
 {
     if bytes.len() > MOST_BYTES {
         return refused(alloc, Refusal::Input);
@@ -79,7 +79,7 @@ fn shown(alloc: Global, request: &Request, bytes: &[u8]) -> Answer
 
 // What a kind of fault says, or all of them.
 fn explained(alloc: Global, kind: Option<Kind>) -> Answer
-    ensures { Explains kind result }
+    ensures { AnswersKind kind result }
 {
     let (mut text, mut line) = (Vec::new(alloc), Vec::new(alloc));
     match explain_out(kind, &mut text, &mut line) {
@@ -138,7 +138,7 @@ fn answer_words(alloc: Global, words: &[String], bytes: &[u8]) -> Answer
 /// name that is: the status with which it ends, what it writes, and what it says on the error output. With status 4, where
 /// memory is refused, both texts are empty.
 pub fn answer_text(alloc: Global, words: &[u8], bytes: &[u8]) -> Answer
-    ensures { Answers words.now bytes.now result }
+    ensures { AnswersCall words.now bytes.now result }
 {
     match words_in(alloc, words) {
         Ok(words) => answer_words(alloc, &words, bytes),

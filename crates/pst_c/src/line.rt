@@ -55,7 +55,8 @@ fn refusal_said(alloc: Global, refusal: Refusal) -> Result<String, AllocError>
 
 /// The line of a refusal.
 pub fn line_of(alloc: Global, refusal: Refusal) -> Result<Vec<u8>, AllocError>
-    ensures { IfOk result (λ line. line.items ≡ line_of_text (refusal_text (refused_of refusal.entry))) }
+    ensures { let said = refusal_text (refused_of refusal.entry) in
+        IfOk result (λ line. line.items ≡ line_of_text said) }
 {
     let mut line = refusal_said(alloc, refusal)?;
     line.push_str("\n")?;
