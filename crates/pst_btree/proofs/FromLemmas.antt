@@ -1,46 +1,42 @@
--- The first entry from a key on, through the pages.
-use Rattle.std.proofs.Common.{◌≡◌, ℕ, suc, zero, ◌+◌, ◌-◌, ◌*◌, ◌<◌, ◌≤◌, Bool, true, false, cond, leb, List, [], ◌∷◌, ◌++◌, map, Option, Some, None, refl, sym, ap, subst, ◌∙◌, arith}
-use Rattle.std.proofs.lemmas.Bool.{le-leb, ltb-true}
+-- The entries from a key on, through the pages.
+use Rattle.std.proofs.Common.{◌≡◌, ℕ, suc, zero, ◌+◌, ◌-◌, ◌*◌, ◌<◌, ◌≤◌, true, List, [], ◌∷◌, ◌++◌, take, map, Option, Some, None, refl, sym, ap, subst, ◌∙◌, arith}
+use Rattle.std.proofs.lemmas.Bool.{le-leb}
 use Rattle.pst_header.specs.declared.header.Bref.{Bref}
 use Rattle.pst_page.specs.declared.kind.PageKind.{PageKind}
 use Rattle.pst_page.specs.Page.{count_at, width_at, level_at, entries_from}
 use Rattle.pst_page.specs.Entry.{key_at, child_at, node_entry_at}
 use Rattle.pst_page.specs.Fault.{has_shape}
 use Rattle.pst_page.proofs.EntryLemmas.{entries_from_start, entries_from_next}
-use Rattle.pst_btree.specs.Find.{first_from, rest_from, IsUpTo}
+use Rattle.pst_btree.specs.Find.{rest_from, IsStretch, IsUpTo}
 use Rattle.pst_btree.specs.Order.{Rises}
 use Rattle.pst_btree.specs.Tree.{entries_of, forest_entries, forest_keys, tree_at, forest_at, SpellsEach, BoundedEach, IsTreeAt, HasTreeAt}
 use Rattle.pst_btree.proofs.FindLemmas.{leaf_entries, below_start, below_next, below_end, below_from, forest_from, spelt_page, page_inside, page_shape}
-use Rattle.pst_btree.proofs.RiseLemmas.{from_none, from_later, tree_rises, rest_some, rest_none}
+use Rattle.pst_btree.proofs.RiseLemmas.{tree_rises, none_left, rest-append}
+use Rattle.pst_btree.proofs.StretchLemmas.{take_before, stretch_first, stretch_behind}
 
-from_some-append : (kind : PageKind) (I : List ℕ) (low : ℕ) (xs ys : List ℕ) (at : ℕ) → first_from kind I low xs ≡ Some at → first_from kind I low (xs ++ ys) ≡ Some at
-unfolding first_from
-from_some-append kind I low [] ys at e = absurd cc
-from_some-append kind I low (x ∷ xs) ys at e = by_test (leb low (key_at kind I x)) (from_some-append kind I low xs ys at) e
-  where
-    by_test : (t : Bool) → (first_from kind I low xs ≡ Some at → first_from kind I low (xs ++ ys) ≡ Some at) → cond t (Some x) (first_from kind I low xs) ≡ Some at → cond t (Some x) (first_from kind I low (xs ++ ys)) ≡ Some at
-    by_test true ih h = h
-    by_test false ih h = ih h
+none-append : (kind : PageKind) (I : List ℕ) (low : ℕ) (xs ys : List ℕ) → rest_from kind I low xs ≡ [] → rest_from kind I low (xs ++ ys) ≡ rest_from kind I low ys
+none-append kind I low xs ys e = rest-append kind I low xs ys ∙ ap (λ (es : List ℕ). es ++ rest_from kind I low ys) e
 
-from_none-append : (kind : PageKind) (I : List ℕ) (low : ℕ) (xs ys : List ℕ) → first_from kind I low xs ≡ None → first_from kind I low (xs ++ ys) ≡ first_from kind I low ys
-unfolding first_from
-from_none-append kind I low [] ys e = refl
-from_none-append kind I low (x ∷ xs) ys e = by_test (leb low (key_at kind I x)) (from_none-append kind I low xs ys) e
-  where
-    by_test : (t : Bool) → (first_from kind I low xs ≡ None → first_from kind I low (xs ++ ys) ≡ first_from kind I low ys) → cond t (Some x) (first_from kind I low xs) ≡ None → cond t (Some x) (first_from kind I low (xs ++ ys)) ≡ first_from kind I low ys
-    by_test true ih h = absurd cc
-    by_test false ih h = ih h
+-- what a stretch of a child's entries is of all, where the children before that one are passed over
+pub child_stretch : (kind : PageKind) (I : List ℕ) (low level ib i at width count : ℕ) (entries : List ℕ) → i < count_at I ib → rest_from kind I low (below_from kind I level ib i) ≡ rest_from kind I low entries
+    → IsStretch kind I (entries_of (tree_at kind I level (child_at I (ib + i * width_at I ib)))) low at width count → IsStretch kind I entries low at width count
+child_stretch kind I low level ib i at width count entries lt left s =
+    let child = entries_of (tree_at kind I level (child_at I (ib + i * width_at I ib))) in
+    let others = below_from kind I level ib (i + 1) in
+    let all : rest_from kind I low entries ≡ rest_from kind I low child ++ rest_from kind I low others = sym left ∙ ap (rest_from kind I low) (below_next kind I level ib i lt) ∙ rest-append kind I low child others in
+    record {
+      first = ap (take count) all ∙ take_before count _ _ at width s.first;
+      wide = s.wide;
+      inside = s.inside;
+      small = s.small;
+    }
 
-pub from_child : (kind : PageKind) (I : List ℕ) (low level ib i at : ℕ) → i < count_at I ib → first_from kind I low (entries_of (tree_at kind I level (child_at I (ib + i * width_at I ib)))) ≡ Some at
-    → first_from kind I low (below_from kind I level ib i) ≡ Some at
-from_child kind I low level ib i at lt e = rw (below_next kind I level ib i lt) (from_some-append kind I low _ _ at e)
+pub rest_passed : (kind : PageKind) (I : List ℕ) (low level ib i : ℕ) → i < count_at I ib → rest_from kind I low (entries_of (tree_at kind I level (child_at I (ib + i * width_at I ib)))) ≡ []
+    → rest_from kind I low (below_from kind I level ib i) ≡ rest_from kind I low (below_from kind I level ib (i + 1))
+rest_passed kind I low level ib i lt e = rw (below_next kind I level ib i lt) (none-append kind I low _ _ e)
 
-pub from_rest : (kind : PageKind) (I : List ℕ) (low level ib i : ℕ) → i < count_at I ib → first_from kind I low (entries_of (tree_at kind I level (child_at I (ib + i * width_at I ib)))) ≡ None
-    → first_from kind I low (below_from kind I level ib i) ≡ first_from kind I low (below_from kind I level ib (i + 1))
-from_rest kind I low level ib i lt e = rw (below_next kind I level ib i lt) (from_none-append kind I low _ _ e)
-
-pub from_end : (kind : PageKind) (I : List ℕ) (low level ib i : ℕ) → count_at I ib ≤ i → first_from kind I low (below_from kind I level ib i) ≡ None
-from_end kind I low level ib i le = rw (below_end kind I level ib i le) (from_none kind I low)
+pub rest_end : (kind : PageKind) (I : List ℕ) (low level ib i : ℕ) → count_at I ib ≤ i → rest_from kind I low (below_from kind I level ib i) ≡ []
+rest_end kind I low level ib i le = rw (below_end kind I level ib i le) refl
 
 -- ---- the children from one on, with their bounds
 
@@ -88,21 +84,15 @@ kept_rest kind I end level ib i k lt =
 
 -- ---- children whose keys are all lower
 
-from_high : (kind : PageKind) (I : List ℕ) (low least high : ℕ) (entries : List ℕ) → high ≤ low → Rises least (Some high) (map (key_at kind I) entries) → first_from kind I low entries ≡ None
-from_high kind I low least high [] le r = from_none kind I low
-from_high kind I low least high (at ∷ rest) le r =
-    let below : key_at kind I at < high = ltb-true _ _ r.1 in
-    from_later kind I low at rest (omega arith) ∙ from_high kind I low (key_at kind I at + 1) high rest le r.2
-
 skip_at : (kind : PageKind) (I : List ℕ) (end level low p q : ℕ) (ps : List ℕ) → KeptAt kind I end level (p ∷ q ∷ ps) → key_at kind I q ≤ low
-    → (key_at kind I p ≤ low) × (first_from kind I low (forest_entries (forest_at kind I (tree_at kind I level) (p ∷ q ∷ ps))) ≡ first_from kind I low (forest_entries (forest_at kind I (tree_at kind I level) (q ∷ ps))))
+    → (key_at kind I p ≤ low) × (rest_from kind I low (forest_entries (forest_at kind I (tree_at kind I level) (p ∷ q ∷ ps))) ≡ rest_from kind I low (forest_entries (forest_at kind I (tree_at kind I level) (q ∷ ps))))
 skip_at kind I end level low p q ps k le =
     let rises = tree_rises kind I (tree_at kind I level (child_at I p)) (key_at kind I p) (Some (key_at kind I q)) k.3.0 in
     let less = k.4.2.0 in
-    (omega (arith, less, le), from_none-append kind I low _ _ (from_high kind I low (key_at kind I p) (key_at kind I q) _ le rises))
+    (omega (arith, less, le), none-append kind I low _ _ (none_left kind I low (key_at kind I p) (key_at kind I q) _ le rises))
 
 skip_one : (kind : PageKind) (I : List ℕ) (end level ib i low : ℕ) → AreKept kind I end level ib i → i + 1 < count_at I ib → key_at kind I (ib + (i + 1) * width_at I ib) ≤ low
-    → (key_at kind I (ib + i * width_at I ib) ≤ low) × (first_from kind I low (below_from kind I level ib i) ≡ first_from kind I low (below_from kind I level ib (i + 1)))
+    → (key_at kind I (ib + i * width_at I ib) ≤ low) × (rest_from kind I low (below_from kind I level ib i) ≡ rest_from kind I low (below_from kind I level ib (i + 1)))
 unfolding AreKept below_from forest_from
 skip_one kind I end level ib i low k lt le =
     let here = entries_from_next I ib i (omega arith) in
@@ -112,7 +102,7 @@ skip_one kind I end level ib i low k lt le =
 
 -- from the first child to the last one whose key is at most low
 pub skip_to : (kind : PageKind) (I : List ℕ) (end level ib low : ℕ) (i : ℕ) → AreKept kind I end level ib 0 → i < count_at I ib → (0 < i → key_at kind I (ib + i * width_at I ib) ≤ low)
-    → AreKept kind I end level ib i × (first_from kind I low (below_from kind I level ib i) ≡ first_from kind I low (below_from kind I level ib 0))
+    → AreKept kind I end level ib i × (rest_from kind I low (below_from kind I level ib i) ≡ rest_from kind I low (below_from kind I level ib 0))
 skip_to kind I end level ib low zero k lt le = (k, refl)
 skip_to kind I end level ib low (suc i) k lt le =
     let next : suc i ≡ i + 1 = omega arith in
@@ -130,7 +120,7 @@ skip_to kind I end level ib low (suc i) k lt le =
 -- where a loop over the children may begin
 pub record Begins (kind : PageKind) (I : List ℕ) (end level ib low i : ℕ) : Type 0 where
   pub kept : AreKept kind I end level ib i
-  pub left : first_from kind I low (below_from kind I level ib i) ≡ first_from kind I low (below_from kind I level ib 0)
+  pub left : rest_from kind I low (below_from kind I level ib i) ≡ rest_from kind I low (below_from kind I level ib 0)
 
 pub begins : (kind : PageKind) (I : List ℕ) (end level ib low n : ℕ) → AreKept kind I end level ib 0 → IsUpTo kind I ib low n → Begins kind I end level ib low (n - 1)
 begins kind I end level ib low zero k u = record { kept = rw nothing k; left = rw nothing refl }
@@ -141,17 +131,23 @@ begins kind I end level ib low (suc n) k u =
     let s = skip_to kind I end level ib low (suc n - 1) k (omega (arith, u.within)) (λ some. u.before (omega arith)) in
     record { kept = s.0; left = s.1 }
 
-pub ruleset from_steps = (leaf_entries, kept_child, kept_rest, from_child, from_rest, from_end)
+pub ruleset from_steps = (leaf_entries, kept_child, kept_rest, rest_passed, rest_end, child_stretch)
 
 -- ---- what is left of a tree
 
-pub left_some : (kind : PageKind) (I : List ℕ) (end level : ℕ) (page : Bref) (low at : ℕ) → IsTreeAt kind I end level page 0 None → first_from kind I low (entries_of (tree_at kind I level page)) ≡ Some at
+pub left_some : (kind : PageKind) (I : List ℕ) (end level : ℕ) (page : Bref) (low at width count : ℕ) → IsTreeAt kind I end level page 0 None → IsStretch kind I (entries_of (tree_at kind I level page)) low at width count → 0 < count
     → map (node_entry_at I) (rest_from kind I low (entries_of (tree_at kind I level page))) ≡ node_entry_at I at ∷ map (node_entry_at I) (rest_from kind I (key_at kind I at + 1) (entries_of (tree_at kind I level page)))
-left_some kind I end level page low at t e =
-    ap (map (node_entry_at I)) (rest_some kind I 0 low None (entries_of (tree_at kind I level page)) at (tree_rises kind I (tree_at kind I level page) 0 None t.bounded) e)
+left_some kind I end level page low at width count t s some =
+    ap (map (node_entry_at I)) (stretch_first kind I 0 None (entries_of (tree_at kind I level page)) low at width count (tree_rises kind I (tree_at kind I level page) 0 None t.bounded) s some)
 
-pub left_none : (kind : PageKind) (I : List ℕ) (level : ℕ) (page : Bref) (low : ℕ) → first_from kind I low (entries_of (tree_at kind I level page)) ≡ None → map (node_entry_at I) (rest_from kind I low (entries_of (tree_at kind I level page))) ≡ []
-left_none kind I level page low e = ap (map (node_entry_at I)) (rest_none kind I low (entries_of (tree_at kind I level page)) e)
+pub left_none : (kind : PageKind) (I : List ℕ) (level : ℕ) (page : Bref) (low : ℕ) → rest_from kind I low (entries_of (tree_at kind I level page)) ≡ [] → map (node_entry_at I) (rest_from kind I low (entries_of (tree_at kind I level page))) ≡ []
+left_none kind I level page low e = ap (map (node_entry_at I)) e
+
+-- the stretch that is left behind its first entry
+pub left_stretch : (kind : PageKind) (I : List ℕ) (end level : ℕ) (page : Bref) (low at width count less : ℕ) → IsTreeAt kind I end level page 0 None → IsStretch kind I (entries_of (tree_at kind I level page)) low at width count → count ≡ less + 1
+    → IsStretch kind I (entries_of (tree_at kind I level page)) (key_at kind I at + 1) (at + width) width less
+left_stretch kind I end level page low at width count less t s e =
+    stretch_behind kind I 0 None (entries_of (tree_at kind I level page)) low at width count less (tree_rises kind I (tree_at kind I level page) 0 None t.bounded) s e
 
 pub rest_from_zero : (kind : PageKind) (I : List ℕ) (entries : List ℕ) → rest_from kind I 0 entries ≡ entries
 rest_from_zero kind I [] = refl

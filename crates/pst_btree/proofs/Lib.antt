@@ -8,6 +8,7 @@ pub mod MarkedLemmas
 pub mod OrderLemmas
 pub mod RiseLemmas
 pub mod SomeLemmas
+pub mod StretchLemmas
 pub mod TreeLaws
 pub mod UnitLemmas
 pub mod WalkLemmas

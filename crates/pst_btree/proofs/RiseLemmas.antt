@@ -1,11 +1,10 @@
 -- The keys of all entries of a bounded tree rise.
-use Rattle.std.proofs.Common.{◌≡◌, ℕ, ◌+◌, ◌<◌, ◌≤◌, List, [], ◌∷◌, ◌++◌, map, Option, Some, None, refl, ap, subst, arith, inl, inr, le_refl}
+use Rattle.std.proofs.Common.{◌≡◌, ℕ, ◌+◌, ◌<◌, ◌≤◌, List, [], ◌∷◌, ◌++◌, get_or, drop, map, Option, Some, None, refl, sym, ap, subst, ◌∙◌, arith, inl, inr, le_refl}
 use Rattle.std.proofs.lemmas.Bool.{le-leb, lt-leb, ltb-true, lt-ltb, cases_lt}
 use Rattle.std.proofs.lemmas.List.{map-append, append-nil}
-use Rattle.pst_fault.proofs.GeneralLemmas.{some_is}
 use Rattle.pst_page.specs.declared.kind.PageKind.{PageKind}
 use Rattle.pst_page.specs.Entry.{key_at}
-use Rattle.pst_btree.specs.Find.{first_from, rest_from}
+use Rattle.pst_btree.specs.Find.{rest_from}
 use Rattle.pst_btree.specs.Order.{Rises, IsBelow}
 use Rattle.pst_btree.specs.Tree.{Tree, leaf, branch, Forest, none, more, entries_of, forest_entries, forest_keys, Bounded, BoundedEach}
 
@@ -38,61 +37,49 @@ mutual
       (lower key low high _ r.0
       (rises_join key next high _ _ (omega (arith, r.2.0)) r.2.1 (tree_rises kind I tree key (Some next) b.0) (forest_rises kind I (more next other rest) next high (le_refl next, r.2.1, r.2.2) b.1)))
 
--- ---- the first entry from a key on, and the rest
+-- ---- the entries from a key on
 
-pub from_here : (kind : PageKind) (I : List ℕ) (low at : ℕ) (rest : List ℕ) → low ≤ key_at kind I at → first_from kind I low (at ∷ rest) ≡ Some at
-unfolding first_from
-from_here kind I low at rest le = rw (le-leb _ _ le) refl
-
-pub from_later : (kind : PageKind) (I : List ℕ) (low at : ℕ) (rest : List ℕ) → key_at kind I at < low → first_from kind I low (at ∷ rest) ≡ first_from kind I low rest
-unfolding first_from
-from_later kind I low at rest lt = rw (lt-leb low (key_at kind I at) lt) refl
-
-pub from_none : (kind : PageKind) (I : List ℕ) (low : ℕ) → first_from kind I low [] ≡ None
-unfolding first_from
-from_none kind I low = refl
-
--- what is found is at least low
-pub from_at : (kind : PageKind) (I : List ℕ) (low : ℕ) (entries : List ℕ) (at : ℕ) → first_from kind I low entries ≡ Some at → low ≤ key_at kind I at
-unfolding first_from
-from_at kind I low [] at e = absurd cc
-from_at kind I low (x ∷ rest) at e =
-    elim (cases_lt (key_at kind I x) low) [
-      | inl lt ↦ from_at kind I low rest at (rw (lt-leb low (key_at kind I x) lt) at e)
-      | inr le ↦ rw (← some_is x at (rw (le-leb low (key_at kind I x) le) at e)) le
-    ]
+pub rest_later : (kind : PageKind) (I : List ℕ) (low at : ℕ) (rest : List ℕ) → key_at kind I at < low → rest_from kind I low (at ∷ rest) ≡ rest_from kind I low rest
+rest_later kind I low at rest lt = rw (lt-leb low (key_at kind I at) lt) refl
 
 -- all of keys that rise from low on are at least low
-all_left : (kind : PageKind) (I : List ℕ) (low less : ℕ) (high : Option ℕ) (entries : List ℕ) → less ≤ low → Rises low high (map (key_at kind I) entries) → rest_from kind I less entries ≡ entries
+pub all_left : (kind : PageKind) (I : List ℕ) (low less : ℕ) (high : Option ℕ) (entries : List ℕ) → less ≤ low → Rises low high (map (key_at kind I) entries) → rest_from kind I less entries ≡ entries
 all_left kind I low less high [] le r = refl
 all_left kind I low less high (at ∷ rest) le r =
     let k : less ≤ key_at kind I at = omega (arith, r.0) in
     rw (le-leb _ _ k) (ap (λ (es : List ℕ). at ∷ es) (all_left kind I (key_at kind I at + 1) less high rest (omega arith) r.2))
 
-pub rest_none : (kind : PageKind) (I : List ℕ) (low : ℕ) (entries : List ℕ) → first_from kind I low entries ≡ None → rest_from kind I low entries ≡ []
-unfolding first_from
-rest_none kind I low [] e = refl
-rest_none kind I low (at ∷ rest) e =
-    elim (cases_lt (key_at kind I at) low) [
-      | inl lt ↦ rw (lt-leb low (key_at kind I at) lt) (rest_none kind I low rest (rw (lt-leb low (key_at kind I at) lt) at e))
-      | inr le ↦ let bad : Some at ≡ None = rw (le-leb low (key_at kind I at) le) at e in cc
-    ]
+-- none of keys that rise below a bound is at least that bound
+pub none_left : (kind : PageKind) (I : List ℕ) (low least high : ℕ) (entries : List ℕ) → high ≤ low → Rises least (Some high) (map (key_at kind I) entries) → rest_from kind I low entries ≡ []
+none_left kind I low least high [] le r = refl
+none_left kind I low least high (at ∷ rest) le r =
+    let below : key_at kind I at < high = ltb-true _ _ r.1 in
+    rest_later kind I low at rest (omega arith) ∙ none_left kind I low (key_at kind I at + 1) high rest le r.2
 
-pub rest_some : (kind : PageKind) (I : List ℕ) (least low : ℕ) (high : Option ℕ) (entries : List ℕ) (at : ℕ) → Rises least high (map (key_at kind I) entries) → first_from kind I low entries ≡ Some at
-    → rest_from kind I low entries ≡ at ∷ rest_from kind I (key_at kind I at + 1) entries
-unfolding first_from
-rest_some kind I least low high [] at r e = absurd cc
-rest_some kind I least low high (x ∷ rest) at r e =
+-- the first of them is at least low, and those behind it are the entries behind its key
+pub rest_first : (kind : PageKind) (I : List ℕ) (least low : ℕ) (high : Option ℕ) (entries : List ℕ) (at : ℕ) (rest : List ℕ) → Rises least high (map (key_at kind I) entries) → rest_from kind I low entries ≡ at ∷ rest
+    → (low ≤ key_at kind I at) × (rest_from kind I (key_at kind I at + 1) entries ≡ rest)
+rest_first kind I least low high [] at rest r e = absurd cc
+rest_first kind I least low high (x ∷ xs) at rest r e =
     elim (cases_lt (key_at kind I x) low) [
       | inl lt ↦
           let h = rw (lt-leb low (key_at kind I x) lt) at e in
-          let ih = rest_some kind I (key_at kind I x + 1) low high rest at r.2 h in
-          let k : low ≤ key_at kind I at = from_at kind I low rest at h in
-          rw (lt-leb low (key_at kind I x) lt, lt-leb (key_at kind I at + 1) (key_at kind I x) (omega arith)) ih
+          let ih = rest_first kind I (key_at kind I x + 1) low high xs at rest r.2 h in
+          (ih.0, rw (lt-leb (key_at kind I at + 1) (key_at kind I x) (omega (arith, ih.0))) ih.1)
       | inr le ↦
-          let same : x ≡ at = some_is x at (rw (le-leb low (key_at kind I x) le) at e) in
-          let after : rest_from kind I (key_at kind I x + 1) rest ≡ rest = all_left kind I (key_at kind I x + 1) (key_at kind I x + 1) high rest (omega arith) r.2 in
-          let before : rest_from kind I low rest ≡ rest = all_left kind I (key_at kind I x + 1) low high rest (omega arith) r.2 in
-          let P : ℕ → Type 0 = λ a. rest_from kind I low (x ∷ rest) ≡ a ∷ rest_from kind I (key_at kind I a + 1) (x ∷ rest) in
-          subst P same (rw (le-leb low (key_at kind I x) le, lt-leb (key_at kind I x + 1) (key_at kind I x) (omega arith), before, after) refl)
+          let h : x ∷ rest_from kind I low xs ≡ at ∷ rest = rw (le-leb low (key_at kind I x) le) at e in
+          let same : x ≡ at = ap (λ (es : List ℕ). get_or es 0 0) h in
+          let behind : rest_from kind I low xs ≡ rest = ap (λ (es : List ℕ). drop 1 es) h in
+          let after : rest_from kind I (key_at kind I x + 1) xs ≡ xs = all_left kind I (key_at kind I x + 1) (key_at kind I x + 1) high xs (omega arith) r.2 in
+          let before : rest_from kind I low xs ≡ xs = all_left kind I (key_at kind I x + 1) low high xs (omega arith) r.2 in
+          let P : ℕ → Type 0 = λ a. (low ≤ key_at kind I a) × (rest_from kind I (key_at kind I a + 1) (x ∷ xs) ≡ rest) in
+          subst P same (le, rw (lt-leb (key_at kind I x + 1) (key_at kind I x) (omega arith)) (after ∙ sym before ∙ behind))
+    ]
+
+pub rest-append : (kind : PageKind) (I : List ℕ) (low : ℕ) (xs ys : List ℕ) → rest_from kind I low (xs ++ ys) ≡ rest_from kind I low xs ++ rest_from kind I low ys
+rest-append kind I low [] ys = refl
+rest-append kind I low (x ∷ xs) ys =
+    elim (cases_lt (key_at kind I x) low) [
+      | inl lt ↦ rw (lt-leb low (key_at kind I x) lt) (rest-append kind I low xs ys)
+      | inr le ↦ rw (le-leb low (key_at kind I x) le) (ap (λ (es : List ℕ). x ∷ es) (rest-append kind I low xs ys))
     ]

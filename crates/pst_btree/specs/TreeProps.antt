@@ -1,4 +1,4 @@
--- That an image spells a tree has one proof, so a view may keep it.
+-- That an image spells a tree has one proof, so a view may keep it; and so has where a stretch of a leaf lies.
 use Rattle.std.specs.Prelude.{ℕ, zero, suc, ◌+◌, List, [], ◌∷◌, map, Option}
 use Rattle.std.proofs.Props.{props}
 use Rattle.pst_header.specs.declared.header.Bref.{Bref}
@@ -8,6 +8,7 @@ use Rattle.pst_bytes.specs.declared.span.Span.{Span}
 use Rattle.pst_page.specs.Page.{entries_at, page_span}
 use Rattle.pst_page.specs.Entry.{key_at}
 use Rattle.pst_page.specs.Good.{HasPageTrailer, GoodPage, HasShape}
+use Rattle.pst_btree.specs.Find.{IsStretch}
 use Rattle.pst_btree.specs.Order.{Rises}
 use Rattle.pst_btree.specs.Tree.{Tree, leaf, branch, Forest, none, more, Spells, SpellsEach, Bounded, BoundedEach, tree_at, IsTreeAt, IsPage, forest_keys, next_of}
 
@@ -54,3 +55,6 @@ mutual
 
 pub IsTreeAt-prop : (kind : PageKind) (I : List ℕ) (end level : ℕ) (page : Bref) (low : ℕ) (high : Option ℕ) → IsProp (IsTreeAt kind I end level page low high)
 IsTreeAt-prop kind I end level page low high = hlevel (props, Spells-prop kind I end level (tree_at kind I level page), Bounded-prop kind I (tree_at kind I level page) low high)
+
+pub IsStretch-prop : (kind : PageKind) (I entries : List ℕ) (low at width count : ℕ) → IsProp (IsStretch kind I entries low at width count)
+IsStretch-prop kind I entries low at width count = hlevel props

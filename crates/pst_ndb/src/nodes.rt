@@ -9,8 +9,8 @@ use crate::node::Node;
 use pst_block::Blocks;
 use pst_btree::{NodeTree, Nodes as Entries};
 
-/// The nodes that are left, their identifiers rising: a `Node` each. Each step goes down the node B-tree once more, and no
-/// memory is taken.
+/// The nodes that are left, their identifiers rising: a `Node` each. The node B-tree is gone down once for each of its
+/// leaves, and no memory is taken.
 #[derive(Clone, Copy)]
 pub struct Nodes<'a> {
     blocks: Blocks<'a>,
