@@ -1,5 +1,5 @@
 -- Keys, and those of nodes without subnodes among them.
-use Rattle.std.proofs.Common.{◌≡◌, ℕ, ◌<◌, arith, List, [], ◌∷◌, Bool, false, BTreeSet, refl, sym, ap, ◌∙◌}
+use Rattle.std.proofs.Common.{◌≡◌, ℕ, ◌<◌, arith, List, [], ◌∷◌, Bool, false, refl, sym, ap, ◌∙◌}
 use Rattle.std.specs.Prelude.{◌||◌}
 use Rattle.std.specs.List.{list_any}
 use Rattle.std.specs.List.Sorted.{IsStrictlySortedBy}
@@ -8,10 +8,10 @@ use Rattle.std.specs.declared.cmp.Ordering.{Ordering}
 use Rattle.std.specs.declared.cmp.Ordering.TheVariants.{Less, Equal, Greater}
 use Rattle.std.specs.BTreeMap.{is_at}
 use Rattle.std.specs.BTreeSet.{insert_key}
-use Rattle.std.proofs.lemmas.Map.Lookups.{exact_unsigned, btree_set_from_contains}
+use Rattle.std.proofs.lemmas.Map.Lookups.{exact_unsigned}
 use Rattle.pst_fault.proofs.GeneralLemmas.{or_grouped}
 use Rattle.pst_msg.specs.Keys.{Key, pair_cmp, key_cmp, alone_key, with_alone}
-use Rattle.pst_msg.proofs.InsertLemmas.{or_turned, inserted_any, inserted_sorted}
+use Rattle.pst_msg.proofs.InsertLemmas.{or_turned, inserted_any, inserted_sorted, same_by_any}
 use Rattle.pst_msg.proofs.KeyOrderLemmas.{pairs_exact, keys_exact, keys_total}
 
 -- a test passes at one of them, where it does at one of either kind
@@ -28,12 +28,6 @@ sorted_with [] ks s = s
 sorted_with (x ∷ rest) ks s = inserted_sorted key_cmp keys_total (with_alone rest ks) (alone_key x) (sorted_with rest ks s)
 
 -- ---- which of them is asked for
-
-abbrev btree_set : List Key → BTreeSet Key
-btree_set ks = record { keys = ks }
-
-same_by_any : (ks ls : List Key) → IsStrictlySortedBy key_cmp ks → IsStrictlySortedBy key_cmp ls → ((q : Key) → list_any (is_at (key_cmp q)) ks ≡ list_any (is_at (key_cmp q)) ls) → ks ≡ ls
-same_by_any ks ls s t same = btree_set_from_contains keys_total (btree_set ks) (btree_set ls) s t same keys_exact
 
 then_equal : (r s : Ordering) → ordering_then (ordering_then r Equal) s ≡ ordering_then r s
 then_equal Less s = refl
@@ -77,7 +71,7 @@ held_other xs ks q e = any_with (is_at (key_cmp q)) xs ks ∙ ap (λ b. b || lis
 
 pub alone_put : (xs : List (ℕ × ℕ)) (ks : List Key) (x : ℕ × ℕ) → IsStrictlySortedBy key_cmp ks → with_alone (insert_key pair_cmp xs x) ks ≡ insert_key key_cmp (with_alone xs ks) (alone_key x)
 alone_put xs ks x s =
-    same_by_any _ _ (sorted_with (insert_key pair_cmp xs x) ks s) (inserted_sorted key_cmp keys_total (with_alone xs ks) (alone_key x) (sorted_with xs ks s)) (λ q.
+    same_by_any key_cmp keys_total keys_exact _ _ (sorted_with (insert_key pair_cmp xs x) ks s) (inserted_sorted key_cmp keys_total (with_alone xs ks) (alone_key x) (sorted_with xs ks s)) (λ q.
     let test : Key → Bool = is_at (key_cmp q) in
     any_with test (insert_key pair_cmp xs x) ks
     ∙ ap (λ b. b || list_any test ks) (inserted_any pair_cmp pairs_exact (λ y. test (alone_key y)) xs x)
@@ -87,7 +81,7 @@ alone_put xs ks x s =
 
 pub other_put : (xs : List (ℕ × ℕ)) (ks : List Key) (k : Key) → IsStrictlySortedBy key_cmp ks → with_alone xs (insert_key key_cmp ks k) ≡ insert_key key_cmp (with_alone xs ks) k
 other_put xs ks k s =
-    same_by_any _ _ (sorted_with xs (insert_key key_cmp ks k) (inserted_sorted key_cmp keys_total ks k s)) (inserted_sorted key_cmp keys_total (with_alone xs ks) k (sorted_with xs ks s)) (λ q.
+    same_by_any key_cmp keys_total keys_exact _ _ (sorted_with xs (insert_key key_cmp ks k) (inserted_sorted key_cmp keys_total ks k s)) (inserted_sorted key_cmp keys_total (with_alone xs ks) k (sorted_with xs ks s)) (λ q.
     let test : Key → Bool = is_at (key_cmp q) in
     any_with test xs (insert_key key_cmp ks k)
     ∙ ap (λ b. list_any (λ y. test (alone_key y)) xs || b) (inserted_any key_cmp keys_exact test ks k)

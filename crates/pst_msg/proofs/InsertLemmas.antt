@@ -1,5 +1,5 @@
 -- A key that is put into a list at its place in the order.
-use Rattle.std.proofs.Common.{◌≡◌, ◌+◌, List, [], ◌∷◌, length, arith, Bool, true, false, refl, ap, ◌∙◌}
+use Rattle.std.proofs.Common.{◌≡◌, ◌+◌, List, [], ◌∷◌, length, arith, Bool, true, false, BTreeSet, refl, ap, ◌∙◌}
 use Rattle.std.specs.Prelude.{◌||◌}
 use Rattle.std.specs.Cmp.{IsTotalOrder}
 use Rattle.std.specs.List.{AllByRecursion, list_any}
@@ -9,9 +9,9 @@ use Rattle.std.specs.declared.cmp.Ordering.{Ordering}
 use Rattle.std.specs.declared.cmp.Ordering.TheVariants.{Less, Equal, Greater}
 use Rattle.std.specs.BTreeMap.{is_at}
 use Rattle.std.specs.BTreeSet.{insert_key}
-use Rattle.std.proofs.lemmas.Map.Lookups.{CmpEqualImpliesEq}
+use Rattle.std.proofs.lemmas.Map.Lookups.{CmpEqualImpliesEq, btree_set_from_contains}
 
-or_twice : (a b : Bool) → (a || b) ≡ (a || (a || b))
+pub or_twice : (a b : Bool) → (a || b) ≡ (a || (a || b))
 or_twice true b = refl
 or_twice false b = refl
 
@@ -19,6 +19,9 @@ pub or_turned : (a b c : Bool) → (a || (b || c)) ≡ (b || (a || c))
 or_turned true true c = refl
 or_turned true false c = refl
 or_turned false b c = refl
+
+abbrev btree_set : {K : Type 0} → List K → BTreeSet K
+btree_set ks = record { keys = ks }
 
 module _ {K : Type 0} (cmp : K → K → Ordering) where
   -- a test passes at one of the keys then, where it does at the new one or at one of the others
@@ -43,7 +46,7 @@ module _ {K : Type 0} (cmp : K → K → Ordering) where
       by Equal e later = absurd cc
       by Greater e later = omega (arith, later e)
 
-  all_inserted : (P : K → Type 0) (ks : List K) (k : K) → P k → AllByRecursion P ks → AllByRecursion P (insert_key cmp ks k)
+  pub all_inserted : (P : K → Type 0) (ks : List K) (k : K) → P k → AllByRecursion P ks → AllByRecursion P (insert_key cmp ks k)
   all_inserted P [] k p a = (p, tt)
   all_inserted P (x ∷ xs) k p a = by (cmp k x) (all_inserted P xs k p a.1)
     where
@@ -66,3 +69,7 @@ module _ {K : Type 0} (cmp : K → K → Ordering) where
       by Less e h = ((e, all_below total k x xs e s.0), s)
       by Equal e h = s
       by Greater e h = (all_inserted (λ y. cmp x y ≡ Less) xs k (total.antisymm x k ∙ ap ordering_reverse e) s.0, h)
+
+  -- lists in order are the same, where the same keys are in them
+  pub same_by_any : IsTotalOrder cmp → CmpEqualImpliesEq cmp → (ks ls : List K) → IsStrictlySortedBy cmp ks → IsStrictlySortedBy cmp ls → ((q : K) → list_any (is_at (cmp q)) ks ≡ list_any (is_at (cmp q)) ls) → ks ≡ ls
+  same_by_any total exact ks ls s t same = btree_set_from_contains total (btree_set ks) (btree_set ls) s t same exact

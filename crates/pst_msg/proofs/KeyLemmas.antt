@@ -50,17 +50,17 @@ listed_holds keys q e = Contains-from_any (tells_apart keys_exact) q _ e
 
 -- ---- which of the two lists a key is in
 
-pub there_alone : (keys : Keys) (q : Key) → q.0.1 ≡ 0 → list_any (is_at (pair_cmp (q.0.0, q.1))) keys.alone.keys ≡ true → true ≡ holds keys q
+pub there_alone : (keys : Keys) (q : Key) → q.0.1 ≡ 0 → list_any (is_at (pair_cmp (q.0.0, q.1))) keys.alone ≡ true → true ≡ holds keys q
 unfolding holds keys_in
-there_alone keys q none is = sym (rw none (held_alone keys.alone.keys keys.others.keys q.0.0 q.1 ∙ ap (λ b. b || list_any (is_at (key_cmp ((q.0.0, 0), q.1))) keys.others.keys) is))
+there_alone keys q none is = sym (rw none (held_alone keys.alone keys.others q.0.0 q.1 ∙ ap (λ b. b || list_any (is_at (key_cmp ((q.0.0, 0), q.1))) keys.others) is))
 
-pub not_alone : (keys : Keys) (q : Key) → q.0.1 ≡ 0 → list_any (is_at (pair_cmp (q.0.0, q.1))) keys.alone.keys ≡ false → list_any (is_at (key_cmp q)) keys.others.keys ≡ holds keys q
+pub not_alone : (keys : Keys) (q : Key) → q.0.1 ≡ 0 → list_any (is_at (pair_cmp (q.0.0, q.1))) keys.alone ≡ false → list_any (is_at (key_cmp q)) keys.others ≡ holds keys q
 unfolding holds keys_in
-not_alone keys q none is = sym (rw none (held_alone keys.alone.keys keys.others.keys q.0.0 q.1 ∙ ap (λ b. b || list_any (is_at (key_cmp ((q.0.0, 0), q.1))) keys.others.keys) is))
+not_alone keys q none is = sym (rw none (held_alone keys.alone keys.others q.0.0 q.1 ∙ ap (λ b. b || list_any (is_at (key_cmp ((q.0.0, 0), q.1))) keys.others) is))
 
-pub never_alone : (keys : Keys) (q : Key) → 0 < q.0.1 → list_any (is_at (key_cmp q)) keys.others.keys ≡ holds keys q
+pub never_alone : (keys : Keys) (q : Key) → 0 < q.0.1 → list_any (is_at (key_cmp q)) keys.others ≡ holds keys q
 unfolding holds keys_in
-never_alone keys q some = sym (held_other keys.alone.keys keys.others.keys q some)
+never_alone keys q some = sym (held_other keys.alone keys.others q some)
 
 -- ---- one more key
 

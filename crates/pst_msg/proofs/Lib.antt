@@ -5,6 +5,7 @@ pub mod MessageLaws
 pub mod ContentsLaws
 pub mod AlikeLemmas
 pub mod InsertLemmas
+pub mod RisingLemmas
 pub mod KeyOrderLemmas
 pub mod AloneLemmas
 pub mod KeyLemmas

@@ -4,7 +4,7 @@ use Rattle.std.specs.List.{list_any}
 use Rattle.std.specs.Ordering.{nat_cmp, ordering_then}
 use Rattle.std.specs.declared.cmp.Ordering.{Ordering}
 use Rattle.std.specs.BTreeMap.{is_at}
-use Rattle.std.specs.BTreeSet.{insert_key, keys as keys_of_set}
+use Rattle.std.specs.BTreeSet.{insert_key}
 use Rattle.pst_fault.specs.declared.fault.Fault.{Fault}
 use Rattle.pst_block.specs.Block.{bid_key}
 use Rattle.pst_ndb.specs.Roots.{Roots}
@@ -39,7 +39,7 @@ with_alone [] ks = ks
 with_alone (x ∷ rest) ks = insert_key key_cmp (with_alone rest ks) (alone_key x)
 
 unfoldable pub keys_in : Keys → List Key
-keys_in keys = with_alone (keys_of_set keys.alone) (keys_of_set keys.others)
+keys_in keys = with_alone keys.alone keys.others
 
 unfoldable pub holds : Keys → Key → Bool
 holds keys k = list_any (is_at (key_cmp k)) (keys_in keys)

@@ -3,6 +3,7 @@ pub mod Values
 pub mod Fault
 pub mod Grammar
 pub mod Laws
+pub mod Rising
 pub mod Keys
 pub mod Roles
 pub mod ListIndex

@@ -7,11 +7,11 @@ ghost use Rattle.pst_block.specs.Block.{bid_key};
 ghost use Rattle.pst_ndb.specs.Views.{roots_of};
 ghost use Rattle.pst_msg.specs.Keys.{Key as SpecKey, key, list_key, key_cmp, keys_in, holds, IsPut};
 
+use crate::rising::RisingSet;
 use pst_fault::Fault;
 use pst_ndb::Node;
 use pst_page::PageKind;
 use std::alloc::Global;
-use std::collections::BTreeSet;
 
 /// The identifiers of the blocks of a node's data and of its subnodes, with bit 0 cleared, and a number.
 pub(crate) type Key = ((u64, u64), u64);
@@ -20,8 +20,8 @@ pub(crate) type Key = ((u64, u64), u64);
 #[derive(Drop)]
 pub(crate) struct Keys {
     // Those of nodes without subnodes, by their data alone: most contexts are, and so each takes less memory.
-    alone: BTreeSet<(u64, u64)>,
-    others: BTreeSet<((u64, u64), u64)>,
+    alone: RisingSet<(u64, u64)>,
+    others: RisingSet<((u64, u64), u64)>,
 }
 
 /// The identifier of a block without its bit 0.
@@ -53,8 +53,8 @@ impl Keys {
         ensures empty { keys_in result ≡ [] }
     {
         Keys {
-            alone: BTreeSet::new(alloc),
-            others: BTreeSet::new(alloc),
+            alone: RisingSet::new(alloc),
+            others: RisingSet::new(alloc),
         }
     }
 
@@ -65,12 +65,12 @@ impl Keys {
     {
         let ((block, sub), number) = taken;
         if sub > 0 {
-            return self.others.contains(&taken);
+            return self.others.has(&taken);
         }
-        if self.alone.contains(&(block, number)) {
+        if self.alone.has(&(block, number)) {
             return true;
         }
-        self.others.contains(&taken)
+        self.others.has(&taken)
     }
 
     // Puts the key of a node without subnodes into it.
@@ -78,8 +78,8 @@ impl Keys {
         ensures put { IsPut result self.old ((block, 0), number) self.new }
         ensures memory { IfErr result (λ f. f ≡ no_memory) }
     {
-        self.others.len();
-        self.alone.insert((block, number))?;
+        self.others.are_sorted();
+        self.alone.put((block, number))?;
         Ok(())
     }
 
@@ -88,8 +88,8 @@ impl Keys {
         ensures put { IsPut result self.old taken self.new }
         ensures memory { IfErr result (λ f. f ≡ no_memory) }
     {
-        self.others.len();
-        self.others.insert(taken)?;
+        self.others.are_sorted();
+        self.others.put(taken)?;
         Ok(())
     }
 
@@ -125,6 +125,6 @@ impl Keys {
     pub(crate) fn are_sorted(&self)
         ensures { IsStrictlySortedBy key_cmp (keys_in self.now) }
     {
-        self.others.len();
+        self.others.are_sorted();
     }
 }

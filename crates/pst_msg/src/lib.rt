@@ -39,6 +39,7 @@ mod object;
 mod open;
 mod recipients;
 mod remember;
+mod rising;
 mod role;
 mod views;
 
