@@ -1,5 +1,8 @@
 pub mod CellLemmas
+pub mod DigitLemmas
+pub mod EscapeLemmas
 pub mod HexLemmas
+pub mod MemberLemmas
 pub mod NameLemmas
 pub mod PartLemmas
 pub mod PlainLemmas

@@ -1,21 +1,9 @@
 -- An object whose text is put behind another, part by part.
-use Rattle.std.proofs.Common.{◌≡◌, ℕ, Bool, true, false, List, [], ◌∷◌, ◌++◌, refl, sym, ap, ◌∙◌, append_assoc}
-use Rattle.std.specs.Prelude.{Some, None}
+use Rattle.std.proofs.Common.{◌≡◌, ℕ, Bool, true, List, [], ◌∷◌, ◌++◌, sym, ap, ◌∙◌, append_assoc}
 use Rattle.serde_json.specs.Data.{Data, string}
-use Rattle.serde_json.specs.Written.{compact_text, members_text, comma_if, has_float}
-use Rattle.pst_value_json.specs.declared.parts.Made.{Made}
-use Rattle.pst_value_json.specs.declared.parts.Made.TheVariants.{Natural, Nid, Word, Digest}
+use Rattle.serde_json.specs.Written.{compact_text, members_text, comma_if}
 use Rattle.pst_value_json.specs.declared.parts.Part.{Part}
-use Rattle.pst_value_json.specs.Made.{made_data}
 use Rattle.pst_value_json.specs.Object.{part_key, part_data, part_text, members_of_parts}
-
--- a value that is made at once has no floating-point number
-pub made_has_none : (made : Made) → has_float (made_data made) ≡ false
-made_has_none (Natural n) = refl
-made_has_none (Nid None) = refl
-made_has_none (Nid (Some nid)) = refl
-made_has_none (Word word) = refl
-made_has_none (Digest digest) = refl
 
 -- a key and its value are put behind the text
 pub put_on : (text key value : List ℕ) → (text ++ key) ++ value ≡ text ++ (key ++ value)

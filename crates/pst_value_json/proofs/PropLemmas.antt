@@ -52,6 +52,9 @@ set_is_plain (Some guid) = record { no_float = refl }
 pub places_are_plain : (places : List Span) → IsPlain (places_data places)
 places_are_plain places = list_is_plain piece_data (λ s. record { no_float = refl }) places
 
+pub places_have_none : (places : List Span) → has_float (places_data places) ≡ false
+places_have_none places = IsPlain.no_float (places_are_plain places)
+
 prop_is_plain : (name : Option NameParts) (places : Option (List Span)) (p : Property) → IsPlain (prop_data name places p)
 unfolding prop_data
 prop_is_plain None None p = record { no_float = rw (IsPlain.no_float (value_is_plain p.kind p.bytes)) refl }

@@ -1,13 +1,14 @@
 -- No value has a floating-point number.
-use Rattle.std.proofs.Common.{ℕ, Bool, true, false, List, refl}
+use Rattle.std.proofs.Common.{◌≡◌, ℕ, Bool, true, false, List, refl}
 use Rattle.std.specs.Prelude.{nat_eq, length, ◌%◌, Option, Some, None, ℤ, pos, negsuc, if◌then◌else◌}
 use Rattle.serde_json.specs.Data.{Data, null, boolean}
+use Rattle.serde_json.specs.Written.{has_float}
 use Rattle.pst_value.specs.Read.{exactly, i16_of, i32_of, i64_of, u32_of, u64_of, bool_of, guid_of, object_of}
 use Rattle.pst_value.specs.Multi.{elements_of}
 use Rattle.pst_value_json.specs.declared.form.Form.{Form}
 use Rattle.pst_value_json.specs.declared.form.Form.TheVariants.{Int16, Int32, Int64, Nat32, Nat64, Truth, Guid, Object, Text, Fixed, Open}
 use Rattle.pst_value_json.specs.Form.{form_of}
-use Rattle.pst_value_json.specs.Parts.{integer, natural}
+use Rattle.pst_value_json.specs.Parts.{integer, natural, list_data}
 use Rattle.pst_value_json.specs.Plain.{IsPlain}
 use Rattle.pst_value_json.specs.Value.{hex_data, guid_data, object_data, or_hex, null_or_hex, form_data, single_data, values_data, value_data}
 use Rattle.pst_value_json.proofs.PlainLemmas.{list_is_plain}
@@ -51,3 +52,6 @@ values_are_plain (Some values) t bytes = list_is_plain (single_data (t % 0x1000)
 pub value_is_plain : (t : ℕ) (bytes : List ℕ) → IsPlain (value_data t bytes)
 unfolding value_data
 value_is_plain t bytes = values_are_plain (elements_of t bytes) t bytes
+
+pub values_have_none : (t : ℕ) (values : List (List ℕ)) → has_float (list_data (single_data t) values) ≡ false
+values_have_none t values = IsPlain.no_float (list_is_plain (single_data t) (single_is_plain t) values)

@@ -1,5 +1,5 @@
 -- An object, of the parts that it is made of.
-use Rattle.std.specs.Prelude.{◌≡◌, ℕ, Bool, List, [], ◌∷◌, ◌++◌}
+use Rattle.std.specs.Prelude.{◌≡◌, ℕ, Bool, true, Option, Some, None, List, [], ◌∷◌, ◌++◌}
 use Rattle.serde_json.specs.Data.{Data, string, array, object, Members, no_members, member, put}
 use Rattle.serde_json.specs.View.{items_of}
 use Rattle.serde_json.specs.Written.{compact_text, comma_if}
@@ -45,3 +45,8 @@ key_text later key = (comma_if later ++ compact_text (string key)) ++ 58 ∷ []
 
 abbrev pub part_text : {R : Type 0} → (R → List Data) → Bool → Part R → List ℕ
 part_text left later p = key_text later (part_key p) ++ compact_text (part_data left p)
+
+-- a member that may be there, behind others
+abbrev pub if_member_text : List ℕ → Option Data → List ℕ
+if_member_text key None = []
+if_member_text key (Some d) = key_text true key ++ compact_text d

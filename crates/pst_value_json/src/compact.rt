@@ -28,7 +28,7 @@ pub fn line_text(alloc: Global, doc: &Doc) -> Result<Vec<u8>, AllocError>
 }
 
 /// Puts a comma behind a text where something stands there.
-pub(crate) fn put_comma(later: bool, text: &mut Vec<u8>) -> Result<(), AllocError>
+pub fn put_comma(later: bool, text: &mut Vec<u8>) -> Result<(), AllocError>
     ensures { OnOk result (text.new.items ≡ text.old.items ++ comma_if later) }
 {
     if later {

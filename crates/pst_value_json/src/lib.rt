@@ -23,6 +23,8 @@
 
 mod cells;
 mod compact;
+mod digits;
+mod escape;
 mod form;
 mod laws;
 mod listing;
@@ -30,13 +32,17 @@ mod names;
 mod parts;
 mod places;
 mod props;
+mod put;
+mod put_props;
+mod put_values;
 mod scalar;
 mod sinks;
 mod time;
 mod value;
 
 pub use cells::{TableRows, table_doc, table_rows};
-pub use compact::{line_text, text};
+pub use compact::{line_text, put_comma, text};
+pub use digits::put_nid;
 pub use laws::{cell_places_hold, prop_places_hold};
 pub use listing::Rows;
 pub use names::nid_text;
@@ -47,7 +53,9 @@ pub use pst_names::{NameIndex, NameMap};
 pub use pst_pc::{Pc, Prop, check_pc};
 pub use pst_tc::{Row, Rows as TcRows, Tc, check_tc, tc_ids_rise, tc_is_of_keys};
 pub use pst_value::PropType;
+pub use put::{put_key, put_natural, put_null};
+pub use put_values::put_text;
 pub use scalar::{text_doc, text_of};
 pub use sinks::{Line, Sink, Tree, put_object};
-pub use time::{i32_or_null_doc, time_or_null_doc};
+pub use time::{i32_or_null_doc, put_i32_or_null, put_time_or_null, time_or_null_doc};
 pub use value::{hex_doc, value_doc};

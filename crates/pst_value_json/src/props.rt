@@ -10,9 +10,11 @@ ghost use Rattle.pst_value_json.specs.Parts.{list_data};
 ghost use Rattle.pst_value_json.specs.Places.{places_in, if_asked};
 ghost use Rattle.pst_value_json.specs.Props.{kind_data, set_data, prop_data, record_data, names_told, prop_rows_left};
 
+use crate::compact::put_comma;
 use crate::listing::{Rows, list_doc};
 use crate::names::id_text;
 use crate::places::places_doc;
+use crate::put_props::put_prop;
 use crate::scalar::text_doc;
 use crate::value::value_doc;
 use pst_names::{Name, NameKind, NameMap};
@@ -111,6 +113,22 @@ impl Rows for PropRows<'_> {
             Some(prop) => Ok(Some(prop_doc(alloc, self.names, self.places, prop)?)),
             None => Ok(None),
         }
+    }
+
+    // A property goes to the text member by member, without a tree.
+    fn put_next(
+        &mut self,
+        alloc: Global,
+        later: bool,
+        text: &mut Vec<u8>,
+    ) -> Result<bool, AllocError> {
+        let Some(prop) = self.props.next() else {
+            return Ok(false);
+        };
+        let name = name_in(self.names, prop.id);
+        put_comma(later, text)?;
+        put_prop(alloc, &name, self.places, prop, text)?;
+        Ok(true)
     }
 }
 

@@ -6,11 +6,13 @@ ghost use Rattle.serde_json.specs.View.{view, members_view};
 ghost use Rattle.serde_json.specs.Written.{compact_text};
 ghost use Rattle.pst_value_json.specs.Line.{line_of, row_text};
 ghost use Rattle.pst_value_json.specs.Made.{made_data};
-ghost use Rattle.pst_value_json.specs.Object.{put_part, parts_data, KeysRise, key_text, part_text};
+ghost use Rattle.pst_value_json.specs.Object.{put_part, parts_data, KeysRise, part_text};
 
-use crate::compact::{put_comma, put_doc};
+use crate::compact::put_comma;
+use crate::digits::{put_hex, put_nid_or_null};
 use crate::listing::{Rows, list_doc, put_list};
 use crate::parts::{Made, Part, made_doc};
+use crate::put::{put_key, put_natural, put_string};
 use serde_json::{Map, Value as Doc};
 use std::alloc::{AllocError, Global};
 
@@ -64,26 +66,15 @@ impl Sink for Tree {
 }
 
 // Puts a value that is made at once behind a text.
-#[tactic(auto, using(crate::proofs::PartLemmas::made_has_none))]
-fn put_made(alloc: Global, made: Made, text: &mut Vec<u8>) -> Result<(), AllocError>
+fn put_made(made: Made, text: &mut Vec<u8>) -> Result<(), AllocError>
     ensures { OnOk result (text.new.items ≡ text.old.items ++ compact_text (made_data made)) }
 {
-    put_doc(alloc, &made_doc(alloc, made)?, text)
-}
-
-// Puts a key behind a text, and a comma before it where others stand there.
-fn put_key(
-    alloc: Global,
-    key: &'static str,
-    later: bool,
-    text: &mut Vec<u8>,
-) -> Result<(), AllocError>
-    ensures { OnOk result (text.new.items ≡ text.old.items ++ key_text later key.now) }
-{
-    put_comma(later, text)?;
-    put_made(alloc, Made::Word(key), text)?;
-    text.push(b':')?;
-    Ok(())
+    match made {
+        Made::Natural(number) => put_natural(number, text),
+        Made::Nid(nid) => put_nid_or_null(nid, text),
+        Made::Word(word) => put_string(word, text),
+        Made::Digest(digest) => put_hex(&digest, text),
+    }
 }
 
 // Puts a part behind a text, and a comma before it where others stand there.
@@ -98,11 +89,11 @@ fn put_text<R: Rows>(
 {
     match part {
         Part::Value(key, made) => {
-            put_key(alloc, key, later, text)?;
-            put_made(alloc, made, text)
+            put_key(key, later, text)?;
+            put_made(made, text)
         }
         Part::Rows(key, rows) => {
-            put_key(alloc, key, later, text)?;
+            put_key(key, later, text)?;
             put_list(alloc, rows, text)
         }
     }

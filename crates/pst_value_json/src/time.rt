@@ -1,10 +1,12 @@
 //! Times as text, and numbers, where their bytes are as they should be.
 
-ghost use Rattle.std.specs.Prelude.{◌≡◌, IfOk, Some};
+ghost use Rattle.std.specs.Prelude.{◌≡◌, ◌++◌, IfOk, OnOk, Some};
 ghost use Rattle.serde_json.specs.View.{view};
+ghost use Rattle.serde_json.specs.Written.{compact_text};
 ghost use Rattle.pst_datatree.specs.Shown.{bytes_in};
 ghost use Rattle.pst_value_json.specs.Time.{time_or_null, i32_or_null, moment_or_null};
 
+use crate::put::{put_integer, put_null, put_string};
 use pst_datatree::Value;
 use pst_time::time_text;
 use pst_value::{as_i32, as_u64};
@@ -38,5 +40,38 @@ pub fn i32_or_null_doc(value: Value) -> Doc
     match as_i32(value) {
         Some(n) => Doc::from(n),
         None => Doc::Null,
+    }
+}
+
+// Puts the text of a time behind a text; null where it lies behind the year 9999.
+fn put_moment(alloc: Global, time: u64, text: &mut Vec<u8>) -> Result<(), AllocError>
+    ensures { OnOk result (text.new.items
+        ≡ text.old.items ++ compact_text (moment_or_null (Some time))) }
+{
+    match time_text(alloc, time)? {
+        Some(shown) => put_string(&shown, text),
+        None => put_null(text),
+    }
+}
+
+/// Puts the text of a time of 8 bytes behind a text, as `time_or_null_doc` shows it.
+pub fn put_time_or_null(alloc: Global, value: Value, text: &mut Vec<u8>) -> Result<(), AllocError>
+    ensures { OnOk result (text.new.items
+        ≡ text.old.items ++ compact_text (time_or_null (bytes_in value.entry))) }
+{
+    match as_u64(value) {
+        Some(time) => put_moment(alloc, time, text),
+        None => put_null(text),
+    }
+}
+
+/// Puts a signed number of 4 bytes behind a text, as `i32_or_null_doc` shows it.
+pub fn put_i32_or_null(value: Value, text: &mut Vec<u8>) -> Result<(), AllocError>
+    ensures { OnOk result (text.new.items
+        ≡ text.old.items ++ compact_text (i32_or_null (bytes_in value.entry))) }
+{
+    match as_i32(value) {
+        Some(number) => put_integer(i64::from(number), text),
+        None => put_null(text),
     }
 }

@@ -1,0 +1,124 @@
+//! Numbers in hexadecimal, in the quotes of JSON, put behind a text.
+
+ghost use Rattle.std.specs.Prelude.{◌≡◌, [], ◌∷◌, ◌++◌, OnOk};
+ghost use Rattle.std.specs.Int.{w16, w32, to_be_bytes};
+ghost use Rattle.hex.specs.Hex.{encode_lower, encode_upper};
+ghost use Rattle.json.specs.Print.{escape};
+ghost use Rattle.serde_json.specs.Data.{string};
+ghost use Rattle.serde_json.specs.Written.{compact_text};
+ghost use Rattle.pst_fault.specs.Fault.{hex};
+ghost use Rattle.pst_value_json.specs.Names.{nid_data, nid_or_null, id_text, tag_text};
+ghost use Rattle.pst_value_json.specs.Value.{hex_data};
+
+use crate::escape::digit;
+use crate::put::put_null;
+use std::alloc::AllocError;
+
+// The digits in lower case and in upper case.
+const LOWER: [u8; 16] = *b"0123456789abcdef";
+
+const UPPER: [u8; 16] = *b"0123456789ABCDEF";
+
+// Puts the digits of a number behind a text, without leading zeros.
+#[tactic(auto, using(crate::proofs::DigitLemmas::digit_put, crate::proofs::DigitLemmas::last_put))]
+fn put_number(number: u32, text: &mut Vec<u8>) -> Result<(), AllocError>
+    ensures { OnOk result (text.new.items ≡ text.old.items ++ escape (hex number)) }
+{
+    if number < 16 {
+        text.push(digit(number as u8))?;
+        return Ok(());
+    }
+    put_number(number / 16, text)?;
+    text.push(digit((number % 16) as u8))?;
+    Ok(())
+}
+
+/// Puts a node's identifier behind a text, as `"0x21"`.
+#[tactic(auto, using(crate::proofs::DigitLemmas::nid_put))]
+pub fn put_nid(nid: u32, text: &mut Vec<u8>) -> Result<(), AllocError>
+    ensures { OnOk result (text.new.items ≡ text.old.items ++ compact_text (nid_data nid)) }
+{
+    text.extend_from_slice(b"\"0x")?;
+    put_number(nid, text)?;
+    text.push(b'"')?;
+    Ok(())
+}
+
+/// Puts a node's identifier behind a text, or null.
+pub(crate) fn put_nid_or_null(nid: Option<u32>, text: &mut Vec<u8>) -> Result<(), AllocError>
+    ensures { OnOk result (text.new.items ≡ text.old.items ++ compact_text (nid_or_null nid)) }
+{
+    match nid {
+        Some(nid) => put_nid(nid, text),
+        None => put_null(text),
+    }
+}
+
+// Puts the two digits of a byte behind a text, in upper case.
+#[tactic(auto, using(crate::proofs::DigitLemmas::upper_put))]
+fn put_upper(byte: u8, text: &mut Vec<u8>) -> Result<(), AllocError>
+    ensures { OnOk result (text.new.items ≡ text.old.items ++ escape (encode_upper (byte ∷ []))) }
+{
+    text.extend_from_slice(&[UPPER[(byte / 16) as usize], UPPER[(byte % 16) as usize]])?;
+    Ok(())
+}
+
+// Puts the digits of bytes behind a text, in upper case.
+fn put_upper_bytes(bytes: &[u8], text: &mut Vec<u8>) -> Result<(), AllocError>
+    ensures { OnOk result (text.new.items ≡ text.old.items ++ escape (encode_upper bytes.now)) }
+{
+    for byte in bytes {
+        put_upper(*byte, text)?;
+    }
+    Ok(())
+}
+
+/// Puts a property's identifier or type behind a text, as `"001F"`.
+pub(crate) fn put_id(id: u16, text: &mut Vec<u8>) -> Result<(), AllocError>
+    ensures { OnOk result (text.new.items ≡ text.old.items ++ compact_text (string (id_text id))) }
+{
+    text.push(b'"')?;
+    put_upper_bytes(&id.to_be_bytes(), text)?;
+    text.push(b'"')?;
+    Ok(())
+}
+
+/// Puts the tag of a column behind a text, as `"3001001F"`.
+pub(crate) fn put_tag(tag: u32, text: &mut Vec<u8>) -> Result<(), AllocError>
+    ensures { OnOk result (text.new.items
+        ≡ text.old.items ++ compact_text (string (tag_text tag))) }
+{
+    text.push(b'"')?;
+    put_upper_bytes(&tag.to_be_bytes(), text)?;
+    text.push(b'"')?;
+    Ok(())
+}
+
+// Puts the two digits of a byte behind a text, in lower case.
+#[tactic(auto, using(crate::proofs::DigitLemmas::lower_put))]
+fn put_lower(byte: u8, text: &mut Vec<u8>) -> Result<(), AllocError>
+    ensures { OnOk result (text.new.items ≡ text.old.items ++ escape (encode_lower (byte ∷ []))) }
+{
+    text.extend_from_slice(&[LOWER[(byte / 16) as usize], LOWER[(byte % 16) as usize]])?;
+    Ok(())
+}
+
+/// Puts the digits of bytes behind a text, in lower case and without quotes.
+pub(crate) fn put_lower_bytes(bytes: &[u8], text: &mut Vec<u8>) -> Result<(), AllocError>
+    ensures { OnOk result (text.new.items ≡ text.old.items ++ escape (encode_lower bytes.now)) }
+{
+    for byte in bytes {
+        put_lower(*byte, text)?;
+    }
+    Ok(())
+}
+
+/// Puts bytes behind a text, in hexadecimal.
+pub(crate) fn put_hex(bytes: &[u8], text: &mut Vec<u8>) -> Result<(), AllocError>
+    ensures { OnOk result (text.new.items ≡ text.old.items ++ compact_text (hex_data bytes.now)) }
+{
+    text.push(b'"')?;
+    put_lower_bytes(bytes, text)?;
+    text.push(b'"')?;
+    Ok(())
+}

@@ -1,0 +1,92 @@
+//! Texts in the quotes of JSON, put behind a text.
+
+ghost use Rattle.std.specs.Prelude.{◌≡◌, ◌+◌, ◌≤◌, ◌<◌, ◌++◌, OnOk, length, drop};
+ghost use Rattle.std.specs.Char.{digit_char};
+ghost use Rattle.std.specs.List.{prefix_len};
+ghost use Rattle.json.specs.Print.{escape_letter, escape_byte, escape, quoted};
+ghost use Rattle.json.specs.Run.{is_plain};
+
+use std::alloc::AllocError;
+
+// Where the bytes that stand for themselves between quotes end, from a place on.
+fn plain_end(shown: &[u8], from: usize) -> usize
+    requires { from ≤ length shown.now }
+    ensures value { result ≡ from + prefix_len is_plain (drop from shown.now) }
+    ensures within { result ≤ length shown.now }
+{
+    let mut end = from;
+    while end < shown.len() && shown[end] != b'"' && shown[end] != b'\\' && shown[end] >= 0x20 {
+        end += 1;
+    }
+    end
+}
+
+// The letter behind the backslash, 0 where a byte has none.
+fn letter(byte: u8) -> u8
+    ensures { result ≡ escape_letter byte }
+{
+    match byte {
+        b'"' | b'\\' => byte,
+        8 => b'b',
+        12 => b'f',
+        b'\n' => b'n',
+        b'\r' => b'r',
+        b'\t' => b't',
+        _ => 0,
+    }
+}
+
+/// A digit of a hexadecimal number, in lower case.
+pub(crate) fn digit(value: u8) -> u8
+    requires { value < 16 }
+    ensures { result ≡ digit_char value }
+{
+    if value < 10 {
+        b'0' + value
+    } else {
+        b'a' - 10 + value
+    }
+}
+
+// Puts what stands for a byte between quotes behind a text.
+#[tactic(auto, unfolding(json::specs::Print::escape_byte))]
+fn put_escape(byte: u8, text: &mut Vec<u8>) -> Result<(), AllocError>
+    ensures { OnOk result (text.new.items ≡ text.old.items ++ escape_byte byte) }
+{
+    let letter = letter(byte);
+    if letter > 0 {
+        text.extend_from_slice(&[b'\\', letter])?;
+    } else if byte < 0x20 {
+        let (high, low) = (digit(byte / 16), digit(byte % 16));
+        text.extend_from_slice(&[b'\\', b'u', b'0', b'0', high, low])?;
+    } else {
+        text.push(byte)?;
+    }
+    Ok(())
+}
+
+// Puts bytes behind a text as they stand between quotes, run by run.
+fn put_escaped(shown: &[u8], text: &mut Vec<u8>) -> Result<(), AllocError>
+    ensures { OnOk result (text.new.items ≡ text.old.items ++ escape shown.now) }
+{
+    let mut at = 0;
+    loop {
+        let end = plain_end(shown, at);
+        text.extend_from_slice(&shown[at..end])?;
+        if end == shown.len() {
+            return Ok(());
+        }
+        put_escape(shown[end], text)?;
+        at = end + 1;
+    }
+}
+
+/// Puts bytes in quotes behind a text.
+pub(crate) fn put_quoted(shown: &[u8], text: &mut Vec<u8>) -> Result<(), AllocError>
+    ensures { OnOk result (text.new.items ≡ text.old.items ++ quoted shown.now) }
+{
+    text.push(b'"')?;
+    put_escaped(shown, text)?;
+    text.push(b'"')?;
+    Ok(())
+}

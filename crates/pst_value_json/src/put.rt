@@ -1,0 +1,62 @@
+//! Values put straight behind a text, as JSON.
+
+ghost use Rattle.std.specs.Prelude.{◌≡◌, ◌++◌, OnOk};
+ghost use Rattle.serde_json.specs.Data.{null, boolean, string};
+ghost use Rattle.serde_json.specs.Written.{compact_text};
+ghost use Rattle.pst_value_json.specs.Object.{key_text};
+ghost use Rattle.pst_value_json.specs.Parts.{natural, integer};
+
+use crate::compact::put_comma;
+use crate::escape::put_quoted;
+use std::alloc::AllocError;
+
+/// Puts a text in quotes behind a text.
+pub(crate) fn put_string(shown: &str, text: &mut Vec<u8>) -> Result<(), AllocError>
+    ensures { OnOk result (text.new.items ≡ text.old.items ++ compact_text (string shown.now)) }
+{
+    put_quoted(shown.as_bytes(), text)
+}
+
+/// Puts a number behind a text.
+pub fn put_natural(number: u64, text: &mut Vec<u8>) -> Result<(), AllocError>
+    ensures { OnOk result (text.new.items ≡ text.old.items ++ compact_text (natural number)) }
+{
+    let mut buffer = itoa::Buffer::new();
+    text.extend_from_slice(buffer.format(number).as_bytes())?;
+    Ok(())
+}
+
+/// Puts a signed number behind a text.
+pub(crate) fn put_integer(number: i64, text: &mut Vec<u8>) -> Result<(), AllocError>
+    ensures { OnOk result (text.new.items ≡ text.old.items ++ compact_text (integer number)) }
+{
+    let mut buffer = itoa::Buffer::new();
+    text.extend_from_slice(buffer.format(number).as_bytes())?;
+    Ok(())
+}
+
+/// Puts a truth value behind a text.
+pub(crate) fn put_truth(truth: bool, text: &mut Vec<u8>) -> Result<(), AllocError>
+    ensures { OnOk result (text.new.items ≡ text.old.items ++ compact_text (boolean truth)) }
+{
+    text.extend_from_slice(if truth { b"true" } else { b"false" })?;
+    Ok(())
+}
+
+/// Puts that there is no value behind a text.
+pub fn put_null(text: &mut Vec<u8>) -> Result<(), AllocError>
+    ensures { OnOk result (text.new.items ≡ text.old.items ++ compact_text null) }
+{
+    text.extend_from_slice(b"null")?;
+    Ok(())
+}
+
+/// Puts a key behind a text, and a comma before it where others stand there.
+pub fn put_key(key: &str, later: bool, text: &mut Vec<u8>) -> Result<(), AllocError>
+    ensures { OnOk result (text.new.items ≡ text.old.items ++ key_text later key.now) }
+{
+    put_comma(later, text)?;
+    put_string(key, text)?;
+    text.push(b':')?;
+    Ok(())
+}
