@@ -1,62 +1,16 @@
 -- The lines of messages, one after another.
 use Rattle.std.proofs.Common.{◌≡◌, ℕ, Bool, true, false, cond, List, [], ◌∷◌, ◌++◌, refl, sym, ap, ◌∙◌, append_assoc, append-nil}
-use Rattle.std.specs.Prelude.{nat_eq, ◌||◌, map, Option, Some, None}
+use Rattle.std.specs.Prelude.{◌||◌, map}
 use Rattle.std.specs.List.{concat}
-use Rattle.serde_json.specs.Data.{null}
-use Rattle.serde_json.specs.Written.{has_float}
 use Rattle.pst_page.specs.declared.entry.NodeEntry.{NodeEntry}
 use Rattle.pst_block.specs.Table.{Table}
-use Rattle.pst_btree.specs.Entries.{first_with}
 use Rattle.pst_ndb.specs.Roots.{Roots, all_roots}
-use Rattle.pst_value_json.specs.pst_pc.Values.{Property, id_of, props_of}
 use Rattle.pst_verify.specs.pst_msg.declared.nid.TheConstants.{MESSAGE, ASSOCIATED}
 use Rattle.pst_verify.specs.pst_msg.Nid.{is_type}
 use Rattle.pst_verify.specs.pst_msg.Values.{is_message}
 use Rattle.pst_verify.specs.pst_store.Kind.{of_kind}
-use Rattle.pst_json.specs.declared.messages.TheConstants.{RECEIVED, SENT, SIZE}
-use Rattle.pst_json.specs.declared.texts.TheConstants.{CLASS, SENDER, SUBJECT}
-use Rattle.pst_json.specs.Messages.{listed_in, messages_text, number_in, number_property, summary_data, summary_line, summary_lines, time_in, time_property}
-use Rattle.pst_json.proofs.FolderLemmas.{property_is_plain}
+use Rattle.pst_json.specs.Messages.{listed_in, messages_text, summary_data, summary_line, summary_lines}
 use Rattle.pst_value_json.specs.Line.{line_of}
-use Rattle.pst_value_json.specs.Names.{nid_data}
-use Rattle.pst_value_json.specs.Plain.{IsPlain}
-use Rattle.pst_value_json.specs.Time.{time_or_null, i32_or_null}
-use Rattle.pst_value_json.proofs.PlainLemmas.{list_is_plain}
-use Rattle.pst_value_json.proofs.TimeLemmas.{time_is_plain, i32_is_plain}
-use Rattle.pst_value_json.proofs.ValueLemmas.{either_is_plain}
-
--- ---- no floating-point number
-
-time_in_is_plain : (p : Option Property) → IsPlain (time_in p)
-time_in_is_plain None = record { no_float = refl }
-time_in_is_plain (Some p) = either_is_plain (nat_eq p.kind 0x0040) (time_or_null p.bytes) null (time_is_plain p.bytes) (record { no_float = refl })
-
-time_property_is_plain : (t : Table) (r : Roots) (id : ℕ) → IsPlain (time_property t r id)
-unfolding time_property
-time_property_is_plain t r id = time_in_is_plain (first_with id_of id (props_of t r))
-
-number_in_is_plain : (p : Option Property) → IsPlain (number_in p)
-number_in_is_plain None = record { no_float = refl }
-number_in_is_plain (Some p) = either_is_plain (nat_eq p.kind 0x0003) (i32_or_null p.bytes) null (i32_is_plain p.bytes) (record { no_float = refl })
-
-number_property_is_plain : (t : Table) (r : Roots) (id : ℕ) → IsPlain (number_property t r id)
-unfolding number_property
-number_property_is_plain t r id = number_in_is_plain (first_with id_of id (props_of t r))
-
-pub summary_has_none : (t : Table) (r : Roots) (folders : List ℕ) → has_float (summary_data t r folders) ≡ false
-unfolding summary_data
-summary_has_none t r folders =
-    rw (
-      IsPlain.no_float (property_is_plain t r CLASS),
-      IsPlain.no_float (list_is_plain nid_data (λ x. record { no_float = refl }) folders),
-      IsPlain.no_float (time_property_is_plain t r RECEIVED),
-      IsPlain.no_float (property_is_plain t r SENDER),
-      IsPlain.no_float (time_property_is_plain t r SENT),
-      IsPlain.no_float (number_property_is_plain t r SIZE),
-      IsPlain.no_float (property_is_plain t r SUBJECT),
-    ) refl
-
--- ---- line after line
 
 -- those of type 04 are among the messages
 among_more : (r : Roots) (rs : List Roots) (m a : Bool) → is_type MESSAGE r.top ≡ m → of_kind (is_type MESSAGE) (of_kind is_message rs) ≡ of_kind (is_type MESSAGE) rs

@@ -2,7 +2,6 @@
 use Rattle.std.specs.Prelude.{ℕ, Bool, nat_eq, Option, Some, None, List, length, map, codes, if◌then◌else◌}
 use Rattle.std.specs.List.{concat, filter, list_any}
 use Rattle.serde_json.specs.Data.{Data, null, object, member, no_members}
-use Rattle.serde_json.specs.View.{view}
 use Rattle.pst_page.specs.declared.entry.NodeEntry.{NodeEntry}
 use Rattle.pst_block.specs.Table.{Table}
 use Rattle.pst_btree.specs.Entries.{first_with}
@@ -15,7 +14,6 @@ use Rattle.pst_verify.specs.pst_msg.Nid.{is_type}
 use Rattle.pst_verify.specs.pst_msg.Shown.{attachment_rows, rows_there, folder_table}
 use Rattle.pst_verify.specs.pst_msg.Values.{is_folder}
 use Rattle.pst_verify.specs.pst_store.Kind.{of_kind}
-use Rattle.pst_json.specs.declared.messages.Summary.{Summary}
 use Rattle.pst_json.specs.declared.messages.TheConstants.{RECEIVED, SENT, SIZE}
 use Rattle.pst_json.specs.declared.texts.TheConstants.{CLASS, SENDER, SUBJECT}
 use Rattle.pst_json.specs.Folders.{row_total, text_property}
@@ -77,22 +75,6 @@ summary_data t r folders =
     (member (codes "sent") (time_property t r SENT)
     (member (codes "size") (number_property t r SIZE)
     (member (codes "subject") (text_property t r SUBJECT)
-    no_members))))))))))
-
--- the same, of what is made already
-abbrev pub shown_data : Summary → Data
-shown_data s =
-    object
-    (member (codes "attachments") (natural s.held.attachments)
-    (member (codes "class") (view s.class)
-    (member (codes "folders") (view s.folders)
-    (member (codes "nid") (nid_data s.nid)
-    (member (codes "received") (view s.received)
-    (member (codes "recipients") (natural s.held.recipients)
-    (member (codes "sender") (view s.sender)
-    (member (codes "sent") (view s.sent)
-    (member (codes "size") (view s.size)
-    (member (codes "subject") (view s.subject)
     no_members))))))))))
 
 -- the line of a message

@@ -1,7 +1,8 @@
 //! The messages of a folder as a document.
 
-ghost use Rattle.std.specs.Prelude.{◌≡◌, Ok, Err, IfOk, IfErr, IfSome, option_map};
+ghost use Rattle.std.specs.Prelude.{◌≡◌, ◌++◌, Ok, Err, IfOk, OnOk, IfErr, IfSome, option_map};
 ghost use Rattle.serde_json.specs.View.{view};
+ghost use Rattle.serde_json.specs.Written.{compact_text};
 ghost use Rattle.pst_block.specs.Table.{Table};
 ghost use Rattle.pst_ndb.specs.Views.{table_of_ndb, nodes_of, table_of_node, roots_of};
 ghost use Rattle.pst_value_json.specs.pst_pc.View.{node_of_pc};
@@ -17,8 +18,11 @@ ghost use Rattle.pst_json.specs.Contents.{text_there, listed_data, listed_rows, 
 ghost use Rattle.pst_json.specs.Told.{TellsDoc};
 
 use crate::fault::DocFault;
-use crate::texts::{CLASS, SENDER, SUBJECT, text_property_doc};
-use pst_value_json::{Line, Made, Part, Pc, Row, Rows, Sink, Tc, TcRows, Tree, nid_text};
+use crate::texts::{CLASS, SENDER, SUBJECT, put_text_property, text_property_doc};
+use pst_value_json::{
+    Line, Made, Part, Pc, Row, Rows, Sink, Tc, TcRows, Tree, nid_text, put_comma, put_key, put_nid,
+    put_null,
+};
 use pst_verify::{FOLDER, Message, Store, is_type};
 use serde_json::{Value as Doc, json};
 use std::alloc::{AllocError, Global};
@@ -61,6 +65,44 @@ fn listed_doc(alloc: Global, store: &Store, row: Row) -> Result<Doc, AllocError>
     let sender = text_of(alloc, pc, SENDER)?;
     let subject = text_of(alloc, pc, SUBJECT)?;
     json!(in alloc; {"class": class, "nid": nid, "sender": sender, "subject": subject})
+}
+
+// Puts the text of one of these properties behind a text; null where there are none.
+fn put_text_of(
+    alloc: Global,
+    pc: &Option<Pc>,
+    id: u16,
+    text: &mut Vec<u8>,
+) -> Result<(), AllocError>
+    ensures { (t : Table) → IfSome pc.now (λ p. table_of_node (node_of_pc p) ≡ t)
+        → OnOk result (text.new.items ≡ text.old.items
+        ++ compact_text (text_there t (option_map (λ p. roots_of (node_of_pc p)) pc.now) id)) }
+{
+    match pc {
+        Some(pc) => put_text_property(alloc, pc, id, text),
+        None => put_null(text),
+    }
+}
+
+// Puts the message that a row names behind a text, as an object.
+#[tactic(auto, unfolding(crate::specs::Contents::listed_data))]
+fn put_listed(alloc: Global, store: &Store, row: Row, text: &mut Vec<u8>) -> Result<(), AllocError>
+    ensures { let ndb = ndb_of_store store.now in
+        let shown = listed_data (table_of_ndb ndb) (nodes_of ndb) (row_parts row.entry) in
+        OnOk result (text.new.items ≡ text.old.items ++ compact_text shown) }
+{
+    let pc = properties_of(store.message(row.id()));
+    text.push(b'{')?;
+    put_key("class", false, text)?;
+    put_text_of(alloc, &pc, CLASS, text)?;
+    put_key("nid", true, text)?;
+    put_nid(row.id(), text)?;
+    put_key("sender", true, text)?;
+    put_text_of(alloc, &pc, SENDER, text)?;
+    put_key("subject", true, text)?;
+    put_text_of(alloc, &pc, SUBJECT, text)?;
+    text.push(b'}')?;
+    Ok(())
 }
 
 // The contents table of a folder, where it is there, or that there is no such folder.
@@ -110,6 +152,26 @@ impl Rows for ListedRows<'_> {
             Some(row) => Ok(Some(listed_doc(alloc, &self.store, row)?)),
             None => Ok(None),
         }
+    }
+
+    // A message goes to the text member by member, without a tree.
+    fn put_next(
+        &mut self,
+        alloc: Global,
+        later: bool,
+        text: &mut Vec<u8>,
+    ) -> Result<bool, AllocError> {
+        let Some(mut rows) = self.rows else {
+            return Ok(false);
+        };
+        let row = rows.next();
+        self.rows = Some(rows);
+        let Some(row) = row else {
+            return Ok(false);
+        };
+        put_comma(later, text)?;
+        put_listed(alloc, &self.store, row, text)?;
+        Ok(true)
     }
 }
 

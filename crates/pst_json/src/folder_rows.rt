@@ -10,8 +10,8 @@ ghost use Rattle.pst_verify.specs.pst_reach.Path.{reach_nid};
 ghost use Rattle.pst_verify.specs.pst_store.View.{table_of_store, nodes_of_store, folders_ndb, folders_left};
 ghost use Rattle.pst_json.specs.Folders.{is_shown};
 
-use crate::folders::folder_doc;
-use pst_value_json::Rows;
+use crate::folders::{folder_doc, put_folder};
+use pst_value_json::{Rows, put_comma};
 use pst_verify::{Folder, Folders, Reach, Verified, find_reach};
 use serde_json::Value as Doc;
 use std::alloc::{AllocError, Global};
@@ -121,6 +121,22 @@ impl Rows for FolderRows<'_> {
             }
             None => Ok(None),
         }
+    }
+
+    // A folder goes to the text member by member, without a tree.
+    fn put_next(
+        &mut self,
+        alloc: Global,
+        later: bool,
+        text: &mut Vec<u8>,
+    ) -> Result<bool, AllocError> {
+        self.verified.is_sound();
+        let Some(folder) = self.next_folder() else {
+            return Ok(false);
+        };
+        put_comma(later, text)?;
+        put_folder(alloc, folder, &self.verified.report.reached, text)?;
+        Ok(true)
     }
 
     fn room(&self) -> usize {

@@ -1,7 +1,8 @@
 //! The folders of a store as a document.
 
-ghost use Rattle.std.specs.Prelude.{◌≡◌, None, IfOk, IfSome, length, map, option_map};
+ghost use Rattle.std.specs.Prelude.{◌≡◌, ◌++◌, None, IfOk, OnOk, IfSome, length, map, option_map};
 ghost use Rattle.serde_json.specs.View.{view};
+ghost use Rattle.serde_json.specs.Written.{compact_text};
 ghost use Rattle.pst_block.specs.Table.{Table};
 ghost use Rattle.pst_btree.specs.Order.{Rises};
 ghost use Rattle.pst_ndb.specs.Views.{table_of_ndb, nodes_of, table_of_node, roots_of};
@@ -16,8 +17,11 @@ ghost use Rattle.pst_value_json.specs.Names.{nid_data};
 ghost use Rattle.pst_value_json.specs.Parts.{list_data};
 
 use crate::folder_rows::FolderRows;
-use crate::texts::{NAME, text_property_doc};
-use pst_value_json::{Line, Part, Sink, Tc, Tree, nid_text};
+use crate::nid_lists::{put_nid_list, put_nids_of};
+use crate::texts::{NAME, put_text_property, text_property_doc};
+use pst_value_json::{
+    Line, Part, Sink, Tc, Tree, nid_text, put_key, put_natural, put_nid, put_null,
+};
 use pst_verify::{Folder, Reach, Verified, path_from_root};
 use serde_json::{Value as Doc, json};
 use std::alloc::{AllocError, Global};
@@ -46,9 +50,9 @@ fn row_nids_doc(alloc: Global, tc: &Tc) -> Result<Doc, AllocError>
     Ok(Doc::from(docs))
 }
 
-/// Identifiers as a list.
+// Identifiers as a list.
 #[tactic(auto, using(crate::proofs::RowsLemmas::nids_more, crate::proofs::RowsLemmas::nids_end))]
-pub(crate) fn nid_list_doc(alloc: Global, nids: &[u32]) -> Result<Doc, AllocError>
+fn nid_list_doc(alloc: Global, nids: &[u32]) -> Result<Doc, AllocError>
     ensures { IfOk result (λ d. view d ≡ list_data nid_data nids.now) }
 {
     let mut docs = Vec::new(alloc);
@@ -108,6 +112,54 @@ pub(crate) fn folder_doc(
         "path": path,
         "subfolders": subfolders,
     })
+}
+
+// Puts the path of a folder behind a text, as `path_doc` shows it.
+fn put_path(
+    alloc: Global,
+    reached: &[Reach],
+    nid: u32,
+    text: &mut Vec<u8>,
+) -> Result<(), AllocError>
+    requires rise { Rises 0 None (map reach_nid reached.now) }
+    ensures { OnOk result (text.new.items
+        ≡ text.old.items ++ compact_text (path_data (path_in reached.now nid))) }
+{
+    match path_from_root(alloc, reached, nid)? {
+        Some(path) => put_nid_list(&path, text),
+        None => put_null(text),
+    }
+}
+
+/// Puts a folder behind a text, as an object.
+#[tactic(auto, unfolding(crate::specs::Folders::folder_data))]
+pub(crate) fn put_folder(
+    alloc: Global,
+    folder: Folder,
+    reached: &[Reach],
+    text: &mut Vec<u8>,
+) -> Result<(), AllocError>
+    requires rise { Rises 0 None (map reach_nid reached.now) }
+    ensures { let ndb = ndb_of_folder folder.entry in let t = table_of_ndb ndb in
+        let shown = folder_data t (nodes_of ndb) reached.now (folder_roots folder.entry) in
+        OnOk result (text.new.items ≡ text.old.items ++ compact_text shown) }
+{
+    folder.is_sound();
+    text.push(b'{')?;
+    put_key("associated", false, text)?;
+    put_natural(count_of(folder.associated()), text)?;
+    put_key("messages", true, text)?;
+    put_natural(count_of(folder.contents()), text)?;
+    put_key("name", true, text)?;
+    put_text_property(alloc, &folder.pc(), NAME, text)?;
+    put_key("nid", true, text)?;
+    put_nid(folder.nid(), text)?;
+    put_key("path", true, text)?;
+    put_path(alloc, reached, folder.nid(), text)?;
+    put_key("subfolders", true, text)?;
+    put_nids_of(&folder.hierarchy(), text)?;
+    text.push(b'}')?;
+    Ok(())
 }
 
 // The document.

@@ -23,6 +23,7 @@ mod listings;
 mod lists;
 mod messages;
 mod names;
+mod nid_lists;
 mod node;
 mod nodes;
 mod output;

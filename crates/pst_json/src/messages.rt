@@ -1,25 +1,24 @@
 //! All messages of a store, a line for each.
 
 ghost use Rattle.std.specs.Prelude.{◌≡◌, ◌++◌, IfOk, OnOk};
-ghost use Rattle.serde_json.specs.View.{view};
+ghost use Rattle.serde_json.specs.Written.{compact_text};
 ghost use Rattle.pst_ndb.specs.Views.{table_of_ndb, nodes_of, table_of_node, roots_of, nid_of, top_of};
 ghost use Rattle.pst_value_json.specs.pst_pc.View.{node_of_pc};
-ghost use Rattle.pst_value_json.specs.Names.{nid_data};
-ghost use Rattle.pst_value_json.specs.Parts.{list_data};
 ghost use Rattle.pst_verify.specs.pst_msg.View.{node_of_message, message_roots};
 ghost use Rattle.pst_verify.specs.pst_store.View.{ndb_of_store};
 ghost use Rattle.pst_value_json.specs.Line.{line_of};
 ghost use Rattle.pst_json.specs.Listings.{folders_at};
-ghost use Rattle.pst_json.specs.Messages.{time_property, number_property, shown_data, summary_data, messages_text as text_of_messages};
+ghost use Rattle.pst_json.specs.Messages.{time_property, number_property, summary_data, messages_text as text_of_messages};
 ghost use Rattle.pst_json.specs.RowCounts.{AreCountsTrue, IsHeld};
 
-use crate::folders::nid_list_doc;
 use crate::listings::{Listings, listings_of};
+use crate::nid_lists::put_nid_list;
 use crate::row_counts::{Held, RowCounts};
-use crate::texts::{CLASS, SENDER, SUBJECT, text_property_doc};
-use pst_value_json::{Pc, PropType, i32_or_null_doc, line_text, nid_text, time_or_null_doc};
+use crate::texts::{CLASS, SENDER, SUBJECT, put_text_property};
+use pst_value_json::{
+    Pc, PropType, put_i32_or_null, put_key, put_natural, put_nid, put_null, put_time_or_null,
+};
 use pst_verify::{MESSAGE, Message, Store, is_type};
-use serde_json::{Value as Doc, json};
 use std::alloc::{AllocError, Global};
 
 /// When a message was received (PidTagMessageDeliveryTime).
@@ -36,100 +35,75 @@ const TIME: PropType = PropType(0x0040);
 
 const NUMBER: PropType = PropType(0x0003);
 
-// The time of the property with an identifier; null where there is none, or it has another type.
+// Puts the time of the property with an identifier behind a text; null where there is none, or it has another type.
 #[tactic(auto, unfolding(crate::specs::Messages::time_property))]
-fn time_property_doc(alloc: Global, pc: &Pc, id: u16) -> Result<Doc, AllocError>
+fn put_time_property(alloc: Global, pc: &Pc, id: u16, text: &mut Vec<u8>) -> Result<(), AllocError>
     ensures { let node = node_of_pc pc.now in
-        IfOk result (λ d. view d ≡ time_property (table_of_node node) (roots_of node) id) }
+        let shown = time_property (table_of_node node) (roots_of node) id in
+        OnOk result (text.new.items ≡ text.old.items ++ compact_text shown) }
 {
     match pc.get(id) {
-        Some(prop) if prop.kind == TIME => time_or_null_doc(alloc, prop.value),
-        _ => Ok(Doc::Null),
+        Some(prop) if prop.kind == TIME => put_time_or_null(alloc, prop.value, text),
+        _ => put_null(text),
     }
 }
 
-// The number of the property with an identifier; null where there is none, or it has another type.
+// Puts the number of the property with an identifier behind a text; null where there is none, or it has another type.
 #[tactic(auto, unfolding(crate::specs::Messages::number_property))]
-fn number_property_doc(pc: &Pc, id: u16) -> Doc
+fn put_number_property(pc: &Pc, id: u16, text: &mut Vec<u8>) -> Result<(), AllocError>
     ensures { let node = node_of_pc pc.now in
-        view result ≡ number_property (table_of_node node) (roots_of node) id }
+        let shown = number_property (table_of_node node) (roots_of node) id in
+        OnOk result (text.new.items ≡ text.old.items ++ compact_text shown) }
 {
     match pc.get(id) {
-        Some(prop) if prop.kind == NUMBER => i32_or_null_doc(prop.value),
-        _ => Doc::Null,
+        Some(prop) if prop.kind == NUMBER => put_i32_or_null(prop.value, text),
+        _ => put_null(text),
     }
 }
 
-// What is shown of a message.
-#[derive(Drop)]
-struct Summary {
-    held: Held,
-    nid: u32,
-    class: Doc,
-    folders: Doc,
-    received: Doc,
-    sender: Doc,
-    sent: Doc,
-    size: Doc,
-    subject: Doc,
-}
-
-// The same as an object.
-fn shown_doc(alloc: Global, summary: Summary) -> Result<Doc, AllocError>
-    ensures { IfOk result (λ d. view d ≡ shown_data summary) }
-{
-    let nid = nid_text(alloc, summary.nid)?;
-    json!(in alloc; {
-        "attachments": summary.held.attachments,
-        "class": summary.class,
-        "folders": summary.folders,
-        "nid": nid,
-        "received": summary.received,
-        "recipients": summary.held.recipients,
-        "sender": summary.sender,
-        "sent": summary.sent,
-        "size": summary.size,
-        "subject": summary.subject,
-    })
-}
-
-// A message in short, as an object.
+// Puts a message in short behind a text, as an object.
 #[tactic(auto, unfolding(crate::specs::Messages::summary_data))]
-fn summary_doc(
+fn put_shown(
     alloc: Global,
     message: Message,
     held: Held,
     folders: &[u32],
-) -> Result<Doc, AllocError>
+    text: &mut Vec<u8>,
+) -> Result<(), AllocError>
     requires nid { nid_of (node_of_message message) ≡ top_of (node_of_message message) }
     requires held { IsHeld (table_of_node (node_of_message message)) (message_roots message) held }
     ensures { let t = table_of_node (node_of_message message.entry) in
-        IfOk result (λ d. view d ≡ summary_data t (message_roots message.entry) folders.now) }
+        let shown = summary_data t (message_roots message.entry) folders.now in
+        OnOk result (text.new.items ≡ text.old.items ++ compact_text shown) }
 {
     let pc = message.pc();
-    let class = text_property_doc(alloc, &pc, CLASS)?;
-    let folders = nid_list_doc(alloc, folders)?;
-    let received = time_property_doc(alloc, &pc, RECEIVED)?;
-    let sender = text_property_doc(alloc, &pc, SENDER)?;
-    let sent = time_property_doc(alloc, &pc, SENT)?;
-    let size = number_property_doc(&pc, SIZE);
-    let subject = text_property_doc(alloc, &pc, SUBJECT)?;
-    let summary = Summary {
-        held,
-        nid: message.nid(),
-        class,
-        folders,
-        received,
-        sender,
-        sent,
-        size,
-        subject,
-    };
-    shown_doc(alloc, summary)
+    text.push(b'{')?;
+    put_key("attachments", false, text)?;
+    put_natural(held.attachments, text)?;
+    put_key("class", true, text)?;
+    put_text_property(alloc, &pc, CLASS, text)?;
+    put_key("folders", true, text)?;
+    put_nid_list(folders, text)?;
+    put_key("nid", true, text)?;
+    put_nid(message.nid(), text)?;
+    put_key("received", true, text)?;
+    put_time_property(alloc, &pc, RECEIVED, text)?;
+    put_key("recipients", true, text)?;
+    put_natural(held.recipients, text)?;
+    put_key("sender", true, text)?;
+    put_text_property(alloc, &pc, SENDER, text)?;
+    put_key("sent", true, text)?;
+    put_time_property(alloc, &pc, SENT, text)?;
+    put_key("size", true, text)?;
+    put_number_property(&pc, SIZE, text)?;
+    put_key("subject", true, text)?;
+    put_text_property(alloc, &pc, SUBJECT, text)?;
+    text.push(b'}')?;
+    Ok(())
 }
 
 // Puts the line of a message behind a text.
-#[tactic(auto, using(crate::proofs::MessageLemmas::summary_has_none))]
+#[tactic(auto, unfolding(pst_value_json::specs::Line::line_of))]
 fn put_summary(
     alloc: Global,
     message: Message,
@@ -146,9 +120,8 @@ fn put_summary(
         ++ line_of (summary_data t r (folders_at listings.now r.top))) }
 {
     let held = counts.held_by(message)?;
-    let doc = summary_doc(alloc, message, held, listings.of(message.nid()))?;
-    let line = line_text(alloc, &doc)?;
-    text.extend_from_slice(&line)?;
+    put_shown(alloc, message, held, listings.of(message.nid()), text)?;
+    text.push(b'\n')?;
     Ok(())
 }
 

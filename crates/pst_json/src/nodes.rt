@@ -1,12 +1,15 @@
 //! The nodes of a file as a document.
 
-ghost use Rattle.std.specs.Prelude.{◌≡◌, IfOk};
+ghost use Rattle.std.specs.Prelude.{◌≡◌, ◌++◌, IfOk, OnOk};
 ghost use Rattle.serde_json.specs.View.{view};
+ghost use Rattle.serde_json.specs.Written.{compact_text};
 ghost use Rattle.pst_btree.specs.Trees.{node_entries};
 ghost use Rattle.pst_json.specs.Nodes.{node_data, node_rows, nodes_data, nodes_line as line_of_nodes};
 
 use pst_btree::{NodeEntry, NodeTree, Nodes};
-use pst_value_json::{Line, Part, Rows, Sink, Tree, nid_text};
+use pst_value_json::{
+    Line, Part, Rows, Sink, Tree, nid_text, put_comma, put_key, put_natural, put_nid,
+};
 use serde_json::{Value as Doc, json};
 use std::alloc::{AllocError, Global};
 
@@ -22,6 +25,24 @@ fn node_doc(alloc: Global, entry: &NodeEntry) -> Result<Doc, AllocError>
     json!(in alloc; {"data_bid": data, "nid": nid, "parent": parent, "sub_bid": sub})
 }
 
+// Puts a node behind a text, as an object.
+#[tactic(auto, unfolding(crate::specs::Nodes::node_data))]
+fn put_node(entry: &NodeEntry, text: &mut Vec<u8>) -> Result<(), AllocError>
+    ensures { OnOk result (text.new.items ≡ text.old.items ++ compact_text (node_data entry.now)) }
+{
+    text.push(b'{')?;
+    put_key("data_bid", false, text)?;
+    put_natural(entry.bid_data, text)?;
+    put_key("nid", true, text)?;
+    put_nid(entry.nid, text)?;
+    put_key("parent", true, text)?;
+    put_nid(entry.parent, text)?;
+    put_key("sub_bid", true, text)?;
+    put_natural(entry.bid_sub, text)?;
+    text.push(b'}')?;
+    Ok(())
+}
+
 /// The nodes that are left, each as an object.
 #[derive(Drop)]
 pub(crate) struct NodeRows<'a>(Nodes<'a>);
@@ -35,6 +56,21 @@ impl Rows for NodeRows<'_> {
             Some(entry) => Ok(Some(node_doc(alloc, &entry)?)),
             None => Ok(None),
         }
+    }
+
+    // A node goes to the text member by member, without a tree.
+    fn put_next(
+        &mut self,
+        _alloc: Global,
+        later: bool,
+        text: &mut Vec<u8>,
+    ) -> Result<bool, AllocError> {
+        let Some(entry) = self.0.next() else {
+            return Ok(false);
+        };
+        put_comma(later, text)?;
+        put_node(&entry, text)?;
+        Ok(true)
     }
 }
 

@@ -1,12 +1,13 @@
 //! The texts among the properties of folders and messages.
 
-ghost use Rattle.std.specs.Prelude.{◌≡◌, IfOk};
+ghost use Rattle.std.specs.Prelude.{◌≡◌, ◌++◌, IfOk, OnOk};
 ghost use Rattle.serde_json.specs.View.{view};
+ghost use Rattle.serde_json.specs.Written.{compact_text};
 ghost use Rattle.pst_ndb.specs.Views.{table_of_node, roots_of};
 ghost use Rattle.pst_value_json.specs.pst_pc.View.{node_of_pc};
 ghost use Rattle.pst_json.specs.Folders.{text_property};
 
-use pst_value_json::{Pc, PropType, text_doc};
+use pst_value_json::{Pc, PropType, put_null, put_text, text_doc};
 use serde_json::Value as Doc;
 use std::alloc::{AllocError, Global};
 
@@ -34,5 +35,23 @@ pub(crate) fn text_property_doc(alloc: Global, pc: &Pc, id: u16) -> Result<Doc, 
     match pc.get(id) {
         Some(prop) if prop.kind == TEXT => text_doc(alloc, prop.value),
         _ => Ok(Doc::Null),
+    }
+}
+
+/// Puts the text of the property with an identifier behind a text, as `text_property_doc` shows it.
+#[tactic(auto, unfolding(crate::specs::Folders::text_property))]
+pub(crate) fn put_text_property(
+    alloc: Global,
+    pc: &Pc,
+    id: u16,
+    text: &mut Vec<u8>,
+) -> Result<(), AllocError>
+    ensures { let node = node_of_pc pc.now in
+        let shown = text_property (table_of_node node) (roots_of node) id in
+        OnOk result (text.new.items ≡ text.old.items ++ compact_text shown) }
+{
+    match pc.get(id) {
+        Some(prop) if prop.kind == TEXT => put_text(alloc, prop.value, text),
+        _ => put_null(text),
     }
 }

@@ -9,5 +9,4 @@ pub mod PlainLemmas
 pub mod PlaceLemmas
 pub mod PropLemmas
 pub mod RowLemmas
-pub mod TimeLemmas
 pub mod ValueLemmas
