@@ -2,7 +2,8 @@
 use Rattle.std.proofs.Common.{◌≡◌, ℕ, ◌+◌, ◌<◌, ◌≤◌, Bool, true, false, length, drop, get_or, List, [], ◌∷◌, ◌++◌, map, Option, refl, sym, ap, ◌∙◌, append_assoc, append-nil}
 use Rattle.std.proofs.lemmas.List.{map-append, drop_more, drop_all}
 use Rattle.serde_json.specs.Data.{Data}
-use Rattle.serde_json.specs.Written.{has_float}
+use Rattle.serde_json.specs.View.{items_of}
+use Rattle.serde_json.specs.Written.{has_float, items_text}
 use Rattle.pst_block.specs.Table.{Table}
 use Rattle.pst_ndb.specs.Roots.{Roots}
 use Rattle.pst_value.specs.Class.{cell_width_of}
@@ -13,6 +14,7 @@ use Rattle.pst_tc.specs.View.{column_of}
 use Rattle.pst_value_json.specs.Cells.{Cell, tag_kind, cell_value, cell_data, cell_in, cell_content, cells_of, row_data}
 use Rattle.pst_value_json.specs.Places.{Content}
 use Rattle.pst_value_json.specs.Plain.{IsPlain}
+use Rattle.pst_value_json.specs.Rows.{PutsItems}
 use Rattle.pst_value_json.specs.Value.{value_data, hex_data}
 use Rattle.pst_value_json.proofs.PlainLemmas.{list_is_plain}
 use Rattle.pst_value_json.proofs.PropLemmas.{places_are_plain}
@@ -50,6 +52,29 @@ pub cells_past : (places : Bool) (t : Table) (r : Roots) (row : ℕ) (columns : 
     → docs ++ map (cell_data places) (cells_of t r row (map column_of (drop i columns))) ≡ whole → docs ≡ whole
 cells_past places t r row columns i docs whole past so_far =
     cells_end places t r row (map column_of (drop i columns)) docs whole (ap (map column_of) (drop_all i columns past)) so_far
+
+-- ---- cells put behind a text
+
+-- the cell of the column with a number is put, where the row has it
+pub cell_put : (places : Bool) (t : Table) (r : Roots) (row : ℕ) (columns : List Column) (i : ℕ) (d : Column) (content : Option Content) (more later : Bool) (text put whole : List ℕ) → i < length columns
+    → content ≡ cell_content t r row (get_or columns i d).tag → PutsItems more later (map (cell_data places) (cell_in (column_of (get_or columns i d)) content)) text put
+    → text ++ items_text later (items_of (map (cell_data places) (cells_of t r row (map column_of (drop i columns))))) ≡ whole
+    → put ++ items_text more (items_of (map (cell_data places) (cells_of t r row (map column_of (drop (i + 1) columns))))) ≡ whole
+unfolding cells_of
+cell_put places t r row columns i d content more later text put whole inside has puts so_far =
+    let c = column_of (get_or columns i d) in
+    let behind = cells_of t r row (map column_of (drop (i + 1) columns)) in
+    puts (map (cell_data places) behind)
+    ∙ ap (λ l. text ++ items_text later (items_of l))
+    (ap (λ o. map (cell_data places) (cell_in c o) ++ map (cell_data places) behind) has ∙ sym (map-append (cell_data places) (cell_in c (cell_content t r row c.tag)) behind)
+    ∙ ap (λ l. map (cell_data places) (cells_of t r row (map column_of l))) (sym (drop_more columns i d inside))) ∙ so_far
+
+-- no column is left: the list ends
+pub cells_closed : (places : Bool) (t : Table) (r : Roots) (row : ℕ) (columns : List Column) (i : ℕ) (later : Bool) (text put whole : List ℕ) → length columns ≤ i → put ≡ text ++ 93 ∷ []
+    → text ++ items_text later (items_of (map (cell_data places) (cells_of t r row (map column_of (drop i columns))))) ≡ whole → put ≡ whole
+unfolding cells_of
+cells_closed places t r row columns i later text put whole past now so_far =
+    now ∙ ap (λ l. text ++ items_text later (items_of (map (cell_data places) (cells_of t r row (map column_of l))))) (sym (drop_all i columns past)) ∙ so_far
 
 -- ---- no floating-point number
 

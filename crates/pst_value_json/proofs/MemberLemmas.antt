@@ -1,10 +1,10 @@
 -- An object whose text is put behind another, member by member.
 use Rattle.std.proofs.Common.{◌≡◌, ℕ, Bool, true, false, List, [], ◌∷◌, ◌++◌, refl, sym, ap, ◌∙◌, append_assoc, append-nil}
-use Rattle.std.specs.Prelude.{Option, Some, None}
+use Rattle.std.specs.Prelude.{Option, Some, None, option_map}
 use Rattle.serde_json.specs.Data.{Data, string, object, Members, member, no_members}
 use Rattle.serde_json.specs.Written.{compact_text, members_text, comma_if}
-use Rattle.pst_value_json.specs.Object.{key_text, if_member_text}
-use Rattle.pst_value_json.specs.Places.{member_if}
+use Rattle.pst_value_json.specs.Object.{key_text, if_member_text, first_member_text}
+use Rattle.pst_value_json.specs.Places.{if_asked, member_if}
 
 -- the object begins
 pub opened : (ms : Members) (text put : List ℕ) → put ≡ text ++ 123 ∷ [] → put ++ members_text false ms ≡ text ++ compact_text (object ms)
@@ -30,6 +30,17 @@ if_member_put k (Some d) ms text put whole is so_far =
 -- one that is there
 pub there_put : (k : List ℕ) (d : Data) (text key put : List ℕ) → key ≡ text ++ key_text true k → put ≡ key ++ compact_text d → put ≡ text ++ if_member_text k (Some d)
 there_put k d text key put keyed is = is ∙ ap (λ l. l ++ compact_text d) keyed ∙ append_assoc text (key_text true k) (compact_text d)
+
+-- the first member of an object, which is there only where it is asked for
+pub first_put : {X : Type 0} (asked : Bool) (f : X → Data) (x : X) (k : List ℕ) (ms : Members) (text put whole : List ℕ)
+    → put ≡ text ++ first_member_text k (option_map f (if_asked asked x)) → text ++ members_text false (member_if k (option_map f (if_asked asked x)) ms) ≡ whole
+    → put ++ members_text asked ms ≡ whole
+first_put true f x k ms text put whole is so_far =
+    member_put false k (f x) ms text (text ++ key_text false k) put whole refl (is ∙ sym (append_assoc text (key_text false k) (compact_text (f x)))) so_far
+first_put false f x k ms text put whole is so_far = ap (λ l. l ++ members_text false ms) (is ∙ append-nil text) ∙ so_far
+
+pub first_there : (k : List ℕ) (d : Data) (text key put : List ℕ) → key ≡ text ++ key_text false k → put ≡ key ++ compact_text d → put ≡ text ++ first_member_text k (Some d)
+first_there k d text key put keyed is = is ∙ ap (λ l. l ++ compact_text d) keyed ∙ append_assoc text (key_text false k) (compact_text d)
 
 -- the object ends
 pub closed : (text put whole : List ℕ) → put ≡ text ++ 125 ∷ [] → text ++ members_text true no_members ≡ whole → put ≡ whole

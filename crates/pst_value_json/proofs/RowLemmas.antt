@@ -1,10 +1,10 @@
 -- A list whose text is put behind another, row by row.
-use Rattle.std.proofs.Common.{◌≡◌, ℕ, Bool, true, false, List, [], ◌∷◌, refl, ◌++◌, sym, ap, ◌∙◌, append_assoc, arith}
-use Rattle.serde_json.specs.Data.{Data, array}
+use Rattle.std.proofs.Common.{◌≡◌, ℕ, Bool, true, List, [], ◌∷◌, refl, ◌++◌, sym, ap, ◌∙◌, append_assoc, arith}
+use Rattle.serde_json.specs.Data.{Data}
 use Rattle.serde_json.specs.View.{items_of}
 use Rattle.serde_json.specs.Written.{compact_text, comma_if, items_text}
 use Rattle.pst_value_json.specs.Line.{row_text}
-use Rattle.pst_value_json.specs.Rows.{PutsNext}
+use Rattle.pst_value_json.specs.Rows.{PutsNext, PutsItems}
 
 -- the next row is put behind the text
 pub puts_next : (later : Bool) (d : Data) (old new : List Data) (text : List ℕ) → old ≡ d ∷ new
@@ -23,17 +23,6 @@ row_put later d old new text comma put is begun now = (
   ap (λ l. l ++ items_text true (items_of new)) (now ∙ ap (λ l. l ++ compact_text d) begun ∙ append_assoc text (comma_if later) (compact_text d)) ∙ puts_next later d old new text is,
 )
 
--- ---- a whole list, item by item
-
--- the list begins
-pub list_opened : (ds : List Data) (text put : List ℕ) → put ≡ text ++ 91 ∷ [] → put ++ items_text false (items_of ds) ≡ text ++ compact_text (array (items_of ds))
-list_opened ds text put is = ap (λ l. l ++ items_text false (items_of ds)) is ∙ append_assoc text (91 ∷ []) (items_text false (items_of ds))
-
--- the next item is put, and a comma before it
-pub item_put : (later : Bool) (d : Data) (ds : List Data) (text comma put whole : List ℕ) → comma ≡ text ++ comma_if later → put ≡ comma ++ compact_text d
-    → text ++ items_text later (items_of (d ∷ ds)) ≡ whole → put ++ items_text true (items_of ds) ≡ whole
-item_put later d ds text comma put whole begun now so_far = (row_put later d (d ∷ ds) ds text comma put refl begun now).1 ∙ so_far
-
--- the list ends
-pub list_closed : (later : Bool) (text put whole : List ℕ) → put ≡ text ++ 93 ∷ [] → text ++ items_text later (items_of []) ≡ whole → put ≡ whole
-list_closed later text put whole is so_far = is ∙ so_far
+-- an item of a list is put, and a comma before it
+pub item_put : (later : Bool) (d : Data) (text comma put : List ℕ) → comma ≡ text ++ comma_if later → put ≡ comma ++ compact_text d → PutsItems true later (d ∷ []) text put
+item_put later d text comma put begun now behind = (row_put later d (d ∷ behind) behind text comma put refl begun now).1

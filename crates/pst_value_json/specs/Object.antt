@@ -1,5 +1,5 @@
 -- An object, of the parts that it is made of.
-use Rattle.std.specs.Prelude.{◌≡◌, ℕ, Bool, true, Option, Some, None, List, [], ◌∷◌, ◌++◌}
+use Rattle.std.specs.Prelude.{◌≡◌, ℕ, Bool, true, false, Option, Some, None, List, [], ◌∷◌, ◌++◌}
 use Rattle.serde_json.specs.Data.{Data, string, array, object, Members, no_members, member, put}
 use Rattle.serde_json.specs.View.{items_of}
 use Rattle.serde_json.specs.Written.{compact_text, comma_if}
@@ -50,3 +50,8 @@ part_text left later p = key_text later (part_key p) ++ compact_text (part_data 
 abbrev pub if_member_text : List ℕ → Option Data → List ℕ
 if_member_text key None = []
 if_member_text key (Some d) = key_text true key ++ compact_text d
+
+-- one that may be there, before all others
+abbrev pub first_member_text : List ℕ → Option Data → List ℕ
+first_member_text key None = []
+first_member_text key (Some d) = key_text false key ++ compact_text d

@@ -16,3 +16,7 @@ abbrev pub PutsNext : Bool → Bool → List Data → List Data → List ℕ →
 PutsNext false later old new text put = (old ≡ []) × (put ≡ text)
 PutsNext true later old new text put =
     (length new < length old) × (put ++ items_text true (items_of new) ≡ text ++ items_text later (items_of old))
+
+-- Items are put behind a text. The text, with that of whatever stands behind them in the list, is the same before and after.
+abbrev pub PutsItems : Bool → Bool → List Data → List ℕ → List ℕ → Type 0
+PutsItems more later ds text put = (behind : List Data) → put ++ items_text more (items_of behind) ≡ text ++ items_text later (items_of (ds ++ behind))

@@ -11,9 +11,11 @@ ghost use Rattle.pst_value_json.specs.Cells.{has_tag, distinct_columns, cell_wit
 ghost use Rattle.pst_value_json.specs.Parts.{list_data};
 ghost use Rattle.pst_value_json.specs.Places.{content_in};
 
+use crate::compact::put_comma;
 use crate::listing::{self, list_doc};
 use crate::names::{nid_text, tag_text};
 use crate::places::places_doc;
+use crate::put_cells::put_table_row;
 use crate::value::{hex_doc, value_doc};
 use pst_datatree::Value;
 use pst_tc::{Column, Columns, Row, Rows, Tc};
@@ -78,9 +80,9 @@ fn cell_doc(alloc: Global, column: Column, value: Value, places: bool) -> Result
     Ok(Doc::from(map))
 }
 
-// The value of the cell that a row has in the first column with a tag.
+/// The value of the cell that a row has in the first column with a tag.
 #[tactic(auto, using(crate::proofs::PlaceLemmas::value_content))]
-fn cell_at<'a>(row: Row<'a>, tag: u32) -> Option<Value<'a>>
+pub(crate) fn cell_at<'a>(row: Row<'a>, tag: u32) -> Option<Value<'a>>
     ensures { let node = node_of_tc (tc_of_row row.entry) in
         option_map content_in result ≡ cell_content (table_of_node node) (roots_of node)
         (row_parts row.entry).place.at tag }
@@ -165,6 +167,21 @@ impl listing::Rows for TableRows<'_> {
             Some(row) => Ok(Some(row_doc(alloc, row, &self.columns, self.places)?)),
             None => Ok(None),
         }
+    }
+
+    // A row goes to the text cell by cell, without a tree.
+    fn put_next(
+        &mut self,
+        alloc: Global,
+        later: bool,
+        text: &mut Vec<u8>,
+    ) -> Result<bool, AllocError> {
+        let Some(row) = self.rows.next() else {
+            return Ok(false);
+        };
+        put_comma(later, text)?;
+        put_table_row(alloc, row, &self.columns, self.places, text)?;
+        Ok(true)
     }
 }
 

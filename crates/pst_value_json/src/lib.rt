@@ -33,6 +33,7 @@ mod parts;
 mod places;
 mod props;
 mod put;
+mod put_cells;
 mod put_props;
 mod put_values;
 mod scalar;
