@@ -1,7 +1,7 @@
 -- An index of a subnode list: of which list it is.
 use Rattle.std.specs.Prelude.{◌≡◌, ℕ, ⊤, Bool, false, Option, Some, None, is_some, List}
-use Rattle.std.specs.Ordering.{nat_cmp}
-use Rattle.std.specs.BTreeMap.{BTreeMap, get}
+use Rattle.std.specs.Global.{Vec}
+use Rattle.std.specs.List.Sorted.{IsNonDecreasingBy}
 use Rattle.pst_page.specs.declared.entry.BlockEntry.{BlockEntry}
 use Rattle.pst_block.specs.Table.{Table, entry_of, body_of}
 use Rattle.pst_btree.specs.Entries.{first_with}
@@ -22,13 +22,14 @@ is_long t bid = has_siblock t (entry_of t bid)
 unfoldable pub is_held : SubIndex → Bool
 is_held index = is_some index.entries
 
--- a map has the first of these entries with each nid, and none where there is none
-abbrev pub HasFirst : BTreeMap ℕ Sub → List Sub → Type 0
-HasFirst entries subs = (nid : ℕ) → get nat_cmp entries nid ≡ first_with sub_nid nid subs
+-- the first with each nid is the same in both, and in both there is none where one has none
+abbrev pub HasFirst : List Sub → List Sub → Type 0
+HasFirst entries subs = (nid : ℕ) → first_with sub_nid nid entries ≡ first_with sub_nid nid subs
 
-abbrev pub HoldsFirst : Option (BTreeMap ℕ Sub) → List Sub → Type 0
+-- the entries of a list are held in the order of their nids
+abbrev pub HoldsFirst : Option (Vec Sub) → List Sub → Type 0
 HoldsFirst None subs = ⊤
-HoldsFirst (Some entries) subs = HasFirst entries subs
+HoldsFirst (Some entries) subs = IsNonDecreasingBy sub_nid entries.items × HasFirst entries.items subs
 
 -- It is an index of a list with these entries. One that holds nothing is of every list.
 unfoldable pub IsIndexOf : SubIndex → List Sub → Type 0

@@ -1,6 +1,7 @@
 //! An index of a subnode list, made with memory by whoever looks up many of its entries.
 
 ghost use Rattle.std.specs.Prelude.{◌≡◌, ℕ, IfOk, IfErr, None};
+ghost use Rattle.std.specs.List.Sorted.{IsNonDecreasingBy};
 ghost use Rattle.pst_fault.specs.Fault.{no_memory};
 ghost use Rattle.pst_block.specs.Blocks.{table_of};
 ghost use Rattle.pst_btree.specs.Entries.{first_with};
@@ -17,21 +18,42 @@ use crate::sub::Sub;
 use pst_block::Blocks;
 use pst_fault::Fault;
 use std::alloc::Global;
-use std::collections::BTreeMap;
 
-// The entries by their identifiers; where several have one, the first of them.
-fn entries_by_nid(alloc: Global, subs: Subs) -> Result<BTreeMap<u32, Sub>, Fault>
-    ensures value { IfOk result (λ m. HasFirst m (subs_left subs.entry)) }
+// The entries that are left, as they stand in the list.
+fn entries_of(alloc: Global, subs: Subs) -> Result<Vec<Sub>, Fault>
+    ensures value { IfOk result (λ v. v.items ≡ subs_left subs.entry) }
     ensures memory { IfErr result (λ f. f ≡ no_memory) }
 {
-    let mut entries = BTreeMap::new(alloc);
+    let mut entries = Vec::new(alloc);
     let mut rest = subs;
     while let Some(sub) = rest.next() {
-        if !entries.contains_key(&sub.nid) {
-            let _new = entries.insert(sub.nid, sub)?;
-        }
+        entries.push(sub)?;
     }
     Ok(entries)
+}
+
+// The entries in the order of their identifiers; those that have one identifier stay in the order of the list.
+fn entries_by_nid(alloc: Global, subs: Subs) -> Result<Vec<Sub>, Fault>
+    ensures order { IfOk result (λ v. IsNonDecreasingBy sub_nid v.items) }
+    ensures value { IfOk result (λ v. HasFirst v.items (subs_left subs.entry)) }
+    ensures memory { IfErr result (λ f. f ≡ no_memory) }
+{
+    let mut entries = entries_of(alloc, subs)?;
+    entries.sort_by_key(|sub| sub.nid)?;
+    Ok(entries)
+}
+
+// The first entry with an identifier, of entries in the order of these.
+fn first_of(entries: &[Sub], nid: u32) -> Option<Sub>
+    requires order { IsNonDecreasingBy sub_nid entries.now }
+    ensures { result ≡ first_with sub_nid nid entries.now }
+{
+    let place = entries.partition_point(|sub| sub.nid < nid);
+    if place == entries.len() {
+        return None;
+    }
+    let sub = entries[place];
+    if sub.nid == nid { Some(sub) } else { None }
 }
 
 // Whether the list of a block identifier has an SIBLOCK, and so may have more entries than one SLBLOCK has.
@@ -45,11 +67,11 @@ fn may_be_long(blocks: &Blocks, bid: u64) -> bool
     }
 }
 
-/// An index of one subnode list: its entries by their identifiers, in whatever order they stand there. It may hold none of them,
-/// and then they are looked up in the list itself.
+/// An index of one subnode list: its entries in the order of their identifiers, in whatever order they stand there. It may hold
+/// none of them, and then they are looked up in the list itself.
 #[derive(Drop)]
 pub struct SubIndex {
-    pub(crate) entries: Option<BTreeMap<u32, Sub>>,
+    pub(crate) entries: Option<Vec<Sub>>,
 }
 
 impl SubIndex {
@@ -70,7 +92,8 @@ impl SubIndex {
     }
 
     /// An index of the list of a block identifier. Of a list in one SLBLOCK, which has 340 entries at most, it holds nothing, and
-    /// no memory is taken. Of any other it holds all n entries, in about n log n steps. NoMemory, if memory runs out.
+    /// no memory is taken. Of any other it holds all n entries, in about n steps where their identifiers rise or fall, and else
+    /// in n log n. NoMemory, if memory runs out.
     #[tactic(auto, unfolding(crate::specs::Index::IsIndexOf, crate::specs::Index::is_held))]
     pub fn of(alloc: Global, blocks: &Blocks, bid: u64) -> Result<SubIndex, Fault>
         ensures index { IfOk result (λ i. IsIndexOf i (subs_of (table_of blocks.now) bid)) }
@@ -96,7 +119,7 @@ pub fn find_sub_by(blocks: &Blocks, bid: u64, index: &SubIndex, nid: u32) -> Opt
     ensures { result ≡ first_with sub_nid nid (subs_of (table_of blocks.now) bid) }
 {
     match &index.entries {
-        Some(entries) => entries.get(&nid).copied(),
+        Some(entries) => first_of(entries, nid),
         None => find_sub(blocks, bid, nid),
     }
 }

@@ -1,15 +1,13 @@
-use Rattle.std.proofs.Common.{sym, ◌∙◌}
-use Rattle.pst_subnode.proofs.IndexLemmas.{so_far_met, so_far_more, so_far_all}
-use Rattle.pst_subnode.specs.Left.{subs_left}
+use Rattle.std.proofs.Common.{rules}
+use Rattle.std.proofs.lemmas.List.Sorted.{IsNonDecreasingBy-from_sort_by_key, answers_always}
+use Rattle.pst_subnode.specs.List.{sub_nid}
+use Rattle.pst_subnode.proofs.IndexLemmas.{sorted_first}
 use Rattle.pst_subnode.proofs.index.entries_by_nid.Goals as goal
 
-pub loop-sub-preserved-then-not-contains_key : goal.loop-sub-preserved-then-not-contains_key
-loop-sub-preserved-then-not-contains_key c =
-    so_far_more c.loop-sub.entries c.insert.new.self (subs_left c.loop-sub.rest) (subs_left c.next.new.self) (subs_left c.args.subs) c.in-Some.sub c.in-Some.ensures.steps (sym c.contains_key.ensures ∙ c.if-not-contains_key.true) c.in_ok-_new.ensures.updates.0 c.loop-sub.invariant
-
-pub loop-sub-preserved : goal.loop-sub-preserved
-loop-sub-preserved c =
-    so_far_met c.loop-sub.entries (subs_left c.loop-sub.rest) (subs_left c.next.new.self) (subs_left c.args.subs) c.in-Some.sub c.in-Some.ensures.steps (sym c.contains_key.ensures ∙ c.if-not-contains_key.false) c.loop-sub.invariant
+pub returns-clause-order : goal.returns-clause-order
+returns-clause-order c = IsNonDecreasingBy-from_sort_by_key sub_nid _ c.in_ok-sort_by_key.ensures.sorted (λ a r q k. search rules)
 
 pub returns-clause-value : goal.returns-clause-value
-returns-clause-value c = so_far_all c.loop-sub.entries (subs_left c.loop-sub.rest) (subs_left c.args.subs) c.in_default.ensures.steps.0 c.loop-sub.invariant
+returns-clause-value c =
+    let stable = c.sort_by_key.ensures.stable sub_nid (answers_always _ _ _ (λ f a r g h. search rules)) in
+    rw (← c.in_ok-entries.ensures.value) (sorted_first c.in_ok-entries.entries.items c.sort_by_key.new.self.items stable)
