@@ -1,9 +1,9 @@
 //! The check of a subnode list: of its own blocks, and that no subnode stands in it twice.
 
-ghost use Rattle.std.specs.Prelude.{◌≡◌, ◌+◌, ◌*◌, ◌≤◌, length, map, IfOk, IfErr};
+ghost use Rattle.std.specs.Prelude.{◌≡◌, ◌+◌, ◌*◌, ◌≤◌, length, map, Some, None, IfOk, IfErr, OnOk};
 ghost use Rattle.pst_fault.specs.Fault.{no_memory};
-ghost use Rattle.pst_fault.specs.First.{answer, Tells, first_below};
-ghost use Rattle.pst_block.specs.Table.{body_of, IsWithin};
+ghost use Rattle.pst_fault.specs.First.{answer, Tells, IsFirst, first_below};
+ghost use Rattle.pst_block.specs.Table.{body_of, entry_of, IsWithin};
 ghost use Rattle.pst_block.specs.Blocks.{table_of};
 ghost use Rattle.pst_subnode.specs.List.{bad_list, slblock_fault, list_leaf_fault, shape_fault, list_block_fault, list_fault, block_subs, are_distinct as distinct, sub_nid};
 ghost use Rattle.pst_subnode.specs.Left.{subs_left};
@@ -143,17 +143,20 @@ fn check_block(
     Ok(())
 }
 
-// The list of a block identifier that names a block.
+// The list of a block identifier that names a block: the entry of that.
 #[tactic(auto, unfolding(crate::specs::List::list_fault))]
 pub(crate) fn check_list(
     alloc: Global,
     blocks: &Blocks,
     bid: u64,
     ranges: &mut Ranges,
-) -> Result<(), Fault>
+) -> Result<BlockEntry, Fault>
     requires { AreRangesTrue (table_of blocks.now) ranges.old }
     ensures known { AreRangesTrue (table_of blocks.now) ranges.new }
-    ensures exact { Tells result (list_fault (table_of blocks.now) bid) tt }
+    ensures exact { IfErr result (IsFirst (list_fault (table_of blocks.now) bid)) }
+    ensures none { OnOk result (list_fault (table_of blocks.now) bid ≡ None) }
+    ensures entry { IfOk result (λ e. entry_of (table_of blocks.now) bid ≡ Some e) }
+    ensures within { IfOk result (IsWithin (table_of blocks.now).image) }
 {
     let Some(entry) = blocks.entry(bid) else {
         return Err(missing_block(bid));
@@ -161,5 +164,6 @@ pub(crate) fn check_list(
     if !is_internal(bid) {
         return Err(list_breach(entry));
     }
-    check_block(alloc, blocks, entry, ranges)
+    check_block(alloc, blocks, entry, ranges)?;
+    Ok(entry)
 }

@@ -1,8 +1,8 @@
 //! The walk of lists comes to a list: what is known of it answers, or it is opened.
 
-ghost use Rattle.std.specs.Prelude.{◌≡◌, ℕ, ◌+◌, ◌*◌, ◌<◌, None, false, IfOk};
+ghost use Rattle.std.specs.Prelude.{◌≡◌, ℕ, ◌+◌, ◌*◌, ◌<◌, Some, None, false, IfOk};
 ghost use Rattle.pst_block.specs.Blocks.{table_of};
-ghost use Rattle.pst_block.specs.Table.{IsWithin};
+ghost use Rattle.pst_block.specs.Table.{IsWithin, entry_of};
 ghost use Rattle.pst_datatree.specs.Bid.{is_no_block as no_block};
 ghost use Rattle.pst_datatree.specs.declared.seen.Seen.{Seen as SeenTrees};
 ghost use Rattle.pst_datatree.specs.Seen.{IsSeenTrue};
@@ -25,10 +25,13 @@ use std::alloc::Global;
 fn open_slblock<'a>(
     blocks: &Blocks<'a>,
     bid: u64,
+    entry: BlockEntry,
     limit: u16,
     heights: &mut Heights,
 ) -> Result<Frame<'a>, Fault>
     requires room { 0 < limit }
+    requires entry { entry_of (table_of blocks.now) bid ≡ Some entry }
+    requires within { IsWithin (table_of blocks.now).image entry }
     requires is_list { IsSlblockList (table_of blocks.now) bid }
     requires known { AreTrue (table_of blocks.now) heights.old }
     requires come { let t = table_of blocks.now in HaveCome t heights.old (at_list t bid) 0 limit }
@@ -42,7 +45,7 @@ fn open_slblock<'a>(
         bid,
         limit,
         most: 0,
-        below: Below::Entries(Subs::of_leaf(blocks, bid)),
+        below: Below::Entries(Subs::of_slblock(blocks, entry)),
     })
 }
 
@@ -79,7 +82,6 @@ fn open_siblock<'a>(
 }
 
 // A list that nothing is known of: its own blocks are checked, and it is marked.
-#[tactic(auto, unfolding(crate::specs::List::list_fault))]
 fn open<'a>(
     alloc: Global,
     blocks: &Blocks<'a>,
@@ -98,18 +100,16 @@ fn open<'a>(
     ensures light { let t = table_of blocks.now in
         IfOk result (λ f. frame_weight f < unit_weight (2 * limit + rank_of t bid + 1)) }
 {
-    check_own_blocks(alloc, blocks, bid, heights)?;
-    let Some(entry) = blocks.entry(bid) else {
-        unreachable!()
-    };
+    let entry = check_own_blocks(alloc, blocks, bid, heights)?;
     if has_level_one(body_in(blocks, entry)) {
         open_siblock(blocks, bid, entry, limit, heights)
     } else {
-        open_slblock(blocks, bid, limit, heights)
+        open_slblock(blocks, bid, entry, limit, heights)
     }
 }
 
 // The walk comes to an SLBLOCK that an SIBLOCK names, whose own blocks were checked with it.
+#[tactic(auto, unfolding(crate::specs::List::list_fault))]
 pub(crate) fn enter_leaf<'a>(
     blocks: &Blocks<'a>,
     bid: u64,
@@ -127,7 +127,10 @@ pub(crate) fn enter_leaf<'a>(
     if let Some(height) = heights.state(bid) {
         return Ok(Turn::Answers(height_known(height, limit)?));
     }
-    Ok(Turn::Expands(open_slblock(blocks, bid, limit, heights)?))
+    let Some(entry) = blocks.entry(bid) else {
+        unreachable!()
+    };
+    Ok(Turn::Expands(open_slblock(blocks, bid, entry, limit, heights)?))
 }
 
 // The walk comes to the list of a block identifier, where so many may nest.

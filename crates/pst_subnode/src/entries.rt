@@ -158,20 +158,30 @@ impl<'a> Subs<'a> {
         }
     }
 
-    // The entries of an SLBLOCK, by its identifier; another block has none.
+    // The entries of an SLBLOCK; another block has none.
     #[tactic(auto, unfolding(crate::specs::List::slblock_subs))]
+    pub(crate) fn of_slblock(blocks: &Blocks<'a>, entry: BlockEntry) -> Subs<'a>
+        requires { IsWithin (table_of blocks.now).image entry }
+        ensures left { subs_left result ≡ slblock_subs (table_of blocks.now) entry }
+        ensures blocks { result.blocks ≡ blocks.now }
+        ensures leaves { result.leaves.left ≡ 0 }
+    {
+        match list_block(blocks, entry) {
+            ListBlock::Slblock(body) => Subs::of_entries(blocks, body),
+            _ => Subs::none(blocks),
+        }
+    }
+
+    // The same, by its identifier.
     pub(crate) fn of_leaf(blocks: &Blocks<'a>, bid: u64) -> Subs<'a>
         ensures left { subs_left result ≡
             subs_at (slblock_subs (table_of blocks.now)) (entry_of (table_of blocks.now) bid) }
         ensures blocks { result.blocks ≡ blocks.now }
         ensures leaves { result.leaves.left ≡ 0 }
     {
-        let Some(entry) = blocks.entry(bid) else {
-            return Subs::none(blocks);
-        };
-        match list_block(blocks, entry) {
-            ListBlock::Slblock(body) => Subs::of_entries(blocks, body),
-            _ => Subs::none(blocks),
+        match blocks.entry(bid) {
+            Some(entry) => Subs::of_slblock(blocks, entry),
+            None => Subs::none(blocks),
         }
     }
 

@@ -1,9 +1,9 @@
 //! The steps of the walk of lists that walk no further.
 
-ghost use Rattle.std.specs.Prelude.{◌≡◌, ◌+◌, ◌*◌, ◌<◌, ◌≤◌, length, Ok, Err, IfOk, OnOk};
-ghost use Rattle.pst_fault.specs.First.{Tells};
+ghost use Rattle.std.specs.Prelude.{◌≡◌, ◌+◌, ◌*◌, ◌<◌, ◌≤◌, length, Some, None, Ok, Err, IfOk, IfErr, OnOk};
+ghost use Rattle.pst_fault.specs.First.{Tells, IsFirst};
 ghost use Rattle.pst_block.specs.Blocks.{table_of};
-ghost use Rattle.pst_block.specs.Table.{body_of, IsWithin};
+ghost use Rattle.pst_block.specs.Table.{body_of, entry_of, IsWithin};
 ghost use Rattle.pst_datatree.specs.Data.{data_fault};
 ghost use Rattle.pst_datatree.specs.List.{count_in};
 ghost use Rattle.pst_datatree.specs.Names.{IsInTree};
@@ -42,17 +42,20 @@ pub(crate) fn height_known(height: u16, limit: u16) -> Result<u16, Fault>
     Ok(height)
 }
 
-// The own blocks of the list of a block identifier. It changes no height, and no mark.
+// The own blocks of the list of a block identifier: the entry of that block. It changes no height, and no mark.
 #[tactic(auto, using(crate::proofs::StateLemmas::ranges_true))]
 pub(crate) fn check_own_blocks(
     alloc: Global,
     blocks: &Blocks,
     bid: u64,
     heights: &mut Heights,
-) -> Result<(), Fault>
+) -> Result<BlockEntry, Fault>
     requires { AreTrue (table_of blocks.now) heights.old }
     ensures known { AreTrue (table_of blocks.now) heights.new }
-    ensures exact { Tells result (list_fault (table_of blocks.now) bid) tt }
+    ensures exact { IfErr result (IsFirst (list_fault (table_of blocks.now) bid)) }
+    ensures none { OnOk result (list_fault (table_of blocks.now) bid ≡ None) }
+    ensures entry { IfOk result (λ e. entry_of (table_of blocks.now) bid ≡ Some e) }
+    ensures within { IfOk result (IsWithin (table_of blocks.now).image) }
     ensures same { AreAlike heights.old heights.new }
 {
     check_list(alloc, blocks, bid, &mut heights.ranges)
