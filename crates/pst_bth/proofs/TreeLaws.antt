@@ -1,9 +1,8 @@
 -- The grammar of the items of a BTH below its header, and their first fault and records, say the same.
-use Rattle.std.proofs.Common.{◌≡◌, ℕ, suc, zero, ◌+◌, ◌<◌, List, [], ◌∷◌, ◌++◌, map, Option, Some, None, refl, ap, ◌∙◌, ◌↔◌}
+use Rattle.std.proofs.Common.{◌≡◌, ℕ, suc, zero, ◌+◌, ◌<◌, List, [], ◌∷◌, ◌++◌, map, Option, None, refl, ap, ◌∙◌, ◌↔◌}
 use Rattle.std.proofs.lemmas.Bool.{ltb-true, lt-ltb}
 use Rattle.pst_bytes.specs.declared.span.Span.{Span}
 use Rattle.pst_btree.specs.Order.{Rises}
-use Rattle.pst_fault.specs.declared.fault.Fault.{Fault}
 use Rattle.pst_fault.proofs.FirstLemmas.{none_then, both_none, holds_or_none, holds_or_true}
 use Rattle.pst_heap.specs.Values.{HeapData}
 use Rattle.pst_fault.proofs.EachLemmas.{there_is}

@@ -7,7 +7,7 @@ ghost use Rattle.pst_bth.specs.Rows.{is_key_size};
 ghost use Rattle.pst_bth.specs.Fault.{bth_header_fault};
 
 use crate::find::find_below;
-use crate::leaf::{Leaf, leaf_below};
+use crate::leaf::{Leaf, leaf_at, leaf_below};
 use crate::rows::Rows;
 use crate::sizes::Sizes;
 use pst_bytes::Span;
@@ -131,7 +131,8 @@ impl<'a> Bth<'a> {
         (rows.key(i) as u32, data)
     }
 
-    // The first leaf with a record whose key is at least this one.
+    // The first leaf with a record whose key is at least this one. Most trees are one leaf.
+    #[inline]
     #[tactic(auto, using(crate::proofs::BthLemmas::has_root))]
     pub(crate) fn leaf_from(&self, low: u64) -> Option<Leaf>
         ensures found { let z = sizes_in self.now in
@@ -144,6 +145,9 @@ impl<'a> Bth<'a> {
             return None;
         }
         let levels = image.number8(self.head.at + 3);
+        if levels == 0 {
+            return leaf_at(&self.heap, self.sizes, self.head.at + 4, low);
+        }
         leaf_below(&self.heap, self.sizes, levels, self.head.at + 4, low)
     }
 }

@@ -9,6 +9,7 @@ use pst_bytes::Span;
 use pst_heap::Heap;
 
 /// Where the item lies whose identifier stands at a place, which names one.
+#[inline]
 #[tactic(auto, unfolding(crate::specs::Values::item_at))]
 pub(crate) fn item_named(heap: &Heap, named: u64) -> Span
     requires place { named + 4 ≤ length (data_of heap.now).image }

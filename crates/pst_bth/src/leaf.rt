@@ -39,6 +39,9 @@ fn first_in(rows: Rows, low: u64) -> Option<u64>
     if rows.key(count - 1) < low {
         return None;
     }
+    if low < rows.key(0) {
+        return Some(0);
+    }
     let most = rows.up_to(low);
     if most == 0 {
         return Some(0);
@@ -47,6 +50,23 @@ fn first_in(rows: Rows, low: u64) -> Option<u64>
         return Some(most - 1);
     }
     Some(most)
+}
+
+/// The leaf that is named at a place, where it has a record whose key is at least this one.
+#[inline]
+pub(crate) fn leaf_at(heap: &Heap, sizes: Sizes, named: u64, low: u64) -> Option<Leaf>
+    requires key { is_key_size sizes.key ≡ true }
+    requires inside { named + 4 ≤ length (data_of heap.now).image }
+    requires tree { HasBthTree (data_of heap.now) sizes 0 named }
+    ensures found { let h = data_of heap.now in
+        LeafFrom h.image sizes.key (leaf_size sizes) low (tree_rows h sizes 0 named) result }
+    ensures inside { IfSome result (λ l. IsInside (data_of heap.now).image l.item) }
+{
+    let item = item_named(heap, named);
+    let Some(first) = first_in(sizes.leaf(heap.image(), item), low) else {
+        return None;
+    };
+    Some(Leaf { item, first })
 }
 
 /// The first leaf with a record whose key is at least this one, in the item that is named at a place or below it. Items whose

@@ -27,20 +27,19 @@ pub struct Records<'a> {
 }
 
 impl<'a> Records<'a> {
-    ghost use Rattle.std.specs.Prelude.{◌≡◌, ◌+◌, ◌<◌, Some, None, ◌∷◌, length, map};
+    ghost use Rattle.std.specs.Prelude.{◌≡◌, ◌+◌, ◌<◌, ◌≤◌, Some, None, ◌∷◌, length, map};
     ghost use Rattle.pst_btree.specs.Order.{Rises};
     ghost use Rattle.pst_bth.specs.Rows.{row_count};
     ghost use Rattle.pst_bth.specs.View.{rows_item, rows_size};
     ghost use Rattle.pst_bth.specs.Values.{record_key};
     ghost use Rattle.pst_bth.specs.Left.{bth_left, records_left, Reaches, HasPlace};
 
-    // Goes on to the leaf that has the next record; false where no record is left.
-    fn reach(&mut self) -> bool
+    // Goes on to the next leaf, where the one that is gone through has no record left; false where no record is left.
+    #[inline(never)]
+    fn turn(&mut self) -> bool
+        requires { row_count (rows_size self.old.leaf) (rows_item self.old.leaf) ≤ self.old.next }
         ensures { Reaches self.old result self.new }
     {
-        if self.next < self.leaf.count() {
-            return true;
-        }
         let Some(leaf) = self.bth.leaf_from(self.low) else {
             return false;
         };
@@ -51,7 +50,19 @@ impl<'a> Records<'a> {
         true
     }
 
+    // Goes on to the leaf that has the next record; false where no record is left.
+    #[inline]
+    fn reach(&mut self) -> bool
+        ensures { Reaches self.old result self.new }
+    {
+        if self.next < self.leaf.count() {
+            return true;
+        }
+        self.turn()
+    }
+
     // The next record of the leaf that is gone through.
+    #[inline]
     fn step(&mut self) -> (u32, Span)
         requires { self.old.next < row_count (rows_size self.old.leaf) (rows_item self.old.leaf) }
         ensures first { records_left self.old ≡ result ∷ records_left self.new }
@@ -93,6 +104,7 @@ impl<'a> Iterator for Records<'a> {
 
     ghost remaining = { item_count records_left };
 
+    #[inline]
     fn next(&mut self) -> Option<(u32, Span)> {
         if !self.reach() {
             return None;

@@ -1,18 +1,16 @@
 -- The grammar of heaps, and their first fault, say the same.
 use Rattle.std.proofs.Common.{◌≡◌, ℕ, zero, suc, ◌<◌, ◌≤◌, Bool, true, false, cond, List, [], ◌∷◌, length, Option, Some, None, refl, arith, ◌↔◌}
-use Rattle.std.specs.Prelude.{slice_get, option_map}
+use Rattle.std.specs.Prelude.{slice_get}
 use Rattle.std.proofs.lemmas.Bool.{eqb-true, eq-eqb, le-leb, leb-true, ltb-true, and_parts, and_from}
 use Rattle.pst_bytes.specs.declared.span.Span.{Span}
-use Rattle.pst_fault.specs.declared.fault.Fault.{Fault}
 use Rattle.pst_fault.proofs.FirstLemmas.{none_then, both_none, holds_or_none, holds_or_true}
 use Rattle.pst_fault.proofs.EachLemmas.{of_none, none_of}
 use Rattle.pst_datatree.specs.Spans.{first_span}
-use Rattle.pst_ndb.specs.Roots.{Roots}
 use Rattle.pst_heap.specs.declared.check.TheConstants.{SPANS}
 use Rattle.pst_heap.specs.PageMap.{item_count, offset_in, has_page_map, has_front}
 use Rattle.pst_heap.specs.Values.{HeapData, client_of, index_of, block_of, names_item, item_span, item_in, item_of}
 use Rattle.pst_heap.specs.Grammar.{HasPageMap, IsHeap}
-use Rattle.pst_heap.specs.Fault.{extra_fault, front_fault, page_map_fault, heap_fault, client_fault, told_under}
+use Rattle.pst_heap.specs.Fault.{extra_fault, front_fault, page_map_fault, heap_fault, client_fault}
 use Rattle.pst_heap.specs.Laws.{LiesInSpan, HeapLaw, HeapItemLaw}
 use Rattle.pst_heap.proofs.MapLemmas.{rise_at, never_from, offset_rises, offset_inside}
 use Rattle.pst_heap.proofs.HeapLemmas.{front_there, map_there, span_has_map}

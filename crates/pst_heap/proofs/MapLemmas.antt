@@ -1,10 +1,10 @@
 -- Page maps, step by step.
-use Rattle.std.proofs.Common.{◌≡◌, ℕ, zero, suc, ◌+◌, ◌-◌, ◌<◌, ◌≤◌, true, false, List, refl, arith, inl, inr, le_refl}
+use Rattle.std.proofs.Common.{◌≡◌, ℕ, zero, suc, ◌+◌, ◌*◌, ◌-◌, ◌<◌, ◌≤◌, true, false, List, refl, arith, inl, inr, le_refl}
 use Rattle.std.specs.Prelude.{nat_le}
 use Rattle.std.proofs.lemmas.Bool.{le-leb, lt-leb, leb-true, and_parts, and_from, and_right}
 use Rattle.pst_bytes.specs.declared.span.Span.{Span}
 use Rattle.pst_fault.proofs.FirstLemmas.{below_or_last}
-use Rattle.pst_heap.specs.PageMap.{item_count, offset_in, has_room, never_falls, has_page_map}
+use Rattle.pst_heap.specs.PageMap.{map_offset, item_count, offset_in, has_room, never_falls, has_page_map}
 
 -- ---- numbers that never fall
 
@@ -62,6 +62,20 @@ rise_to f (suc n) i h le =
 pub no_room : (I : List ℕ) (s : Span) → has_room I s ≡ false → has_page_map I s ≡ false
 unfolding has_page_map
 no_room I s h = rw h refl
+
+-- what has_room says, part by part
+
+pub room_front : (I : List ℕ) (s : Span) → has_room I s ≡ true → 2 ≤ s.len
+unfolding has_room
+room_front I s h = leb-true _ _ (and_parts _ _ (and_parts _ _ h).0).0
+
+pub room_map : (I : List ℕ) (s : Span) → has_room I s ≡ true → map_offset I s + 4 ≤ s.len
+unfolding has_room
+room_map I s h = leb-true _ _ (and_parts _ _ (and_parts _ _ h).0).1
+
+pub room_all : (I : List ℕ) (s : Span) → has_room I s ≡ true → map_offset I s + 6 + 2 * item_count I s ≤ s.len
+unfolding has_room
+room_all I s h = leb-true _ _ (and_parts _ _ h).1
 
 pub has_map_room : (I : List ℕ) (s : Span) → has_page_map I s ≡ true → has_room I s ≡ true
 unfolding has_page_map

@@ -12,20 +12,20 @@ use crate::check::{bad_span, check_map, has_front};
 use crate::heap::Heap;
 use crate::told::told_of;
 use pst_bytes::Span;
+use pst_datatree::is_internal;
 use pst_fault::Fault;
 use pst_ndb::Node;
 
-// The span of a node's data, where there is one and no other.
+// The span of a node's data, where that is a data block: so it is of most heaps. What an XBLOCK names is not looked at.
+#[tactic(auto, using(crate::proofs::AloneLemmas::block_alone))]
 pub(crate) fn only_span(node: &Node) -> Option<Span>
     ensures only { IfSome result (λ s. (data_of_node node.now).spans ≡ s ∷ []) }
     ensures inside { IfSome result (IsInside (data_of_node node.now).image) }
 {
-    let mut rest = node.spans();
-    let first = rest.next_span()?;
-    if rest.next_span().is_some() {
+    if is_internal(node.bid_data()) {
         return None;
     }
-    Some(first)
+    node.leaf(0)
 }
 
 // All of a heap of one span, with no context told; that span.

@@ -86,7 +86,17 @@ impl<'a> Heap<'a> {
         self.first
     }
 
+    // The span with a number, looked up in the data. Most heaps have one span, so this stands apart.
+    #[inline(never)]
+    fn looked_up(&self, n: u32) -> Option<Span>
+        ensures value { result ≡ slice_get (data_of self.now).spans n }
+        ensures inside { IfSome result (IsInside (data_of self.now).image) }
+    {
+        self.node.leaf(u64::from(n))
+    }
+
     // The span with a number.
+    #[inline]
     #[tactic(auto, using(crate::proofs::HeapLemmas::first_there))]
     pub(crate) fn span(&self, n: u32) -> Option<Span>
         ensures value { result ≡ slice_get (data_of self.now).spans n }
@@ -95,7 +105,7 @@ impl<'a> Heap<'a> {
         if n == 0 {
             return Some(self.first());
         }
-        self.node.leaf(u64::from(n))
+        self.looked_up(n)
     }
 
     /// The client signature of the header (bClientSig, [MS-PST] 2.3.1.2).
@@ -122,6 +132,7 @@ impl<'a> Heap<'a> {
     }
 
     // Where the item with an identifier lies, in the span that it tells.
+    #[inline]
     #[tactic(auto, using(crate::proofs::HeapLemmas::item_some))]
     pub(crate) fn item_in(&self, span: Span, hid: u32) -> Option<Span>
         requires there { slice_get (data_of self.now).spans (block_of hid) ≡ Some span }
@@ -129,14 +140,12 @@ impl<'a> Heap<'a> {
         ensures value { result ≡ item_of (data_of self.now) hid }
         ensures inside { IfSome result (IsInside (data_of self.now).image) }
     {
-        let Some(map) = PageMap::open(self.image(), span) else {
-            unreachable!()
-        };
-        map.item(hid)
+        PageMap::known(self.image(), span).item(hid)
     }
 
     /// Where the item with an identifier lies (HID, [MS-PST] 2.3.1.1): in one span of the node's data. None exactly where no
     /// item has it. Spans are not gone through, but XBLOCKs in front of it are. Whoever asks for many keeps their `Items`.
+    #[inline]
     #[tactic(auto, using(crate::proofs::HeapLemmas::item_none))]
     pub fn item_span(&self, hid: u32) -> Option<Span>
         ensures value { result ≡ item_of (data_of self.now) hid }

@@ -46,6 +46,7 @@ impl<'a> Items<'a> {
     }
 
     /// Where the item with an identifier lies, as `Heap::item_span` says; None exactly where no item has it.
+    #[inline]
     #[tactic(auto, using(crate::proofs::HeapLemmas::item_none))]
     pub fn item_span(&mut self, hid: u32) -> Option<Span>
         ensures value { result ≡ item_of (data_of_items self.old) hid }

@@ -56,6 +56,24 @@ impl<'a> PageMap<'a> {
         })
     }
 
+    /// The page map of a span that is known to have room for it.
+    #[inline]
+    #[tactic(auto, using(crate::proofs::MapLemmas::room_front, crate::proofs::MapLemmas::room_map, crate::proofs::MapLemmas::room_all))]
+    pub(crate) fn known(image: Image<'a>, span: Span) -> PageMap<'a>
+        requires inside { IsInside (bytes_of image) span }
+        requires room { has_room (bytes_of image) span ≡ true }
+        ensures image { map_image result ≡ image.entry }
+        ensures span { map_span result ≡ span }
+    {
+        let map = u64::from(image.number16(span.at));
+        PageMap {
+            image,
+            span,
+            start: span.at + map + 4,
+            count: image.number16(span.at + map),
+        }
+    }
+
     // The offset with a number.
     #[tactic(auto, unfolding(crate::specs::PageMap::offset_in))]
     fn offset(self, k: u16) -> u64
@@ -88,6 +106,7 @@ impl<'a> PageMap<'a> {
     }
 
     /// The item that an identifier names in this span, whose number and type it tells; None exactly where it names none.
+    #[inline]
     #[tactic(auto, unfolding(crate::specs::Values::item_in), using(crate::proofs::MapLemmas::offset_rises, crate::proofs::MapLemmas::offset_inside))]
     pub(crate) fn item(self, hid: u32) -> Option<Span>
         requires { map (bytes_of (map_image self)) (map_span self) ≡ true }

@@ -1,6 +1,6 @@
 -- What a table context asks of the list of subnodes of its node.
-use Rattle.std.proofs.Common.{◌≡◌, ℕ, ◌+◌, ◌<◌, true, false, List, Option, Some, None, refl, sym, ap, ◌∙◌}
-use Rattle.std.specs.Prelude.{option_map, is_some}
+use Rattle.std.proofs.Common.{◌≡◌, ℕ, ◌+◌, ◌<◌, true, Option, Some, None, refl, sym, ap, ◌∙◌}
+use Rattle.std.specs.Prelude.{option_map}
 use Rattle.std.proofs.lemmas.Bool.{false≢true, eqb-true}
 use Rattle.pst_bytes.specs.declared.span.Span.{Span}
 use Rattle.pst_bytes.specs.Image.{num}
@@ -14,7 +14,7 @@ use Rattle.pst_block.specs.Table.{Table}
 use Rattle.pst_datatree.proofs.KeyLemmas.{data_spans_same}
 use Rattle.pst_ndb.specs.Roots.{Roots, subnode_of}
 use Rattle.pst_heap.specs.Values.{HeapData, heap_at, user_root_of, user_root_place, item_of}
-use Rattle.pst_heap.specs.Fault.{client_fault, item_or, no_item, told_under}
+use Rattle.pst_heap.specs.Fault.{no_item, told_under}
 use Rattle.pst_bth.specs.Values.{bth_records}
 use Rattle.pst_value.specs.declared.asks.Asks.{Asks}
 use Rattle.pst_value.specs.declared.hnid.Hnid.TheVariants.{Nothing, Item, Subnode}
@@ -26,7 +26,7 @@ use Rattle.pst_value.specs.Met.{are_met, AsksMore, HoldsWith}
 use Rattle.pst_value.proofs.AskLemmas.{same_heap, spans_nowhere, spans_in_item}
 use Rattle.pst_tc.specs.Asks.{SameMatrix, AsksMatrix, HoldsMatrix}
 use Rattle.pst_tc.specs.Info.{column_count, column_place, row_size, matrix_place, matrix_hnid, index_hid}
-use Rattle.pst_tc.specs.Values.{tc_client, tc_sizes, info_of, tc_records, row_or_none, row_of_blocks, row_of_data, row_of_matrix, row_of_record}
+use Rattle.pst_tc.specs.Values.{tc_sizes, info_of, tc_records, row_or_none, row_of_blocks, row_of_matrix, row_of_record}
 use Rattle.pst_tc.specs.Fault.{no_fault, cell_fault, cells_fault, row_fault, row_record_fault, matrix_fault, tc_body_fault, untold_tc_fault, tc_fault}
 use Rattle.pst_tc.proofs.AlikeLaws.{body_with, fault_with}
 use Rattle.pst_tc.proofs.RowLemmas.{BodyFacts, body_facts}

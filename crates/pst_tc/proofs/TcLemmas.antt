@@ -3,7 +3,7 @@ use Rattle.std.proofs.Common.{◌≡◌, ℕ, ◌+◌, ◌<◌, true, false, Lis
 use Rattle.std.specs.Prelude.{option_map, is_some}
 use Rattle.pst_bytes.specs.declared.span.Span.{Span}
 use Rattle.pst_fault.specs.declared.fault.Fault.{Fault}
-use Rattle.pst_fault.specs.First.{first_below, IsFirst}
+use Rattle.pst_fault.specs.First.{◌then◌, first_below, IsFirst}
 use Rattle.pst_fault.proofs.ToldLemmas.{told_none, told_some, told_first, told_next}
 use Rattle.pst_fault.proofs.FirstLemmas.{none_then, first_at, first_more}
 use Rattle.pst_block.specs.Table.{Table}
@@ -73,16 +73,18 @@ pub index_fails : (t : Table) (r : Roots) (s : Span) (f : Fault) → option_map 
 unfolding tc_body_fault
 index_fails t r s f a e = told_next (told_under r) _ _ a ∙ told_first (told_under r) (bth_fault (heap_at t r) tc_sizes (index_place s) (index_hid t.image s)) _ f e
 
-pub matrix_fails : (t : Table) (r : Roots) (s : Span) (f : Fault) → option_map (told_under r) (info_fault t.image s) ≡ None → option_map (told_under r) (bth_fault (heap_at t r) tc_sizes (index_place s) (index_hid t.image s)) ≡ None
-    → option_map (told_under r) (matrix_fault t r s) ≡ Some f → option_map (told_under r) (tc_body_fault t r s) ≡ Some f
-unfolding tc_body_fault
-matrix_fails t r s f a b e = told_next (told_under r) _ _ a ∙ told_next (told_under r) _ _ b ∙ told_first (told_under r) (matrix_fault t r s) _ f e
+-- what is left behind TCINFO and the row index: the matrix, and then the rows
 
-pub rows_left : (t : Table) (r : Roots) (s : Span) → option_map (told_under r) (info_fault t.image s) ≡ None → option_map (told_under r) (bth_fault (heap_at t r) tc_sizes (index_place s) (index_hid t.image s)) ≡ None
-    → option_map (told_under r) (matrix_fault t r s) ≡ None
-    → option_map (told_under r) (first_of (row_record_fault t r s) (bth_records (heap_at t r) tc_sizes (index_hid t.image s))) ≡ option_map (told_under r) (tc_body_fault t r s)
+pub matrix_first : (t : Table) (r : Roots) (s : Span) (rows : Option Fault) (f : Fault) → option_map (told_under r) (matrix_fault t r s) ≡ Some f → option_map (told_under r) (matrix_fault t r s then rows) ≡ Some f
+matrix_first t r s rows f e = told_first (told_under r) (matrix_fault t r s) rows f e
+
+pub matrix_next : (t : Table) (r : Roots) (s : Span) (rows : Option Fault) → option_map (told_under r) (matrix_fault t r s) ≡ None → option_map (told_under r) (matrix_fault t r s then rows) ≡ option_map (told_under r) rows
+matrix_next t r s rows e = told_next (told_under r) (matrix_fault t r s) rows e
+
+pub matrix_left : (t : Table) (r : Roots) (s : Span) → option_map (told_under r) (info_fault t.image s) ≡ None → option_map (told_under r) (bth_fault (heap_at t r) tc_sizes (index_place s) (index_hid t.image s)) ≡ None
+    → option_map (told_under r) (matrix_fault t r s then first_of (row_record_fault t r s) (bth_records (heap_at t r) tc_sizes (index_hid t.image s))) ≡ option_map (told_under r) (tc_body_fault t r s)
 unfolding tc_body_fault tc_records
-rows_left t r s a b c = sym (told_next (told_under r) _ _ a ∙ told_next (told_under r) _ _ b ∙ told_next (told_under r) _ _ c)
+matrix_left t r s a b = sym (told_next (told_under r) _ _ a ∙ told_next (told_under r) _ _ b)
 
 -- ---- the context
 

@@ -24,6 +24,7 @@ pub(crate) fn is_present(image: Image, info: Span, row: Span, column: u64) -> bo
 }
 
 /// Whether a column has the width that its type has in a table.
+#[inline(always)]
 #[tactic(auto, unfolding(crate::specs::Info::is_typed))]
 pub(crate) fn is_typed(image: Image, column: u64) -> bool
     requires { column + 8 ≤ length (bytes_of image) }

@@ -2,7 +2,7 @@
 
 ghost use Rattle.std.specs.Prelude.{◌≡◌, ℕ, ◌+◌, ◌≤◌, length, true, None, IfOk, IsOk, OnOk, option_map};
 ghost use Rattle.pst_bytes.specs.Image.{IsInside};
-ghost use Rattle.pst_fault.specs.First.{Checks};
+ghost use Rattle.pst_fault.specs.First.{◌then◌, Checks};
 ghost use Rattle.pst_fault.specs.Each.{first_of};
 ghost use Rattle.pst_ndb.specs.Views.{table_of_node, roots_of};
 ghost use Rattle.pst_heap.specs.Fault.{told_under};
@@ -18,7 +18,7 @@ ghost use Rattle.pst_tc.specs.Tc.{node_of_tc};
 
 use crate::cell::{is_present, is_typed};
 use crate::info::{check_info, column_count, size_of};
-use crate::matrix::{Matrix, open_matrix, row_of};
+use crate::matrix::{Matrix, matrix_item, open_matrix, row_of};
 use crate::tc::Tc;
 use pst_bth::{Bth, check_bth_at};
 use pst_bytes::Span;
@@ -113,6 +113,7 @@ fn check_row<'a>(
 }
 
 // The rows of all records of the row index, in order.
+#[inline(always)]
 #[tactic(auto, using(pst_bth::proofs::RecordLemmas::record_next, pst_bth::proofs::RecordLemmas::records_done))]
 fn check_rows<'a>(heap: &Heap<'a>, info: Span, matrix: Matrix<'a>, bth: &Bth) -> Result<(), Fault>
     requires info { IsInside (data_of heap.now).image info }
@@ -169,6 +170,43 @@ fn check_matrix<'a>(heap: &Heap<'a>, info: Span) -> Result<Matrix<'a>, Fault>
     }
 }
 
+// The row matrix wherever it lies, and the rows of all records. It may be many bytes, so this stands apart.
+#[inline(never)]
+#[tactic(auto, using(crate::proofs::TcLemmas::matrix_first, crate::proofs::TcLemmas::matrix_next))]
+fn check_any_matrix(heap: &Heap, info: Span, bth: &Bth) -> Result<(), Fault>
+    requires info { IsInside (data_of heap.now).image info }
+    requires room { 22 ≤ info.len }
+    requires sound { info_fault (data_of heap.now).image info ≡ None }
+    requires heap { heap_of bth.now ≡ heap.now }
+    requires sizes { sizes_in bth.now ≡ tc_sizes }
+    ensures exact { let t = table_of_node (node_of heap.now) in let r = roots_of (node_of heap.now) in
+        let rows = first_of (row_record_fault t r info) (records_of bth.now) in
+        Checks result (option_map (told_under r) (matrix_fault t r info then rows)) }
+{
+    let matrix = check_matrix(heap, info)?;
+    check_rows(heap, info, matrix, bth)
+}
+
+// The row matrix, and the rows of all records.
+#[inline]
+#[tactic(auto, using(crate::proofs::InfoLemmas::sound_room, crate::proofs::TcLemmas::matrix_there, crate::proofs::TcLemmas::matrix_next))]
+fn check_matrix_rows(heap: &Heap, info: Span, bth: &Bth) -> Result<(), Fault>
+    requires info { IsInside (data_of heap.now).image info }
+    requires room { 22 ≤ info.len }
+    requires sound { info_fault (data_of heap.now).image info ≡ None }
+    requires heap { heap_of bth.now ≡ heap.now }
+    requires sizes { sizes_in bth.now ≡ tc_sizes }
+    ensures exact { let t = table_of_node (node_of heap.now) in let r = roots_of (node_of heap.now) in
+        let rows = first_of (row_record_fault t r info) (records_of bth.now) in
+        Checks result (option_map (told_under r) (matrix_fault t r info then rows)) }
+{
+    let image = heap.image();
+    match matrix_item(heap, image.number32(info.at + 14)) {
+        Some(item) => check_rows(heap, info, Matrix::Item(item), bth),
+        None => check_any_matrix(heap, info, bth),
+    }
+}
+
 // TCINFO, and all that it names.
 #[tactic(auto, using(crate::proofs::TcLemmas::info_told_none))]
 fn check_body(heap: &Heap, info: Span) -> Result<(), Fault>
@@ -185,8 +223,7 @@ fn check_body(heap: &Heap, info: Span) -> Result<(), Fault>
         4,
         4,
     )?;
-    let matrix = check_matrix(heap, info)?;
-    check_rows(heap, info, matrix, &bth)
+    check_matrix_rows(heap, info, &bth)
 }
 
 // What a heap has to have to be a table context.

@@ -1,11 +1,12 @@
 //! The row matrix.
 
-ghost use Rattle.std.specs.Prelude.{◌≡◌, ℕ, ◌≤◌, ◌<◌, IfSome, is_some};
+ghost use Rattle.std.specs.Prelude.{◌≡◌, ℕ, ◌≤◌, ◌<◌, true, IfSome, is_some};
 ghost use Rattle.pst_bytes.specs.Image.{bytes_of, IsInside};
 ghost use Rattle.pst_ndb.specs.Views.{table_of_node, roots_of};
 ghost use Rattle.pst_heap.specs.View.{node_of, data_of};
-ghost use Rattle.pst_value.specs.Values.{hnid_spans};
-ghost use Rattle.pst_tc.specs.Values.{row_of_span as span_row, row_of_matrix as named_row};
+ghost use Rattle.pst_value.specs.declared.hnid.Hnid.TheVariants.{Subnode};
+ghost use Rattle.pst_value.specs.Values.{hnid_spans, spans_under};
+ghost use Rattle.pst_tc.specs.Values.{row_of_span as span_row, row_of_matrix as named_row, row_under};
 ghost use Rattle.pst_tc.specs.Matrix.{matrix_row, LiesIn};
 
 use crate::blocks::Blocks;
@@ -40,7 +41,42 @@ fn row_of_span(image: Image, span: Span, size: u16, n: u32) -> Option<Span>
     })
 }
 
+/// The item that an HNID names, where it names one: there the rows of most tables lie.
+#[inline]
+#[tactic(auto, unfolding(crate::specs::Values::row_of_matrix, pst_value::specs::Values::hnid_spans))]
+pub(crate) fn matrix_item(heap: &Heap, hnid: u32) -> Option<Span>
+    ensures there { let node = node_of heap.now in
+        IfSome result (λ item. is_some (hnid_spans (table_of_node node) (roots_of node) hnid)
+        ≡ true) }
+    ensures inside { IfSome result (IsInside (data_of heap.now).image) }
+    ensures rows { let node = node_of heap.now in let t = table_of_node node in
+        (size n : ℕ) →
+        IfSome result (λ item. span_row size n item ≡ named_row t (roots_of node) hnid size n) }
+{
+    match hnid_of(hnid) {
+        Hnid::Item(hid) => heap.item_span(hid),
+        Hnid::Nothing | Hnid::Subnode(_) => None,
+    }
+}
+
+// The blocks of a subnode. They are many bytes, so this stands apart from matrices that are an item.
+#[inline(never)]
+fn open_blocks<'a>(heap: &Heap<'a>, nid: u32) -> Option<Matrix<'a>>
+    ensures there { let node = node_of heap.now in is_some result ≡
+        is_some (spans_under (table_of_node node) (roots_of node) (Subnode nid)) }
+    ensures inside { IfSome result (LiesIn (data_of heap.now).image) }
+    ensures rows { let node = node_of heap.now in let t = table_of_node node in
+        (size n : ℕ) → IfSome result (λ m.
+        matrix_row m size n ≡ row_under t (roots_of node) size n (Subnode nid)) }
+{
+    match heap.node().sub(nid) {
+        Some(sub) => Some(Matrix::Blocks(Blocks::of(sub))),
+        None => None,
+    }
+}
+
 /// The matrix that an HNID names; None exactly where it names nothing.
+#[inline]
 #[tactic(auto, unfolding(crate::specs::Values::row_of_matrix, pst_value::specs::Values::hnid_spans))]
 pub(crate) fn open_matrix<'a>(heap: &Heap<'a>, hnid: u32) -> Option<Matrix<'a>>
     ensures there { let node = node_of heap.now in
@@ -56,10 +92,7 @@ pub(crate) fn open_matrix<'a>(heap: &Heap<'a>, hnid: u32) -> Option<Matrix<'a>>
             Some(item) => Some(Matrix::Item(item)),
             None => None,
         },
-        Hnid::Subnode(nid) => match heap.node().sub(nid) {
-            Some(sub) => Some(Matrix::Blocks(Blocks::of(sub))),
-            None => None,
-        },
+        Hnid::Subnode(nid) => open_blocks(heap, nid),
     }
 }
 

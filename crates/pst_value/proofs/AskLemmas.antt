@@ -20,7 +20,7 @@ use Rattle.pst_value.specs.declared.asks.Asks.{Asks}
 use Rattle.pst_value.specs.declared.hnid.Hnid.TheVariants.{Nothing, Item, Subnode}
 use Rattle.pst_value.specs.Hnid.{hnid_of}
 use Rattle.pst_value.specs.Values.{held_of, one_span, data_under, hnid_spans}
-use Rattle.pst_value.specs.Fault.{missing_at, is_length, length_fault, hnid_fault, value_fault}
+use Rattle.pst_value.specs.Fault.{missing_at, length_fault, hnid_fault, value_fault}
 use Rattle.pst_value.specs.Asks.{SameData, fits, is_fitting, all_fit, has_matrix}
 use Rattle.pst_value.specs.Met.{are_met, AsksMore, HoldsWith}
 use Rattle.pst_value.proofs.AlikeLaws.{heap_with}

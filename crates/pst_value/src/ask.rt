@@ -19,6 +19,7 @@ use pst_heap::Heap;
 
 /// Asks for the subnode in which the value of a type in a raw span lies, where it lies in one. The value has no fault; so it has none
 /// by any other list of subnodes that meets what is asked then. NoMemory where memory is refused for that.
+#[inline(always)]
 #[tactic(auto, using(crate::proofs::AskLemmas::held_holds, crate::proofs::AskLemmas::nothing_holds, crate::proofs::AskLemmas::item_holds, crate::proofs::AskLemmas::subnode_holds))]
 pub fn ask_value(heap: &Heap, kind: PropType, raw: Span, asks: &mut Asks) -> Result<(), Fault>
     requires inside { IsInside (data_of heap.now).image raw }

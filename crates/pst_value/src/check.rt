@@ -1,6 +1,6 @@
 //! The value of a property or of a cell, checked.
 
-ghost use Rattle.std.specs.Prelude.{◌≡◌, ◌+◌, ◌≤◌, length, IfOk, IfSome, Some, None, option_map};
+ghost use Rattle.std.specs.Prelude.{◌≡◌, ℕ, ◌+◌, ◌≤◌, length, true, IfOk, IfSome, Some, None, option_map};
 ghost use Rattle.pst_bytes.specs.Image.{num, IsInside};
 ghost use Rattle.pst_fault.specs.First.{Checks};
 ghost use Rattle.pst_ndb.specs.Views.{table_of_node, roots_of};
@@ -12,7 +12,7 @@ ghost use Rattle.pst_value.specs.Values.{held_of, hnid_spans, value_spans};
 ghost use Rattle.pst_value.specs.View.{IsValue, IsValueOf};
 
 use crate::class::Class;
-use crate::hnid::missing_at;
+use crate::hnid::{Hnid, hnid_of, missing_at};
 use crate::named::{named_len, value_named};
 use crate::prop_type::PropType;
 use pst_bytes::Span;
@@ -22,6 +22,7 @@ use pst_heap::{Heap, Items, told_of};
 use pst_ndb::Node;
 
 // How many bytes of a raw span with so many are the value; None where an HNID stands there.
+#[inline]
 #[tactic(auto, unfolding(crate::specs::Values::held_of))]
 pub(crate) fn held(kind: PropType, len: u64) -> Option<u64>
     ensures value { result ≡ held_of kind.0 len }
@@ -41,6 +42,7 @@ pub(crate) fn held(kind: PropType, len: u64) -> Option<u64>
 }
 
 // Whether the value that an HNID names has a length that its type allows.
+#[inline]
 #[tactic(auto, unfolding(crate::specs::Fault::is_length))]
 pub(crate) fn has_length(kind: PropType, len: u64) -> bool
     ensures { result ≡ is_length kind.0 len }
@@ -93,6 +95,42 @@ fn check_hnid(items: &mut Items, kind: PropType, place: u64, named: u64) -> Resu
     }
 }
 
+// Checks the value that the HNID at `named` names. It may be looked up in the node's subnodes, so this stands apart.
+#[inline(never)]
+fn check_named(items: &mut Items, kind: PropType, place: u64, named: u64) -> Result<(), Fault>
+    requires { named + 4 ≤ length (data_of_items items.old).image }
+    ensures exact { let node = node_of_items items.old in
+        let first = hnid_fault (table_of_node node) (roots_of node) kind.0 place named in
+        Checks result (option_map (told node) first) }
+    ensures heap { heap_of_items items.new ≡ heap_of_items items.old }
+{
+    match check_hnid(items, kind, place, named) {
+        Ok(()) => Ok(()),
+        Err(fault) => Err(told_of(&items.heap().node(), fault)),
+    }
+}
+
+// Whether the HNID at `named` names nothing, or an item of a length that the type allows: then the value has no fault, and no
+// subnode is looked up to find that.
+#[inline(always)]
+#[tactic(auto, unfolding(crate::specs::Fault::hnid_fault, crate::specs::Values::hnid_spans, crate::specs::Fault::is_length))]
+fn is_sound_item(items: &mut Items, kind: PropType, named: u64) -> bool
+    requires { named + 4 ≤ length (data_of_items items.old).image }
+    ensures sound { let node = node_of_items items.old in (place : ℕ) → result ≡ true →
+        hnid_fault (table_of_node node) (roots_of node) kind.0 place named ≡ None }
+    ensures heap { heap_of_items items.new ≡ heap_of_items items.old }
+{
+    let hnid = items.heap().image().number32(named);
+    match hnid_of(hnid) {
+        Hnid::Nothing => true,
+        Hnid::Item(hid) => match items.item_span(hid) {
+            Some(span) => has_length(kind, span.len),
+            None => false,
+        },
+        Hnid::Subnode(_) => false,
+    }
+}
+
 // The value of a type in a raw span, told of no node.
 #[tactic(auto, unfolding(crate::specs::Fault::value_fault, crate::specs::Values::value_spans))]
 fn raw_value<'a>(heap: &Heap<'a>, kind: PropType, raw: Span) -> Result<Value<'a>, Fault>
@@ -122,6 +160,7 @@ fn raw_value<'a>(heap: &Heap<'a>, kind: PropType, raw: Span) -> Result<Value<'a>
 /// Checks the value of a type in a raw span as `resolve` does, of items of a heap that are kept, and gives none: a value that
 /// stands in the raw span itself costs no look-up, nor does one in the span of the heap in which an item was found last. Property
 /// is told at `place`, where the record or the cell begins that has the raw span.
+#[inline(always)]
 #[tactic(auto, unfolding(crate::specs::Fault::value_fault))]
 pub fn check_value(items: &mut Items, kind: PropType, place: u64, raw: Span) -> Result<(), Fault>
     requires inside { IsInside (data_of_items items.old).image raw }
@@ -134,10 +173,10 @@ pub fn check_value(items: &mut Items, kind: PropType, place: u64, raw: Span) -> 
     if held(kind, raw.len).is_some() {
         return Ok(());
     }
-    match check_hnid(items, kind, place, raw.at) {
-        Ok(()) => Ok(()),
-        Err(fault) => Err(told_of(&items.heap().node(), fault)),
+    if is_sound_item(items, kind, raw.at) {
+        return Ok(());
     }
+    check_named(items, kind, place, raw.at)
 }
 
 /// The value of a property or of a cell ([MS-PST] 2.3.3.3, 2.3.4.4.1), whose type and raw span are these, in the node whose heap

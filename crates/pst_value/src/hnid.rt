@@ -18,6 +18,7 @@ pub enum Hnid {
 }
 
 /// What an HNID names: nothing, where it is 0; an item of the heap, where its low five bits are 0; else a subnode.
+#[inline]
 #[tactic(auto, unfolding(crate::specs::Hnid::hnid_of))]
 pub fn hnid_of(hnid: u32) -> Hnid
     ensures { result ≡ hnid_of hnid }

@@ -11,6 +11,7 @@ pub struct PropType(pub u16);
 
 impl PropType {
     /// How values of the type are kept.
+    #[inline]
     pub fn class(self) -> Class
         ensures { result ≡ class_of self.0 }
     {
@@ -26,6 +27,7 @@ impl PropType {
     }
 
     /// How many bytes a cell of the type has in a row of a table; None for a type that is not listed.
+    #[inline]
     pub fn cell_width(self) -> Option<u8>
         ensures { result ≡ cell_width_of self.0 }
     {

@@ -1,12 +1,10 @@
-use Rattle.std.proofs.Common.{◌≡◌, ◌<◌, ◌+◌, ◌-◌, Some, ap, sym, ◌∙◌, arith}
-use Rattle.pst_bytes.specs.Image.{num}
+use Rattle.std.proofs.Common.{◌≡◌, ◌<◌, ◌+◌, ◌-◌, ap, sym, ◌∙◌, arith}
 use Rattle.pst_btree.specs.Entries.{first_with}
 use Rattle.pst_heap.specs.View.{data_of}
 use Rattle.pst_bth.specs.Rows.{row_key, row_count, row_place, rows_at}
 use Rattle.pst_bth.specs.Rows.{leaf_size, branch_size}
-use Rattle.pst_bth.specs.Values.{item_at, tree_rows}
+use Rattle.pst_bth.specs.Values.{tree_rows}
 use Rattle.pst_bth.specs.Find.{IsUpToKey}
-use Rattle.pst_bth.proofs.TreeLemmas.{item_at_is}
 use Rattle.pst_bth.proofs.FindLemmas.{item_is_there, leaf_rises, rows_of_leaf, child_has, find_child, find_nowhere}
 use Rattle.pst_bth.proofs.find.+find_below.Goals as goal
 

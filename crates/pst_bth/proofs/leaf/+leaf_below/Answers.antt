@@ -1,12 +1,10 @@
-use Rattle.std.proofs.Common.{◌≡◌, ◌≤◌, ◌+◌, ◌-◌, [], Some, ap, ◌∙◌, arith}
-use Rattle.pst_bytes.specs.Image.{num}
+use Rattle.std.proofs.Common.{◌≡◌, ◌≤◌, ◌+◌, ◌-◌, [], ap, ◌∙◌, arith}
 use Rattle.pst_heap.specs.View.{data_of}
 use Rattle.pst_bth.specs.Rows.{row_count, row_place, rows_at}
 use Rattle.pst_bth.specs.Rows.{leaf_size, branch_size}
-use Rattle.pst_bth.specs.Values.{item_at, tree_rows}
+use Rattle.pst_bth.specs.Values.{tree_rows}
 use Rattle.pst_bth.specs.Find.{rows_from_key, IsUpToKey}
 use Rattle.pst_bth.specs.Leaf.{BeginsAt, HasLeaf}
-use Rattle.pst_bth.proofs.TreeLemmas.{item_at_is}
 use Rattle.pst_bth.proofs.FindLemmas.{item_is_there, leaf_rises, rows_of_leaf, child_has}
 use Rattle.pst_bth.proofs.LeafLemmas.{leaf_alone, skip_start, skip_next, skip_end, leaf_of_branch}
 use Rattle.pst_bth.proofs.leaf.+leaf_below.Goals as goal

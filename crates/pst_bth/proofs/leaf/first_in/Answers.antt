@@ -1,6 +1,7 @@
-use Rattle.std.proofs.Common.{◌≡◌, ◌≢◌, ℕ, ◌<◌, ◌≤◌, ◌-◌, sym, ap, ◌∙◌, arith}
+use Rattle.std.proofs.Common.{◌≡◌, ◌≢◌, ℕ, ◌<◌, ◌≤◌, ◌-◌, refl, sym, ap, ◌∙◌, arith}
 use Rattle.pst_bytes.specs.Image.{bytes_of}
 use Rattle.pst_bth.specs.Rows.{row_key, row_count, row_place, rows_from}
+use Rattle.pst_bth.specs.Find.{IsUpToKey}
 use Rattle.pst_bth.specs.View.{rows_image, rows_item, rows_key_size, rows_size}
 use Rattle.pst_bth.proofs.RestLemmas.{rest_empty, rest_short, rest_none_below, rest_is, rest_not}
 use Rattle.pst_bth.proofs.leaf.first_in.Goals as goal
@@ -22,6 +23,20 @@ returns-then-key-low c =
     let count : row_count (rows_size r) (rows_item r) ≡ c.count-count.result = sym c.count-count.ensures in
     let less : row_key (bytes_of (rows_image r)) (rows_key_size r) (row_place (rows_size r) (rows_item r) (row_count (rows_size r) (rows_item r) - 1)) < c.args.low = rw (count, ← c.key.ensures.value) c.if-key-low.true in
     rest_short (bytes_of (rows_image r)) (rows_key_size r) (rows_size r) (rows_item r) c.args.low c.requires.low c.requires.high c.requires.rise (omega (arith, count, c.if-count-eq0.false)) less
+
+pub returns-then-low-key : goal.returns-then-low-key
+returns-then-low-key c =
+    let r = c.args.rows in
+    let I = bytes_of (rows_image r) in
+    let count : row_count (rows_size r) (rows_item r) ≡ c.count-count.result = sym c.count-count.ensures in
+    let last : c.args.low ≤ row_key I (rows_key_size r) (row_place (rows_size r) (rows_item r) (row_count (rows_size r) (rows_item r) - 1)) = rw (count, ← c.key.ensures.value) (omega (arith, c.if-key-low.false)) in
+    let less : c.args.low < row_key I (rows_key_size r) (row_place (rows_size r) (rows_item r) 0) = rw (← c.key-2.ensures.value) c.if-low-key.true in
+    let none : IsUpToKey I (rows_key_size r) (rows_size r) (rows_item r) c.args.low 0 = record { within = omega arith; before = λ pos. absurd (omega (arith, pos)); after = λ more. less } in
+    record {
+      there = omega (arith, count, c.if-count-eq0.false);
+      last = last;
+      here = rest_none_below I (rows_key_size r) (rows_size r) (rows_item r) c.args.low c.requires.low c.requires.high 0 c.requires.rise none refl;
+    }
 
 pub returns-then-most-eq0 : goal.returns-then-most-eq0
 returns-then-most-eq0 c =
@@ -45,7 +60,7 @@ returns-then-key-low-2 c =
     record {
       there = omega (arith, c.up_to-most.ensures.within, c.if-most-eq0.false);
       last = last;
-      here = rest_is (bytes_of (rows_image r)) (rows_key_size r) (rows_size r) (rows_item r) c.args.low c.requires.low c.requires.high n c.requires.rise c.up_to-most.ensures (omega (arith, c.if-most-eq0.false)) (sym c.key-2.ensures.value ∙ c.if-key-low-2.true);
+      here = rest_is (bytes_of (rows_image r)) (rows_key_size r) (rows_size r) (rows_item r) c.args.low c.requires.low c.requires.high n c.requires.rise c.up_to-most.ensures (omega (arith, c.if-most-eq0.false)) (sym c.key-3.ensures.value ∙ c.if-key-low-2.true);
     }
 
 pub returns : goal.returns
@@ -55,7 +70,7 @@ returns c =
     let pos : 0 < n = omega (arith, c.if-most-eq0.false) in
     let count : row_count (rows_size r) (rows_item r) ≡ c.count-count.result = sym c.count-count.ensures in
     let last : c.args.low ≤ row_key (bytes_of (rows_image r)) (rows_key_size r) (row_place (rows_size r) (rows_item r) (row_count (rows_size r) (rows_item r) - 1)) = rw (count, ← c.key.ensures.value) (omega (arith, c.if-key-low.false)) in
-    let less : row_key (bytes_of (rows_image r)) (rows_key_size r) (row_place (rows_size r) (rows_item r) (n - 1)) < c.args.low = below _ _ (c.up_to-most.ensures.before pos) (λ e. c.if-key-low-2.false (c.key-2.ensures.value ∙ e)) in
+    let less : row_key (bytes_of (rows_image r)) (rows_key_size r) (row_place (rows_size r) (rows_item r) (n - 1)) < c.args.low = below _ _ (c.up_to-most.ensures.before pos) (λ e. c.if-key-low-2.false (c.key-3.ensures.value ∙ e)) in
     record {
       there = below n (row_count (rows_size r) (rows_item r)) c.up_to-most.ensures.within (λ e. not_all (λ (i : ℕ). row_key (bytes_of (rows_image r)) (rows_key_size r) (row_place (rows_size r) (rows_item r) (i - 1))) n (row_count (rows_size r) (rows_item r)) c.args.low e less last);
       last = last;

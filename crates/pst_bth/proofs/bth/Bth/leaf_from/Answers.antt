@@ -24,3 +24,14 @@ returns-clause-found c =
     let levels : c.number8-levels.result ≡ levels_in h.image b.head = cc (c.number8-levels.ensures, c.image-image.ensures.bytes) in
     let found : LeafFrom h.image z.key (leaf_size z) c.args.low (tree_rows h z (levels_in h.image b.head) (root_place b.head)) c.leaf_below.result = rw levels at c.leaf_below.ensures.found in
     rw (rows_some h z b.head root) found
+
+pub returns-then-levels-eq0-clause-found : goal.returns-then-levels-eq0-clause-found
+returns-then-levels-eq0-clause-found c =
+    let b = c.args.self.now in
+    let h = data_of (heap_of b) in
+    let z = sizes_in b in
+    let same : root_in h.image b.head ≡ c.number32.result = cc (c.number32.ensures, c.image-image.ensures.bytes) in
+    let root : root_in h.image b.head ≢ 0 = λ e. c.if-number32-eq0.false (sym same ∙ e) in
+    let levels : levels_in h.image b.head ≡ 0 = cc (c.number8-levels.ensures, c.image-image.ensures.bytes, c.if-levels-eq0.true) in
+    let found : LeafFrom h.image z.key (leaf_size z) c.args.low (tree_rows h z (levels_in h.image b.head) (root_place b.head)) c.leaf_at.result = rw levels c.leaf_at.ensures.found in
+    rw (rows_some h z b.head root) found
