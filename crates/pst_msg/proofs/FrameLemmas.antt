@@ -267,31 +267,22 @@ pub stack_ends : (t : Table) (root : Roots) (k : Known) → IsStack t root k [] 
 unfolding IsStack
 stack_ends t root k is = is
 
-pub two_steps : (t : Table) (all rest : List Frame) (last below above : Frame) → all ≡ rest ++ (last ∷ []) → frame_steps t below + frame_steps t above < frame_steps t last → sum_by (frame_steps t) ((rest ++ (below ∷ [])) ++ (above ∷ [])) < sum_by (frame_steps t) all
-two_steps t all rest last below above is less =
-    let before : sum_by (frame_steps t) all ≡ sum_by (frame_steps t) rest + frame_steps t last = ap (λ xs. sum_by (frame_steps t) xs) is ∙ sum_by_push (frame_steps t) rest last in
-    let after : sum_by (frame_steps t) ((rest ++ (below ∷ [])) ++ (above ∷ [])) ≡ sum_by (frame_steps t) rest + frame_steps t below + frame_steps t above =
-    sum_by_push (frame_steps t) (rest ++ (below ∷ [])) above ∙ ap (λ n. n + frame_steps t above) (sum_by_push (frame_steps t) rest below) in
-    omega (arith, before, after, less)
+-- one is gone on with, and the others wait for it
+pub stack_begun : (t : Table) (k : Known) (root : Roots) (all : List Frame) (f : Frame) → all ≡ [] → IsOpened t k root LISTS None f → IsStack t root k (f ∷ reverse all)
+stack_begun t k root all f is opened = rw is (stack_begins t k root f opened)
 
-pub two_first : (all rest : List Frame) (below above : Frame) → all ≡ (rest ++ (below ∷ [])) ++ (above ∷ []) → reverse all ≡ above ∷ below ∷ reverse rest
-two_first all rest below above is = last_first all (rest ++ (below ∷ [])) above is ∙ ap (λ xs. above ∷ xs) (last_first (rest ++ (below ∷ [])) rest below refl)
+pub one_pushed : (t : Table) (H : List NodeEntry → Type 0) (root : Roots) (old k : Known) (all new : List Frame) (f below above : Frame) → new ≡ all ++ (below ∷ []) → IsStack t root old (f ∷ reverse all) → Grows t H old k → IsWentOn t k f below above → IsStack t root k (above ∷ reverse new)
+one_pushed t H root old k all new f below above is stack g on = rw (last_first new all below is) (stack_pushed t H root old k f below above (reverse all) stack g on)
 
--- the last one of the stack in memory
-pub on_top : (t : Table) (root : Roots) (k : Known) (all rest : List Frame) (f : Frame) → all ≡ rest ++ (f ∷ []) → IsStack t root k (reverse all) → IsTop t root k f
-on_top t root k all rest f is stack = stack_top t root k f (reverse rest) (rw (last_first all rest f is) at stack)
+pub one_popped : (t : Table) (root : Roots) (k : Known) (all rest : List Frame) (f : Frame) → all ≡ rest ++ (f ∷ []) → IsStack t root k (reverse all) → IsStack t root k (f ∷ reverse rest)
+one_popped t root k all rest f is stack = rw (last_first all rest f is) at stack
 
-pub top_refused : (t : Table) (root : Roots) (k : Known) (all rest : List Frame) (f : Frame) (e : Fault) → all ≡ rest ++ (f ∷ []) → IsTrueOf t k → IsStack t root k (reverse all) → IsFirst (message_at (table_of_node f.node) f.limit (roots_of f.node)) e → IsFirst (message_fault t root) e
-top_refused t root k all rest f e is known stack refused =
-    let top : IsTop t root k f = on_top t root k all rest f is stack in
-    stack_refused t root k f (reverse rest) e known (rw top.frame.table at refused) (rw (last_first all rest f is) at stack)
+pub none_waits : (t : Table) (root : Roots) (k : Known) (all : List Frame) → all ≡ [] → IsStack t root k (reverse all) → WholeIn k.messages root
+none_waits t root k all is stack = stack_ends t root k (rw is at stack)
 
-pub top_popped : (t : Table) (H : List NodeEntry → Type 0) (root : Roots) (old k : Known) (all rest : List Frame) (f : Frame) → all ≡ rest ++ (f ∷ []) → IsStack t root old (reverse all) → Grows t H old k → IsTrueOf t k → WholeIn k.messages (roots_of f.node) → HolderIn k f → IsStack t root k (reverse rest)
-top_popped t H root old k all rest f is stack g known there whole = stack_popped t H root old k f (reverse rest) (rw (last_first all rest f is) at stack) g known there whole
+-- how often they can be gone on with
 
-pub top_pushed : (t : Table) (H : List NodeEntry → Type 0) (root : Roots) (old k : Known) (all rest new : List Frame) (f below above : Frame) → all ≡ rest ++ (f ∷ []) → new ≡ (rest ++ (below ∷ [])) ++ (above ∷ []) → IsStack t root old (reverse all) → Grows t H old k → IsWentOn t k f below above → IsStack t root k (reverse new)
-top_pushed t H root old k all rest new f below above is pushed stack g on =
-    rw (two_first new rest below above pushed) (stack_pushed t H root old k f below above (reverse rest) (rw (last_first all rest f is) at stack) g on)
-
-pub two_fewer : (t : Table) (all rest new : List Frame) (last below above : Frame) → all ≡ rest ++ (last ∷ []) → new ≡ (rest ++ (below ∷ [])) ++ (above ∷ []) → frame_steps t below + frame_steps t above < frame_steps t last → sum_by (frame_steps t) new < sum_by (frame_steps t) all
-two_fewer t all rest new last below above is pushed less = rw pushed (two_steps t all rest last below above is less)
+pub fewer_pushed : (t : Table) (all new : List Frame) (last below above : Frame) → new ≡ all ++ (below ∷ []) → frame_steps t below + frame_steps t above < frame_steps t last → frame_steps t above + sum_by (frame_steps t) new < frame_steps t last + sum_by (frame_steps t) all
+fewer_pushed t all new last below above is less =
+    let after : sum_by (frame_steps t) new ≡ sum_by (frame_steps t) all + frame_steps t below = ap (λ xs. sum_by (frame_steps t) xs) is ∙ sum_by_push (frame_steps t) all below in
+    omega (arith, after, less)

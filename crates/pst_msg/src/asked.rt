@@ -100,6 +100,11 @@ impl Asked {
         ((data, matrix), role_number(role))
     }
 
+    /// Whether it is kept what the context of a node asks. Of most contexts it is not.
+    pub(crate) fn has(&self, role: Role, node: Node) -> bool {
+        self.asks.contains_key(&self.key_of(role, node))
+    }
+
     /// Whether so many subnodes were asked for by the context of a node that an index of the list pays.
     pub(crate) fn are_many(&self, role: Role, node: Node) -> bool {
         match self.asks.get(&self.key_of(role, node)) {

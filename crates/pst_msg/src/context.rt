@@ -1,6 +1,7 @@
 //! The contexts, each checked once.
 
-ghost use Rattle.std.specs.Prelude.{◌≡◌, OnOk};
+ghost use Rattle.std.specs.Prelude.{◌≡◌, true, None, IfOk, IfErr, OnOk};
+ghost use Rattle.pst_fault.specs.Fault.{no_memory};
 ghost use Rattle.pst_fault.specs.First.{Tells};
 ghost use Rattle.pst_ndb.specs.Views.{table_of_node, roots_of};
 ghost use Rattle.pst_pc.specs.pst_heap.Maps.{AreMapsTrue};
@@ -21,6 +22,29 @@ use pst_ndb::Node;
 use pst_pc::Maps;
 use std::alloc::Global;
 
+// Whether the context of a node is known to have no fault, by another list that was asked for the same. It is of few, so this
+// stands apart.
+#[inline(never)]
+fn answers_by(
+    alloc: Global,
+    role: Role,
+    node: Node,
+    index: &mut ListIndex,
+    asked: &Asked,
+) -> Result<bool, Fault>
+    requires index { IsIndexIn (table_of_node node) index.old }
+    requires asked { AreAskedTrue (table_of_node node) asked.now }
+    ensures index { IsIndexIn (table_of_node node.entry) index.new }
+    ensures known { let t = table_of_node node.entry in IfOk result (λ yes. yes ≡ true →
+        role_fault t role (roots_of node.entry) ≡ None) }
+    ensures memory { IfErr result (λ f. f ≡ no_memory) }
+{
+    if asked.are_many(role, node) {
+        index.turn(alloc, node)?;
+    }
+    Ok(asked.answers(role, index.lend(node)))
+}
+
 // Checks the context of a node, unless its data is known, by another list that was asked for the same, to have no fault.
 fn check_by(
     alloc: Global,
@@ -39,10 +63,7 @@ fn check_by(
     ensures exact { let t = table_of_node node.entry in
         Tells result (role_fault t role (roots_of node.entry)) tt }
 {
-    if asked.are_many(role, node) {
-        index.turn(alloc, node)?;
-    }
-    if asked.answers(role, index.lend(node)) {
+    if asked.has(role, node) && answers_by(alloc, role, node, index, asked)? {
         return Ok(());
     }
     index.turn(alloc, node)?;

@@ -16,17 +16,3 @@ pub(crate) struct Frame<'a> {
     /// How many lists of subnodes may nest below it.
     pub(crate) limit: u32,
 }
-
-impl<'a> Frame<'a> {
-    ghost use Rattle.std.specs.Prelude.{◌≡◌};
-    ghost use Rattle.pst_msg.specs.Frames.{with_rest};
-
-    /// The same message with these rows left.
-    pub(crate) fn with_rest(self, rest: Rows<'a>) -> Frame<'a>
-        ensures { result ≡ with_rest self.entry rest.entry }
-    {
-        let mut frame = self;
-        frame.rest = rest;
-        frame
-    }
-}

@@ -14,6 +14,9 @@ use std::alloc::Global;
 // So many entries stand in one SLBLOCK at most, and are looked through without an index.
 const FEW: u64 = 340;
 
+// Where fewer rows are left, the entries of the list are not even counted.
+const FEWER_ROWS: u32 = 2;
+
 // So many rows are looked up without an index, since to make one takes about as long as to go through the list so often.
 const FEW_ROWS: u32 = 200;
 
@@ -44,10 +47,10 @@ fn entries_of(node: Node) -> u64
     count
 }
 
-// Whether so many rows are left that an index is worth its making.
-fn are_many(rows: Rows) -> bool {
-    let mut rest = rows;
-    for _ in 0..FEW_ROWS {
+// Whether so many rows are left.
+fn are_left(rows: &Rows, wanted: u32) -> bool {
+    let mut rest = *rows;
+    for _ in 0..wanted {
         if rest.next().is_none() {
             return false;
         }
@@ -102,16 +105,16 @@ impl Indexes {
     /// Makes the index of a node's list, where that is long and many rows are left to be looked up there; unless it is there
     /// already. It is made at the expense of those of lists with fewer than twice as many entries: to make them again takes no
     /// more than a few times what this one does.
-    pub(crate) fn turn(&mut self, alloc: Global, node: Node, rows: Rows) -> Result<(), Fault>
+    pub(crate) fn turn(&mut self, alloc: Global, node: Node, rows: &Rows) -> Result<(), Fault>
         requires { AreIndexes (table_of_node node) self.old }
         ensures index { AreIndexes (table_of_node node.entry) self.new }
         ensures memory { IfErr result (λ f. f ≡ no_memory) }
     {
-        if self.of_list(node).is_some() {
+        if !are_left(rows, FEWER_ROWS) || self.of_list(node).is_some() {
             return Ok(());
         }
         let entries = entries_of(node);
-        if entries <= FEW || !are_many(rows) {
+        if entries <= FEW || !are_left(rows, FEW_ROWS) {
             return Ok(());
         }
         self.give_way(entries);

@@ -1,5 +1,5 @@
-//! The check of a message, and of all that it holds. Messages nest in one another, and those that are being gone through stand on
-//! a stack in memory.
+//! The check of a message, and of all that it holds. Messages nest in one another: one is gone on with, and those that wait for it
+//! stand on a stack in memory.
 
 ghost use Rattle.std.specs.Prelude.{◌≡◌, [], None, OnOk, IfOk, IfErr, IfSome, IfNone};
 ghost use Rattle.pst_fault.specs.Fault.{no_memory};
@@ -46,37 +46,32 @@ fn turn_to(frame: &Frame, known: &mut Known) -> Result<(), Fault>
     ensures grows { Grows (table_of_node frame.now.node) (λ nodes. Unit {0}) known.old known.new }
     ensures memory { IfErr result (λ f. f ≡ no_memory) }
 {
-    let mut left = frame.rest;
-    match left.next() {
-        Some(_) => known.indexes.turn(known.alloc, frame.node, frame.rest),
-        None => Ok(()),
-    }
+    known.indexes.turn(known.alloc, frame.node, &frame.rest)
 }
 
 // Goes on with a message: through its rows, up to one whose attachment embeds a message that has to be gone through first, which
-// is given beside it; and after the last of them the message is remembered.
-fn go_on<'a>(frame: Frame<'a>, known: &mut Known) -> Result<Option<(Frame<'a>, Frame<'a>)>, Fault>
-    requires known { IsTrueOf (table_of_node frame.node) known.old }
-    requires frame { IsFrame (table_of_node frame.node) known.old None None frame }
-    requires holder { HasHolder (table_of_node frame.node) known.old frame }
-    ensures known { IsTrueOf (table_of_node frame.entry.node) known.new }
-    ensures grows { let t = table_of_node frame.entry.node in
-        Grows t (λ nodes. HasMessage t nodes (roots_of frame.entry.node)) known.old known.new }
-    ensures refused { let t = table_of_node frame.entry.node in
-        IfErr result (IsFirst (message_at t frame.entry.limit (roots_of frame.entry.node))) }
-    ensures done { IfOk result (λ o. IfNone o (WholeIn known.new.messages (roots_of frame.entry.node)
-        × HolderIn known.new frame.entry)) }
-    ensures open { let t = table_of_node frame.entry.node in
-        IfOk result (λ o. IfSome o (λ p. IsWentOn t known.new frame.entry p.0 p.1)) }
+// is given; and after the last of them the message is remembered.
+fn go_on<'a>(frame: &mut Frame<'a>, known: &mut Known) -> Result<Option<Frame<'a>>, Fault>
+    requires known { IsTrueOf (table_of_node frame.old.node) known.old }
+    requires frame { IsFrame (table_of_node frame.old.node) known.old None None frame.old }
+    requires holder { HasHolder (table_of_node frame.old.node) known.old frame.old }
+    ensures known { IsTrueOf (table_of_node frame.old.node) known.new }
+    ensures grows { let t = table_of_node frame.old.node in
+        Grows t (λ nodes. HasMessage t nodes (roots_of frame.old.node)) known.old known.new }
+    ensures refused { let t = table_of_node frame.old.node in
+        IfErr result (IsFirst (message_at t frame.old.limit (roots_of frame.old.node))) }
+    ensures done { IfOk result (λ o. IfNone o (WholeIn known.new.messages (roots_of frame.old.node)
+        × HolderIn known.new frame.old)) }
+    ensures open { let t = table_of_node frame.old.node in
+        IfOk result (λ o. IfSome o (IsWentOn t known.new frame.old frame.new)) }
 {
-    turn_to(&frame, known)?;
-    let mut rest = frame.rest;
-    while let Some(row) = rest.next() {
+    turn_to(frame, known)?;
+    while let Some(row) = frame.rest.next() {
         if let Some(above) = open_row(frame.node, frame.bid, row, frame.limit, known)? {
-            return Ok(Some((frame.with_rest(rest), above)));
+            return Ok(Some(above));
         }
     }
-    finish(&frame.with_rest(rest), known)?;
+    finish(frame, known)?;
     Ok(None)
 }
 
@@ -94,13 +89,19 @@ pub(crate) fn check_message(node: Node, known: &mut Known) -> Result<(), Fault>
     let Some(first) = open_message(node, LISTS, None, known)? else {
         return Ok(());
     };
+    // The message that is gone on with; those on the stack wait for it.
+    let mut last = first;
     let mut stack = Vec::new(known.alloc);
-    stack.push(first)?;
-    while let Some(last) = stack.pop() {
-        if let Some((below, above)) = go_on(last, known)? {
-            stack.push(below)?;
-            stack.push(above)?;
+    loop {
+        match go_on(&mut last, known)? {
+            Some(above) => {
+                stack.push(last)?;
+                last = above;
+            }
+            None => match stack.pop() {
+                Some(below) => last = below,
+                None => return Ok(()),
+            },
         }
     }
-    Ok(())
 }

@@ -15,8 +15,8 @@ use std::cmp::{Ord, Ordering};
 use std::collections::BTreeSet;
 use std::marker::Model;
 
-/// A set of keys, seen as the list of them in order. A key above all others, or with one other key above it, is put and
-/// looked for in a few comparisons. Of other keys the set costs what a `BTreeSet` does.
+/// A set of keys, seen as the list of them in order. A key above all others is put and looked for in a few comparisons; one that
+/// only the last key of the run is above is put so, too. Of other keys the set costs what a `BTreeSet` does.
 #[derive(Drop)]
 pub(crate) struct RisingSet<K: Ord> {
     // Keys that strictly rise.

@@ -2,5 +2,5 @@ use Rattle.pst_ndb.specs.Views.{table_of_node}
 use Rattle.pst_msg.proofs.KnownLemmas.{indexes_turned}
 use Rattle.pst_msg.proofs.message.turn_to.Goals as goal
 
-pub returns-in-Some-clause-known : goal.returns-in-Some-clause-known
-returns-in-Some-clause-known c = indexes_turned (table_of_node c.args.frame.now.node) c.args.known.now c.turn.new.self c.requires c.turn.ensures.index
+pub returns-clause-known : goal.returns-clause-known
+returns-clause-known c = indexes_turned (table_of_node c.args.frame.now.node) c.args.known.now c.turn.new.self c.requires c.turn.ensures.index
