@@ -21,13 +21,7 @@ rest_of p = records_left p.rest
 abbrev pub props_left : Props → List Property
 props_left p = let node = node_of_pc (pc_left p) in map (property_at (table_of_node node) (roots_of node)) (rest_of p)
 
--- the property of the first record that is left, and what is left behind it; none exactly where none is left
-abbrev pub IsPropSplit : Props → Option (Prop × Props) → Type 0
-IsPropSplit old None = rest_of old ≡ []
-IsPropSplit old (Some p) =
-    (x : ℕ × Span) × (rest_of old ≡ x ∷ rest_of p.1) × IsPropAt (node_of_pc (pc_left old)) x p.0 × (pc_left p.1 ≡ pc_left old)
-
--- the same, of what is taken
+-- the property of the first record that is left is taken; none exactly where none is left
 abbrev pub LendsProp : Props → Option Prop → Props → Type 0
 LendsProp old None new = rest_of old ≡ []
 LendsProp old (Some p) new = (x : ℕ × Span) × (rest_of old ≡ x ∷ rest_of new) × IsPropAt (node_of_pc (pc_left old)) x p

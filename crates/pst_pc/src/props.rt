@@ -26,24 +26,6 @@ pub struct Props<'a> {
         first_of (property_fault (table_of_node node) (roots_of node)) (records_left rest) ≡ None },
 }
 
-impl<'a> Props<'a> {
-    ghost use Rattle.pst_pc.specs.Left.{IsPropSplit};
-
-    // The first property, and what is left behind it.
-    #[tactic(auto, unfolding(pst_bth::specs::Rows::row_key), using(crate::proofs::PcLemmas::first_sound, crate::proofs::PcLemmas::rest_sound))]
-    fn split(self) -> Option<(Prop<'a>, Props<'a>)>
-        ensures { IsPropSplit self.entry result }
-    {
-        let mut rest = self.rest;
-        let Some((_, content)) = rest.next() else {
-            return None;
-        };
-        let id = self.pc.node().image().number16(content.at - 2);
-        let prop = self.pc.prop(id, content);
-        Some((prop, Props { pc: self.pc, rest }))
-    }
-}
-
 impl<'a> Iterator for Props<'a> {
     ghost use Rattle.std.specs.Iterator.{item_count};
     ghost use Rattle.pst_pc.specs.Left.{props_left, TakesProp};
@@ -54,10 +36,11 @@ impl<'a> Iterator for Props<'a> {
 
     ghost remaining = { item_count props_left };
 
+    #[tactic(auto, unfolding(pst_bth::specs::Rows::row_key), using(crate::proofs::PcLemmas::first_sound, crate::proofs::PcLemmas::rest_sound))]
     fn next(&mut self) -> Option<Prop<'a>> {
-        let (prop, rest) = self.split()?;
-        *self = rest;
-        Some(prop)
+        let (_, content) = self.rest.next()?;
+        let id = self.pc.node().image().number16(content.at - 2);
+        Some(self.pc.prop(id, content))
     }
 }
 
