@@ -1,10 +1,10 @@
--- Years and months are taken away one by one, and 400 years at once.
-use Rattle.std.proofs.Common.{◌≡◌, ◌+◌, ◌-◌, ◌*◌, ◌≤◌, ◌<◌, ◌%◌, ◌/◌, ℕ, zero, suc, Bool, true, false, refl, sym, ap, ◌∙◌, arith}
+-- The years before a day are known without counting them; the months before a quarter are taken away at once, others one by one.
+use Rattle.std.proofs.Common.{◌≡◌, ◌+◌, ◌-◌, ◌*◌, ◌≤◌, ◌<◌, ◌/◌, ℕ, zero, suc, Bool, true, false, refl, sym, ap, ◌∙◌, arith}
 use Rattle.std.proofs.lemmas.Bool.Decides.{nat_tests}
-use Rattle.std.specs.Prelude.{nat_lt, ◌&&◌, ◌||◌, ◌==◌, not, if◌then◌else◌}
+use Rattle.std.specs.Prelude.{nat_lt, if◌then◌else◌}
 use Rattle.pst_time.specs.Calendar.{is_leap, days_in_year, days_in_month, Part, part, year_from, month_from}
 
--- ---- a year more
+-- ---- whole years
 
 some_days : (y : ℕ) → (365 ≤ days_in_year y) × (days_in_year y ≤ 366)
 some_days y = by_leap (is_leap y)
@@ -12,9 +12,6 @@ some_days y = by_leap (is_leap y)
     by_leap : (b : Bool) → (365 ≤ (if b then 366 else 365)) × ((if b then 366 else 365) ≤ 366)
     by_leap true = (omega arith, omega arith)
     by_leap false = (omega arith, omega arith)
-
-abbrev taken : Bool → ℕ → ℕ → ℕ → Part
-taken b more y n = if b then part y n else year_from more (y + 1) (n - days_in_year y)
 
 -- how many years may be taken away doesn't matter, where they are no fewer than the days
 years_same : (a b y n : ℕ) → n ≤ a → n ≤ b → year_from a y n ≡ year_from b y n
@@ -26,30 +23,18 @@ years_same (suc a) (suc b) y n p q =
     ap (λ x. if nat_lt n (days_in_year y) then part y n else x)
     (years_same a b (y + 1) (n - days_in_year y) (omega (arith, (some_days y).0)) (omega (arith, (some_days y).0)))
 
--- the year is over
-pub year_next : (y n : ℕ) → days_in_year y ≤ n → year_from n y n ≡ year_from (n - days_in_year y) (y + 1) (n - days_in_year y)
-unfolding year_from
-year_next y zero le = absurd (lemma_none (days_in_year y) (some_days y).0 le)
-  where
-    lemma_none : (d : ℕ) → 365 ≤ d → d ≤ 0 → ⊥
-    lemma_none d p q = omega (arith, p, q)
-year_next y (suc n) le =
-    let over : nat_lt (suc n) (days_in_year y) ≡ false = grind (arith, nat_tests, le) in
-    rw over (years_same n (suc n - days_in_year y) (y + 1) (suc n - days_in_year y) (omega (arith, (some_days y).0)) (omega arith))
-
 -- the day lies in the year
-pub year_here : (y n : ℕ) → n < days_in_year y → year_from n y n ≡ part y n
+year_here : (y n : ℕ) → n < days_in_year y → year_from n y n ≡ part y n
 unfolding year_from
 year_here y zero lt = refl
 year_here y (suc n) lt = let here : nat_lt (suc n) (days_in_year y) ≡ true = grind (arith, nat_tests, lt) in rw here refl
-
--- ---- 400 years more
 
 -- the days of so many years
 abbrev days_of : ℕ → ℕ → ℕ
 days_of zero y = 0
 days_of (suc k) y = days_in_year y + days_of k (y + 1)
 
+-- the years are over
 pass : (k more y n : ℕ) → year_from (k + more) y (days_of k y + n) ≡ year_from more (y + k) n
 unfolding year_from
 pass zero more y n =
@@ -63,55 +48,41 @@ pass (suc k) more y n =
     let behind : y + 1 + k ≡ y + suc k = omega arith in
     rw (fuel, over, left) (pass k more (y + 1) n ∙ ap (λ x. year_from more x n) behind)
 
-leap_again : (y : ℕ) → is_leap (y + 400) ≡ is_leap y
-leap_again y =
-    let four : (y + 400) % 4 ≡ y % 4 = omega arith in
-    let hundred : (y + 400) % 100 ≡ y % 100 = omega arith in
-    let all : (y + 400) % 400 ≡ y % 400 = omega arith in
-    rw (four, hundred, all) refl
+-- ---- the days of the years from 1601 on, without counting them
 
-days_again : (k y : ℕ) → days_of k (y + 400) ≡ days_of k y
-days_again zero y = refl
-days_again (suc k) y =
-    let behind : y + 400 + 1 ≡ (y + 1) + 400 = omega arith in
-    rw (leap_again y, behind, days_again k (y + 1)) refl
+-- the last of them
+days_last : (k y : ℕ) → days_of (suc k) y ≡ days_of k y + days_in_year (y + k)
+days_last zero y = let here : y + 0 ≡ y = omega arith in rw here (omega arith)
+days_last (suc k) y = let behind : y + 1 + k ≡ y + suc k = omega arith in
+    ap (λ d. days_in_year y + d) (days_last k (y + 1) ∙ ap (λ x. days_of k (y + 1) + days_in_year x) behind) ∙ omega arith
 
-cycle_days : (c : ℕ) → days_of 400 (1601 + 400 * c) ≡ 146097
-cycle_days zero = refl
-cycle_days (suc c) =
-    let behind : 1601 + 400 * suc c ≡ (1601 + 400 * c) + 400 = omega arith in
-    ap (days_of 400) behind ∙ days_again 400 (1601 + 400 * c) ∙ cycle_days c
+-- a leap day every four years, but of those that end a century only every fourth
+year_days : (k : ℕ) → days_in_year (1601 + k) + k / 4 + k / 400 + (k + 1) / 100 ≡ 365 + (k + 1) / 4 + (k + 1) / 400 + k / 100
+year_days k = grind (arith, nat_tests)
 
--- 400 years are over
-cycle_next : (c n : ℕ) → year_from (146097 + n) (1601 + 400 * c) (146097 + n) ≡ year_from n (1601 + 400 * suc c) n
-cycle_next c n =
-    let y = 1601 + 400 * c in
-    let fuel : 146097 + n ≡ 400 + (145697 + n) = omega arith in
-    let behind : y + 400 ≡ 1601 + 400 * suc c = omega arith in
-    ap (λ m. year_from m y (146097 + n)) fuel
-    ∙ ap (λ d. year_from (400 + (145697 + n)) y (d + n)) (sym (cycle_days c))
-    ∙ pass 400 (145697 + n) y n
-    ∙ years_same (145697 + n) n (y + 400) n (omega arith) (omega arith)
-    ∙ ap (λ x. year_from n x n) behind
+days_from : (k : ℕ) → days_of k 1601 + k / 100 ≡ 365 * k + k / 4 + k / 400
+days_from zero = refl
+days_from (suc k) = omega (arith, days_last k 1601, year_days k, days_from k)
 
-cycles_from : (c b n : ℕ) → year_from (146097 * c + n) (1601 + 400 * b) (146097 * c + n) ≡ year_from n (1601 + 400 * (b + c)) n
-cycles_from zero b n =
-    let none : 146097 * 0 + n ≡ n = omega arith in
-    let here : b + 0 ≡ b = omega arith in
-    rw (none, here) refl
-cycles_from (suc c) b n =
-    let more : 146097 * suc c + n ≡ 146097 + (146097 * c + n) = omega arith in
-    let behind : suc b + c ≡ b + suc c = omega arith in
-    ap (λ m. year_from m (1601 + 400 * b) m) more
-    ∙ cycle_next b (146097 * c + n) ∙ cycles_from c (suc b) n ∙ ap (λ x. year_from n (1601 + 400 * x) n) behind
+-- so many days lie before the year that is k behind 1601, and the day lies in it
+year_is : (day k rest : ℕ) → 365 * k + k / 4 + k / 400 + rest ≡ day + k / 100 → rest < days_in_year (1601 + k) → part (1601 + k) rest ≡ year_from day 1601 day
+year_is day k rest is lt =
+    let whole : day ≡ days_of k 1601 + rest = omega (arith, days_from k) in
+    sym
+    (years_same day (k + day) 1601 day (omega arith) (omega arith)
+    ∙ ap (λ d. year_from (k + day) 1601 d) whole
+    ∙ pass k day 1601 rest
+    ∙ years_same day rest (1601 + k) rest (omega arith) (omega arith)
+    ∙ year_here (1601 + k) rest lt)
 
--- all of them that there are
-pub cycles_over : (day : ℕ) → year_from (day % 146097) (1601 + 400 * (day / 146097)) (day % 146097) ≡ year_from day 1601 day
-cycles_over day =
-    let whole : day ≡ 146097 * (day / 146097) + day % 146097 = omega arith in
-    let first : 0 + day / 146097 ≡ day / 146097 = omega arith in
-    sym (ap (λ m. year_from m 1601 m) whole ∙ cycles_from (day / 146097) 0 (day % 146097)
-    ∙ ap (λ c. year_from (day % 146097) (1601 + 400 * c) (day % 146097)) first)
+-- the year behind q cycles, c centuries, f fours of years, and l years
+pub year_at : (day q c f l rest : ℕ) → c ≤ 3 → l ≤ 3 → day ≡ 146097 * q + 36524 * c + 1461 * f + 365 * l + rest
+    → 1461 * f + 365 * l + rest ≤ 36524 → (c < 3 → 1461 * f + 365 * l + rest < 36524) → 365 * l + rest < 1461 → (l < 3 → rest < 365)
+    → part (1601 + 400 * q + 100 * c + 4 * f + l) rest ≡ year_from day 1601 day
+year_at day q c f l rest few last is in_cycle in_century in_four in_year =
+    let k = 400 * q + 100 * c + 4 * f + l in
+    let number : 1601 + 400 * q + 100 * c + 4 * f + l ≡ 1601 + k = omega arith in
+    ap (λ y. part y rest) number ∙ year_is day k rest (omega arith) (grind (arith, year_days k))
 
 -- ---- a month more
 
@@ -135,3 +106,48 @@ month_here y m n whole low lt so_far =
 pub month_last : (y m n : ℕ) (whole : Part) → m ≡ 13 → month_from (13 - m) y m n ≡ whole → part m n ≡ whole
 unfolding month_from
 month_last y m n whole is so_far = let none : 13 - m ≡ 0 = omega arith in (let step = so_far in (rw none at step))
+
+-- ---- the months before a quarter
+
+-- the days of so many months
+abbrev months_days : ℕ → ℕ → ℕ → ℕ
+months_days zero y m = 0
+months_days (suc k) y m = days_in_month y m + months_days k y (m + 1)
+
+-- they are over
+months_pass : (k more y m n : ℕ) → month_from (k + more) y m (months_days k y m + n) ≡ month_from more y (m + k) n
+unfolding month_from
+months_pass zero more y m n =
+    let same : (x : ℕ) → 0 + x ≡ x = λ x. omega arith in
+    let here : m + 0 ≡ m = omega arith in
+    rw (same more, same n, here) refl
+months_pass (suc k) more y m n =
+    let fuel : suc k + more ≡ suc (k + more) = omega arith in
+    let over : nat_lt (days_in_month y m + months_days k y (m + 1) + n) (days_in_month y m) ≡ false = grind (arith, nat_tests) in
+    let left : days_in_month y m + months_days k y (m + 1) + n - days_in_month y m ≡ months_days k y (m + 1) + n = omega arith in
+    let behind : m + 1 + k ≡ m + suc k = omega arith in
+    rw (fuel, over, left) (months_pass k more y (m + 1) n ∙ ap (λ x. month_from more y x n) behind)
+
+abbrev leap_day : Bool → ℕ
+leap_day b = if b then 1 else 0
+
+february : (b : Bool) → (if b then 29 else 28) ≡ 28 + leap_day b
+february true = refl
+february false = refl
+
+-- so many months of the year are over, of which the second may have a leap day
+months_over : (k more y n leap days : ℕ) → k + more ≡ 12 → months_days k y 1 ≡ days + leap_day (is_leap y) → leap ≡ leap_day (is_leap y) → days + leap ≤ n
+    → month_from more y (1 + k) (n - days - leap) ≡ month_from 12 y 1 n
+months_over k more y n leap days all are is le =
+    let rest = n - days - leap in
+    let whole : months_days k y 1 + rest ≡ n = omega arith in
+    sym (months_pass k more y 1 rest) ∙ ap (λ m. month_from m y 1 (months_days k y 1 + rest)) all ∙ ap (λ d. month_from 12 y 1 d) whole
+
+pub second_quarter : (y n leap : ℕ) → leap ≡ leap_day (is_leap y) → 90 + leap ≤ n → month_from 9 y 4 (n - 90 - leap) ≡ month_from 12 y 1 n
+second_quarter y n leap is le = months_over 3 9 y n leap 90 refl (omega (arith, february (is_leap y))) is le
+
+pub third_quarter : (y n leap : ℕ) → leap ≡ leap_day (is_leap y) → 181 + leap ≤ n → month_from 6 y 7 (n - 181 - leap) ≡ month_from 12 y 1 n
+third_quarter y n leap is le = months_over 6 6 y n leap 181 refl (omega (arith, february (is_leap y))) is le
+
+pub last_quarter : (y n leap : ℕ) → leap ≡ leap_day (is_leap y) → 273 + leap ≤ n → month_from 3 y 10 (n - 273 - leap) ≡ month_from 12 y 1 n
+last_quarter y n leap is le = months_over 9 3 y n leap 273 refl (omega (arith, february (is_leap y))) is le

@@ -1,8 +1,20 @@
 //! The days of the Gregorian calendar.
 
-ghost use Rattle.std.specs.Prelude.{◌≡◌, ◌≤◌, ◌<◌, ℕ};
-ghost use Rattle.pst_time.specs.Calendar.{is_leap as leap, days_in_year as year_days, days_in_month as month_days, month_from, part};
+ghost use Rattle.std.specs.Prelude.{◌≡◌, ◌-◌, ◌≤◌, ◌<◌, ℕ};
+ghost use Rattle.pst_time.specs.Calendar.{is_leap as leap, days_in_month as month_days, month_from, part};
 ghost use Rattle.pst_time.specs.Calendar.{year_from};
+
+// The days of 400 years.
+const CYCLE: u64 = 146_097;
+
+// Those of 100 years whose last has no leap day.
+const CENTURY: u64 = 36_524;
+
+// Those of 4 years whose last has one.
+const FOUR: u64 = 1_461;
+
+// Those of a year that has none.
+const YEAR: u64 = 365;
 
 /// A unit of time, by its number, and how much of what was counted lies behind its start.
 #[derive(Clone, Copy, Debug, PartialEq, Eq)]
@@ -20,13 +32,6 @@ fn is_leap(year: u64) -> bool
     year % 4 == 0 && (year % 100 != 0 || year % 400 == 0)
 }
 
-// The days of a year.
-fn days_in_year(year: u64) -> u64
-    ensures { result ≡ year_days year }
-{
-    if is_leap(year) { 366 } else { 365 }
-}
-
 // The days of a month.
 fn days_in_month(year: u64, month: u64) -> u64
     ensures { result ≡ month_days year month }
@@ -39,21 +44,55 @@ fn days_in_month(year: u64, month: u64) -> u64
     }
 }
 
-/// The year in which a day lies that is counted from 1 January 1601 on. Every 400 years have the same days, and are passed over
-/// at once.
-#[tactic(auto, using(crate::proofs::CalendarLemmas::cycles_over, crate::proofs::CalendarLemmas::year_next, crate::proofs::CalendarLemmas::year_here))]
+/// The year in which a day lies that is counted from 1 January 1601 on: behind whole cycles of 400 years, centuries and fours of
+/// years. Only the last century of a cycle, and the last year of a four, may have a day more than the others.
 pub(crate) fn year_of_day(day: u64) -> Part
     requires { day < 4294967296 }
     ensures less { result.rest ≤ day }
     ensures year { part result.number result.rest ≡ year_from day 1601 day }
 {
-    let mut number = 1601 + 400 * (day / 146_097);
-    let mut rest = day % 146_097;
-    while rest >= days_in_year(number) {
-        rest -= days_in_year(number);
-        number += 1;
+    let (cycle, rest) = (day / CYCLE, day % CYCLE);
+    let century = (rest / CENTURY).min(3);
+    let rest = rest - CENTURY * century;
+    let (four, rest) = (rest / FOUR, rest % FOUR);
+    let last = (rest / YEAR).min(3);
+    Part {
+        number: 1601 + 400 * cycle + 100 * century + 4 * four + last,
+        rest: rest - YEAR * last,
     }
-    Part { number, rest }
+}
+
+// The quarter of a year in which a day lies, by its first month.
+#[tactic(auto, using(crate::proofs::CalendarLemmas::second_quarter, crate::proofs::CalendarLemmas::third_quarter, crate::proofs::CalendarLemmas::last_quarter))]
+fn quarter_of_day(year: u64, day: u64) -> Part
+    ensures less { result.rest ≤ day }
+    ensures first { (1 ≤ result.number) × (result.number ≤ 10) }
+    ensures month { month_from (13 - result.number) year result.number result.rest
+        ≡ month_from 12 year 1 day }
+{
+    let leap = u64::from(is_leap(year));
+    if day < 90 + leap {
+        return Part {
+            number: 1,
+            rest: day,
+        };
+    }
+    if day < 181 + leap {
+        return Part {
+            number: 4,
+            rest: day - 90 - leap,
+        };
+    }
+    if day < 273 + leap {
+        return Part {
+            number: 7,
+            rest: day - 181 - leap,
+        };
+    }
+    Part {
+        number: 10,
+        rest: day - 273 - leap,
+    }
 }
 
 /// The month in which a day of a year lies, from 1 on; the last has all days that are left.
@@ -62,8 +101,10 @@ pub(crate) fn month_of_day(year: u64, day: u64) -> Part
     ensures less { result.rest ≤ day }
     ensures month { part result.number result.rest ≡ month_from 12 year 1 day }
 {
-    let mut number = 1;
-    let mut rest = day;
+    let Part {
+        mut number,
+        mut rest,
+    } = quarter_of_day(year, day);
     while number <= 12 && rest >= days_in_month(year, number) {
         rest -= days_in_month(year, number);
         number += 1;

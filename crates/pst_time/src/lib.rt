@@ -8,6 +8,7 @@
 #![tactic(auto)]
 
 mod calendar;
+mod digits;
 mod time;
 
-pub use time::time_text;
+pub use time::{time_bytes, time_text};
