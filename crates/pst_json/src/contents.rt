@@ -20,8 +20,7 @@ ghost use Rattle.pst_json.specs.Told.{TellsDoc};
 use crate::fault::DocFault;
 use crate::texts::{CLASS, SENDER, SUBJECT, put_text_property, text_property_doc};
 use pst_value_json::{
-    Line, Made, Part, Pc, Row, Rows, Sink, Tc, TcRows, Tree, nid_text, put_comma, put_key, put_nid,
-    put_null,
+    Line, Made, Part, Pc, Row, Rows, Sink, Tc, TcRows, Tree, nid_text, put_comma, put_nid, put_null,
 };
 use pst_verify::{FOLDER, Message, Store, is_type};
 use serde_json::{Value as Doc, json};
@@ -92,14 +91,13 @@ fn put_listed(alloc: Global, store: &Store, row: Row, text: &mut Vec<u8>) -> Res
         OnOk result (text.new.items ≡ text.old.items ++ compact_text shown) }
 {
     let pc = properties_of(store.message(row.id()));
-    text.push(b'{')?;
-    put_key("class", false, text)?;
+    text.extend_from_slice(b"{\"class\":")?;
     put_text_of(alloc, &pc, CLASS, text)?;
-    put_key("nid", true, text)?;
+    text.extend_from_slice(b",\"nid\":")?;
     put_nid(row.id(), text)?;
-    put_key("sender", true, text)?;
+    text.extend_from_slice(b",\"sender\":")?;
     put_text_of(alloc, &pc, SENDER, text)?;
-    put_key("subject", true, text)?;
+    text.extend_from_slice(b",\"subject\":")?;
     put_text_of(alloc, &pc, SUBJECT, text)?;
     text.push(b'}')?;
     Ok(())

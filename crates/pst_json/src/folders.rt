@@ -19,9 +19,7 @@ ghost use Rattle.pst_value_json.specs.Parts.{list_data};
 use crate::folder_rows::FolderRows;
 use crate::nid_lists::{put_nid_list, put_nids_of};
 use crate::texts::{NAME, put_text_property, text_property_doc};
-use pst_value_json::{
-    Line, Part, Sink, Tc, Tree, nid_text, put_key, put_natural, put_nid, put_null,
-};
+use pst_value_json::{Line, Part, Sink, Tc, Tree, nid_text, put_natural, put_nid, put_null};
 use pst_verify::{Folder, Reach, Verified, path_from_root};
 use serde_json::{Value as Doc, json};
 use std::alloc::{AllocError, Global};
@@ -145,18 +143,17 @@ pub(crate) fn put_folder(
         OnOk result (text.new.items ≡ text.old.items ++ compact_text shown) }
 {
     folder.is_sound();
-    text.push(b'{')?;
-    put_key("associated", false, text)?;
+    text.extend_from_slice(b"{\"associated\":")?;
     put_natural(count_of(folder.associated()), text)?;
-    put_key("messages", true, text)?;
+    text.extend_from_slice(b",\"messages\":")?;
     put_natural(count_of(folder.contents()), text)?;
-    put_key("name", true, text)?;
+    text.extend_from_slice(b",\"name\":")?;
     put_text_property(alloc, &folder.pc(), NAME, text)?;
-    put_key("nid", true, text)?;
+    text.extend_from_slice(b",\"nid\":")?;
     put_nid(folder.nid(), text)?;
-    put_key("path", true, text)?;
+    text.extend_from_slice(b",\"path\":")?;
     put_path(alloc, reached, folder.nid(), text)?;
-    put_key("subfolders", true, text)?;
+    text.extend_from_slice(b",\"subfolders\":")?;
     put_nids_of(&folder.hierarchy(), text)?;
     text.push(b'}')?;
     Ok(())

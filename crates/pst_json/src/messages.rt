@@ -16,7 +16,7 @@ use crate::nid_lists::put_nid_list;
 use crate::row_counts::{Held, RowCounts};
 use crate::texts::{CLASS, SENDER, SUBJECT, put_text_property};
 use pst_value_json::{
-    Pc, PropType, put_i32_or_null, put_key, put_natural, put_nid, put_null, put_time_or_null,
+    Pc, PropType, put_i32_or_null, put_natural, put_nid, put_null, put_time_or_null,
 };
 use pst_verify::{MESSAGE, Message, Store, is_type};
 use std::alloc::{AllocError, Global};
@@ -37,13 +37,13 @@ const NUMBER: PropType = PropType(0x0003);
 
 // Puts the time of the property with an identifier behind a text; null where there is none, or it has another type.
 #[tactic(auto, unfolding(crate::specs::Messages::time_property))]
-fn put_time_property(alloc: Global, pc: &Pc, id: u16, text: &mut Vec<u8>) -> Result<(), AllocError>
+fn put_time_property(pc: &Pc, id: u16, text: &mut Vec<u8>) -> Result<(), AllocError>
     ensures { let node = node_of_pc pc.now in
         let shown = time_property (table_of_node node) (roots_of node) id in
         OnOk result (text.new.items ≡ text.old.items ++ compact_text shown) }
 {
     match pc.get(id) {
-        Some(prop) if prop.kind == TIME => put_time_or_null(alloc, prop.value, text),
+        Some(prop) if prop.kind == TIME => put_time_or_null(prop.value, text),
         _ => put_null(text),
     }
 }
@@ -77,26 +77,25 @@ fn put_shown(
         OnOk result (text.new.items ≡ text.old.items ++ compact_text shown) }
 {
     let pc = message.pc();
-    text.push(b'{')?;
-    put_key("attachments", false, text)?;
+    text.extend_from_slice(b"{\"attachments\":")?;
     put_natural(held.attachments, text)?;
-    put_key("class", true, text)?;
+    text.extend_from_slice(b",\"class\":")?;
     put_text_property(alloc, &pc, CLASS, text)?;
-    put_key("folders", true, text)?;
+    text.extend_from_slice(b",\"folders\":")?;
     put_nid_list(folders, text)?;
-    put_key("nid", true, text)?;
+    text.extend_from_slice(b",\"nid\":")?;
     put_nid(message.nid(), text)?;
-    put_key("received", true, text)?;
-    put_time_property(alloc, &pc, RECEIVED, text)?;
-    put_key("recipients", true, text)?;
+    text.extend_from_slice(b",\"received\":")?;
+    put_time_property(&pc, RECEIVED, text)?;
+    text.extend_from_slice(b",\"recipients\":")?;
     put_natural(held.recipients, text)?;
-    put_key("sender", true, text)?;
+    text.extend_from_slice(b",\"sender\":")?;
     put_text_property(alloc, &pc, SENDER, text)?;
-    put_key("sent", true, text)?;
-    put_time_property(alloc, &pc, SENT, text)?;
-    put_key("size", true, text)?;
+    text.extend_from_slice(b",\"sent\":")?;
+    put_time_property(&pc, SENT, text)?;
+    text.extend_from_slice(b",\"size\":")?;
     put_number_property(&pc, SIZE, text)?;
-    put_key("subject", true, text)?;
+    text.extend_from_slice(b",\"subject\":")?;
     put_text_property(alloc, &pc, SUBJECT, text)?;
     text.push(b'}')?;
     Ok(())

@@ -7,9 +7,7 @@ ghost use Rattle.pst_btree.specs.Trees.{node_entries};
 ghost use Rattle.pst_json.specs.Nodes.{node_data, node_rows, nodes_data, nodes_line as line_of_nodes};
 
 use pst_btree::{NodeEntry, NodeTree, Nodes};
-use pst_value_json::{
-    Line, Part, Rows, Sink, Tree, nid_text, put_comma, put_key, put_natural, put_nid,
-};
+use pst_value_json::{Line, Part, Rows, Sink, Tree, nid_text, put_comma, put_natural, put_nid};
 use serde_json::{Value as Doc, json};
 use std::alloc::{AllocError, Global};
 
@@ -30,14 +28,13 @@ fn node_doc(alloc: Global, entry: &NodeEntry) -> Result<Doc, AllocError>
 fn put_node(entry: &NodeEntry, text: &mut Vec<u8>) -> Result<(), AllocError>
     ensures { OnOk result (text.new.items ≡ text.old.items ++ compact_text (node_data entry.now)) }
 {
-    text.push(b'{')?;
-    put_key("data_bid", false, text)?;
+    text.extend_from_slice(b"{\"data_bid\":")?;
     put_natural(entry.bid_data, text)?;
-    put_key("nid", true, text)?;
+    text.extend_from_slice(b",\"nid\":")?;
     put_nid(entry.nid, text)?;
-    put_key("parent", true, text)?;
+    text.extend_from_slice(b",\"parent\":")?;
     put_nid(entry.parent, text)?;
-    put_key("sub_bid", true, text)?;
+    text.extend_from_slice(b",\"sub_bid\":")?;
     put_natural(entry.bid_sub, text)?;
     text.push(b'}')?;
     Ok(())

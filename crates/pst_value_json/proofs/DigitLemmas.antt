@@ -1,7 +1,7 @@
 -- Digits in hexadecimal, which stand for themselves between quotes.
-use Rattle.std.proofs.Common.{◌≡◌, ℕ, zero, suc, ◌+◌, ◌/◌, ◌%◌, ◌^◌, ◌<◌, ◌≤◌, Bool, true, false, cond, List, [], ◌∷◌, ◌++◌, length, drop, get_or, refl, sym, ap, ◌∙◌, inl, inr, arith, append_assoc, append-nil, eq-eqb}
+use Rattle.std.proofs.Common.{◌≡◌, ℕ, zero, suc, ◌+◌, ◌/◌, ◌%◌, ◌^◌, ◌<◌, ◌≤◌, Bool, true, false, cond, List, [], ◌∷◌, ◌++◌, length, drop, set, get_or, refl, sym, ap, ◌∙◌, inl, inr, arith, append_assoc, append-nil, eq-eqb}
 use Rattle.std.proofs.lemmas.Bool.{and_parts, cases_lt, ne_eqb, lt-ltb, le-ltb}
-use Rattle.std.proofs.lemmas.List.{drop_more, drop_all}
+use Rattle.std.proofs.lemmas.List.{drop_more, drop_all, drop-set}
 use Rattle.std.proofs.lemmas.Grind.{flat_map-append}
 use Rattle.std.specs.Prelude.{codes, slice_index, ◌&&◌}
 use Rattle.std.specs.Fmt.{digits, digits_onto, digit_glyph}
@@ -9,6 +9,8 @@ use Rattle.hex.specs.Hex.{lower_digits, upper_digits, encode_with}
 use Rattle.json.specs.Print.{escape, escape_byte}
 use Rattle.json.proofs.Printed.Strings.{escape_byte_plain}
 use Rattle.json.specs.Run.{is_plain}
+use Rattle.std.specs.Int.{byte_at, bytes_high_first}
+use Rattle.serde_json.specs.Data.{string}
 use Rattle.serde_json.specs.Written.{compact_text}
 use Rattle.pst_fault.specs.Fault.{hex}
 use Rattle.pst_value_json.specs.Names.{nid_data}
@@ -64,18 +66,43 @@ glyph_plain d h =
       | inr l ↦ rw (le-ltb d 10 l) (escape_byte_plain (87 + d) (λ e. omega arith) (λ e. omega arith) (omega arith))
     ]
 
--- a number of one digit
-pub digit_put : (n : ℕ) (text : List ℕ) → n < 16 → text ++ digit_glyph false n ∷ [] ≡ text ++ escape (hex n)
-digit_put n text h =
-    let same : n % 16 ≡ n = omega arith in
-    ap (λ l. text ++ l) (sym (ap escape (hex_last n h) ∙ append-nil (escape_byte (last_of n)) ∙ glyph_plain (n % 16) (omega arith) ∙ ap (λ d. digit_glyph false d ∷ []) same))
+-- the digits of a number are those before the last, and that one
+escape_step : (n : ℕ) → 16 ≤ n → n < 2 ^ 32 → escape (hex n) ≡ escape (hex (n / 16)) ++ last_of n ∷ []
+escape_step n h small = ap escape (hex_step n h small) ∙ flat_map-append escape_byte (hex (n / 16)) (last_of n ∷ [])
+    ∙ ap (λ l. escape (hex (n / 16)) ++ l) (append-nil (escape_byte (last_of n)) ∙ glyph_plain (n % 16) (omega arith))
 
--- the last digit, behind the others
-pub last_put : (n : ℕ) (text before : List ℕ) → 16 ≤ n → n < 2 ^ 32 → before ≡ text ++ escape (hex (n / 16)) → before ++ last_of n ∷ [] ≡ text ++ escape (hex n)
-last_put n text before h small is =
-    ap (λ l. l ++ last_of n ∷ []) is ∙ append_assoc text (escape (hex (n / 16))) (last_of n ∷ [])
-    ∙ ap (λ l. text ++ l) (sym (ap escape (hex_step n h small) ∙ flat_map-append escape_byte (hex (n / 16)) (last_of n ∷ [])
-    ∙ ap (λ l. escape (hex (n / 16)) ++ l) (append-nil (escape_byte (last_of n)) ∙ glyph_plain (n % 16) (omega arith))))
+escape_last : (n : ℕ) → n < 16 → escape (hex n) ≡ digit_glyph false n ∷ []
+escape_last n h =
+    let same : n % 16 ≡ n = omega arith in
+    ap escape (hex_last n h) ∙ append-nil (escape_byte (last_of n)) ∙ glyph_plain (n % 16) (omega arith) ∙ ap (λ d. digit_glyph false d ∷ []) same
+
+-- The digits from a place on are the last ones of a number, and what is left of it has those before them.
+abbrev pub AreSpelt : ℕ → ℕ → List ℕ → Type 0
+AreSpelt number left last = escape (hex left) ++ last ≡ escape (hex number)
+
+-- what is left has fewer digits than there was room for
+pub room_left : (left n : ℕ) → 16 ≤ left → left < 16 ^ suc n → (0 < n) × (left / 16 < 16 ^ n)
+room_left left zero h small = absurd (omega (arith, h, small))
+room_left left (suc n) h small = (omega arith, omega (arith, h, small))
+
+-- none is spelt yet
+pub none_spelt : (number : ℕ) (digits : List ℕ) → length digits ≡ 8 → AreSpelt number number (drop 8 digits)
+none_spelt number digits long = ap (λ l. escape (hex number) ++ l) (drop_all 8 digits (omega (arith, long))) ∙ append-nil (escape (hex number))
+
+-- the digit before them is spelt
+pub digit_spelt : (number left i : ℕ) (digits : List ℕ) → 16 ≤ left → left < 2 ^ 32 → i < length digits → AreSpelt number left (drop (i + 1) digits) → AreSpelt number (left / 16) (drop i (set digits i (last_of left)))
+digit_spelt number left i digits h small inside is =
+    ap (λ l. escape (hex (left / 16)) ++ l) (drop-set digits i (last_of left) inside)
+    ∙ sym (append_assoc (escape (hex (left / 16))) (last_of left ∷ []) (drop (i + 1) digits))
+    ∙ ap (λ l. l ++ drop (i + 1) digits) (sym (escape_step left h small))
+    ∙ is
+
+-- the first digit is spelt
+pub all_spelt : (number left i : ℕ) (digits : List ℕ) → left < 16 → i < length digits → AreSpelt number left (drop (i + 1) digits) → drop i (set digits i (digit_glyph false left)) ≡ escape (hex number)
+all_spelt number left i digits small inside is =
+    drop-set digits i (digit_glyph false left) inside
+    ∙ ap (λ l. l ++ drop (i + 1) digits) (sym (escape_last left small))
+    ∙ is
 
 -- the digits of a node's identifier, behind their prefix
 pub nid_put : (nid : ℕ) (text : List ℕ) → ((text ++ codes "\"0x") ++ escape (hex nid)) ++ 34 ∷ [] ≡ text ++ compact_text (nid_data nid)
@@ -99,15 +126,35 @@ byte_plain : (t : List ℕ) (b : ℕ) → are_plain t ≡ true → length t ≡ 
 unfolding encode_with
 byte_plain t b all long small = sym (rw (plain_at t (b / 16) all (omega arith), plain_at t (b % 16) all (omega arith)) refl)
 
-pub upper_put : (b : ℕ) (text : List ℕ) → b < 256 → text ++ (slice_index upper_digits (b / 16) ∷ slice_index upper_digits (b % 16) ∷ []) ≡ text ++ escape (encode_with upper_digits (b ∷ []))
-upper_put b text small = ap (λ l. text ++ l) (byte_plain upper_digits b refl refl small)
-
-pub lower_put : (b : ℕ) (text : List ℕ) → b < 256 → text ++ (slice_index lower_digits (b / 16) ∷ slice_index lower_digits (b % 16) ∷ []) ≡ text ++ escape (encode_with lower_digits (b ∷ []))
-lower_put b text small = ap (λ l. text ++ l) (byte_plain lower_digits b refl refl small)
-
 byte_first : (t : List ℕ) (b : ℕ) (rest : List ℕ) → escape (encode_with t (b ∷ rest)) ≡ escape (encode_with t (b ∷ [])) ++ escape (encode_with t rest)
 unfolding encode_with
 byte_first t b rest = flat_map-append escape_byte (slice_index t (b / 16) ∷ slice_index t (b % 16) ∷ []) (encode_with t rest)
+
+-- the bytes of a number
+byte_is_small : (i n : ℕ) → byte_at i n < 256
+byte_is_small zero n = omega arith
+byte_is_small (suc i) n = omega arith
+
+bytes_are_small : (count n k : ℕ) → slice_index (bytes_high_first count n) k < 256
+bytes_are_small zero n k = omega arith
+bytes_are_small (suc count) n zero = byte_is_small count n
+bytes_are_small (suc count) n (suc k) = bytes_are_small count n k
+
+-- digits in upper case stand for themselves
+upper_escaped : (bytes : List ℕ) → ((k : ℕ) → slice_index bytes k < 256) → escape (encode_with upper_digits bytes) ≡ encode_with upper_digits bytes
+unfolding encode_with
+upper_escaped [] small = refl
+upper_escaped (b ∷ bytes) small =
+    byte_first upper_digits b bytes
+    ∙ ap (λ l. l ++ escape (encode_with upper_digits bytes)) (sym (byte_plain upper_digits b refl refl (small 0)))
+    ∙ ap (λ l. slice_index upper_digits (b / 16) ∷ slice_index upper_digits (b % 16) ∷ l) (upper_escaped bytes (λ k. small (suc k)))
+
+-- those of the bytes of a number, in quotes
+pub upper_quoted : (count n : ℕ) (text : List ℕ) → let shown = encode_with upper_digits (bytes_high_first count n) in text ++ (34 ∷ (shown ++ 34 ∷ [])) ≡ text ++ compact_text (string shown)
+upper_quoted count n text = ap (λ l. text ++ 34 ∷ (l ++ 34 ∷ [])) (sym (upper_escaped (bytes_high_first count n) (bytes_are_small count n)))
+
+pub lower_put : (b : ℕ) (text : List ℕ) → b < 256 → text ++ (slice_index lower_digits (b / 16) ∷ slice_index lower_digits (b % 16) ∷ []) ≡ text ++ escape (encode_with lower_digits (b ∷ []))
+lower_put b text small = ap (λ l. text ++ l) (byte_plain lower_digits b refl refl small)
 
 -- the next byte is put
 pub byte_next : (t bytes : List ℕ) (i d b : ℕ) (text put whole : List ℕ) → i < length bytes → b ≡ get_or bytes i d → put ≡ text ++ escape (encode_with t (b ∷ []))

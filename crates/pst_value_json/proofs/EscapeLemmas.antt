@@ -1,10 +1,14 @@
 -- Texts between quotes, run by run.
-use Rattle.std.proofs.Common.{◌≡◌, ℕ, true, ◌+◌, ◌-◌, ◌<◌, ◌≤◌, List, [], ◌∷◌, ◌++◌, length, take, drop, get_or, sym, ap, ◌∙◌, append_assoc, append-nil}
+use Rattle.std.proofs.Common.{◌≡◌, ℕ, true, ◌+◌, ◌-◌, ◌<◌, ◌≤◌, List, [], ◌∷◌, ◌++◌, length, take, drop, get_or, refl, sym, ap, ◌∙◌, append_assoc, append-nil}
 use Rattle.std.specs.List.{prefix_len}
-use Rattle.std.proofs.lemmas.Bool.{or_parts, not-true, eqb-false, ltb-false}
-use Rattle.std.specs.Prelude.{◌||◌, ◌==◌}
+use Rattle.std.proofs.lemmas.Bool.{and_parts, or_parts, not-true, eqb-false, ltb-false}
+use Rattle.std.proofs.lemmas.List.Folds.{list_all-append}
+use Rattle.std.specs.Prelude.{◌||◌, ◌&&◌, ◌==◌}
 use Rattle.json.specs.Print.{escape, escape_byte}
 use Rattle.json.specs.Run.{is_plain}
+use Rattle.serde_json.specs.Data.{string}
+use Rattle.serde_json.specs.Written.{compact_text}
+use Rattle.pst_value_json.specs.Object.{all_plain}
 use Rattle.json.proofs.Printed.Strings.{escape_byte_plain, escape_to_stop, escape_at, escape_end}
 
 -- a byte that needs no escape
@@ -35,3 +39,20 @@ pub last_put : (shown : List ℕ) (at end : ℕ) (text put whole : List ℕ) →
     → put ≡ text ++ take (end - at) (drop at shown) → text ++ escape (drop at shown) ≡ whole → put ≡ whole
 last_put shown at end text put whole is all now so_far =
     sym (append-nil put) ∙ ap (λ l. put ++ l) (sym (sym (append-nil (escape (drop end shown))) ∙ escape_end shown end [] all)) ∙ run_put shown at end text put whole is now so_far
+
+-- ---- bytes that all stand for themselves
+
+pub all_escaped : (xs : List ℕ) → all_plain xs ≡ true → escape xs ≡ xs
+all_escaped [] all = refl
+all_escaped (x ∷ xs) all =
+    let both = and_parts (is_plain x) (all_plain xs) all in
+    ap (λ l. l ++ escape xs) (plain_byte x both.0) ∙ ap (λ l. x ∷ l) (all_escaped xs both.1)
+
+pub plain_append : (xs ys : List ℕ) → all_plain xs ≡ true → all_plain ys ≡ true → all_plain (xs ++ ys) ≡ true
+plain_append xs ys p q = list_all-append is_plain xs ys ∙ ap (λ b. b && all_plain ys) p ∙ q
+
+-- they are put between quotes
+pub plain_put : (xs text : List ℕ) → all_plain xs ≡ true → ((text ++ 34 ∷ []) ++ xs) ++ 34 ∷ [] ≡ text ++ compact_text (string xs)
+plain_put xs text all =
+    append_assoc (text ++ 34 ∷ []) xs (34 ∷ []) ∙ append_assoc text (34 ∷ []) (xs ++ 34 ∷ [])
+    ∙ ap (λ l. text ++ (34 ∷ (l ++ 34 ∷ []))) (sym (all_escaped xs all))

@@ -1,6 +1,7 @@
 pub mod CellLemmas
 pub mod DigitLemmas
 pub mod EscapeLemmas
+pub mod GuidLemmas
 pub mod HexLemmas
 pub mod MemberLemmas
 pub mod NameLemmas
@@ -9,4 +10,5 @@ pub mod PlainLemmas
 pub mod PlaceLemmas
 pub mod PropLemmas
 pub mod RowLemmas
+pub mod TimeLemmas
 pub mod ValueLemmas

@@ -3,8 +3,10 @@ use Rattle.std.proofs.Common.{◌≡◌, ℕ, Bool, true, false, List, [], ◌�
 use Rattle.std.specs.Prelude.{Option, Some, None, option_map}
 use Rattle.serde_json.specs.Data.{Data, string, object, Members, member, no_members}
 use Rattle.serde_json.specs.Written.{compact_text, members_text, comma_if}
-use Rattle.pst_value_json.specs.Object.{key_text, if_member_text, first_member_text}
+use Rattle.json.specs.Print.{escape}
+use Rattle.pst_value_json.specs.Object.{all_plain, key_text, if_member_text, first_member_text}
 use Rattle.pst_value_json.specs.Places.{if_asked, member_if}
+use Rattle.pst_value_json.proofs.EscapeLemmas.{all_escaped}
 
 -- the object begins
 pub opened : (ms : Members) (text put : List ℕ) → put ≡ text ++ 123 ∷ [] → put ++ members_text false ms ≡ text ++ compact_text (object ms)
@@ -45,3 +47,36 @@ first_there k d text key put keyed is = is ∙ ap (λ l. l ++ compact_text d) ke
 -- the object ends
 pub closed : (text put whole : List ℕ) → put ≡ text ++ 125 ∷ [] → text ++ members_text true no_members ≡ whole → put ≡ whole
 closed text put whole is so_far = is ∙ so_far
+
+-- ---- keys of which each byte stands for itself, put at once with what stands around them
+
+-- in its quotes, and with its colon
+abbrev pub marked : List ℕ → List ℕ
+marked k = 34 ∷ (k ++ 34 ∷ 58 ∷ [])
+
+key_is_marked : (later : Bool) (k : List ℕ) → all_plain k ≡ true → key_text later k ≡ comma_if later ++ marked k
+key_is_marked later k all =
+    append_assoc (comma_if later) (34 ∷ (escape k ++ 34 ∷ [])) (58 ∷ [])
+    ∙ ap (λ l. comma_if later ++ 34 ∷ l) (append_assoc (escape k) (34 ∷ []) (58 ∷ []) ∙ ap (λ l. l ++ 34 ∷ 58 ∷ []) (all_escaped k all))
+
+-- the object begins, with its first member
+pub first_marked : (k : List ℕ) (d : Data) (ms : Members) (text key put : List ℕ) → all_plain k ≡ true → key ≡ text ++ 123 ∷ marked k → put ≡ key ++ compact_text d
+    → put ++ members_text true ms ≡ text ++ compact_text (object (member k d ms))
+first_marked k d ms text key put all keyed is =
+    member_put false k d ms (text ++ 123 ∷ []) key put (text ++ compact_text (object (member k d ms)))
+    (keyed ∙ sym (append_assoc text (123 ∷ []) (marked k)) ∙ ap (λ l. (text ++ 123 ∷ []) ++ l) (sym (key_is_marked false k all))) is
+    (opened (member k d ms) text (text ++ 123 ∷ []) refl)
+
+-- the next member is put, behind a comma
+pub next_marked : (k : List ℕ) (d : Data) (ms : Members) (text key put whole : List ℕ) → all_plain k ≡ true → key ≡ text ++ 44 ∷ marked k → put ≡ key ++ compact_text d
+    → text ++ members_text true (member k d ms) ≡ whole → put ++ members_text true ms ≡ whole
+next_marked k d ms text key put whole all keyed is so_far =
+    member_put true k d ms text key put whole (keyed ∙ ap (λ l. text ++ l) (sym (key_is_marked true k all))) is so_far
+
+-- one is put behind a comma that may be there
+pub later_marked : (later : Bool) (k : List ℕ) (d : Data) (ms : Members) (text comma key put whole : List ℕ) → all_plain k ≡ true
+    → comma ≡ text ++ comma_if later → key ≡ comma ++ marked k → put ≡ key ++ compact_text d
+    → text ++ members_text later (member k d ms) ≡ whole → put ++ members_text true ms ≡ whole
+later_marked later k d ms text comma key put whole all before keyed is so_far =
+    member_put later k d ms text key put whole
+    (keyed ∙ ap (λ l. l ++ marked k) before ∙ append_assoc text (comma_if later) (marked k) ∙ ap (λ l. text ++ l) (sym (key_is_marked later k all))) is so_far

@@ -1,5 +1,7 @@
 -- An object, of the parts that it is made of.
 use Rattle.std.specs.Prelude.{◌≡◌, ℕ, Bool, true, false, Option, Some, None, List, [], ◌∷◌, ◌++◌}
+use Rattle.std.specs.List.{list_all}
+use Rattle.json.specs.Run.{is_plain}
 use Rattle.serde_json.specs.Data.{Data, string, array, object, Members, no_members, member, put}
 use Rattle.serde_json.specs.View.{items_of}
 use Rattle.serde_json.specs.Written.{compact_text, comma_if}
@@ -38,6 +40,10 @@ abbrev pub KeysRise : {R : Type 0} → (R → List Data) → List (Part R) → T
 KeysRise left parts = put_parts left no_members parts ≡ members_of_parts left parts
 
 -- ---- its text, part by part
+
+-- each byte stands for itself between quotes
+abbrev pub all_plain : List ℕ → Bool
+all_plain bytes = list_all is_plain bytes
 
 -- a key, behind a comma if others stand before it
 abbrev pub key_text : Bool → List ℕ → List ℕ

@@ -19,17 +19,25 @@ const LOWER: [u8; 16] = *b"0123456789abcdef";
 
 const UPPER: [u8; 16] = *b"0123456789ABCDEF";
 
+// How many digits a number has at most.
+const MOST: usize = 8;
+
 // Puts the digits of a number behind a text, without leading zeros.
-#[tactic(auto, using(crate::proofs::DigitLemmas::digit_put, crate::proofs::DigitLemmas::last_put))]
+#[tactic(auto, using(crate::proofs::DigitLemmas::none_spelt))]
 fn put_number(number: u32, text: &mut Vec<u8>) -> Result<(), AllocError>
     ensures { OnOk result (text.new.items ≡ text.old.items ++ escape (hex number)) }
 {
-    if number < 16 {
-        text.push(digit(number as u8))?;
-        return Ok(());
+    let mut digits = [0; MOST];
+    let mut first = MOST;
+    let mut left = number;
+    while left >= 16 {
+        first -= 1;
+        digits[first] = digit((left % 16) as u8);
+        left /= 16;
     }
-    put_number(number / 16, text)?;
-    text.push(digit((number % 16) as u8))?;
+    first -= 1;
+    digits[first] = digit(left as u8);
+    text.extend_from_slice(&digits[first..])?;
     Ok(())
 }
 
@@ -54,32 +62,22 @@ pub(crate) fn put_nid_or_null(nid: Option<u32>, text: &mut Vec<u8>) -> Result<()
     }
 }
 
-// Puts the two digits of a byte behind a text, in upper case.
-#[tactic(auto, using(crate::proofs::DigitLemmas::upper_put))]
-fn put_upper(byte: u8, text: &mut Vec<u8>) -> Result<(), AllocError>
-    ensures { OnOk result (text.new.items ≡ text.old.items ++ escape (encode_upper (byte ∷ []))) }
+// The two digits of a byte, in upper case.
+#[tactic(auto, unfolding(hex::specs::Hex::encode_with))]
+fn upper(byte: u8) -> [u8; 2]
+    ensures { result ≡ encode_upper (byte ∷ []) }
 {
-    text.extend_from_slice(&[UPPER[(byte / 16) as usize], UPPER[(byte % 16) as usize]])?;
-    Ok(())
-}
-
-// Puts the digits of bytes behind a text, in upper case.
-fn put_upper_bytes(bytes: &[u8], text: &mut Vec<u8>) -> Result<(), AllocError>
-    ensures { OnOk result (text.new.items ≡ text.old.items ++ escape (encode_upper bytes.now)) }
-{
-    for byte in bytes {
-        put_upper(*byte, text)?;
-    }
-    Ok(())
+    [UPPER[(byte / 16) as usize], UPPER[(byte % 16) as usize]]
 }
 
 /// Puts a property's identifier or type behind a text, as `"001F"`.
 pub(crate) fn put_id(id: u16, text: &mut Vec<u8>) -> Result<(), AllocError>
     ensures { OnOk result (text.new.items ≡ text.old.items ++ compact_text (string (id_text id))) }
 {
-    text.push(b'"')?;
-    put_upper_bytes(&id.to_be_bytes(), text)?;
-    text.push(b'"')?;
+    let [first, second] = id.to_be_bytes();
+    let [a, b] = upper(first);
+    let [c, d] = upper(second);
+    text.extend_from_slice(&[b'"', a, b, c, d, b'"'])?;
     Ok(())
 }
 
@@ -88,9 +86,12 @@ pub(crate) fn put_tag(tag: u32, text: &mut Vec<u8>) -> Result<(), AllocError>
     ensures { OnOk result (text.new.items
         ≡ text.old.items ++ compact_text (string (tag_text tag))) }
 {
-    text.push(b'"')?;
-    put_upper_bytes(&tag.to_be_bytes(), text)?;
-    text.push(b'"')?;
+    let [first, second, third, fourth] = tag.to_be_bytes();
+    let [a, b] = upper(first);
+    let [c, d] = upper(second);
+    let [e, f] = upper(third);
+    let [g, h] = upper(fourth);
+    text.extend_from_slice(&[b'"', a, b, c, d, e, f, g, h, b'"'])?;
     Ok(())
 }
 

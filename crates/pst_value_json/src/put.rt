@@ -1,9 +1,9 @@
 //! Values put straight behind a text, as JSON.
 
-ghost use Rattle.std.specs.Prelude.{◌≡◌, ◌++◌, OnOk};
+ghost use Rattle.std.specs.Prelude.{◌≡◌, ◌++◌, OnOk, true};
 ghost use Rattle.serde_json.specs.Data.{null, boolean, string};
 ghost use Rattle.serde_json.specs.Written.{compact_text};
-ghost use Rattle.pst_value_json.specs.Object.{key_text};
+ghost use Rattle.pst_value_json.specs.Object.{all_plain, key_text};
 ghost use Rattle.pst_value_json.specs.Parts.{natural, integer};
 
 use crate::compact::put_comma;
@@ -15,6 +15,18 @@ pub(crate) fn put_string(shown: &str, text: &mut Vec<u8>) -> Result<(), AllocErr
     ensures { OnOk result (text.new.items ≡ text.old.items ++ compact_text (string shown.now)) }
 {
     put_quoted(shown.as_bytes(), text)
+}
+
+/// Puts bytes in quotes behind a text, of which each stands for itself there.
+#[tactic(auto, using(crate::proofs::EscapeLemmas::plain_put))]
+pub(crate) fn put_plain(shown: &[u8], text: &mut Vec<u8>) -> Result<(), AllocError>
+    requires { all_plain shown.now ≡ true }
+    ensures { OnOk result (text.new.items ≡ text.old.items ++ compact_text (string shown.now)) }
+{
+    text.push(b'"')?;
+    text.extend_from_slice(shown)?;
+    text.push(b'"')?;
+    Ok(())
 }
 
 /// Puts a number behind a text.

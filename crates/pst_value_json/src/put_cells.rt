@@ -15,7 +15,6 @@ use crate::cells::cell_at;
 use crate::compact::{put_comma, put_doc};
 use crate::digits::{put_nid, put_tag};
 use crate::places::places_doc;
-use crate::put::put_key;
 use crate::put_values::{put_bytes, put_value};
 use pst_datatree::Value;
 use pst_tc::{Column, Row};
@@ -41,7 +40,7 @@ fn put_cell_value(
 }
 
 // Puts the places of a cell behind a text, where these are asked for: nothing stands before them in the object.
-#[tactic(auto, using(crate::proofs::MemberLemmas::first_there, crate::proofs::PropLemmas::places_have_none))]
+#[tactic(auto, unfolding(json::specs::Print::escape_byte), using(crate::proofs::MemberLemmas::first_there, crate::proofs::PropLemmas::places_have_none))]
 fn put_first_places(
     alloc: Global,
     places: bool,
@@ -53,7 +52,7 @@ fn put_first_places(
         ≡ text.old.items ++ first_member_text (codes "places") shown) }
 {
     if places {
-        put_key("places", false, text)?;
+        text.extend_from_slice(b"\"places\":")?;
         put_doc(alloc, &places_doc(alloc, value)?, text)?;
     }
     Ok(())
@@ -73,9 +72,10 @@ fn put_cell(
 {
     text.push(b'{')?;
     put_first_places(alloc, places, value, text)?;
-    put_key("tag", places, text)?;
+    put_comma(places, text)?;
+    text.extend_from_slice(b"\"tag\":")?;
     put_tag(column.tag, text)?;
-    put_key("value", true, text)?;
+    text.extend_from_slice(b",\"value\":")?;
     put_cell_value(alloc, column, value, text)?;
     text.push(b'}')?;
     Ok(())
@@ -141,10 +141,9 @@ pub(crate) fn put_table_row(
         (map column_of columns.now) (row_parts row.entry) in
         OnOk result (text.new.items ≡ text.old.items ++ compact_text shown) }
 {
-    text.push(b'{')?;
-    put_key("cells", false, text)?;
+    text.extend_from_slice(b"{\"cells\":")?;
     put_cells(alloc, row, columns, places, text)?;
-    put_key("row", true, text)?;
+    text.extend_from_slice(b",\"row\":")?;
     put_nid(row.id(), text)?;
     text.push(b'}')?;
     Ok(())

@@ -11,7 +11,7 @@ ghost use Rattle.pst_value_json.specs.Props.{kind_data, set_data, called_data, s
 use crate::compact::put_doc;
 use crate::digits::put_id;
 use crate::places::places_doc;
-use crate::put::{put_key, put_natural, put_null};
+use crate::put::{put_natural, put_null};
 use crate::put_values::{put_guid, put_text, put_value};
 use pst_datatree::Value;
 use pst_names::{Name, NameKind};
@@ -41,33 +41,33 @@ fn put_set(set: Option<Uuid>, text: &mut Vec<u8>) -> Result<(), AllocError>
 }
 
 // Puts what a property is called behind a text, where it has a name.
-#[tactic(auto, using(crate::proofs::MemberLemmas::there_put))]
+#[tactic(auto, unfolding(json::specs::Print::escape_byte), using(crate::proofs::MemberLemmas::there_put))]
 fn put_name_member(alloc: Global, name: &Option<Name>, text: &mut Vec<u8>) -> Result<(), AllocError>
     ensures { let shown = option_map called_data (option_map name_parts name.now) in
         OnOk result (text.new.items ≡ text.old.items ++ if_member_text (codes "name") shown) }
 {
     if let Some(name) = name {
-        put_key("name", true, text)?;
+        text.extend_from_slice(b",\"name\":")?;
         put_kind(alloc, name.kind, text)?;
     }
     Ok(())
 }
 
 // Puts the set of the name of a property behind a text, where it has a name.
-#[tactic(auto, using(crate::proofs::MemberLemmas::there_put))]
+#[tactic(auto, unfolding(json::specs::Print::escape_byte), using(crate::proofs::MemberLemmas::there_put))]
 fn put_set_member(name: &Option<Name>, text: &mut Vec<u8>) -> Result<(), AllocError>
     ensures { let shown = option_map set_of_data (option_map name_parts name.now) in
         OnOk result (text.new.items ≡ text.old.items ++ if_member_text (codes "set") shown) }
 {
     if let Some(name) = name {
-        put_key("set", true, text)?;
+        text.extend_from_slice(b",\"set\":")?;
         put_set(name.set, text)?;
     }
     Ok(())
 }
 
 // Puts the places of a value behind a text, where these are asked for.
-#[tactic(auto, using(crate::proofs::MemberLemmas::there_put, crate::proofs::PropLemmas::places_have_none))]
+#[tactic(auto, unfolding(json::specs::Print::escape_byte), using(crate::proofs::MemberLemmas::there_put, crate::proofs::PropLemmas::places_have_none))]
 fn put_places_member(
     alloc: Global,
     places: bool,
@@ -78,7 +78,7 @@ fn put_places_member(
         OnOk result (text.new.items ≡ text.old.items ++ if_member_text (codes "places") shown) }
 {
     if places {
-        put_key("places", true, text)?;
+        text.extend_from_slice(b",\"places\":")?;
         put_doc(alloc, &places_doc(alloc, value)?, text)?;
     }
     Ok(())
@@ -97,15 +97,14 @@ pub(crate) fn put_prop(
         let places = if_asked places (places_in prop.entry.value) in OnOk result (text.new.items
         ≡ text.old.items ++ compact_text (prop_data name places (property_of prop.entry))) }
 {
-    text.push(b'{')?;
-    put_key("id", false, text)?;
+    text.extend_from_slice(b"{\"id\":")?;
     put_id(prop.id, text)?;
     put_name_member(alloc, name, text)?;
     put_places_member(alloc, places, prop.value, text)?;
     put_set_member(name, text)?;
-    put_key("type", true, text)?;
+    text.extend_from_slice(b",\"type\":")?;
     put_id(prop.kind.0, text)?;
-    put_key("value", true, text)?;
+    text.extend_from_slice(b",\"value\":")?;
     put_value(alloc, prop.kind, prop.value, text)?;
     text.push(b'}')?;
     Ok(())

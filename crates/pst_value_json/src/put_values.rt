@@ -15,7 +15,7 @@ ghost use Rattle.pst_value_json.specs.Value.{hex_data, text_data, guid_data, obj
 use crate::compact::put_doc;
 use crate::digits::{put_lower_bytes, put_nid};
 use crate::form::{Form, form_of_type};
-use crate::put::{put_integer, put_key, put_natural, put_null, put_string, put_truth};
+use crate::put::{put_integer, put_natural, put_null, put_plain, put_string, put_truth};
 use crate::scalar::text_of;
 use crate::value::values_doc;
 use pst_datatree::{Pieces, Value};
@@ -137,11 +137,12 @@ fn put_bool(value: Value, text: &mut Vec<u8>) -> Result<(), AllocError>
 }
 
 /// Puts a GUID behind a text.
+#[tactic(auto, using(crate::proofs::GuidLemmas::guid_is_plain))]
 pub(crate) fn put_guid(guid: Uuid, text: &mut Vec<u8>) -> Result<(), AllocError>
     ensures { OnOk result (text.new.items ≡ text.old.items ++ compact_text (guid_data guid)) }
 {
     let mut buffer = Uuid::encode_buffer();
-    put_string(guid.hyphenated().encode_lower(&mut buffer), text)
+    put_plain(guid.hyphenated().encode_lower(&mut buffer).as_bytes(), text)
 }
 
 // Puts a GUID of 16 bytes behind a text.
@@ -160,10 +161,9 @@ fn put_nid_and_size(nid: u32, size: u32, text: &mut Vec<u8>) -> Result<(), Alloc
     ensures { OnOk result (text.new.items
         ≡ text.old.items ++ compact_text (object_data (nid, size))) }
 {
-    text.push(b'{')?;
-    put_key("nid", false, text)?;
+    text.extend_from_slice(b"{\"nid\":")?;
     put_nid(nid, text)?;
-    put_key("size", true, text)?;
+    text.extend_from_slice(b",\"size\":")?;
     put_natural(u64::from(size), text)?;
     text.push(b'}')?;
     Ok(())

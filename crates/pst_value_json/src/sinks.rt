@@ -79,7 +79,7 @@ fn put_made(made: Made, text: &mut Vec<u8>) -> Result<(), AllocError>
 
 // Puts a part behind a text, and a comma before it where others stand there.
 #[tactic(auto, using(crate::proofs::PartLemmas::put_on))]
-fn put_text<R: Rows>(
+fn put_part_text<R: Rows>(
     alloc: Global,
     part: Part<R>,
     later: bool,
@@ -112,7 +112,7 @@ fn put_parts<R: Rows>(
     text.push(b'{')?;
     let mut later = false;
     for part in parts {
-        put_text(alloc, part, later, text)?;
+        put_part_text(alloc, part, later, text)?;
         later = true;
     }
     text.push(b'}')?;

@@ -6,9 +6,9 @@ ghost use Rattle.serde_json.specs.Written.{compact_text};
 ghost use Rattle.pst_datatree.specs.Shown.{bytes_in};
 ghost use Rattle.pst_value_json.specs.Time.{time_or_null, i32_or_null, moment_or_null};
 
-use crate::put::{put_integer, put_null, put_string};
+use crate::put::{put_integer, put_null, put_plain};
 use pst_datatree::Value;
-use pst_time::time_text;
+use pst_time::{time_bytes, time_text};
 use pst_value::{as_i32, as_u64};
 use serde_json::Value as Doc;
 use std::alloc::{AllocError, Global};
@@ -44,23 +44,24 @@ pub fn i32_or_null_doc(value: Value) -> Doc
 }
 
 // Puts the text of a time behind a text; null where it lies behind the year 9999.
-fn put_moment(alloc: Global, time: u64, text: &mut Vec<u8>) -> Result<(), AllocError>
+#[tactic(auto, using(crate::proofs::TimeLemmas::time_is_plain))]
+fn put_moment(time: u64, text: &mut Vec<u8>) -> Result<(), AllocError>
     ensures { OnOk result (text.new.items
         ≡ text.old.items ++ compact_text (moment_or_null (Some time))) }
 {
-    match time_text(alloc, time)? {
-        Some(shown) => put_string(&shown, text),
+    match time_bytes(time) {
+        Some(shown) => put_plain(&shown, text),
         None => put_null(text),
     }
 }
 
 /// Puts the text of a time of 8 bytes behind a text, as `time_or_null_doc` shows it.
-pub fn put_time_or_null(alloc: Global, value: Value, text: &mut Vec<u8>) -> Result<(), AllocError>
+pub fn put_time_or_null(value: Value, text: &mut Vec<u8>) -> Result<(), AllocError>
     ensures { OnOk result (text.new.items
         ≡ text.old.items ++ compact_text (time_or_null (bytes_in value.entry))) }
 {
     match as_u64(value) {
-        Some(time) => put_moment(alloc, time, text),
+        Some(time) => put_moment(time, text),
         None => put_null(text),
     }
 }

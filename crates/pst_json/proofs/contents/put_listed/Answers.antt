@@ -1,10 +1,11 @@
-use Rattle.std.specs.Prelude.{◌≡◌, ◌++◌, true, false, codes, option_map, IfSome}
+use Rattle.std.proofs.Common.{refl}
+use Rattle.std.specs.Prelude.{◌≡◌, ◌++◌, codes, option_map, IfSome}
 use Rattle.serde_json.specs.Data.{Members, object, member, no_members}
 use Rattle.serde_json.specs.Written.{compact_text}
 use Rattle.pst_ndb.specs.Views.{table_of_ndb, table_of_node, roots_of}
 use Rattle.pst_value_json.specs.pst_pc.View.{node_of_pc}
 use Rattle.pst_value_json.specs.Names.{nid_data}
-use Rattle.pst_value_json.proofs.MemberLemmas.{opened, member_put, closed}
+use Rattle.pst_value_json.proofs.MemberLemmas.{first_marked, next_marked, closed}
 use Rattle.pst_verify.specs.pst_store.View.{ndb_of_store}
 use Rattle.pst_json.specs.declared.texts.TheConstants.{CLASS, SENDER, SUBJECT}
 use Rattle.pst_json.specs.Contents.{text_there, listed_data}
@@ -20,11 +21,10 @@ returns c =
     let sender : Members = member (codes "sender") (text_there t r SENDER) subject in
     let nid : Members = member (codes "nid") (nid_data c.id-2.result) sender in
     let class : Members = member (codes "class") (text_there t r CLASS) nid in
-    let put : c.push-2.new.self.items ≡ c.args.text.now.items ++ compact_text (object class) =
-    closed _ _ _ c.in_ok-push-2.ensures.items
-    (member_put true (codes "subject") (text_there t r SUBJECT) no_members _ _ _ _ c.in_ok-put_key-4.ensures (c.in_ok-put_text_of-3.ensures t known)
-    (member_put true (codes "sender") (text_there t r SENDER) subject _ _ _ _ c.in_ok-put_key-3.ensures (c.in_ok-put_text_of-2.ensures t known)
-    (member_put true (codes "nid") (nid_data c.id-2.result) sender _ _ _ _ c.in_ok-put_key-2.ensures c.in_ok-put_nid.ensures
-    (member_put false (codes "class") (text_there t r CLASS) nid _ _ _ _ c.in_ok-put_key.ensures (c.in_ok-put_text_of.ensures t known)
-    (opened class _ _ c.in_ok-push.ensures.items))))) in
+    let put : c.push.new.self.items ≡ c.args.text.now.items ++ compact_text (object class) =
+    closed _ _ _ c.in_ok-push.ensures.items
+    (next_marked (codes "subject") (text_there t r SUBJECT) no_members _ _ _ _ refl c.in_ok-extend_from_slice-4.ensures.items (c.in_ok-put_text_of-3.ensures t known)
+    (next_marked (codes "sender") (text_there t r SENDER) subject _ _ _ _ refl c.in_ok-extend_from_slice-3.ensures.items (c.in_ok-put_text_of-2.ensures t known)
+    (next_marked (codes "nid") (nid_data c.id-2.result) sender _ _ _ _ refl c.in_ok-extend_from_slice-2.ensures.items c.in_ok-put_nid.ensures
+    (first_marked (codes "class") (text_there t r CLASS) nid _ _ _ refl c.in_ok-extend_from_slice.ensures.items (c.in_ok-put_text_of.ensures t known))))) in
     rw (c.properties_of-pc.ensures.roots, c.message.ensures.roots, c.id.ensures, c.id-2.ensures) at put

@@ -1,12 +1,12 @@
-use Rattle.std.proofs.Common.{ap, ◌∙◌}
-use Rattle.std.specs.Prelude.{◌≡◌, ◌++◌, true, false, codes, option_map}
+use Rattle.std.proofs.Common.{refl, ap, ◌∙◌}
+use Rattle.std.specs.Prelude.{◌≡◌, ◌++◌, codes, option_map}
 use Rattle.serde_json.specs.Data.{Members, object, member, no_members}
 use Rattle.serde_json.specs.Written.{compact_text}
 use Rattle.pst_ndb.specs.Views.{table_of_ndb, nodes_of, table_of_node, roots_of, top_of}
 use Rattle.pst_value_json.specs.pst_pc.View.{node_of_pc}
 use Rattle.pst_value_json.specs.Names.{nid_data}
 use Rattle.pst_value_json.specs.Parts.{natural, list_data}
-use Rattle.pst_value_json.proofs.MemberLemmas.{opened, member_put, closed}
+use Rattle.pst_value_json.proofs.MemberLemmas.{first_marked, next_marked, closed}
 use Rattle.pst_verify.specs.pst_msg.declared.items.Items.TheVariants.{Messages, Associated}
 use Rattle.pst_verify.specs.pst_msg.Shown.{rows_there, folder_table}
 use Rattle.pst_verify.specs.pst_msg.View.{tc_roots, ndb_of_folder, node_of_folder}
@@ -30,13 +30,12 @@ returns c =
     let name : Members = member (codes "name") (text_property (table_of_node node) (roots_of node) NAME) nid in
     let messages : Members = member (codes "messages") (natural c.count_of-2.result) name in
     let associated : Members = member (codes "associated") (natural c.count_of.result) messages in
-    let put : c.push-2.new.self.items ≡ c.args.text.now.items ++ compact_text (object associated) =
-    closed _ _ _ c.in_ok-push-2.ensures.items
-    (member_put true (codes "subfolders") (list_data row_nid (rows_there t (option_map tc_roots c.hierarchy.result))) no_members _ _ _ _ c.in_ok-put_key-6.ensures (c.in_ok-put_nids_of.ensures t c.hierarchy.ensures.table)
-    (member_put true (codes "path") (path_data (path_in c.args.reached.now c.nid-2.result)) subfolders _ _ _ _ c.in_ok-put_key-5.ensures c.in_ok-put_path.ensures
-    (member_put true (codes "nid") (nid_data c.nid.result) path _ _ _ _ c.in_ok-put_key-4.ensures c.in_ok-put_nid.ensures
-    (member_put true (codes "name") (text_property (table_of_node node) (roots_of node) NAME) nid _ _ _ _ c.in_ok-put_key-3.ensures c.in_ok-put_text_property.ensures
-    (member_put true (codes "messages") (natural c.count_of-2.result) name _ _ _ _ c.in_ok-put_key-2.ensures c.in_ok-put_natural-2.ensures
-    (member_put false (codes "associated") (natural c.count_of.result) messages _ _ _ _ c.in_ok-put_key.ensures c.in_ok-put_natural.ensures
-    (opened associated _ _ c.in_ok-push.ensures.items))))))) in
+    let put : c.push.new.self.items ≡ c.args.text.now.items ++ compact_text (object associated) =
+    closed _ _ _ c.in_ok-push.ensures.items
+    (next_marked (codes "subfolders") (list_data row_nid (rows_there t (option_map tc_roots c.hierarchy.result))) no_members _ _ _ _ refl c.in_ok-extend_from_slice-6.ensures.items (c.in_ok-put_nids_of.ensures t c.hierarchy.ensures.table)
+    (next_marked (codes "path") (path_data (path_in c.args.reached.now c.nid-2.result)) subfolders _ _ _ _ refl c.in_ok-extend_from_slice-5.ensures.items c.in_ok-put_path.ensures
+    (next_marked (codes "nid") (nid_data c.nid.result) path _ _ _ _ refl c.in_ok-extend_from_slice-4.ensures.items c.in_ok-put_nid.ensures
+    (next_marked (codes "name") (text_property (table_of_node node) (roots_of node) NAME) nid _ _ _ _ refl c.in_ok-extend_from_slice-3.ensures.items c.in_ok-put_text_property.ensures
+    (next_marked (codes "messages") (natural c.count_of-2.result) name _ _ _ _ refl c.in_ok-extend_from_slice-2.ensures.items c.in_ok-put_natural-2.ensures
+    (first_marked (codes "associated") (natural c.count_of.result) messages _ _ _ refl c.in_ok-extend_from_slice.ensures.items c.in_ok-put_natural.ensures)))))) in
     rw (own, in_it, c.pc.ensures, c.is_sound.ensures.table, c.nid.ensures.top, c.nid-2.ensures.top, c.hierarchy.ensures.roots) at put

@@ -1,11 +1,12 @@
-use Rattle.std.specs.Prelude.{◌≡◌, ◌++◌, true, false, codes}
+use Rattle.std.proofs.Common.{refl}
+use Rattle.std.specs.Prelude.{◌≡◌, ◌++◌, codes}
 use Rattle.serde_json.specs.Data.{Members, object, member, no_members}
 use Rattle.serde_json.specs.Written.{compact_text}
 use Rattle.pst_ndb.specs.Views.{table_of_node, roots_of}
 use Rattle.pst_value_json.specs.pst_pc.View.{node_of_pc}
 use Rattle.pst_value_json.specs.Names.{nid_data}
 use Rattle.pst_value_json.specs.Parts.{natural, list_data}
-use Rattle.pst_value_json.proofs.MemberLemmas.{opened, member_put, closed}
+use Rattle.pst_value_json.proofs.MemberLemmas.{first_marked, next_marked, closed}
 use Rattle.pst_json.specs.declared.messages.TheConstants.{RECEIVED, SENT, SIZE}
 use Rattle.pst_json.specs.declared.texts.TheConstants.{CLASS, SENDER, SUBJECT}
 use Rattle.pst_json.specs.Folders.{text_property}
@@ -28,17 +29,16 @@ returns c =
     let folders : Members = member (codes "folders") (list_data nid_data c.args.folders.now) nid in
     let class : Members = member (codes "class") (text_property t r CLASS) folders in
     let attachments : Members = member (codes "attachments") (natural c.args.held.attachments) class in
-    let put : c.push-2.new.self.items ≡ c.args.text.now.items ++ compact_text (object attachments) =
-    closed _ _ _ c.in_ok-push-2.ensures.items
-    (member_put true (codes "subject") (text_property t r SUBJECT) no_members _ _ _ _ c.in_ok-put_key-10.ensures c.in_ok-put_text_property-3.ensures
-    (member_put true (codes "size") (number_property t r SIZE) subject _ _ _ _ c.in_ok-put_key-9.ensures c.in_ok-put_number_property.ensures
-    (member_put true (codes "sent") (time_property t r SENT) size _ _ _ _ c.in_ok-put_key-8.ensures c.in_ok-put_time_property-2.ensures
-    (member_put true (codes "sender") (text_property t r SENDER) sent _ _ _ _ c.in_ok-put_key-7.ensures c.in_ok-put_text_property-2.ensures
-    (member_put true (codes "recipients") (natural c.args.held.recipients) sender _ _ _ _ c.in_ok-put_key-6.ensures c.in_ok-put_natural-2.ensures
-    (member_put true (codes "received") (time_property t r RECEIVED) recipients _ _ _ _ c.in_ok-put_key-5.ensures c.in_ok-put_time_property.ensures
-    (member_put true (codes "nid") (nid_data c.nid.result) received _ _ _ _ c.in_ok-put_key-4.ensures c.in_ok-put_nid.ensures
-    (member_put true (codes "folders") (list_data nid_data c.args.folders.now) nid _ _ _ _ c.in_ok-put_key-3.ensures c.in_ok-put_nid_list.ensures
-    (member_put true (codes "class") (text_property t r CLASS) folders _ _ _ _ c.in_ok-put_key-2.ensures c.in_ok-put_text_property.ensures
-    (member_put false (codes "attachments") (natural c.args.held.attachments) class _ _ _ _ c.in_ok-put_key.ensures c.in_ok-put_natural.ensures
-    (opened attachments _ _ c.in_ok-push.ensures.items))))))))))) in
+    let put : c.push.new.self.items ≡ c.args.text.now.items ++ compact_text (object attachments) =
+    closed _ _ _ c.in_ok-push.ensures.items
+    (next_marked (codes "subject") (text_property t r SUBJECT) no_members _ _ _ _ refl c.in_ok-extend_from_slice-10.ensures.items c.in_ok-put_text_property-3.ensures
+    (next_marked (codes "size") (number_property t r SIZE) subject _ _ _ _ refl c.in_ok-extend_from_slice-9.ensures.items c.in_ok-put_number_property.ensures
+    (next_marked (codes "sent") (time_property t r SENT) size _ _ _ _ refl c.in_ok-extend_from_slice-8.ensures.items c.in_ok-put_time_property-2.ensures
+    (next_marked (codes "sender") (text_property t r SENDER) sent _ _ _ _ refl c.in_ok-extend_from_slice-7.ensures.items c.in_ok-put_text_property-2.ensures
+    (next_marked (codes "recipients") (natural c.args.held.recipients) sender _ _ _ _ refl c.in_ok-extend_from_slice-6.ensures.items c.in_ok-put_natural-2.ensures
+    (next_marked (codes "received") (time_property t r RECEIVED) recipients _ _ _ _ refl c.in_ok-extend_from_slice-5.ensures.items c.in_ok-put_time_property.ensures
+    (next_marked (codes "nid") (nid_data c.nid.result) received _ _ _ _ refl c.in_ok-extend_from_slice-4.ensures.items c.in_ok-put_nid.ensures
+    (next_marked (codes "folders") (list_data nid_data c.args.folders.now) nid _ _ _ _ refl c.in_ok-extend_from_slice-3.ensures.items c.in_ok-put_nid_list.ensures
+    (next_marked (codes "class") (text_property t r CLASS) folders _ _ _ _ refl c.in_ok-extend_from_slice-2.ensures.items c.in_ok-put_text_property.ensures
+    (first_marked (codes "attachments") (natural c.args.held.attachments) class _ _ _ refl c.in_ok-extend_from_slice.ensures.items c.in_ok-put_natural.ensures)))))))))) in
     rw (c.requires.held.0, c.requires.held.1, c.nid.ensures, c.requires.nid, c.pc-pc.ensures) at put

@@ -1,5 +1,5 @@
-use Rattle.std.proofs.Common.{map}
-use Rattle.std.specs.Prelude.{◌≡◌, ◌++◌, true, false, codes}
+use Rattle.std.proofs.Common.{map, refl}
+use Rattle.std.specs.Prelude.{◌≡◌, ◌++◌, codes}
 use Rattle.serde_json.specs.Data.{Data, Members, object, member, no_members}
 use Rattle.serde_json.specs.Written.{compact_text}
 use Rattle.pst_ndb.specs.Views.{table_of_node, roots_of}
@@ -8,7 +8,7 @@ use Rattle.pst_tc.specs.View.{column_of, row_parts, tc_of_row}
 use Rattle.pst_value_json.specs.Cells.{cell_data, cells_of, row_data}
 use Rattle.pst_value_json.specs.Names.{nid_data}
 use Rattle.pst_value_json.specs.Parts.{list_data}
-use Rattle.pst_value_json.proofs.MemberLemmas.{opened, member_put, closed}
+use Rattle.pst_value_json.proofs.MemberLemmas.{first_marked, next_marked, closed}
 use Rattle.pst_value_json.proofs.put_cells.put_table_row.Goals as goal
 
 pub returns : goal.returns
@@ -17,9 +17,8 @@ returns c =
     let node = node_of_tc (tc_of_row c.args.row) in
     let cells : Data = list_data (cell_data c.args.places) (cells_of (table_of_node node) (roots_of node) (row_parts c.args.row).place.at (map column_of c.args.columns.now)) in
     let row : Members = member (codes "row") (nid_data c.id.result) no_members in
-    let put : c.push-2.new.self.items ≡ c.args.text.now.items ++ compact_text (object (member (codes "cells") cells row)) =
-    closed _ _ _ c.in_ok-push-2.ensures.items
-    (member_put true (codes "row") (nid_data c.id.result) no_members _ _ _ _ c.in_ok-put_key-2.ensures c.in_ok-put_nid.ensures
-    (member_put false (codes "cells") cells row _ _ _ _ c.in_ok-put_key.ensures c.in_ok-put_cells.ensures
-    (opened (member (codes "cells") cells row) _ _ c.in_ok-push.ensures.items))) in
+    let put : c.push.new.self.items ≡ c.args.text.now.items ++ compact_text (object (member (codes "cells") cells row)) =
+    closed _ _ _ c.in_ok-push.ensures.items
+    (next_marked (codes "row") (nid_data c.id.result) no_members _ _ _ _ refl c.in_ok-extend_from_slice-2.ensures.items c.in_ok-put_nid.ensures
+    (first_marked (codes "cells") cells row _ _ _ refl c.in_ok-extend_from_slice.ensures.items c.in_ok-put_cells.ensures)) in
     rw c.id.ensures at put

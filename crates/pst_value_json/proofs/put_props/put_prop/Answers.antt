@@ -1,4 +1,5 @@
-use Rattle.std.specs.Prelude.{true, false, codes, option_map}
+use Rattle.std.proofs.Common.{refl}
+use Rattle.std.specs.Prelude.{codes, option_map}
 use Rattle.serde_json.specs.Data.{Members, string, member, no_members}
 use Rattle.pst_names.specs.View.{name_parts}
 use Rattle.pst_value_json.specs.Names.{id_text}
@@ -6,7 +7,7 @@ use Rattle.pst_value_json.specs.Places.{places_in, places_data, if_asked, member
 use Rattle.pst_value_json.specs.Props.{called_data, set_of_data, prop_data}
 use Rattle.pst_value_json.specs.Value.{value_data}
 use Rattle.pst_pc.specs.View.{property_of}
-use Rattle.pst_value_json.proofs.MemberLemmas.{opened, member_put, if_member_put, closed}
+use Rattle.pst_value_json.proofs.MemberLemmas.{first_marked, next_marked, if_member_put, closed}
 use Rattle.pst_value_json.proofs.put_props.put_prop.Goals as goal
 
 pub returns : goal.returns
@@ -20,11 +21,10 @@ returns c =
     let set : Members = member_if (codes "set") (option_map set_of_data name) kind in
     let placed : Members = member_if (codes "places") places set in
     let called : Members = member_if (codes "name") (option_map called_data name) placed in
-    closed _ _ _ c.in_ok-push-2.ensures.items
-    (member_put true (codes "value") (value_data p.kind p.bytes) no_members _ _ _ _ c.in_ok-put_key-3.ensures c.in_ok-put_value.ensures
-    (member_put true (codes "type") (string (id_text p.kind)) value _ _ _ _ c.in_ok-put_key-2.ensures c.in_ok-put_id-2.ensures
+    closed _ _ _ c.in_ok-push.ensures.items
+    (next_marked (codes "value") (value_data p.kind p.bytes) no_members _ _ _ _ refl c.in_ok-extend_from_slice-3.ensures.items c.in_ok-put_value.ensures
+    (next_marked (codes "type") (string (id_text p.kind)) value _ _ _ _ refl c.in_ok-extend_from_slice-2.ensures.items c.in_ok-put_id-2.ensures
     (if_member_put (codes "set") (option_map set_of_data name) kind _ _ _ c.in_ok-put_set_member.ensures
     (if_member_put (codes "places") places set _ _ _ c.in_ok-put_places_member.ensures
     (if_member_put (codes "name") (option_map called_data name) placed _ _ _ c.in_ok-put_name_member.ensures
-    (member_put false (codes "id") (string (id_text p.id)) called _ _ _ _ c.in_ok-put_key.ensures c.in_ok-put_id.ensures
-    (opened (member (codes "id") (string (id_text p.id)) called) _ _ c.in_ok-push.ensures.items)))))))
+    (first_marked (codes "id") (string (id_text p.id)) called _ _ _ refl c.in_ok-extend_from_slice.ensures.items c.in_ok-put_id.ensures))))))

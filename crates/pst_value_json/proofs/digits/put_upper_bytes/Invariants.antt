@@ -1,8 +1,0 @@
-use Rattle.std.proofs.Common.{◌≡◌, ◌++◌, drop}
-use Rattle.hex.specs.Hex.{encode_upper}
-use Rattle.json.specs.Print.{escape}
-use Rattle.pst_value_json.proofs.digits.put_upper_bytes.Given as goal
-
--- what stands there, with the bytes that are left, is all
-abbrev pub invariant-loop-byte : goal.invariant-loop-byte
-invariant-loop-byte l = l.text.items ++ escape (encode_upper (drop l.byte-index l.bytes)) ≡ l.initial.text.items ++ escape (encode_upper l.bytes)
