@@ -1,6 +1,7 @@
 //! Documents of small stores and of single values, against texts written by hand.
 
 mod tables;
+mod texts;
 mod values;
 
 use crate::told::is;

@@ -11,4 +11,5 @@ pub mod PlaceLemmas
 pub mod PropLemmas
 pub mod RowLemmas
 pub mod TimeLemmas
+pub mod UnitLemmas
 pub mod ValueLemmas

@@ -48,9 +48,9 @@ pub(crate) fn digit(value: u8) -> u8
     }
 }
 
-// Puts what stands for a byte between quotes behind a text.
+/// Puts what stands for a byte between quotes behind a text.
 #[tactic(auto, unfolding(json::specs::Print::escape_byte))]
-fn put_escape(byte: u8, text: &mut Vec<u8>) -> Result<(), AllocError>
+pub(crate) fn put_escape(byte: u8, text: &mut Vec<u8>) -> Result<(), AllocError>
     ensures { OnOk result (text.new.items ≡ text.old.items ++ escape_byte byte) }
 {
     let letter = letter(byte);
@@ -65,8 +65,8 @@ fn put_escape(byte: u8, text: &mut Vec<u8>) -> Result<(), AllocError>
     Ok(())
 }
 
-// Puts bytes behind a text as they stand between quotes, run by run.
-fn put_escaped(shown: &[u8], text: &mut Vec<u8>) -> Result<(), AllocError>
+/// Puts bytes behind a text as they stand between quotes, run by run.
+pub(crate) fn put_escaped(shown: &[u8], text: &mut Vec<u8>) -> Result<(), AllocError>
     ensures { OnOk result (text.new.items ≡ text.old.items ++ escape shown.now) }
 {
     let mut at = 0;

@@ -39,6 +39,7 @@ mod put_values;
 mod scalar;
 mod sinks;
 mod time;
+mod utf16;
 mod value;
 
 pub use cells::{TableRows, table_doc, table_rows};

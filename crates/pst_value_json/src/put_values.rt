@@ -15,8 +15,8 @@ ghost use Rattle.pst_value_json.specs.Value.{hex_data, text_data, guid_data, obj
 use crate::compact::put_doc;
 use crate::digits::{put_lower_bytes, put_nid};
 use crate::form::{Form, form_of_type};
-use crate::put::{put_integer, put_natural, put_null, put_plain, put_string, put_truth};
-use crate::scalar::text_of;
+use crate::put::{put_integer, put_natural, put_null, put_plain, put_truth};
+use crate::utf16::put_units;
 use crate::value::values_doc;
 use pst_datatree::{Pieces, Value};
 use pst_value::{
@@ -30,8 +30,10 @@ pub fn put_text(alloc: Global, value: Value, text: &mut Vec<u8>) -> Result<(), A
     ensures { OnOk result (text.new.items
         ≡ text.old.items ++ compact_text (text_data (bytes_in value.entry))) }
 {
-    let shown = text_of(alloc, value)?;
-    put_string(&shown, text)
+    text.push(b'"')?;
+    put_units(alloc, value, text)?;
+    text.push(b'"')?;
+    Ok(())
 }
 
 // Puts the bytes of pieces behind a text, in hexadecimal.

@@ -18,10 +18,26 @@ use pst_value::{as_bool, as_guid, as_i16, as_i32, as_i64, as_object, as_u32, as_
 use serde_json::{Value as Doc, json};
 use std::alloc::{AllocError, Global};
 
+// The units in one slice.
+fn slice_units(alloc: Global, bytes: &[u8]) -> Result<Vec<u16>, AllocError>
+    ensures { IfOk result (λ v. v.items ≡ units_of bytes.now) }
+{
+    let mut units = Vec::with_capacity(alloc, bytes.len() / 2)?;
+    let mut at = 0;
+    while bytes.len() - at >= 2 {
+        units.push_reserved(u16::from(bytes[at]) + 256 * u16::from(bytes[at + 1]));
+        at += 2;
+    }
+    Ok(units)
+}
+
 // The units of a value.
 fn units(alloc: Global, value: Value) -> Result<Vec<u16>, AllocError>
     ensures { IfOk result (λ v. v.items ≡ units_of (bytes_in value.entry)) }
 {
+    if let Value::Whole(_, bytes) = value {
+        return slice_units(alloc, bytes);
+    }
     let mut units = Vec::new(alloc);
     for unit in units16(value) {
         units.push(unit)?;

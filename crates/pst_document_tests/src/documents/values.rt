@@ -6,8 +6,8 @@ use pst_datatree::Value;
 use pst_make::{BlockPlan, NodePlan, Plan, build};
 use pst_value_json::PropType;
 
-// A type, the bytes of a value, and the JSON value.
-type Row = (u16, &'static [u8], &'static str);
+/// A type, the bytes of a value, and the JSON value.
+pub(super) type Row = (u16, &'static [u8], &'static str);
 
 const ROWS: [Row; 36] = [
     (0x001F, &[0x41, 0, 0, 0xd8], "\"A\u{FFFD}\""),
@@ -90,8 +90,8 @@ fn list_of(alloc: Global, total: usize, bids: [u64; 2]) -> Result<Vec<u8>, Fail>
     Ok(body)
 }
 
-// A store with a node for each of the rows, whose data is the row's bytes in two blocks, cut in the middle.
-fn store_of(alloc: Global, rows: &[Row]) -> Result<Vec<u8>, Fail> {
+/// A store with a node for each of the rows, whose data is the row's bytes in two blocks, cut in the middle.
+pub(super) fn store_of(alloc: Global, rows: &[Row]) -> Result<Vec<u8>, Fail> {
     let mut blocks = Vec::new(alloc);
     let mut lists = Vec::new(alloc);
     let mut nodes = Vec::new(alloc);
