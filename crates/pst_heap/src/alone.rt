@@ -1,4 +1,4 @@
-//! The check of a heap whose data is one span, as that of most contexts is: what the node's data are is looked up once.
+//! The check of a heap whose data is one span, as that of most contexts is: where that is a data block, it is looked up once.
 
 ghost use Rattle.std.specs.Prelude.{◌≡◌, [], ◌∷◌, IfOk, IfSome, option_map};
 ghost use Rattle.pst_bytes.specs.Image.{IsInside};
@@ -16,14 +16,28 @@ use pst_datatree::is_internal;
 use pst_fault::Fault;
 use pst_ndb::Node;
 
-// The span of a node's data, where that is a data block: so it is of most heaps. What an XBLOCK names is not looked at.
+// The span of a node's data below an XBLOCK, where there is one and no other. Few heaps have an XBLOCK, so this stands apart.
+#[inline(never)]
+fn only_below(node: &Node) -> Option<Span>
+    ensures only { IfSome result (λ s. (data_of_node node.now).spans ≡ s ∷ []) }
+    ensures inside { IfSome result (IsInside (data_of_node node.now).image) }
+{
+    let mut rest = node.spans();
+    let first = rest.next_span()?;
+    if rest.next_span().is_some() {
+        return None;
+    }
+    Some(first)
+}
+
+// The span of a node's data, where there is one and no other: of most heaps that is a data block.
 #[tactic(auto, using(crate::proofs::AloneLemmas::block_alone))]
 pub(crate) fn only_span(node: &Node) -> Option<Span>
     ensures only { IfSome result (λ s. (data_of_node node.now).spans ≡ s ∷ []) }
     ensures inside { IfSome result (IsInside (data_of_node node.now).image) }
 {
     if is_internal(node.bid_data()) {
-        return None;
+        return only_below(node);
     }
     node.leaf(0)
 }
