@@ -84,8 +84,8 @@ impl Asked {
         }
     }
 
-    // The key of the context of a node, whose row matrix is looked up in the node's list where that of its data is a subnode.
-    fn key_of(&self, role: Role, node: Node) -> Key
+    /// The key of the context of a node, whose row matrix is looked up in the node's list where that of its data is a subnode.
+    pub(crate) fn key_of(&self, role: Role, node: Node) -> Key
         ensures block { result.0.0 ≡ bid_key (roots_of node.entry).bid_data }
         ensures role { result.1 ≡ number_of role }
     {
@@ -100,27 +100,29 @@ impl Asked {
         ((data, matrix), role_number(role))
     }
 
-    /// Whether it is kept what the context of a node asks. Of most contexts it is not.
-    pub(crate) fn has(&self, role: Role, node: Node) -> bool {
-        self.asks.contains_key(&self.key_of(role, node))
+    /// Whether it is kept what the context with a key asks. Of most contexts it is not.
+    pub(crate) fn has(&self, key: Key) -> bool {
+        self.asks.contains_key(&key)
     }
 
-    /// Whether so many subnodes were asked for by the context of a node that an index of the list pays.
-    pub(crate) fn are_many(&self, role: Role, node: Node) -> bool {
-        match self.asks.get(&self.key_of(role, node)) {
+    /// Whether so many subnodes were asked for by the context with a key that an index of the list pays.
+    pub(crate) fn are_many(&self, key: Key) -> bool {
+        match self.asks.get(&key) {
             Some(asks) => asks.len() > FEW,
             None => false,
         }
     }
 
-    /// Whether the context of a node is known to have no fault: by another list, which was asked for the same.
+    /// Whether the context of a node, which has this key, is known to have no fault: by another list, which was asked for the same.
     #[tactic(auto, unfolding(crate::specs::Asked::AreAskedTrue))]
-    pub(crate) fn answers(&self, role: Role, node: Node) -> bool
-        requires { AreAskedTrue (table_of_node node) self.now }
+    pub(crate) fn answers(&self, key: Key, role: Role, node: Node) -> bool
+        requires known { AreAskedTrue (table_of_node node) self.now }
+        requires block { key.0.0 ≡ bid_key (roots_of node).bid_data }
+        requires role { key.1 ≡ number_of role }
         ensures { result ≡ true → role_fault (table_of_node node.entry) role (roots_of node.entry)
             ≡ None }
     {
-        match self.asks.get(&self.key_of(role, node)) {
+        match self.asks.get(&key) {
             Some(asks) => asks.are_met(node),
             None => false,
         }

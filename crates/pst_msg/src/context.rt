@@ -1,19 +1,20 @@
 //! The contexts, each checked once.
 
 ghost use Rattle.std.specs.Prelude.{◌≡◌, true, None, IfOk, IfErr, OnOk};
+ghost use Rattle.pst_block.specs.Block.{bid_key};
 ghost use Rattle.pst_fault.specs.Fault.{no_memory};
 ghost use Rattle.pst_fault.specs.First.{Tells};
 ghost use Rattle.pst_ndb.specs.Views.{table_of_node, roots_of};
 ghost use Rattle.pst_pc.specs.pst_heap.Maps.{AreMapsTrue};
 ghost use Rattle.pst_msg.specs.Asked.{AreAskedTrue};
 ghost use Rattle.pst_msg.specs.ListIndex.{IsIndexIn};
-ghost use Rattle.pst_msg.specs.Roles.{role_fault};
+ghost use Rattle.pst_msg.specs.Roles.{role_fault, role_number as number_of};
 ghost use Rattle.pst_msg.specs.Known.{ContextIn, IsTrueOf};
 ghost use Rattle.pst_msg.specs.Counts.{Names};
 ghost use Rattle.pst_msg.specs.Growth.{Grows};
 
 use crate::asked::Asked;
-use crate::keys::key_of;
+use crate::keys::{Key, key_of};
 use crate::known::Known;
 use crate::list_index::ListIndex;
 use crate::role::{Role, check_context, role_number};
@@ -22,16 +23,19 @@ use pst_ndb::Node;
 use pst_pc::Maps;
 use std::alloc::Global;
 
-// Whether the context of a node is known to have no fault, by another list that was asked for the same. It is of few, so this
-// stands apart.
+// Whether the context of a node, which has this key, is known to have no fault, by another list that was asked for the same. It is
+// asked of few, so this stands apart.
 #[inline(never)]
 fn answers_by(
     alloc: Global,
+    key: Key,
     role: Role,
     node: Node,
     index: &mut ListIndex,
     asked: &Asked,
 ) -> Result<bool, Fault>
+    requires block { key.0.0 ≡ bid_key (roots_of node).bid_data }
+    requires role { key.1 ≡ number_of role }
     requires index { IsIndexIn (table_of_node node) index.old }
     requires asked { AreAskedTrue (table_of_node node) asked.now }
     ensures index { IsIndexIn (table_of_node node.entry) index.new }
@@ -39,10 +43,10 @@ fn answers_by(
         role_fault t role (roots_of node.entry) ≡ None) }
     ensures memory { IfErr result (λ f. f ≡ no_memory) }
 {
-    if asked.are_many(role, node) {
+    if asked.are_many(key) {
         index.turn(alloc, node)?;
     }
-    Ok(asked.answers(role, index.lend(node)))
+    Ok(asked.answers(key, role, index.lend(node)))
 }
 
 // Checks the context of a node, unless its data is known, by another list that was asked for the same, to have no fault.
@@ -63,7 +67,8 @@ fn check_by(
     ensures exact { let t = table_of_node node.entry in
         Tells result (role_fault t role (roots_of node.entry)) tt }
 {
-    if asked.has(role, node) && answers_by(alloc, role, node, index, asked)? {
+    let key = asked.key_of(role, node);
+    if asked.has(key) && answers_by(alloc, key, role, node, index, asked)? {
         return Ok(());
     }
     index.turn(alloc, node)?;

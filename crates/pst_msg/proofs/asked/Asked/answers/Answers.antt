@@ -8,5 +8,5 @@ use Rattle.pst_msg.proofs.asked.Asked.answers.Goals as goal
 pub returns-in-Some : goal.returns-in-Some
 unfolding AreAskedTrue
 returns-in-Some c = λ met.
-    let found : get key_cmp c.args.self.now.asks c.key_of.result ≡ Some c.in-Some.asks.now = search rules in
-    c.requires c.key_of.result c.in-Some.asks.now found c.args.role (roots_of c.args.node) (sym c.key_of.ensures.role) (sym c.key_of.ensures.block) (sym c.are_met.ensures ∙ met)
+    let found : get key_cmp c.args.self.now.asks c.args.key ≡ Some c.in-Some.asks.now = search rules in
+    c.requires.known c.args.key c.in-Some.asks.now found c.args.role (roots_of c.args.node) (sym c.requires.role) (sym c.requires.block) (sym c.are_met.ensures ∙ met)
