@@ -99,7 +99,6 @@ impl<'a> Front<'a> {
     }
 
     /// The row matrix.
-    #[inline(always)]
     #[tactic(auto, using(crate::proofs::RowLemmas::body_room, crate::proofs::RowLemmas::body_matrix))]
     pub(crate) fn matrix(&self) -> Matrix<'a>
         ensures inside { LiesIn (table_of_node (node_of_tc (front_tc self.now))).image result }
@@ -115,7 +114,6 @@ impl<'a> Front<'a> {
     }
 
     /// TCINFO with the row matrix.
-    #[inline(always)]
     pub(crate) fn grid(self) -> Grid<'a>
         ensures { grid_front result ≡ self.entry }
     {

@@ -39,7 +39,6 @@ impl<'a> Grid<'a> {
     ghost use Rattle.pst_tc.specs.View.{row_parts, tc_of_row};
 
     /// That of TCINFO.
-    #[inline(always)]
     pub(crate) fn of(front: Front<'a>) -> Grid<'a>
         ensures { grid_front result ≡ front.entry }
     {

@@ -38,7 +38,6 @@ impl<'a> Rows<'a> {
     ghost use Rattle.pst_tc.specs.Left.{tc_left, row_records_left};
 
     // All rows.
-    #[inline(always)]
     #[tactic(auto, using(crate::proofs::RowLemmas::body_rows))]
     pub(crate) fn all(front: Front<'a>) -> Rows<'a>
         ensures records { let node = node_of_tc (front_tc front.entry) in
