@@ -1,5 +1,8 @@
 //! The documents of a store: each as a tree, whose text is then its line.
 
+ghost use Rattle.std.specs.Prelude.{IfOk};
+ghost use Rattle.pst_value_json.specs.Rows.{PutsNext};
+
 use crate::refused::{Refused, holds};
 use pst_bytes::Image;
 use pst_header::read_header;
@@ -8,6 +11,7 @@ use pst_json::{
     head_line, hex_doc, messages_text, names_index, nodes_doc, nodes_line, pc_doc, props_doc,
     props_line, read_nodes, table_doc, text, text_of, value_doc, verify,
 };
+use pst_value_json::{Rows, prop_rows, table_rows};
 use pst_verify::Verified;
 use serde_json::Value as Doc;
 use std::alloc::Global;
@@ -86,11 +90,39 @@ pub(crate) fn nodes(alloc: Global, bytes: &[u8]) -> Result<(), Refused> {
     )
 }
 
+// Puts the next row behind a text; where memory is refused within the row, the text is as long as before.
+fn put_whole<R: Rows>(
+    alloc: Global,
+    rows: &mut R,
+    later: bool,
+    text: &mut Vec<u8>,
+) -> Result<bool, Refused>
+    ensures { IfOk result (λ more. PutsNext more later (R.left rows.old) (R.left rows.new)
+        text.old.items text.new.items) }
+{
+    let long = text.len();
+    let put = rows.put_next(alloc, later, text);
+    holds(put.is_ok() || text.len() == long)?;
+    Ok(put?)
+}
+
+// Puts rows behind a text, one after another.
+fn put_all<R: Rows>(alloc: Global, rows: R) -> Result<(), Refused> {
+    let mut rows = rows;
+    let mut text = Vec::new(alloc);
+    let mut later = false;
+    while put_whole(alloc, &mut rows, later, &mut text)? {
+        later = true;
+    }
+    Ok(())
+}
+
 /// The values of the store's own properties, as documents and as text, and the rows of the root folder's table.
 pub(crate) fn values(alloc: Global, bytes: &[u8]) -> Result<(), Refused> {
     let store = verify(alloc, bytes)?.store;
     let pc = store.props();
     let _all = pc_doc(alloc, &pc, store.names(), false)?;
+    put_all(alloc, prop_rows(&pc, store.names(), true))?;
     for prop in pc.props() {
         let _shown = value_doc(alloc, prop.kind, prop.value)?;
         let _bytes = hex_doc(alloc, prop.value)?;
@@ -98,6 +130,7 @@ pub(crate) fn values(alloc: Global, bytes: &[u8]) -> Result<(), Refused> {
     }
     if let Some(table) = store.root().hierarchy() {
         let _rows = table_doc(alloc, &table, false)?;
+        put_all(alloc, table_rows(alloc, &table, true)?)?;
     }
     Ok(())
 }

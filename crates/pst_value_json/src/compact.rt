@@ -1,6 +1,6 @@
 //! The text of a document.
 
-ghost use Rattle.std.specs.Prelude.{◌≡◌, ◌++◌, IfOk, OnOk, false};
+ghost use Rattle.std.specs.Prelude.{◌≡◌, ◌++◌, IfOk, OnOk, OnErr, take, false};
 ghost use Rattle.serde_json.specs.View.{view};
 ghost use Rattle.serde_json.specs.Written.{compact_text, comma_if, has_float};
 ghost use Rattle.pst_value_json.specs.Line.{line_of, row_text};
@@ -35,6 +35,22 @@ pub fn put_comma(later: bool, text: &mut Vec<u8>) -> Result<(), AllocError>
         text.push(b',')?;
     }
     Ok(())
+}
+
+/// What came of putting a row behind a text that had so many bytes: where memory was refused, the text is cut back to them.
+pub(crate) fn or_cut(
+    put: Result<(), AllocError>,
+    long: usize,
+    text: &mut Vec<u8>,
+) -> Result<(), AllocError>
+    ensures put { result ≡ put }
+    ensures whole { OnOk result (text.new.items ≡ text.old.items) }
+    ensures cut { OnErr result (text.new.items ≡ take long text.old.items) }
+{
+    if put.is_err() {
+        text.truncate(long);
+    }
+    put
 }
 
 /// Puts the text of a document behind a text.
