@@ -3,3 +3,5 @@ pub mod Permute
 pub mod Cyclic
 pub mod Method
 pub mod Codec
+pub mod Pairs
+pub mod Decoder

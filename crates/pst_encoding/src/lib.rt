@@ -10,17 +10,24 @@
 //!     codec.decode(bid, &mut image[at..end]);
 //! }
 //! ```
+//!
+//! Whoever decodes many bodies makes a `Decoder` of the method, which decodes as the codec does, and two bytes at a time where
+//! that pays.
 #![tactic(auto)]
 
 mod codec;
 mod cyclic;
+mod decoder;
 mod laws;
 mod method;
+mod pairs;
 mod permute;
 mod tables;
 
 pub use codec::{Codec, Turns};
+pub use decoder::Decoder;
 pub use laws::{
     cyclic_undoes_itself, decoding_undoes_encoding, permutation_is_undone, tables_undo,
 };
 pub use method::Method;
+pub use pairs::Pairs;

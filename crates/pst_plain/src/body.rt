@@ -4,7 +4,7 @@ ghost use Rattle.std.specs.Prelude.{◌≡◌, ◌+◌, ◌≤◌, length, bit_x
 ghost use Rattle.std.specs.List.{All};
 ghost use Rattle.pst_bytes.specs.Image.{bytes_at, IsInside};
 ghost use Rattle.pst_crc.specs.Crc.{crc};
-ghost use Rattle.pst_encoding.specs.Codec.{method_of};
+ghost use Rattle.pst_encoding.specs.Decoder.{decoder_method};
 ghost use Rattle.pst_encoding.specs.Method.{decoded};
 ghost use Rattle.pst_block.specs.Block.{body_span as span_of};
 ghost use Rattle.pst_plain.specs.Blocks.{EndsBy};
@@ -15,7 +15,7 @@ ghost use Rattle.pst_plain.specs.Twin.{with_body, all_decoded};
 use crate::write::carry;
 use pst_block::{BlockEntry, block_size};
 use pst_bytes::Span;
-use pst_encoding::Codec;
+use pst_encoding::Decoder;
 
 // Where the body of a block lies.
 fn body_span(entry: BlockEntry) -> Span
@@ -42,54 +42,54 @@ fn xor_bytes(bytes: &mut [u8], others: &[u8])
 
 // Decodes the body of the block with an identifier, and tells what its check value before is exclusive or the one after. In
 // as much room the bytes before are kept and made what differs: the check value of that is both, in one sum.
-fn decode_body(codec: &Codec, bid: u64, body: &mut [u8], room: &mut [u8]) -> u32
+fn decode_body(decoder: &Decoder, bid: u64, body: &mut [u8], room: &mut [u8]) -> u32
     requires { length room.old ≡ length body.old }
-    ensures body { body.new ≡ decoded (method_of codec.now) bid body.old }
+    ensures body { body.new ≡ decoded (decoder_method decoder.now) bid body.old }
     ensures change { result ≡ bit_xor (crc body.old) (crc body.new) }
     ensures room { length room.new ≡ length room.old }
 {
     room.copy_from_slice(body);
-    codec.decode(bid, body);
+    decoder.decode(bid, body);
     xor_bytes(room, body);
     pst_crc::check(room)
 }
 
 // The same of the bytes of a span.
 #[tactic(auto, unfolding(crate::specs::Written::written), using(crate::proofs::WriteLemmas::length_decoded))]
-fn decode_span(codec: &Codec, bid: u64, file: &mut [u8], span: Span, room: &mut [u8]) -> u32
+fn decode_span(decoder: &Decoder, bid: u64, file: &mut [u8], span: Span, room: &mut [u8]) -> u32
     requires inside { IsInside file.old span }
     requires room { span.len ≤ length room.old }
     ensures file { file.new ≡ written file.old span.at
-        (decoded (method_of codec.now) bid (bytes_at file.old span)) }
+        (decoded (decoder_method decoder.now) bid (bytes_at file.old span)) }
     ensures change { result ≡ bit_xor (crc (bytes_at file.old span))
-        (crc (decoded (method_of codec.now) bid (bytes_at file.old span))) }
+        (crc (decoded (decoder_method decoder.now) bid (bytes_at file.old span))) }
     ensures room { length room.new ≡ length room.old }
 {
     let at = span.at as usize;
     let len = span.len as usize;
-    decode_body(codec, bid, &mut file[at..at + len], &mut room[..len])
+    decode_body(decoder, bid, &mut file[at..at + len], &mut room[..len])
 }
 
 // Decodes the body of a block, and carries the check value of its trailer over.
-fn decode_block(codec: &Codec, entry: BlockEntry, file: &mut [u8], room: &mut [u8])
+fn decode_block(decoder: &Decoder, entry: BlockEntry, file: &mut [u8], room: &mut [u8])
     requires inside { EndsBy (length file.old) entry }
     requires room { length room.old ≡ ROOM }
     ensures file { file.new ≡
-        with_body (decoded (method_of codec.now) entry.bid) entry file.old }
+        with_body (decoded (decoder_method decoder.now) entry.bid) entry file.old }
     ensures room { length room.new ≡ length room.old }
 {
     let span = body_span(entry);
-    let change = decode_span(codec, entry.bid, file, span, room);
+    let change = decode_span(decoder, entry.bid, file, span, room);
     carry(file, entry.ib + block_size(entry.cb) - 12, change);
 }
 
 /// Decodes the bodies of blocks, one after another.
-pub(crate) fn decode_each(codec: &Codec, entries: &[BlockEntry], file: &mut [u8])
+pub(crate) fn decode_each(decoder: &Decoder, entries: &[BlockEntry], file: &mut [u8])
     requires { All (EndsBy (length file.old)) entries.now }
-    ensures { file.new ≡ all_decoded (method_of codec.now) entries.now file.old }
+    ensures { file.new ≡ all_decoded (decoder_method decoder.now) entries.now file.old }
 {
     let mut room = [0; ROOM];
     for entry in entries {
-        decode_block(codec, *entry, file, &mut room);
+        decode_block(decoder, *entry, file, &mut room);
     }
 }

@@ -2,7 +2,7 @@
 
 ghost use Rattle.std.specs.Prelude.{◌≡◌, ◌≤◌, length, Some, IfOk, OnOk, OnErr};
 ghost use Rattle.std.specs.List.{All};
-ghost use Rattle.pst_encoding.specs.Codec.{method_of as codec_method};
+ghost use Rattle.pst_encoding.specs.Decoder.{decoder_method};
 ghost use Rattle.pst_encoding.specs.Tables.{IsByte};
 ghost use Rattle.pst_plain.specs.Twin.{method_of as method_in, twin_of, decoded_blocks};
 
@@ -10,7 +10,7 @@ use crate::blocks::data_blocks;
 use crate::body::decode_each;
 use crate::head::{method_of, set_method};
 use pst_bytes::Image;
-use pst_encoding::{Codec, Method};
+use pst_encoding::{Decoder, Method};
 use std::alloc::{AllocError, Global};
 
 /// What was decoded to make the plain twin of a file.
@@ -31,10 +31,10 @@ fn are_bytes(file: &[u8])
 fn decode_file(
     alloc: Global,
     method: Method,
-    codec: &Codec,
+    decoder: &Decoder,
     file: &mut [u8],
 ) -> Result<u64, AllocError>
-    requires codec { codec_method codec.now ≡ method }
+    requires decoder { decoder_method decoder.now ≡ method }
     requires long { 564 ≤ length file.old }
     requires method { method_in file.old ≡ Some method }
     ensures twin { OnOk result (file.new ≡ twin_of file.old) }
@@ -46,7 +46,7 @@ fn decode_file(
     set_method(0, file);
     match data_blocks(alloc, file) {
         Ok(entries) => {
-            decode_each(codec, &entries, file);
+            decode_each(decoder, &entries, file);
             Ok(entries.len() as u64)
         }
         Err(error) => {
@@ -71,8 +71,8 @@ pub fn plain(alloc: Global, file: &mut [u8]) -> Result<Decoding, AllocError>
 {
     match method_of(Image::new(file)) {
         Some(method) => {
-            let codec = Codec::new(alloc, method)?;
-            let blocks = decode_file(alloc, method, &codec, file)?;
+            let decoder = Decoder::new(alloc, method, file.len())?;
+            let blocks = decode_file(alloc, method, &decoder, file)?;
             Ok(Decoding {
                 method: Some(method),
                 blocks,

@@ -1,7 +1,7 @@
 //! Bodies, encoded and decoded, beside what another program made of them.
 
 use crate::told::{holds_at, is, is_at};
-use pst_plain::{Codec, Method};
+use pst_plain::{Codec, Decoder, Method, Pairs};
 use sha2::{Digest, Sha256};
 use std::alloc::Global;
 use std::test::Fail;
@@ -115,6 +115,63 @@ fn what_is_encoded_is_decoded(rt: HostRuntime) -> Result<(), Fail> {
                 holds_at(&rt, len, changed.as_slice() == body.as_slice());
             }
         }
+    }
+    Ok(())
+}
+
+// By permutation all pairs are put together for 16 MiB and more; what is decoded is the same.
+#[test]
+fn a_text_by_each_decoder(rt: HostRuntime) -> Result<(), Fail> {
+    let alloc = rt.alloc();
+    for (method, text) in [
+        (
+            Method::Permute,
+            *b"\x07\xea\xfd\xfd\x86\xd8\x4c\xc7\x86\x06\xfd\xfa",
+        ),
+        (
+            Method::Cyclic,
+            *b"\xf1\x2f\xab\x7e\xd5\xc7\xfd\xf2\xa7\x64\x7b\x76",
+        ),
+    ] {
+        for (len, many) in [
+            (0, false),
+            (16_777_215, false),
+            (16_777_216, true),
+            (1 << 40, true),
+        ] {
+            let mut body = text;
+            let decoder = Decoder::new(alloc, method, len)?;
+            decoder.decode(4, &mut body);
+            holds_at(&rt, len, body == *b"Hello, world");
+            let by_pairs = matches!(decoder, Decoder::ByPairs(_));
+            holds_at(&rt, len, by_pairs == (many && method == Method::Permute));
+        }
+    }
+    Ok(())
+}
+
+// Each pair of bytes, and bodies of some lengths, as one byte after another is decoded.
+#[test]
+fn pairs_as_single_bytes(rt: HostRuntime) -> Result<(), Fail> {
+    let alloc = rt.alloc();
+    let pairs = Pairs::new(alloc)?;
+    let mut body = Vec::new(alloc);
+    let mut other = Vec::new(alloc);
+    for first in 0..=255u8 {
+        for second in 0..=255u8 {
+            body.extend_from_slice(&[first, second])?;
+            other.extend_from_slice(&[first, second])?;
+        }
+    }
+    pairs.decode(&mut body);
+    Codec::Permute.decode(4, &mut other);
+    holds_at(&rt, body.len(), body.as_slice() == other.as_slice());
+    for len in [0, 1, 2, 3, 4, 5, 255, 8175, 8176] {
+        let mut body = rising(alloc, len)?;
+        let mut other = rising(alloc, len)?;
+        pairs.decode(&mut body);
+        Codec::Permute.decode(4, &mut other);
+        holds_at(&rt, len, body.as_slice() == other.as_slice());
     }
     Ok(())
 }

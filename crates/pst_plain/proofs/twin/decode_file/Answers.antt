@@ -6,7 +6,7 @@ use Rattle.pst_plain.proofs.twin.decode_file.Goals as goal
 pub returns-in-Ok-clause-twin : goal.returns-in-Ok-clause-twin
 returns-in-Ok-clause-twin c =
     twin_made c.args.file.now c.set_method.new.file c.decode_each.new.file c.args.method c.deref.result.now c.requires.method c.set_method.ensures
-    (c.deref.ensures.value ∙ c.in-Ok.ensures.blocks) (c.decode_each.ensures ∙ ap (λ m. all_decoded m c.deref.result.now c.set_method.new.file) c.requires.codec)
+    (c.deref.ensures.value ∙ c.in-Ok.ensures.blocks) (c.decode_each.ensures ∙ ap (λ m. all_decoded m c.deref.result.now c.set_method.new.file) c.requires.decoder)
 
 pub returns-in-Err-clause-same : goal.returns-in-Err-clause-same
 returns-in-Err-clause-same c =
