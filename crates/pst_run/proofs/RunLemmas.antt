@@ -1,5 +1,5 @@
 -- What a run does for words that ask for something.
-use Rattle.std.proofs.Common.{◌≡◌, ◌∙◌, inl, inr, sym, ap, refl, subst, ℕ, List, Ok, Err, arith}
+use Rattle.std.proofs.Common.{◌≡◌, ◌∙◌, inl, inr, sym, ap, subst, ℕ, List, Ok, Err, arith}
 use Rattle.std.specs.Prelude.{Bool, Option, None, Result}
 use Rattle.pst_fault.specs.declared.kind.Kind.{Kind}
 use Rattle.pst_ask.specs.clap.Words.{IsAmong, Text, kind_of}
