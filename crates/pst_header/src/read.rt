@@ -4,7 +4,7 @@ ghost use Rattle.std.specs.Prelude.{◌≡◌, ◌≤◌, ◌+◌, length, IfOk,
 ghost use Rattle.pst_bytes.specs.Image.{bytes_of, bytes_at, IsInside};
 ghost use Rattle.pst_crc.specs.Crc.{crc};
 ghost use Rattle.pst_fault.specs.First.{answer};
-ghost use Rattle.pst_header.specs.Head.{Head};
+ghost use Rattle.pst_header.specs.Head.{Head, IsMapped};
 ghost use Rattle.pst_header.specs.declared.header.Header.{Header};
 ghost use Rattle.pst_header.specs.Header.{bref_at, fields, header_fault, check_fault, root_fault, is_amap_place, is_last_amap};
 
@@ -138,6 +138,7 @@ fn checked(image: Image) -> Result<Header, Fault>
 pub fn read_header(image: Image) -> Result<Header, Fault>
     // What is read is a good header of the file.
     ensures found { IfOk result (λ h. Head (bytes_of image.entry) h) }
+    ensures mapped { IfOk result (λ h. IsMapped (bytes_of image.entry) h) }
 
     // A good header is read.
     ensures only { (h : Header) → Head (bytes_of image.entry) h → result ≡ Ok h }
