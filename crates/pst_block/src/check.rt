@@ -14,6 +14,7 @@ ghost use Rattle.pst_block.specs.Walk.{block_step, blocks_walk, block_spans, Are
 
 use crate::blocks::Blocks;
 use crate::read::{block_place, check_trailer};
+use crate::source::Source;
 use pst_btree::BlockTree;
 use pst_bytes::{Image, Span};
 use pst_fault::{Fault, Kind};
@@ -108,7 +109,8 @@ pub fn sum_blocks<'a>(
 {
     let sums = check_each(image, header, entries, claims)?;
     let end = header.end();
-    Ok((Blocks { image, tree, end }, sums))
+    let source = Source::Tree(tree);
+    Ok((Blocks { image, source, end }, sums))
 }
 
 /// The blocks of a file whose header is this one, all checked. The tree is the file's block B-tree and the entries are

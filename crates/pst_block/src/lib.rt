@@ -19,6 +19,7 @@ mod check;
 mod laws;
 mod read;
 mod size;
+mod source;
 
 pub use blocks::Blocks;
 pub use check::{check_blocks, sum_blocks};
