@@ -11,7 +11,7 @@ use pst_page::{BlockEntry, NodeEntry, PageKind};
 /// They are found by halving.
 #[derive(Clone, Copy)]
 pub struct BlockList<'a> {
-    pub(crate) entries: &'a [BlockEntry],
+    entries: &'a [BlockEntry],
     ghost rise: { Rises 0 None (map block_key entries.now) } by { Rises-prop 0 None
         (map block_key entries.now) },
 }
@@ -56,7 +56,7 @@ impl<'a> BlockList<'a> {
 /// whole. They are found by halving.
 #[derive(Clone, Copy)]
 pub struct NodeList<'a> {
-    pub(crate) entries: &'a [NodeEntry],
+    entries: &'a [NodeEntry],
     ghost rise: { Rises 0 None (map node_key entries.now) } by { Rises-prop 0 None
         (map node_key entries.now) },
 }
@@ -86,4 +86,16 @@ impl<'a> NodeList<'a> {
         let entry = self.entries[place];
         if entry.nid == nid { Some(entry) } else { None }
     }
+
+    /// All of them, in order.
+    pub fn entries(&self) -> &'a [NodeEntry]
+        ensures { result.now ≡ listed_nodes self.now }
+    {
+        self.entries
+    }
+
+    /// What is known of every such list: the identifiers rise.
+    pub fn nids_rise(&self)
+        ensures { Rises 0 None (map node_key (listed_nodes self.now)) }
+    {}
 }
