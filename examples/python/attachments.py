@@ -37,7 +37,7 @@ def main():
                 write_attachment(attachment, folder)
     except (pst.Error, OSError) as error:
         print(error, file=sys.stderr)
-        return 1 if isinstance(error, (pst.Refused, pst.Missing)) else 3
+        return 1 if isinstance(error, (pst.Fault, pst.Missing)) else 3
     return 0
 
 

@@ -8,13 +8,14 @@
             for attachment in store.props(message.nid).attachments:
                 print(message.title, attachment.name)
 
-A store that breaks a rule of the format raises `Refused`, with the first rule that it breaks and the place. Values are not copied:
-`value.view` is a `memoryview` of the file's own bytes, and ends with the store.
+A store that breaks a rule of the format raises `Refused`, with the first rule that it breaks and the place; a node that has no
+properties, as a table, `NodeRefused`, and the store may be whole. Values are not copied: `value.view` is a `memoryview` of the file's
+own bytes, and ends with the store.
 
 docs/LIBRARY.md says what is proved of an answer, and what the caller owes.
 """
 
-from ._errors import BadWords, Error, InUse, Missing, Refused, Unread
+from ._errors import BadWords, Error, Fault, InUse, Missing, NodeRefused, Refused, Unread
 from ._library import answer
 from ._store import Folder, Lost, Message, Report, Store, title_of
 from ._store import open_store as open
@@ -36,12 +37,14 @@ __all__ = [
     "BadWords",
     "Cell",
     "Error",
+    "Fault",
     "Folder",
     "InUse",
     "Lost",
     "Message",
     "Missing",
     "Node",
+    "NodeRefused",
     "Properties",
     "Property",
     "Recipient",

@@ -105,7 +105,7 @@ class Store:
         """What the program writes for these words, with "-" in FILE's place. Raises what it says instead."""
         status, text, line = _library.answer(words, self._all)
         if status:
-            raise_for(status, line)
+            raise_for(words, status, line)
         return text
 
     @property
@@ -149,7 +149,10 @@ class Store:
         ]
 
     def props(self, path: str) -> Node:
-        """The properties of what a path leads to, as "0x122" or "0x400024/0x8045/0x200024". Missing where it leads nowhere."""
+        """The properties of what a path leads to, as "0x122" or "0x400024/0x8045/0x200024".
+
+        Missing where it leads nowhere, and NodeRefused where it leads to something else than properties, as a table.
+        """
         return self.all_props([path])[0]
 
     def all_props(self, paths: Iterable[str]) -> list[Node]:

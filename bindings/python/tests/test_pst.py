@@ -101,6 +101,32 @@ class Refusals(unittest.TestCase):
             with self.assertRaises(ValueError):
                 store.props("0x21\0")
 
+    def test_a_node_that_is_a_table(self):
+        line = "no: 21 Heap at 0x4c80 bid 0xc nid 0x12d"
+        with pst.open(sample("m1.pst")) as store:
+            for ask in (
+                lambda: store.props("0x12D"),
+                lambda: store.all_props(["0x21", "0x12d"]),
+                lambda: store.value("0x12D", "3001", text=True),
+            ):
+                with self.assertRaises(pst.NodeRefused) as caught:
+                    ask()
+                self.assertNotIsInstance(caught.exception, pst.Refused)
+                self.assertEqual(str(caught.exception), line)
+                self.assertIsInstance(pickle.loads(pickle.dumps(caught.exception)), pst.NodeRefused)
+            self.assertEqual(store.report.nodes, 4)
+
+    def test_the_same_kind_of_the_file(self):
+        # The heap of the root folder says that it is a table, and the check value of its block is right.
+        data = bytearray(bytes_of("m1.pst"))
+        data[0x4C43] = 0x7C
+        data[0x4C74:0x4C78] = bytes.fromhex("ba2ff14d")
+        store = pst.Store(data)
+        for ask in (lambda: store.report, lambda: store.props("0x122"), lambda: store.props("0x12D")):
+            with self.assertRaises(pst.Refused) as caught:
+                ask()
+            self.assertEqual(str(caught.exception), "no: 21 Heap at 0x4c40 bid 0x8 nid 0x122")
+
     def test_no_bytes(self):
         for data in (b"", bytearray(), memoryview(b"")):
             self.assertEqual(pst.answer(["check", "-"], data)[0], 1)

@@ -24,6 +24,8 @@
 //! let refusal = pst_verify::check(b"").unwrap_err();
 //! assert_eq!(refusal.to_string(), "no: 1 Short at 0x0 bid 0x0 nid 0x0");
 //! ```
+//!
+//! Such a line of the properties of a node may be of the node alone, in bytes that are a store: [`Refusal::Node`].
 
 mod call;
 mod refusal;

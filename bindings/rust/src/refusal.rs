@@ -21,10 +21,22 @@ pub struct Fault {
 }
 
 impl Fault {
-    /// Whether it says that the file is damaged. `Version`, `Encoded` and `MapsInvalid` say only that it is outside of what is
-    /// checked.
+    /// Whether it says that the file is damaged, where it is told of the file ([`Refusal::Fault`]). `Version`, `Encoded` and
+    /// `MapsInvalid` say only that it is outside of what is checked.
     pub fn damage(&self) -> bool {
         !matches!(self.number, 3 | 4 | 7)
+    }
+
+    /// Whether a store may be whole of which these words get it. `props` and `value` tell kinds 17 and 21 to 24 also of a node that a
+    /// path names by itself and that is no property context, as a table. Of the nodes that are one in every store (the store itself,
+    /// the name map, folders, search folders and messages) it is the file's.
+    fn is_of_node<W: AsRef<str>>(&self, words: &[W]) -> bool {
+        let command = words.first().map(AsRef::as_ref);
+        matches!(command, Some("props" | "value"))
+            && matches!(self.number, 17 | 21..=24)
+            && !matches!(self.nid, 0x21 | 0x61)
+            && !matches!(self.nid % 32, 2..=4 | 8)
+            && words.iter().any(|it| node_of(it.as_ref()) == Some(self.nid))
     }
 
     /// What a line `no: 14 BlockTrailer at 0x4c40 bid 0x8 nid 0x0` says.
@@ -54,6 +66,11 @@ fn kind_of(word: &str) -> Option<(String, Option<u64>)> {
     }
 }
 
+/// The node of a path that is one node, as `0x12D`.
+fn node_of(word: &str) -> Option<u32> {
+    u32::from_str_radix(word.strip_prefix("0x")?, 16).ok()
+}
+
 /// The hexadecimal number behind a word.
 fn place_of<'a>(word: &str, words: &mut impl Iterator<Item = &'a str>) -> Option<u64> {
     if words.next()? != word {
@@ -81,6 +98,9 @@ impl fmt::Display for Fault {
 pub enum Refusal {
     /// The bytes break a rule of the format.
     Fault(Fault),
+    /// Of `props` and `value`: what is told may be of the node alone that a path names. It is no property context, for this reason,
+    /// as a table is none, and the bytes may be a store all the same: [`check`](crate::check) says whether they are.
+    Node(Fault),
     /// The store has no such folder, node or property, as the line says.
     Missing(String),
     /// The words are refused, as the line says.
@@ -92,12 +112,13 @@ pub enum Refusal {
 }
 
 impl Refusal {
-    /// What a status and a line say.
-    pub(crate) fn of(status: u8, line: &[u8]) -> Refusal {
+    /// What a status and a line say of these words.
+    pub(crate) fn of<W: AsRef<str>>(words: &[W], status: u8, line: &[u8]) -> Refusal {
         let text = String::from_utf8_lossy(line);
         let text = text.trim_end_matches('\n');
         match status {
             1 => match Fault::of(text) {
+                Some(fault) if fault.is_of_node(words) => Refusal::Node(fault),
                 Some(fault) => Refusal::Fault(fault),
                 None => Refusal::Missing(text.to_string()),
             },
@@ -110,7 +131,7 @@ impl Refusal {
     /// The status with which the program ends.
     pub fn status(&self) -> u8 {
         match self {
-            Refusal::Fault(_) | Refusal::Missing(_) => 1,
+            Refusal::Fault(_) | Refusal::Node(_) | Refusal::Missing(_) => 1,
             Refusal::Words(_) => 2,
             Refusal::TooLong => 3,
             Refusal::Memory => 4,
@@ -121,7 +142,7 @@ impl Refusal {
 impl fmt::Display for Refusal {
     fn fmt(&self, f: &mut fmt::Formatter<'_>) -> fmt::Result {
         match self {
-            Refusal::Fault(fault) => write!(f, "{fault}"),
+            Refusal::Fault(fault) | Refusal::Node(fault) => write!(f, "{fault}"),
             Refusal::Missing(line) | Refusal::Words(line) => write!(f, "{line}"),
             Refusal::TooLong => write!(f, "the bytes are more than 17179869184"),
             Refusal::Memory => write!(f, "out of memory"),

@@ -113,7 +113,7 @@ impl<'a> Store<'a> {
         let answer = answer(words, self.bytes);
         match answer.status {
             0 => Ok(answer.text),
-            status => Err(Refusal::of(status, &answer.line)),
+            status => Err(Refusal::of(words, status, &answer.line)),
         }
     }
 
@@ -153,7 +153,8 @@ impl<'a> Store<'a> {
         Ok(lines(&text).map(|line| message(&json(line))).collect())
     }
 
-    /// The properties of what a path leads to, as `0x122` or `0x400024/0x8045/0x200024`.
+    /// The properties of what a path leads to, as `0x122` or `0x400024/0x8045/0x200024`. A node that is something else, as a table,
+    /// is refused as [`Refusal::Node`], and the bytes may be a store all the same.
     pub fn props(&self, path: &str) -> Result<Node<'a>, Refusal> {
         let text = self.answer(&["props", "--places", "-", path])?;
         Ok(Node::of(path, &json(&text), self.bytes))

@@ -34,6 +34,36 @@ fn faults() {
 }
 
 #[test]
+fn a_node_that_is_a_table() {
+    let bytes = sample("m1.pst");
+    let store = Store::new(&bytes);
+    let line = "no: 21 Heap at 0x4c80 bid 0xc nid 0x12d";
+    for refusal in [
+        store.props("0x12D").unwrap_err(),
+        store.all_props(&["0x21", "0x12d"]).unwrap_err(),
+        store.answer(&["value", "-", "0x12D", "3001"]).unwrap_err(),
+    ] {
+        assert!(matches!(refusal, Refusal::Node(_)), "{refusal:?}");
+        assert_eq!((refusal.status(), &*refusal.to_string()), (1, line));
+    }
+    assert!(check(&bytes).is_ok());
+}
+
+#[test]
+fn the_same_kind_of_the_file() {
+    // The heap of the root folder says that it is a table, and the check value of its block is right.
+    let mut bytes = sample("m1.pst");
+    bytes[0x4c43] = 0x7c;
+    bytes[0x4c74..0x4c78].copy_from_slice(&[0xba, 0x2f, 0xf1, 0x4d]);
+    let no = check(&bytes).unwrap_err();
+    assert_eq!(no.to_string(), "no: 21 Heap at 0x4c40 bid 0x8 nid 0x122");
+    let store = Store::new(&bytes);
+    for path in ["0x122", "0x12D"] {
+        assert_eq!(store.props(path).unwrap_err(), no);
+    }
+}
+
+#[test]
 fn decoded() {
     let mut bytes = sample("mail_permute.pst");
     match check(&bytes) {
