@@ -28,14 +28,15 @@ extern "C" {
 
 /* The version of this header. A library of the same first two numbers (before 1.0.0; later: of the same first number) is
  * called alike. That of the library is the answer to the word "--version". */
-#define PST_VERSION "0.1.0"
+#define PST_VERSION "0.2.0"
 
 /* The statuses, which are those of the program. */
 enum pst_status {
     /* The answer is there. Of check: the bytes are a store. */
     PST_YES = 0,
     /* The bytes break a rule of the format, or have no such folder, node or property: the line says which. Of check with
-     * --strict also, with an empty line: it is a store, and space in it is lost. */
+     * --strict also, with an empty line: it is a store, and space in it is lost. Of props and value a line "no: .." of kind 17 or
+     * 21 to 24 may be of a node alone, that has no properties, and the bytes be a store: check says whether they are. */
     PST_NO = 1,
     /* The words are refused: the line says why. */
     PST_WORDS = 2,
