@@ -1,17 +1,29 @@
 #!/usr/bin/env python3
-"""Finds each definition that a public clause cites and docs/GRAMMAR.md does not name.
+"""Compares docs/GRAMMAR.md with the sources: the definitions that public clauses cite, and the numbers that definitions cite.
+
+    tools/check_grammar.py [--write]
 
 A public clause is a `requires` or an `ensures` of a `pub fn`, or a ghost member of an iterator. The definitions are those
 that it brings in from the `specs/` of the repository's crates. The page names a definition by its word between backticks.
-Prints what is missing, and ends with 1 where anything is.
+
+A number is a constant of `src/` that a file of `specs/` brings in. The page's table "Numbers" has each with its value and its
+file, which are compared, and what [MS-PST] calls it. Crates of tests and of test images are left out. With --write the table's
+values and files are written anew, and what [MS-PST] calls a number that is new is to be filled in by hand.
+
+Prints what is missing or otherwise, and ends with 1 where anything is.
 """
+import argparse
 import glob
+import hashlib
 import os
 import re
 import sys
 
 HOME = os.path.dirname(os.path.dirname(os.path.abspath(__file__)))
 IMPORT = re.compile(r"ghost use Rattle\.(pst_\w+)\.specs\.((?:\w+\.)*\w+)\.\{([^}]*)\}")
+NUMBERS = re.compile(r"use Rattle\.(?:\w+\.)*?(pst_\w+)\.specs\.(?:(pst_\w+)\.)*declared\.([\w.]+)\.TheConstants\.\{([^}]*)\}")
+ROW = re.compile(r"^\| `(\w+)` \| (.*?) \| (.*?) \| (.*?) \| (\S+) \|$", re.M)
+TABLE = re.compile(r"(?<=\n## Numbers\n)(.*?\n\|---\|.*?\n)(.*?)(?=\n\n|\Z)", re.S)
 WORD = re.compile(r"[^\s(){}\[\].,;:×→↔λ≡∷+*<>≤=-]+")
 
 
@@ -46,16 +58,71 @@ def public_clauses(text):
             clause = ""
 
 
-def main():
-    with open(os.path.join(HOME, "docs/GRAMMAR.md"), encoding="utf-8") as page:
-        named = set()
-        for quoted in re.findall(r"`([^`]*)`", page.read()):
-            named.update(WORD.findall(quoted))
-            named.add(quoted)
+def read(name):
+    with open(os.path.join(HOME, name), encoding="utf-8") as file:
+        return file.read()
+
+
+def value_of(text, name):
+    """The value of a constant; of an array its length and a digest."""
+    value = re.search(rf"\bconst {name}: [^=]*= ([^;]*);", text)[1].strip()
+    if not value.startswith("["):
+        return value.replace("_", ",")
+    held = bytes(int(number, 0) for number in re.findall(r"0x[0-9a-f]+|\b\d+\b", value))
+    return f"{len(held)} bytes, SHA-256 {hashlib.sha256(held).hexdigest()[:16]}.."
+
+
+def numbers():
+    """Each number that a definition cites, by its name and file, with its value."""
+    found = {}
+    for path in sorted(glob.glob(os.path.join(HOME, "crates/*/specs/**/*.antt"), recursive=True)):
+        crate = os.path.relpath(path, HOME).split("/")[1]
+        if crate.endswith("_tests") or crate in ("pst_make", "pst_bench", "pst_refused"):
+            continue
+        for chain in NUMBERS.finditer(read(path)):
+            home = re.findall(r"pst_\w+", chain[0].partition("declared")[0])[-1]
+            place = f"{home}/src/{chain[3].replace('.', '/')}.rt"
+            text = read(f"crates/{place}")
+            for name in chain[4].split(","):
+                name = name.partition(" as ")[0].strip()
+                found[name, place] = value_of(text, name)
+    return found
+
+
+def written(page, cited):
+    """The page with the values and files of its table written anew."""
+    rows = {(row[1], row[5]): row for row in ROW.finditer(TABLE.search(page)[2])}
+    order = [key for key in rows if key in cited] + [key for key in cited if key not in rows]
+    lines = [f"| `{key[0]}` | {cited[key]} | {rows[key][3] if key in rows else '?'} | {rows[key][4] if key in rows else '?'} | {key[1]} |"
+             for key in order]
+    return TABLE.sub(lambda table: table[1] + "\n".join(lines), page)
+
+
+def check_numbers(page):
+    """Compares the table with the sources: how many numbers are otherwise."""
+    cited = numbers()
+    table = TABLE.search(page)
+    told = {(row[1], row[5]): row[2] for row in ROW.finditer(table[2])} if table else {}
+    wrong = [key for key in {**cited, **told} if cited.get(key) != told.get(key)]
+    for name, place in wrong:
+        print(f"{name} of {place} is {cited.get((name, place), 'cited by no definition')}, and in docs/GRAMMAR.md "
+              f"{told.get((name, place), 'missing')}")
+    unnamed = [row[1] for row in ROW.finditer(table[2]) if "?" in (row[3], row[4])] if table else []
+    for name in unnamed:
+        print(f"docs/GRAMMAR.md doesn't say what [MS-PST] calls {name}")
+    print(f"{len(cited)} numbers that definitions cite, {len(wrong) + len(unnamed)} otherwise in docs/GRAMMAR.md")
+    return len(wrong) + len(unnamed)
+
+
+def check_definitions(page):
+    """Finds the definitions that public clauses cite and the page lacks: how many."""
+    named = set()
+    for quoted in re.findall(r"`([^`]*)`", page):
+        named.update(WORD.findall(quoted))
+        named.add(quoted)
     missing = {}
     for path in sorted(glob.glob(os.path.join(HOME, "crates/*/src/**/*.rt"), recursive=True)):
-        with open(path, encoding="utf-8") as file:
-            text = file.read()
+        text = read(path)
         words = imported(text)
         for clause in public_clauses(text):
             for word in WORD.findall(clause):
@@ -64,7 +131,19 @@ def main():
     for (crate, module, name), path in sorted(missing.items()):
         print(f"{name} of {crate}/specs/{module.replace('.', '/')}.antt, cited in {path}, is not in docs/GRAMMAR.md")
     print(f"{len(missing)} definitions of public clauses are missing in docs/GRAMMAR.md")
-    return 1 if missing else 0
+    return len(missing)
+
+
+def main():
+    parser = argparse.ArgumentParser(description="Compares docs/GRAMMAR.md with the sources.")
+    parser.add_argument("--write", action="store_true", help="writes the values and files of its numbers anew")
+    given = parser.parse_args()
+    page = read("docs/GRAMMAR.md")
+    if given.write:
+        page = written(page, numbers())
+        with open(os.path.join(HOME, "docs/GRAMMAR.md"), "w", encoding="utf-8") as file:
+            file.write(page)
+    return 1 if check_definitions(page) + check_numbers(page) else 0
 
 
 if __name__ == "__main__":
