@@ -195,7 +195,7 @@ def is_same(path, example, given):
 
 def run_document(path, program):
     """Runs the examples of a document: how many are the same, differ, were not run, and of these were not run though they have to."""
-    same, different, optional, left_out = 0, 0, 0, 0
+    same, different, left_out = 0, 0, {}
     lacking = None
     with open(path, encoding="utf-8") as file:
         text = file.read()
@@ -212,14 +212,15 @@ def run_document(path, program):
             if lack:
                 if re.search(r">>?\w", example.text):
                     lacking = example.heading, lack
-                optional += lack in OPTIONAL
-                left_out += lack not in OPTIONAL
-                print(f"{path}:{example.number}: not run, {lack}")
+                left_out.setdefault(lack, []).append(str(example.number))
             elif is_same(path, example, room.run(example)):
                 same += 1
             else:
                 different += 1
-    return same, different, optional, left_out
+    for lack, numbers in left_out.items():
+        print(f"{path}:{','.join(numbers)}: not run, {lack}")
+    optional = sum(len(left_out.pop(lack, ())) for lack in OPTIONAL)
+    return same, different, optional, sum(map(len, left_out.values()))
 
 
 def main():

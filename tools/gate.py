@@ -1,10 +1,13 @@
 #!/usr/bin/env python3
 """Runs the gate, and then tries the program that it built; with --quick it tries the kept program and proves nothing.
 
+    tools/gate.py [--quick [-v]]
+
 `rt ci` proves every crate and its tests from nothing, tries the must-fail edits and runs the tests, and leaves the program
 in crates/pst_show/out. That must have the bytes of the one that is kept in built/. Each command of TRIED is then run over
-it, and counts as one that passed or failed; they need half a minute. Where something failed before, they are not run. The
-last line is 'N passed, M failed'.
+it, and counts as one that passed or failed; they need a minute. Where something failed before, they are not run. With
+--quick the lines of tools/refuse/refuse, one for each command line, are shown where it fails, and with -v. The last line is
+'N passed, M failed'.
 """
 import os
 import re
@@ -53,16 +56,21 @@ def prove():
     return counts
 
 
-def is_good(words):
-    """Whether a command finds nothing wrong."""
+def is_good(words, is_shown=True):
+    """Whether a command finds nothing wrong. What it prints is shown; or only where something is wrong, and else how many lines."""
     print(f"== {' '.join(words)}", flush=True)
-    return subprocess.run(words, cwd=ROOT, check=False).returncode == 0
+    ran = subprocess.run(words, cwd=ROOT, stdout=None if is_shown else subprocess.PIPE, text=True, errors="replace", check=False)
+    if not is_shown:
+        lines = ran.stdout.splitlines(True)
+        print(f"{len(lines)} command lines, none answered otherwise\n" if ran.returncode == 0 else "".join(lines), end="", flush=True)
+    return ran.returncode == 0
 
 
-def try_program(program, calls):
+def try_program(program, calls, is_shown=True):
     """How many of the commands that try a program find nothing wrong, and how many do. `calls` names the built program that
-    makes each call which takes memory, for the one that refuses it."""
-    good = [is_good([sys.executable, *words, "--program", program, *(calls if words is REFUSE else [])]) for words in TRIED]
+    makes each call which takes memory, for the one that refuses it, whose lines are shown or not."""
+    good = [is_good([sys.executable, *words, "--program", program, *(calls if words is REFUSE else [])], is_shown or words is not REFUSE)
+            for words in TRIED]
     good.append(is_good([sys.executable, LAUNCHER]))
     return sum(good), len(good) - sum(good)
 
@@ -79,21 +87,21 @@ def gate():
     return passed + 1 + tried[0], tried[1]
 
 
-def quick():
+def quick(is_shown):
     start = time.monotonic()
     program = printed("--program")
-    passed, failed = (0, 1) if program is None else try_program(program, [])
+    passed, failed = (0, 1) if program is None else try_program(program, [], is_shown)
     seconds = time.monotonic() - start
     print(f"{passed} passed, {failed} failed in {seconds:.0f} s; nothing was proved here, ./check proves all")
     return failed
 
 
 def main():
-    if sys.argv[1:] not in ([], ["--quick"]):
-        print("usage: ./check [--quick]", file=sys.stderr)
+    if sys.argv[1:] not in ([], ["--quick"], ["--quick", "-v"]):
+        print("usage: ./check [--quick [-v]]", file=sys.stderr)
         return 2
     if sys.argv[1:]:
-        return 1 if quick() else 0
+        return 1 if quick("-v" in sys.argv) else 0
     passed, failed = gate()
     print(f"{passed} passed, {failed} failed")
     return 1 if failed else 0
