@@ -37,7 +37,7 @@ SHOWN = ["sh", "c", "python", "text"]
 
 
 class Example(NamedTuple):
-    """The heading above it, the number of its line, its language, its text, and what it has to print; None where that is not said."""
+    """The heading above it, the number of its line, its language, its text, and what it has to print; None if that is not said."""
     heading: str
     number: int
     language: str
@@ -157,11 +157,12 @@ class Room:
             return [sys.executable, source]
         built = f"{self.folder}/program"
         archive = os.path.join(os.path.dirname(self.library), "libpst.a")
-        subprocess.run(["cc", "-std=c11", "-Wall", "-Wextra", "-Werror", f"-I{ROOT}/include", source, archive, "-o", built], check=True)
+        flags = ["-std=c11", "-Wall", "-Wextra", "-Werror", f"-I{ROOT}/include"]
+        subprocess.run(["cc", *flags, source, archive, "-o", built], check=True)
         return [built]
 
     def run(self, example):
-        """What an example prints, on standard output and standard error together; of one that does not show it None where it is good."""
+        """What an example prints, on standard output and standard error together. If it shows nothing of that, None where it is good."""
         given = f"{ROOT}/samples/mail.pst" if example.language != "sh" else os.devnull
         quiet = subprocess.PIPE if example.wanted is None else subprocess.STDOUT
         with open(given, "rb") as held:
@@ -194,7 +195,8 @@ def is_same(path, example, given):
 
 
 def run_document(path, program):
-    """Runs the examples of a document: how many are the same, differ, were not run, and of these were not run though they have to."""
+    """Runs the examples of a document: how many are the same, how many differ, and how many were not run for lack of what may be
+    missing, and of anything else."""
     same, different, left_out = 0, 0, {}
     lacking = None
     with open(path, encoding="utf-8") as file:

@@ -93,8 +93,8 @@ def written(page, cited):
     """The page with the values and files of its table written anew."""
     rows = {(row[1], row[5]): row for row in ROW.finditer(TABLE.search(page)[2])}
     order = [key for key in rows if key in cited] + [key for key in cited if key not in rows]
-    lines = [f"| `{key[0]}` | {cited[key]} | {rows[key][3] if key in rows else '?'} | {rows[key][4] if key in rows else '?'} | {key[1]} |"
-             for key in order]
+    said = {key: (rows[key][3], rows[key][4]) if key in rows else ("?", "?") for key in order}
+    lines = [f"| `{name}` | {cited[name, place]} | {' | '.join(said[name, place])} | {place} |" for name, place in order]
     return TABLE.sub(lambda table: table[1] + "\n".join(lines), page)
 
 

@@ -61,16 +61,18 @@ def is_good(words, is_shown=True):
     print(f"== {' '.join(words)}", flush=True)
     ran = subprocess.run(words, cwd=ROOT, stdout=None if is_shown else subprocess.PIPE, text=True, errors="replace", check=False)
     if not is_shown:
-        lines = ran.stdout.splitlines(True)
-        print(f"{len(lines)} command lines, none answered otherwise\n" if ran.returncode == 0 else "".join(lines), end="", flush=True)
+        count = len(ran.stdout.splitlines())
+        print(f"{count} command lines, none answered otherwise" if ran.returncode == 0 else ran.stdout, flush=True)
     return ran.returncode == 0
 
 
 def try_program(program, calls, is_shown=True):
     """How many of the commands that try a program find nothing wrong, and how many do. `calls` names the built program that
     makes each call which takes memory, for the one that refuses it, whose lines are shown or not."""
-    good = [is_good([sys.executable, *words, "--program", program, *(calls if words is REFUSE else [])], is_shown or words is not REFUSE)
-            for words in TRIED]
+    good = []
+    for words in TRIED:
+        more = calls if words is REFUSE else []
+        good.append(is_good([sys.executable, *words, "--program", program, *more], is_shown or words is not REFUSE))
     good.append(is_good([sys.executable, LAUNCHER]))
     return sum(good), len(good) - sum(good)
 

@@ -36,7 +36,9 @@ impl Fault {
             && matches!(self.number, 17 | 21..=24)
             && !matches!(self.nid, 0x21 | 0x61)
             && !matches!(self.nid % 32, 2..=4 | 8)
-            && words.iter().any(|it| node_of(it.as_ref()) == Some(self.nid))
+            && words
+                .iter()
+                .any(|it| node_of(it.as_ref()) == Some(self.nid))
     }
 
     /// What a line `no: 14 BlockTrailer at 0x4c40 bid 0x8 nid 0x0` says.
