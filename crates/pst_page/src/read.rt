@@ -67,9 +67,11 @@ fn check_trailer(image: Image, bref: Bref, kind: PageKind, pages: &mut u64) -> R
     }
 }
 
-// The shape ([MS-PST] 2.2.2.7.7.1).
+/// The shape of the page that a reference names, whose place is known to lie in the file ([MS-PST] 2.2.2.7.7.1): PageShape,
+/// where its entries are too small or do not fit, its level is over 15, or it is a branch with no entry. Its trailer is not
+/// looked at.
 #[tactic(auto, unfolding(crate::specs::Fault::has_shape, crate::specs::Page::count_at, crate::specs::Page::width_at, crate::specs::Page::level_at))]
-fn check_shape(image: Image, bref: Bref, kind: PageKind) -> Result<(), Fault>
+pub fn check_shape(image: Image, bref: Bref, kind: PageKind) -> Result<(), Fault>
     requires { bref.ib + 512 ≤ length (bytes_of image) }
     ensures { result ≡ answer (page_shape_fault kind (bytes_of image.entry) bref) tt }
 {
