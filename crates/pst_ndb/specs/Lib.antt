@@ -6,6 +6,7 @@ pub mod Fault
 pub mod Marks
 pub mod Node
 pub mod Roots
+pub mod Source
 pub mod Space
 pub mod Views
 pub mod Known
