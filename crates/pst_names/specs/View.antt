@@ -1,5 +1,5 @@
 -- What a contract sees of a name map and of a name.
-use Rattle.std.specs.Prelude.{◌≡◌, ℕ, ◌+◌, List, Option, Some, None, ⊤}
+use Rattle.std.specs.Prelude.{◌≡◌, ℕ, ◌+◌, List, Some, ⊤}
 use Rattle.pst_bytes.specs.declared.Image.{Image}
 use Rattle.pst_bytes.specs.Image.{num}
 use Rattle.pst_page.specs.declared.entry.NodeEntry.{NodeEntry}
