@@ -8,27 +8,16 @@ use Rattle.pst_block.specs.Table.{Table}
 use Rattle.pst_block.specs.Blocks.{table_of, image_of}
 use Rattle.pst_ndb.specs.declared.ndb.Ndb.{Ndb}
 use Rattle.pst_ndb.specs.declared.node.Node.{Node}
-use Rattle.pst_ndb.specs.declared.node_table.NodeTable.{NodeTable}
 use Rattle.pst_ndb.specs.declared.nodes.Nodes.{Nodes}
 use Rattle.pst_ndb.specs.Node.{NodeParts, entry_parts}
+use Rattle.pst_ndb.specs.NodeTable.{image_of_nodes, table_of_nodes, entries_of_nodes}
 use Rattle.pst_ndb.specs.Roots.{Roots, all_roots}
-use Rattle.pst_ndb.specs.Source.{entries_in, entries_left}
+use Rattle.pst_ndb.specs.Source.{entries_left}
 use Rattle.pst_subnode.specs.declared.check.TheConstants.{LISTS}
 use Rattle.pst_subnode.specs.declared.index.SubIndex.{SubIndex}
 use Rattle.pst_subnode.specs.Index.{IsIndexOf}
 use Rattle.pst_subnode.specs.List.{subs_of}
 use Rattle.pst_subnode.specs.Tree.{sub_height}
-
--- ---- of nodes by their identifiers: the file, the blocks, and the entries
-
-abbrev pub image_of_nodes : NodeTable → Image
-image_of_nodes nodes = image_of nodes.blocks
-
-abbrev pub table_of_nodes : NodeTable → Table
-table_of_nodes nodes = table_of nodes.blocks
-
-abbrev pub entries_of_nodes : NodeTable → List NodeEntry
-entries_of_nodes nodes = entries_in nodes.source
 
 -- ---- of a node database: the file, its header, its blocks, and the entries of its nodes
 

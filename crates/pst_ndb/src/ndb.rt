@@ -5,7 +5,7 @@ ghost use Rattle.pst_bytes.specs.Image.{bytes_of};
 ghost use Rattle.pst_header.specs.Header.{fields};
 ghost use Rattle.pst_ndb.specs.Entries.{block_table, node_list};
 ghost use Rattle.pst_ndb.specs.Fault.{ndb_fault};
-ghost use Rattle.pst_ndb.specs.Views.{image_of_nodes, table_of_nodes, entries_of_nodes};
+ghost use Rattle.pst_ndb.specs.NodeTable.{image_of_nodes, table_of_nodes, entries_of_nodes};
 
 use crate::node::Node;
 use crate::node_table::NodeTable;
@@ -40,8 +40,9 @@ impl<'a> Ndb<'a> {
     ghost use Rattle.pst_ndb.specs.Entries.{block_table, node_list};
     ghost use Rattle.pst_ndb.specs.Fault.{file_fault, ndb_fault, nodes_fault};
     ghost use Rattle.pst_ndb.specs.Node.{entry_parts};
+    ghost use Rattle.pst_ndb.specs.NodeTable.{image_of_nodes, table_of_nodes, entries_of_nodes};
     ghost use Rattle.pst_ndb.specs.Roots.{node_in, all_roots};
-    ghost use Rattle.pst_ndb.specs.Views.{image_of_nodes, table_of_nodes, entries_of_nodes, image_of_ndb, header_of, table_of_ndb, nodes_of, image_of_node, table_of_node, top_of, nid_of, parts_of, roots_of, parts_left, roots_left, table_left, image_left};
+    ghost use Rattle.pst_ndb.specs.Views.{image_of_ndb, header_of, table_of_ndb, nodes_of, image_of_node, table_of_node, top_of, nid_of, parts_of, roots_of, parts_left, roots_left, table_left, image_left};
 
     // The node database of a file with this header, which was checked.
     #[tactic(auto, using(crate::proofs::NodeLemmas::file_sound, crate::proofs::NodeLemmas::file_fields, crate::proofs::NodeLemmas::file_trees))]

@@ -31,8 +31,9 @@ impl<'a> NodeTable<'a> {
     ghost use Rattle.pst_block.specs.Blocks.{table_of, image_of};
     ghost use Rattle.pst_ndb.specs.Fault.{nodes_fault};
     ghost use Rattle.pst_ndb.specs.Node.{entry_parts};
+    ghost use Rattle.pst_ndb.specs.NodeTable.{image_of_nodes, table_of_nodes, entries_of_nodes};
     ghost use Rattle.pst_ndb.specs.Roots.{node_in, all_roots};
-    ghost use Rattle.pst_ndb.specs.Views.{image_of_nodes, table_of_nodes, entries_of_nodes, image_of_node, table_of_node, top_of, nid_of, parts_of, roots_of, parts_left, roots_left, table_left, image_left};
+    ghost use Rattle.pst_ndb.specs.Views.{image_of_node, table_of_node, top_of, nid_of, parts_of, roots_of, parts_left, roots_left, table_left, image_left};
 
     // All nodes of a tree, none of which has a fault.
     pub(crate) fn of_tree(blocks: Blocks<'a>, tree: NodeTree<'a>) -> NodeTable<'a>
