@@ -25,15 +25,16 @@ use Rattle.pst_btree.proofs.TreeLaws.{IsClaimedOf, walk_claims}
 use Rattle.pst_btree.proofs.UnitLemmas.{tree_units}
 use Rattle.pst_block.specs.Walk.{block_spans}
 use Rattle.pst_encoding.specs.declared.method.Method.{Method}
-use Rattle.pst_encoding.specs.Method.{method_number}
+use Rattle.pst_encoding.specs.Method.{method_number, decoded, encoded}
 use Rattle.pst_encoding.specs.Tables.{IsByte}
 use Rattle.pst_plain.specs.Blocks.{has_data, placed, placed_data, Listed, trees_listed, data_after, data_under, data_if, data_blocks, EndsBy}
-use Rattle.pst_plain.specs.Twin.{method_of, with_method, all_decoded, all_encoded, decoded_file, twin_of, encoded_of}
-use Rattle.pst_plain.specs.Laws.{SameElsewhere, fields_of}
+use Rattle.pst_plain.specs.Twin.{with_method, all_encoded, decoded_file, twin_of, encoded_of}
+use Rattle.pst_plain.specs.Laws.{SameElsewhere, fields_of, AgainLaw}
+use Rattle.pst_plain.proofs.CodingLemmas.{Coding, IsCoding, IsUndoneBy, decoding, encoding, decoding_undone, all_changed, decoded_is, encoded_is}
 use Rattle.pst_plain.proofs.HeadLemmas.{method_again}
 use Rattle.pst_plain.proofs.TwinLemmas.{method_long, number_in, number_byte}
 use Rattle.pst_plain.proofs.LawLemmas.{Kept, all_kept, data_inside, head_told}
-use Rattle.pst_plain.proofs.SameLemmas.{part_same, num_same, AreSamePages, tree_same, list_same}
+use Rattle.pst_plain.proofs.SameLemmas.{part_same, num_same, AreSamePages, tree_same, block_entry_same, list_same}
 use Rattle.pst_plain.proofs.PlacedLemmas.{placed_claims, placed_lie, lie_units, LiesIn, claim_join, claims_apart, apart_cross, apart_back, from_first_part, from_other_part, filter_apart, filter_pages, fields_apart, header_span, header_apart, pages_kept}
 use Rattle.pst_plain.proofs.BackLemmas.{all_back}
 
@@ -162,7 +163,7 @@ trees_again J T h found l same =
     (walk_claims Nbt T end l.blocks.claimed h.nbt l.nodes).1 (l.node_level, l.node_tree, tree_same Nbt J T end h.nbt l.node_level l.node_tree node_pages l.is_node_tree, l.node_claims) in
     let list : map (block_entry_at T) l.blocks.entries ≡ map (block_entry_at J) l.blocks.entries =
     ap (map (block_entry_at T)) l.block_claims.entries
-    ∙ list_same Bbt J T end l.block_level l.block_tree block_pages l.is_block_tree.spells
+    ∙ list_same block_entry_at block_entry_same Bbt J T end l.block_level l.block_tree block_pages l.is_block_tree.spells
     ∙ ap (map (block_entry_at J)) (sym l.block_claims.entries) in
     rw (first, second, list) (ap (λ (x : Listed). Ok x) (sym l.found_is))
 
@@ -194,16 +195,13 @@ data_cases J =
       | Some f ↦ λ h. inl refl
     ] refl
 
--- the twin of what has trees
-module _ (J : List ℕ) (method : Method) (all : All IsByte J) (has : HasTrees J) where
+-- what has trees
+module _ (J : List ℕ) (has : HasTrees J) where
   abbrev pub the_header : Header
   the_header = fields J
 
   abbrev pub the_data : List BlockEntry
   the_data = placed_data (end_of the_header) has.found.claimed has.found.entries
-
-  abbrev pub the_twin : List ℕ
-  the_twin = all_decoded method the_data J
 
   pub the_blocks : data_blocks J ≡ the_data
   the_blocks = data_is J has.found has.none has.listed
@@ -211,54 +209,96 @@ module _ (J : List ℕ) (method : Method) (all : All IsByte J) (has : HasTrees J
   pub the_laid : Laid J the_header has.found
   the_laid = laid J the_header has.found ((header_law J the_header).1 (has.none, refl)) has.listed
 
-  pub the_kept : Kept J the_twin the_data
-  the_kept = all_kept the_data J method all (subst (All (EndsBy (length J))) the_blocks (data_inside J))
+  pub the_ends : All (EndsBy (length J)) the_data
+  the_ends = subst (All (EndsBy (length J))) the_blocks (data_inside J)
 
   the_lie : All (LiesIn (end_of the_header)) the_data
   the_lie = All-filter has_data (LiesIn (end_of the_header)) (placed (end_of the_header) has.found.claimed has.found.entries) (placed_lie (end_of the_header) has.found.claimed has.found.entries)
 
-  pub the_head : bytes_at the_twin header_span ≡ bytes_at J header_span
-  the_head = the_kept.same.others header_span (fields_apart header_span the_data (header_apart (end_of the_header) the_data the_lie))
-
-  pub fields_again : fields the_twin ≡ fields J
-  fields_again = fields_same J the_twin the_kept.same.length_same the_head
-
-  pub header_again : header_fault the_twin ≡ None
-  header_again = header_same J the_twin the_kept.same.length_same the_head ∙ has.none
-
-  pub listed_again : trees_listed the_twin (fields the_twin) (maps_claimed (fields the_twin)) ≡ Ok has.found
-  listed_again = ap (λ (h : Header). trees_listed the_twin h (maps_claimed h)) fields_again ∙ trees_again J the_twin the_header has.found the_laid the_kept.same
-
-  pub data_again : data_blocks the_twin ≡ the_data
-  data_again = data_is the_twin has.found header_again listed_again ∙ ap (λ (h : Header). placed_data (end_of h) has.found.claimed has.found.entries) fields_again
-
-  pub encoded_back : all_encoded method (data_blocks the_twin) the_twin ≡ J
-  encoded_back =
+  pub the_placed_apart : AreApart (block_spans (placed (end_of the_header) has.found.claimed has.found.entries))
+  the_placed_apart =
+      let spans = page_spans the_laid.block_tree ++ page_spans the_laid.node_tree in
       let entries = placed (end_of the_header) has.found.claimed has.found.entries in
-      let beside = apart_back (map_pages the_header) ((page_spans the_laid.block_tree ++ page_spans the_laid.node_tree) ++ block_spans entries) the_laid.apart in
-      let apart = filter_apart entries (apart_back (page_spans the_laid.block_tree ++ page_spans the_laid.node_tree) (block_spans entries) beside) in
-      ap (λ l. all_encoded method l the_twin) data_again
-      ∙ all_back the_data J method all (subst (All (EndsBy (length J))) the_blocks (data_inside J)) apart
+      apart_back spans (block_spans entries) (apart_back (map_pages the_header) (spans ++ block_spans entries) the_laid.apart)
 
--- ---- a file, decoded and encoded again
+-- a file that differs from it in its data blocks alone
+module _ (J T : List ℕ) (has : HasTrees J) (same : SameElsewhere J T (fields_of (the_data J has))) where
+  the_head : bytes_at T header_span ≡ bytes_at J header_span
+  the_head = same.others header_span (fields_apart header_span (the_data J has) (header_apart (end_of (fields J)) (the_data J has) (the_lie J has)))
 
-pub file_back : (J : List ℕ) (method : Method) → All IsByte J → all_encoded method (data_blocks (decoded_file method J)) (decoded_file method J) ≡ J
-unfolding all_decoded all_encoded
-file_back J method all =
-    elim (data_cases J) [
-      | inl none ↦
-          let same : decoded_file method J ≡ J = ap (λ l. all_decoded method l J) none in
-          ap (λ T. all_encoded method (data_blocks T) T) same ∙ ap (λ l. all_encoded method l J) none
-      | inr has ↦
-          let same : decoded_file method J ≡ the_twin J method all has = ap (λ l. all_decoded method l J) (the_blocks J method all has) in
-          ap (λ T. all_encoded method (data_blocks T) T) same ∙ encoded_back J method all has
-    ]
+  pub fields_again : fields T ≡ fields J
+  fields_again = fields_same J T same.length_same the_head
 
-pub again : (I : List ℕ) (method : Method) → All IsByte I → method_of I ≡ Some method → encoded_of (twin_of I) method ≡ I
+  pub header_again : header_fault T ≡ None
+  header_again = header_same J T same.length_same the_head ∙ has.none
+
+  pub listed_again : trees_listed T (fields T) (maps_claimed (fields T)) ≡ Ok has.found
+  listed_again = ap (λ (h : Header). trees_listed T h (maps_claimed h)) fields_again ∙ trees_again J T (fields J) has.found (the_laid J has) same
+
+  pub data_again : data_blocks T ≡ the_data J has
+  data_again = data_is T has.found header_again listed_again ∙ ap (λ (h : Header). placed_data (end_of h) has.found.claimed has.found.entries) fields_again
+
+-- ---- a file whose data blocks are changed
+
+-- all of them
+abbrev pub file_changed : Coding → List ℕ → List ℕ
+file_changed coding J = all_changed coding (data_blocks J) J
+
+pub decoded_file_is : (method : Method) (J : List ℕ) → decoded_file method J ≡ file_changed (decoded method) J
+decoded_file_is method J = decoded_is method (data_blocks J) J
+
+module _ (J : List ℕ) (coding : Coding) (is : IsCoding coding) (all : All IsByte J) where
+  pub file_kept : Kept J (file_changed coding J) (data_blocks J)
+  file_kept = all_kept (data_blocks J) J coding is all (data_inside J)
+
+  pub same_beside : (has : HasTrees J) → SameElsewhere J (file_changed coding J) (fields_of (the_data J has))
+  same_beside has = subst (λ (l : List BlockEntry). SameElsewhere J (file_changed coding J) (fields_of l)) (the_blocks J has) file_kept.same
+
+  pub nothing_changed : data_blocks J ≡ [] → file_changed coding J ≡ J
+  unfolding all_changed
+  nothing_changed none = ap (λ (l : List BlockEntry). all_changed coding l J) none
+
+  -- the same blocks are found in it
+  pub file_data : data_blocks (file_changed coding J) ≡ data_blocks J
+  file_data =
+      elim (data_cases J) [
+        | inl none ↦ ap data_blocks (nothing_changed none)
+        | inr has ↦ data_again J (file_changed coding J) has (same_beside has) ∙ sym (the_blocks J has)
+      ]
+
+  -- and it has a good header where that file has one
+  pub file_header : header_fault J ≡ None → header_fault (file_changed coding J) ≡ None
+  file_header good =
+      elim (data_cases J) [
+        | inl none ↦ ap header_fault (nothing_changed none) ∙ good
+        | inr has ↦ header_again J (file_changed coding J) has (same_beside has)
+      ]
+
+  data_apart : AreApart (block_spans (data_blocks J))
+  data_apart =
+      elim (data_cases J) [
+        | inl none ↦ rw none tt
+        | inr has ↦ rw (the_blocks J has) (filter_apart (placed (end_of (fields J)) has.found.claimed has.found.entries) (the_placed_apart J has))
+      ]
+
+  -- changed back it is the file
+  pub file_back : (back : Coding) → IsCoding back → IsUndoneBy coding back → file_changed back (file_changed coding J) ≡ J
+  file_back back is_back undone =
+      ap (λ (l : List BlockEntry). all_changed back l (file_changed coding J)) file_data
+      ∙ all_back (data_blocks J) J coding back is is_back undone all (data_inside J) data_apart
+
+-- ---- the twin, encoded again
+
+pub again : AgainLaw
 unfolding encoded_of twin_of
 again I method all is =
     let long = method_long I method is in
+    let J = with_method 0 I in
     let head = head_told I 0 all (omega arith) long in
+    let back : all_encoded method (data_blocks (decoded_file method J)) (decoded_file method J) ≡ J =
+    ap (λ (T : List ℕ). all_encoded method (data_blocks T) T) (decoded_file_is method J)
+    ∙ encoded_is method (data_blocks (file_changed (decoded method) J)) (file_changed (decoded method) J)
+    ∙ file_back J (decoded method) (decoding method) head.bytes (encoded method) (encoding method) (decoding_undone method) in
     rw is
-    (ap (with_method (method_number method)) (file_back (with_method 0 I) method head.bytes)
-    ∙ method_again I (method_number method) long all (number_byte method) (number_in I method is))
+    (ap (with_method (method_number method)) back
+    ∙ method_again I (method_number method) 0 long all (number_byte method) (omega arith) (number_in I method is))

@@ -1,4 +1,4 @@
--- A block that is decoded and encoded again is as it was, and blocks that are apart are changed in either order.
+-- A block whose body is changed and changed back is as it was, and blocks that are apart are changed in either order.
 use Rattle.std.proofs.Common.{◌≡◌, ℕ, ◌+◌, ◌≤◌, ◌⊎◌, inl, inr, List, [], ◌∷◌, length, take, drop, refl, sym, ap, ◌∙◌, arith}
 use Rattle.std.specs.List.{All}
 use Rattle.std.proofs.lemmas.List.Elements.{All-head, All-tail}
@@ -7,10 +7,7 @@ use Rattle.byteorder.specs.Numbers.{length-bytes_low_first}
 use Rattle.pst_bytes.specs.Image.{num, bytes_at}
 use Rattle.pst_bytes.specs.declared.span.Span.{Span}
 use Rattle.pst_bytes.specs.Span.{IsApartFrom, IsApartFromAll}
-use Rattle.pst_encoding.specs.declared.method.Method.{Method}
-use Rattle.pst_encoding.specs.Method.{decoded, encoded}
 use Rattle.pst_encoding.specs.Tables.{IsByte}
-use Rattle.pst_encoding.proofs.MethodLemmas.{method_law}
 use Rattle.pst_page.specs.declared.entry.BlockEntry.{BlockEntry}
 use Rattle.pst_block.specs.Block.{block_size, block_span, body_span, trailer_at}
 use Rattle.pst_block.proofs.BlockLemmas.{size_large}
@@ -19,35 +16,36 @@ use Rattle.pst_block.specs.Walk.{block_spans}
 use Rattle.pst_plain.specs.Written.{written}
 use Rattle.pst_plain.specs.Carried.{carried, with_carried}
 use Rattle.pst_plain.specs.Blocks.{EndsBy}
-use Rattle.pst_plain.specs.Twin.{with_body, all_decoded, all_encoded}
-use Rattle.pst_plain.proofs.WriteLemmas.{length_written, length_decoded, length_encoded, bytes_here, bytes_elsewhere, written_again, written_same, written_apart}
+use Rattle.pst_plain.specs.Twin.{with_body}
+use Rattle.pst_plain.proofs.CodingLemmas.{Coding, IsCoding, IsUndoneBy, all_changed}
+use Rattle.pst_plain.proofs.WriteLemmas.{length_written, bytes_here, bytes_elsewhere, written_again, written_same, written_apart}
 use Rattle.pst_plain.proofs.HeadLemmas.{carried_fits, carried_back, num_fits, num_written, num_elsewhere, num_stands, span_bytes, written_bytes}
 use Rattle.pst_plain.proofs.StepLemmas.{body_inside, body_length}
 
--- ---- one block, decoded and encoded again
+-- ---- one block, changed and changed back
 
-pub block_again : (I : List ℕ) (method : Method) (e : BlockEntry) → All IsByte I → EndsBy (length I) e → with_body (encoded method e.bid) e (with_body (decoded method e.bid) e I) ≡ I
+pub block_again : (I : List ℕ) (coding back : Coding) (e : BlockEntry) → IsCoding coding → IsUndoneBy coding back → All IsByte I → EndsBy (length I) e → with_body (back e.bid) e (with_body (coding e.bid) e I) ≡ I
 unfolding with_body with_carried
-block_again I method e all by_end =
+block_again I coding back e is undone all by_end =
     let old = bytes_at I (body_span e) in
     let old_bytes = span_bytes I (body_span e) all in
-    let law = method_law method e.bid old old_bytes in
-    let new = decoded method e.bid old in
+    let new = coding e.bid old in
+    let new_bytes = is.bytes e.bid old old_bytes in
     let a = e.ib in
     let t = trailer_at e + 4 in
     let large = size_large e.cb in
     let k : e.ib + block_size e.cb ≤ length I = by_end in
     let inside : a + e.cb ≤ length I = body_inside (length I) e by_end in
     let old_long : length old ≡ e.cb = body_length I e inside in
-    let long : length new ≡ e.cb = length_decoded method e.bid old ∙ old_long in
+    let long : length new ≡ e.cb = is.long e.bid old ∙ old_long in
     let apart : a + e.cb ≤ t = omega (arith, large) in
     let room : t + 4 ≤ length I = omega (arith, large, k) in
     let J = written I a new in
     let J_long : length J ≡ length I = length_written I a new (omega (arith, long, inside)) in
-    let J_bytes = written_bytes I a new all law.decoded_bytes in
+    let J_bytes = written_bytes I a new all new_bytes in
     let v : num J t 4 ≡ num I t 4 = num_elsewhere I a new t 4 (omega (arith, long, inside)) (inr (omega (arith, long, apart))) in
     let over = carried (num J t 4) old new in
-    let over_fits = carried_fits (num J t 4) old new (num_fits J t J_bytes) old_bytes law.decoded_bytes in
+    let over_fits = carried_fits (num J t 4) old new (num_fits J t J_bytes) old_bytes new_bytes in
     let four = little_bytes 4 over in
     let four_long : length four ≡ 4 = length-bytes_low_first 0 4 over in
     let K = written J t four in
@@ -55,12 +53,12 @@ block_again I method e all by_end =
     bytes_elsewhere J t four (body_span e) (omega (arith, four_long, J_long, room)) (inl apart)
     ∙ bytes_here I a new (body_span e) refl (sym long) (omega (arith, long, inside)) in
     let stands : written I a old ≡ I = written_same I a old (omega (arith, old_long, inside)) (ap (λ n. take n (drop a I)) (sym old_long)) in
-    let back : written K a old ≡ written I t four =
+    let again : written K a old ≡ written I t four =
     sym (written_apart J a old t four (omega (arith, old_long, apart)) (omega (arith, four_long, J_long, room)))
     ∙ ap (λ l. written l t four) (written_again I a new old (long ∙ sym old_long) (omega (arith, long, inside)) ∙ stands) in
     let L = written I t four in
     let L_check : num L t 4 ≡ over = num_written I t over room over_fits in
-    rw (K_body, law.encoded_again, back, L_check, carried_back (num J t 4) old new)
+    rw (K_body, undone e.bid old old_bytes, again, L_check, carried_back (num J t 4) old new)
     (ap (λ n. written L t (little_bytes 4 n)) v
     ∙ written_again I t four (little_bytes 4 (num I t 4)) (four_long ∙ sym (length-bytes_low_first 0 4 (num I t 4))) (omega (arith, four_long, room))
     ∙ num_stands I t room all)
@@ -221,27 +219,27 @@ bodies_swap I change other e d keeps keeps_other e_end d_end apart =
 
 -- ---- all blocks
 
-pub all_swap : (rest : List BlockEntry) (I : List ℕ) (method : Method) (change : List ℕ → List ℕ) (e : BlockEntry) → KeepsLength change → EndsBy (length I) e → All (EndsBy (length I)) rest → IsApartFromAll (block_span e) (block_spans rest)
-    → with_body change e (all_decoded method rest I) ≡ all_decoded method rest (with_body change e I)
-unfolding all_decoded
-all_swap [] I method change e keeps e_end ends apart = refl
-all_swap (d ∷ rest) I method change e keeps e_end ends apart =
+pub all_swap : (rest : List BlockEntry) (I : List ℕ) (coding : Coding) (change : List ℕ → List ℕ) (e : BlockEntry) → IsCoding coding → KeepsLength change → EndsBy (length I) e → All (EndsBy (length I)) rest
+    → IsApartFromAll (block_span e) (block_spans rest) → with_body change e (all_changed coding rest I) ≡ all_changed coding rest (with_body change e I)
+unfolding all_changed
+all_swap [] I coding change e is keeps e_end ends apart = refl
+all_swap (d ∷ rest) I coding change e is keeps e_end ends apart =
     let d_end = All-head (EndsBy (length I)) d rest ends in
     let tail = All-tail (EndsBy (length I)) d rest ends in
-    let keeps_d : KeepsLength (decoded method d.bid) = length_decoded method d.bid in
-    let J = with_body (decoded method d.bid) d I in
-    let J_long : length J ≡ length I = body_long (decoded method d.bid) d I keeps_d d_end in
-    all_swap rest J method change e keeps (rw J_long e_end) (rw J_long tail) apart.1
-    ∙ ap (all_decoded method rest) (bodies_swap I change (decoded method d.bid) e d keeps keeps_d e_end d_end apart.0)
+    let J = with_body (coding d.bid) d I in
+    let J_long : length J ≡ length I = body_long (coding d.bid) d I (is.long d.bid) d_end in
+    all_swap rest J coding change e is keeps (rw J_long e_end) (rw J_long tail) apart.1
+    ∙ ap (all_changed coding rest) (bodies_swap I change (coding d.bid) e d keeps (is.long d.bid) e_end d_end apart.0)
 
-pub all_back : (entries : List BlockEntry) (I : List ℕ) (method : Method) → All IsByte I → All (EndsBy (length I)) entries → AreApart (block_spans entries) → all_encoded method entries (all_decoded method entries I) ≡ I
-unfolding all_decoded all_encoded
-all_back [] I method all ends apart = refl
-all_back (e ∷ rest) I method all ends apart =
+pub all_back : (entries : List BlockEntry) (I : List ℕ) (coding back : Coding) → IsCoding coding → IsCoding back → IsUndoneBy coding back → All IsByte I → All (EndsBy (length I)) entries → AreApart (block_spans entries)
+    → all_changed back entries (all_changed coding entries I) ≡ I
+unfolding all_changed
+all_back [] I coding back is is_back undone all ends apart = refl
+all_back (e ∷ rest) I coding back is is_back undone all ends apart =
     let e_end = All-head (EndsBy (length I)) e rest ends in
     let tail = All-tail (EndsBy (length I)) e rest ends in
-    let J = with_body (decoded method e.bid) e I in
-    let J_long : length J ≡ length I = body_long (decoded method e.bid) e I (length_decoded method e.bid) e_end in
-    let swapped = all_swap rest J method (encoded method e.bid) e (length_encoded method e.bid) (rw J_long e_end) (rw J_long tail) apart.0 in
-    ap (all_encoded method rest) (swapped ∙ ap (all_decoded method rest) (block_again I method e all e_end))
-    ∙ all_back rest I method all tail apart.1
+    let J = with_body (coding e.bid) e I in
+    let J_long : length J ≡ length I = body_long (coding e.bid) e I (is.long e.bid) e_end in
+    let swapped = all_swap rest J coding (back e.bid) e is (is_back.long e.bid) (rw J_long e_end) (rw J_long tail) apart.0 in
+    ap (all_changed back rest) (swapped ∙ ap (all_changed coding rest) (block_again I coding back e is undone all e_end))
+    ∙ all_back rest I coding back is is_back undone all tail apart.1

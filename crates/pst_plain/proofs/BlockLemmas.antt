@@ -10,7 +10,7 @@ use Rattle.pst_plain.specs.Blocks.{has_data, claimed_with, placed, placed_data, 
 
 -- ---- one block, and those behind it
 
-placed_more : (end : ℕ) (now more : Claimed) (e : BlockEntry) (rest : List BlockEntry) → claimed_with end now e ≡ Some more → placed end now (e ∷ rest) ≡ e ∷ placed end more rest
+pub placed_more : (end : ℕ) (now more : Claimed) (e : BlockEntry) (rest : List BlockEntry) → claimed_with end now e ≡ Some more → placed end now (e ∷ rest) ≡ e ∷ placed end more rest
 unfolding placed
 placed_more end now more e rest h = rw h refl
 

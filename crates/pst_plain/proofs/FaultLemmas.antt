@@ -1,11 +1,11 @@
 -- Up to its allocation maps the twin has the first fault that the file has, its encoding aside.
-use Rattle.std.proofs.Common.{◌≡◌, ℕ, inl, inr, List, [], ◌∷◌, ◌++◌, length, map, Some, Ok, Err, refl, sym, ap, ◌∙◌, arith}
+use Rattle.std.proofs.Common.{◌≡◌, ℕ, inl, inr, List, [], ◌∷◌, ◌++◌, length, map, Some, Ok, Err, refl, sym, ap, subst, ◌∙◌, arith}
 use Rattle.std.specs.List.{All, filter}
 use Rattle.pst_bytes.specs.declared.span.Span.{Span}
 use Rattle.pst_fault.specs.First.{◌then◌}
 use Rattle.pst_fault.proofs.FirstLemmas.{then_assoc}
 use Rattle.pst_header.specs.declared.header.Header.{Header}
-use Rattle.pst_header.specs.Header.{header_fault, fields, end_of, amap_count_of}
+use Rattle.pst_header.specs.Header.{header_fault, check_fault, root_fault, fields, end_of, amap_count_of}
 use Rattle.pst_header.specs.Head.{Head}
 use Rattle.pst_header.proofs.Head.{header_law}
 use Rattle.pst_page.specs.declared.entry.BlockEntry.{BlockEntry}
@@ -13,23 +13,22 @@ use Rattle.pst_page.specs.declared.kind.PageKind.TheVariants.{Bbt, Nbt}
 use Rattle.pst_page.specs.Entry.{block_entry_at}
 use Rattle.pst_space.specs.Claimed.{Claimed, unit_total, map_pages, maps_claimed, claim_all}
 use Rattle.pst_space.specs.Step.{Step}
-use Rattle.pst_btree.specs.Tree.{IsTree, entries_of, page_spans}
+use Rattle.pst_btree.specs.Tree.{IsTree, page_spans}
 use Rattle.pst_btree.specs.Walk.{tree_walk}
 use Rattle.pst_btree.proofs.TreeLaws.{walk_claims}
 use Rattle.pst_block.specs.Walk.{block_spans, blocks_walk}
 use Rattle.pst_encoding.specs.declared.method.Method.{Method}
 use Rattle.pst_encoding.specs.Tables.{IsByte}
 use Rattle.pst_amap.specs.Report.{maps_fault}
-use Rattle.pst_ndb.specs.Entries.{block_list, block_table, node_list, tree_under}
+use Rattle.pst_ndb.specs.Entries.{block_list}
 use Rattle.pst_ndb.specs.Space.{space_walk, space_fault, fault_after}
 use Rattle.pst_ndb.specs.Trees.{trees_walk}
-use Rattle.pst_ndb.specs.Fault.{file_fault, ndb_fault, nodes_fault}
-use Rattle.pst_ndb.proofs.SpaceLaws.{spelt_is}
 use Rattle.pst_plain.specs.Blocks.{has_data, placed, placed_data, Listed}
-use Rattle.pst_plain.specs.Twin.{with_method, all_decoded, decoded_file, twin_of}
-use Rattle.pst_plain.specs.Faults.{front_fault, FrontLaw, LaterLaw}
+use Rattle.pst_plain.specs.Twin.{with_method, decoded_file}
+use Rattle.pst_plain.specs.Faults.{front_fault, FrontLaw}
 use Rattle.pst_plain.proofs.LawLemmas.{head_told}
-use Rattle.pst_plain.proofs.TwinLemmas.{method_long}
+use Rattle.pst_plain.proofs.TwinLemmas.{method_long, twin_is}
+use Rattle.pst_plain.proofs.HeaderLemmas as headers
 use Rattle.std.proofs.lemmas.List.{length-replicate}
 use Rattle.pst_space.specs.Claimed.{nothing_claimed}
 use Rattle.pst_space.proofs.ApartLemmas.{claimed_is}
@@ -39,9 +38,12 @@ use Rattle.pst_header.proofs.Head.{head_end}
 use Rattle.pst_plain.specs.Laws.{SameElsewhere, fields_of}
 use Rattle.pst_plain.proofs.BlockLemmas.{end_later}
 use Rattle.pst_plain.proofs.LawLemmas.{placed_inside}
-use Rattle.pst_plain.proofs.SameLemmas.{tree_same, list_same}
+use Rattle.pst_plain.proofs.SameLemmas.{tree_same}
+use Rattle.pst_plain.proofs.EntryLemmas.{block_list_is, blocks_same}
 use Rattle.pst_plain.proofs.PlacedLemmas.{AreApartFrom, apart_cross, apart_back, from_second, filter_pages, fields_apart}
-use Rattle.pst_plain.proofs.AgainLemmas.{Laid, HasTrees, data_cases, pages_again, the_blocks, the_laid, the_kept, the_twin, header_again, fields_again}
+use Rattle.pst_encoding.specs.Method.{decoded}
+use Rattle.pst_plain.proofs.CodingLemmas.{Coding, IsCoding, decoding, all_changed}
+use Rattle.pst_plain.proofs.AgainLemmas.{Laid, HasTrees, data_cases, pages_again, the_blocks, the_laid, the_placed_apart, header_again, fields_again, file_changed, decoded_file_is, same_beside, nothing_changed}
 use Rattle.pst_plain.proofs.TrailerLemmas.{HaveSameTrailers, trailers_kept, walk_same}
 use Rattle.pst_plain.proofs.MapLemmas.{AreSameMaps, AllAreSame, same_maps, maps_same, units_few}
 
@@ -81,21 +83,13 @@ module _ (J T : List ℕ) (h : Header) (found : Listed) (head : Head J h) (l : L
       let second : tree_walk Nbt L (end_of h) l.blocks.claimed h.nbt ≡ Ok l.nodes = (walk_claims Nbt L (end_of h) l.blocks.claimed h.nbt l.nodes).1 (l.node_level, l.node_tree, nt, l.node_claims) in
       rw first second
 
-  under_is : (L : List ℕ) → IsTree Bbt L (end_of h) h.bbt l.block_level l.block_tree → l.block_tree ≡ tree_under Bbt L h.bbt
-  under_is L bt = spelt_is Bbt L (end_of h) h.bbt l.block_tree (l.block_level, bt)
-
   list_in : block_list J h ≡ found.entries
-  unfolding block_list
   list_in =
-      ap (λ t. map (block_entry_at J) (entries_of t)) (sym (under_is J l.is_block_tree)) ∙ ap (map (block_entry_at J)) (sym l.block_claims.entries)
+      block_list_is J h (end_of h) l.block_level l.block_tree l.is_block_tree ∙ ap (map (block_entry_at J)) (sym l.block_claims.entries)
       ∙ ap (λ (x : Listed). x.entries) (sym l.found_is)
 
   list_again : block_list T h ≡ found.entries
-  unfolding block_list
-  list_again =
-      ap (λ t. map (block_entry_at T) (entries_of t)) (sym (under_is T block_tree_again))
-      ∙ list_same Bbt J T (end_of h) l.block_level l.block_tree (pages_again J T h found l same).0 l.is_block_tree.spells
-      ∙ ap (map (block_entry_at J)) (sym l.block_claims.entries) ∙ ap (λ (x : Listed). x.entries) (sym l.found_is)
+  list_again = blocks_same J T h (end_of h) l.block_level l.block_tree (pages_again J T h found l same).0 l.is_block_tree ∙ list_in
 
   claimed_in : l.nodes.claimed ≡ found.claimed
   claimed_in = ap (λ (x : Listed). x.claimed) (sym l.found_is)
@@ -138,41 +132,37 @@ module _ (J T : List ℕ) (h : Header) (found : Listed) (head : Head J h) (l : L
 
 -- ---- the file
 
-front_kept : (J : List ℕ) (method : Method) (all : All IsByte J) (has : HasTrees J) → front_fault (the_twin J method all has) ≡ front_fault J
-front_kept J method all has =
-    let T = the_twin J method all has in
+pub front_kept : (J : List ℕ) (coding : Coding) (is : IsCoding coding) (all : All IsByte J) (has : HasTrees J) → front_fault (file_changed coding J) ≡ front_fault J
+front_kept J coding is all has =
+    let T = file_changed coding J in
     let h = fields J in
     let found = has.found in
     let entries = placed (end_of h) found.claimed found.entries in
-    let l = the_laid J method all has in
     let head : Head J h = (header_law J h).1 (has.none, refl) in
     let ends = end_later (end_of h) (length J) entries (head_end J h head) (placed_inside (end_of h) found.claimed found.entries) in
-    let spans = page_spans l.block_tree ++ page_spans l.node_tree in
-    let apart = apart_back spans (block_spans entries) (apart_back (map_pages h) (spans ++ block_spans entries) l.apart) in
-    let trailers = trailers_kept entries J method all ends apart in
-    let same = space_same J T h found head l (the_kept J method all has).same trailers in
-    let first : header_fault T ≡ header_fault J = header_again J method all has ∙ sym has.none in
-    let second : space_fault T (fields T) ≡ space_fault J h = ap (space_fault T) (fields_again J method all has) ∙ same in
+    let beside = same_beside J coding is all has in
+    let trailers : HaveSameTrailers J T entries =
+    subst (λ (l : List BlockEntry). HaveSameTrailers J (all_changed coding l J) entries) (sym (the_blocks J has)) (trailers_kept entries J coding is all ends (the_placed_apart J has)) in
+    let same = space_same J T h found head (the_laid J has) beside trailers in
+    let first : header_fault T ≡ header_fault J = header_again J T has beside ∙ sym has.none in
+    let second : space_fault T (fields T) ≡ space_fault J h = ap (space_fault T) (fields_again J T has beside) ∙ same in
     rw (first, second) refl
 
 pub front_same : (J : List ℕ) (method : Method) → All IsByte J → front_fault (decoded_file method J) ≡ front_fault J
-unfolding all_decoded
 front_same J method all =
-    elim (data_cases J) [
-      | inl none ↦ ap front_fault (ap (λ l. all_decoded method l J) none)
-      | inr has ↦
-          ap front_fault (ap (λ l. all_decoded method l J) (the_blocks J method all has)) ∙ front_kept J method all has
+    ap front_fault (decoded_file_is method J)
+    ∙ elim (data_cases J) [
+      | inl none ↦ ap front_fault (nothing_changed J (decoded method) (decoding method) all none)
+      | inr has ↦ front_kept J (decoded method) (decoding method) all has
     ]
 
 pub front_law : FrontLaw
-unfolding twin_of
 front_law I method all is =
-    let head = head_told I 0 all (omega arith) (method_long I method is) in
-    rw is (front_same (with_method 0 I) method head.bytes)
-
-pub later_law : LaterLaw
-unfolding ndb_fault file_fault
-later_law I method all is =
-    let T = twin_of I in
-    let nodes = nodes_fault (block_table T (fields T)) (node_list T (fields T)) in
-    then_assoc (header_fault T) (space_fault T (fields T)) nodes ∙ ap (λ o. o then nodes) (front_law I method all is)
+    let J = with_method 0 I in
+    let told = head_told I 0 all (omega arith) (method_long I method is) in
+    let (head, same, space) = headers.header_law I method all is in
+    ap front_fault (twin_is I method is)
+    ∙ front_same J method told.bytes
+    ∙ ap (λ o. o then space_fault J (fields J)) head
+    ∙ ap (λ o. (check_fault I then root_fault I) then o) space
+    ∙ sym (then_assoc (check_fault I) (root_fault I) (space_fault I (fields I)))

@@ -1,4 +1,4 @@
--- A header that is given its old bCryptMethod again is the old one.
+-- A header that is given another bCryptMethod, and then its own again, is as it was.
 use Rattle.std.proofs.Common.{◌≡◌, ℕ, zero, suc, ◌+◌, ◌/◌, ◌%◌, ◌^◌, ◌<◌, ◌≤◌, ◌⊎◌, inl, inr, List, [], ◌∷◌, ◌++◌, length, take, drop, get_or, refl, sym, ap, ◌∙◌, arith, append-nil}
 use Rattle.std.specs.Prelude.{bit_xor, fold}
 use Rattle.std.specs.List.{All}
@@ -134,12 +134,12 @@ byte_stands I at b inside is =
 
 -- ---- the header
 
-pub method_again : (I : List ℕ) (number : ℕ) → 564 ≤ length I → All IsByte I → number < 256 → num I 513 1 ≡ number → with_method number (with_method 0 I) ≡ I
+pub method_again : (I : List ℕ) (number other : ℕ) → 564 ≤ length I → All IsByte I → number < 256 → other < 256 → num I 513 1 ≡ number → with_method number (with_method other I) ≡ I
 unfolding with_method with_carried
-method_again I number long all fits is =
-    let J = written I 513 (0 ∷ []) in
-    let size : length J ≡ length I = length_written I 513 (0 ∷ []) (omega arith) in
-    let J_all = written_bytes I 513 (0 ∷ []) all (one_byte 0 (omega arith)) in
+method_again I number other long all fits other_fits is =
+    let J = written I 513 (other ∷ []) in
+    let size : length J ≡ length I = length_written I 513 (other ∷ []) (omega arith) in
+    let J_all = written_bytes I 513 (other ∷ []) all (one_byte other other_fits) in
     let old = bytes_at I full_span in
     let new = bytes_at J full_span in
     let check = num J 524 4 in
@@ -152,11 +152,11 @@ method_again I number long all fits is =
     let K_full : bytes_at K full_span ≡ new = bytes_elsewhere J 524 four full_span (omega (arith, size, four_long)) (inl (omega arith)) in
     let back : written K 513 (number ∷ []) ≡ written I 524 four =
     sym (written_apart J 513 (number ∷ []) 524 four (omega arith) (omega (arith, size, four_long)))
-    ∙ ap (λ l. written l 524 four) (written_again I 513 (0 ∷ []) (number ∷ []) refl (omega arith) ∙ byte_stands I 513 number (omega arith) is) in
+    ∙ ap (λ l. written l 524 four) (written_again I 513 (other ∷ []) (number ∷ []) refl (omega arith) ∙ byte_stands I 513 number (omega arith) is) in
     let L = written I 524 four in
     let L_full : bytes_at L full_span ≡ old = bytes_elsewhere I 524 four full_span (omega (arith, four_long)) (inl (omega arith)) in
     let L_check : num L 524 4 ≡ over = num_written I 524 over (omega arith) over_fits in
-    let was : check ≡ num I 524 4 = num_elsewhere I 513 (0 ∷ []) 524 4 (omega arith) (inr (omega arith)) in
+    let was : check ≡ num I 524 4 = num_elsewhere I 513 (other ∷ []) 524 4 (omega arith) (inr (omega arith)) in
     rw (back, K_full, L_full, L_check, carried_back check old new)
     (ap (λ n. written L 524 (little_bytes 4 n)) was
     ∙ written_again I 524 four (little_bytes 4 (num I 524 4)) (four_long ∙ sym (length-bytes_low_first 0 4 (num I 524 4))) (omega (arith, four_long))

@@ -35,11 +35,12 @@ use Rattle.pst_block.proofs.BlockLemmas.{is_place_good}
 use Rattle.pst_plain.specs.Blocks.{has_data, block_place, claimed_with, then_placed, placed, Listed, trees_listed, data_after, data_under, data_if, data_blocks, EndsBy}
 use Rattle.pst_plain.proofs.BlockLemmas.{end_later}
 use Rattle.pst_plain.proofs.TwinLemmas.{method_long}
-use Rattle.pst_plain.specs.Twin.{method_of, with_method, full_span, with_body, all_decoded, twin_of, twin_by}
+use Rattle.pst_plain.specs.Twin.{method_of, with_method, full_span, with_body, twin_of, twin_by}
 use Rattle.pst_plain.specs.Laws.{xor_each, LinearLaw, CarriedLaw, TrailerLaw, IsFullCheck, FullCheckLaw, SameElsewhere, head_fields, block_fields, fields_of, changed_by, PlacesLaw}
-use Rattle.pst_plain.proofs.WriteLemmas.{length_written, length_decoded, bytes_here, bytes_elsewhere}
+use Rattle.pst_plain.proofs.CodingLemmas.{Coding, IsCoding, decoding, all_changed, decoded_is}
+use Rattle.pst_plain.proofs.WriteLemmas.{length_written, bytes_here, bytes_elsewhere}
 use Rattle.pst_plain.proofs.HeadLemmas.{carried_fits, num_fits, num_written, num_elsewhere, span_bytes, written_bytes, one_byte, four_bytes_fit}
-use Rattle.pst_plain.proofs.StepLemmas.{body_inside, body_length, decoded_bytes}
+use Rattle.pst_plain.proofs.StepLemmas.{body_inside, body_length}
 
 -- ---- the check value is linear
 
@@ -92,27 +93,27 @@ same_test a b c d there back =
 
 -- ---- the trailer
 
--- what a decoded block's bytes are, field by field
-pub record Told (I T : List ℕ) (method : Method) (e : BlockEntry) : Type 0 where
+-- what a block's bytes are once its body is changed, field by field
+pub record Told (I T : List ℕ) (coding : Coding) (e : BlockEntry) : Type 0 where
   pub len : length T ≡ length I
-  pub body : bytes_at T (body_span e) ≡ decoded method e.bid (bytes_at I (body_span e))
-  pub check : num T (trailer_at e + 4) 4 ≡ carried (num I (trailer_at e + 4) 4) (bytes_at I (body_span e)) (decoded method e.bid (bytes_at I (body_span e)))
+  pub body : bytes_at T (body_span e) ≡ coding e.bid (bytes_at I (body_span e))
+  pub check : num T (trailer_at e + 4) 4 ≡ carried (num I (trailer_at e + 4) 4) (bytes_at I (body_span e)) (coding e.bid (bytes_at I (body_span e)))
   pub others : (s : Span) → IsApartFromAll s (block_fields e) → bytes_at T s ≡ bytes_at I s
   pub bytes : All IsByte T
 
-pub told : (I : List ℕ) (method : Method) (e : BlockEntry) → All IsByte I → EndsBy (length I) e → Told I (with_body (decoded method e.bid) e I) method e
+pub told : (I : List ℕ) (coding : Coding) (e : BlockEntry) → IsCoding coding → All IsByte I → EndsBy (length I) e → Told I (with_body (coding e.bid) e I) coding e
 unfolding with_body with_carried
-told I method e all by_end =
+told I coding e is all by_end =
     let old = bytes_at I (body_span e) in
-    let new = decoded method e.bid old in
+    let new = coding e.bid old in
     let t = trailer_at e + 4 in
     let large = size_large e.cb in
     let k : e.ib + block_size e.cb ≤ length I = by_end in
     let inside : e.ib + e.cb ≤ length I = body_inside (length I) e by_end in
-    let long : length new ≡ e.cb = length_decoded method e.bid old ∙ body_length I e inside in
+    let long : length new ≡ e.cb = is.long e.bid old ∙ body_length I e inside in
     let apart : e.ib + e.cb ≤ t = omega (arith, large) in
     let room : t + 4 ≤ length I = omega (arith, large, k) in
-    let new_bytes : All IsByte new = decoded_bytes method e.bid old (span_bytes I (body_span e) all) in
+    let new_bytes : All IsByte new = is.bytes e.bid old (span_bytes I (body_span e) all) in
     let K = written I e.ib new in
     let K_long : length K ≡ length I = length_written I e.ib new (omega (arith, long, inside)) in
     let K_bytes = written_bytes I e.ib new all new_bytes in
@@ -137,27 +138,27 @@ told I method e all by_end =
     }
 
 -- a number in the trailer apart from its check value
-num_kept : (I T : List ℕ) (method : Method) (e : BlockEntry) (at n : ℕ) → Told I T method e → IsApartFromAll (record { at = at; len = n }) (block_fields e) → num T at n ≡ num I at n
+num_kept : (I T : List ℕ) (coding : Coding) (e : BlockEntry) (at n : ℕ) → Told I T coding e → IsApartFromAll (record { at = at; len = n }) (block_fields e) → num T at n ≡ num I at n
 unfolding num
-num_kept I T method e at n says apart = ap (little_number n) (says.others (record { at = at; len = n }) apart)
+num_kept I T coding e at n says apart = ap (little_number n) (says.others (record { at = at; len = n }) apart)
 
-pub trailer_told : (I T : List ℕ) (method : Method) (e : BlockEntry) → Told I T method e → has_block_trailer T e ≡ has_block_trailer I e
+pub trailer_told : (I T : List ℕ) (coding : Coding) (e : BlockEntry) → Told I T coding e → has_block_trailer T e ≡ has_block_trailer I e
 unfolding has_block_trailer
-trailer_told I T method e says =
+trailer_told I T coding e says =
     let t = trailer_at e in
     let large = size_large e.cb in
     let old = bytes_at I (body_span e) in
-    let new = decoded method e.bid old in
+    let new = coding e.bid old in
     let body_apart : e.ib + e.cb ≤ t = omega (arith, large) in
-    let first = num_kept I T method e t 2 says (inr (omega (arith, body_apart)), (inl (omega arith), tt)) in
-    let second = num_kept I T method e (t + 2) 2 says (inr (omega (arith, body_apart)), (inl (omega arith), tt)) in
-    let third = num_kept I T method e (t + 8) 8 says (inr (omega (arith, body_apart)), (inr (omega arith), tt)) in
+    let first = num_kept I T coding e t 2 says (inr (omega (arith, body_apart)), (inl (omega arith), tt)) in
+    let second = num_kept I T coding e (t + 2) 2 says (inr (omega (arith, body_apart)), (inl (omega arith), tt)) in
+    let third = num_kept I T coding e (t + 8) 8 says (inr (omega (arith, body_apart)), (inr (omega arith), tt)) in
     let test : nat_eq (carried (num I (t + 4) 4) old new) (crc new) ≡ nat_eq (num I (t + 4) 4) (crc old) =
     same_test (carried (num I (t + 4) 4) old new) (crc new) (num I (t + 4) 4) (crc old) (right_again (num I (t + 4) 4) (crc old) (crc new)) (right_still (num I (t + 4) 4) (crc old) (crc new)) in
     rw (first, second, third, says.check, says.body, test) refl
 
 pub trailer_law : TrailerLaw
-trailer_law I method e all by_end = trailer_told I (with_body (decoded method e.bid) e I) method e (told I method e all by_end)
+trailer_law I method e all by_end = trailer_told I (with_body (decoded method e.bid) e I) (decoded method) e (told I (decoded method) e (decoding method) all by_end)
 
 -- ---- the header
 
@@ -220,21 +221,21 @@ same_then I J K xs ys first second = record {
   others = λ s all. second.others s (apart_second s xs ys all) ∙ first.others s (apart_first s xs ys all);
 }
 
--- what decoding blocks one after another keeps
+-- what changing blocks one after another keeps
 pub record Kept (I T : List ℕ) (entries : List BlockEntry) : Type 0 where
   pub same : SameElsewhere I T (fields_of entries)
   pub bytes : All IsByte T
 
-pub all_kept : (entries : List BlockEntry) (I : List ℕ) (method : Method) → All IsByte I → All (EndsBy (length I)) entries → Kept I (all_decoded method entries I) entries
-unfolding all_decoded
-all_kept [] I method all by_end = record { same = record { length_same = refl; others = λ s apart. refl }; bytes = all }
-all_kept (e ∷ rest) I method all by_end =
-    let J = with_body (decoded method e.bid) e I in
-    let says = told I method e all (All-head (EndsBy (length I)) e rest by_end) in
+pub all_kept : (entries : List BlockEntry) (I : List ℕ) (coding : Coding) → IsCoding coding → All IsByte I → All (EndsBy (length I)) entries → Kept I (all_changed coding entries I) entries
+unfolding all_changed
+all_kept [] I coding is all by_end = record { same = record { length_same = refl; others = λ s apart. refl }; bytes = all }
+all_kept (e ∷ rest) I coding is all by_end =
+    let J = with_body (coding e.bid) e I in
+    let says = told I coding e is all (All-head (EndsBy (length I)) e rest by_end) in
     let tail = All-tail (EndsBy (length I)) e rest by_end in
-    let later = all_kept rest J method says.bytes (subst (λ (n : ℕ). All (EndsBy n) rest) (sym says.len) tail) in
+    let later = all_kept rest J coding is says.bytes (subst (λ (n : ℕ). All (EndsBy n) rest) (sym says.len) tail) in
     let here : SameElsewhere I J (block_fields e) = record { length_same = says.len; others = says.others } in
-    record { same = same_then I J (all_decoded method rest J) (block_fields e) (fields_of rest) here later.same; bytes = later.bytes }
+    record { same = same_then I J (all_changed coding rest J) (block_fields e) (fields_of rest) here later.same; bytes = later.bytes }
 
 -- where the blocks of a file end
 place_inside : (end : ℕ) (e : BlockEntry) (s : Span) → block_place end e ≡ Some s → EndsBy end e
@@ -283,6 +284,7 @@ places_law I all =
           let J = with_method 0 I in
           let head = head_told I 0 all (omega arith) (method_long I method h) in
           let same : SameElsewhere I J head_fields = record { length_same = head.len; others = head.others } in
-          let kept = all_kept (data_blocks J) J method head.bytes (data_inside J) in
-          same_then I J (all_decoded method (data_blocks J) J) head_fields (fields_of (data_blocks J)) same kept.same
+          let kept = all_kept (data_blocks J) J (decoded method) (decoding method) head.bytes (data_inside J) in
+          rw (decoded_is method (data_blocks J) J)
+          (same_then I J (all_changed (decoded method) (data_blocks J) J) head_fields (fields_of (data_blocks J)) same kept.same)
     ] refl

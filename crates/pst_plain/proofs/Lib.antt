@@ -1,4 +1,5 @@
 pub mod WriteLemmas
+pub mod CodingLemmas
 pub mod BlockLemmas
 pub mod StepLemmas
 pub mod HeadLemmas
@@ -6,6 +7,8 @@ pub mod TwinLemmas
 pub mod LawLemmas
 pub mod BackLemmas
 pub mod SameLemmas
+pub mod EntryLemmas
+pub mod BehindLemmas
 pub mod PlacedLemmas
 pub mod AgainLemmas
 pub mod TrailerLemmas
@@ -13,3 +16,5 @@ pub mod MapLemmas
 pub mod BodyLemmas
 pub mod FaultLemmas
 pub mod HeaderLemmas
+pub mod EncodedLemmas
+pub mod LaterLemmas

@@ -20,7 +20,7 @@ use Rattle.pst_amap.specs.Report.{maps_fault}
 use Rattle.pst_plain.proofs.SameLemmas.{IsSamePage, part_same, num_same}
 
 -- parts that are the same below a number
-below_same : (part other : ℕ → Option Fault) (n : ℕ) → ((i : ℕ) → i < n → part i ≡ other i) → first_below part n ≡ first_below other n
+pub below_same : (part other : ℕ → Option Fault) (n : ℕ) → ((i : ℕ) → i < n → part i ≡ other i) → first_below part n ≡ first_below other n
 below_same part other zero same = refl
 below_same part other (suc n) same = rw (below_same part other n (λ i lt. same i (omega arith)), same n (omega arith)) refl
 
@@ -42,7 +42,7 @@ amap_same I T at same =
       num_same I T s at 1 same (omega arith) (omega arith),
     ) refl
 
-map_fault_same : (I T : List ℕ) (j : ℕ) → IsSamePage I T (amap_place j) → amap_fault T j ≡ amap_fault I j
+pub map_fault_same : (I T : List ℕ) (j : ℕ) → IsSamePage I T (amap_place j) → amap_fault T j ≡ amap_fault I j
 unfolding amap_fault
 map_fault_same I T j same = rw (amap_same I T (amap_place j) same) refl
 
@@ -57,7 +57,7 @@ unit_same : (I T : List ℕ) (order : BitOrder) (claimed : Claimed) (unit : ℕ)
 unfolding unit_fault
 unit_same I T order claimed unit same = rw (mark_same I T order unit same) refl
 
-marks_same : (I T : List ℕ) (order : BitOrder) (claimed : Claimed) (n : ℕ) → AreSameMaps I T n → length claimed ≤ 3968 * n → marks_fault order T claimed ≡ marks_fault order I claimed
+pub marks_same : (I T : List ℕ) (order : BitOrder) (claimed : Claimed) (n : ℕ) → AreSameMaps I T n → length claimed ≤ 3968 * n → marks_fault order T claimed ≡ marks_fault order I claimed
 marks_same I T order claimed n same few =
     below_same (unit_fault order T claimed) (unit_fault order I claimed) (length claimed) (λ unit lt. unit_same I T order claimed unit (same (unit / 3968) (omega (arith, lt, few))))
 

@@ -9,7 +9,7 @@ use Rattle.pst_crc.specs.Crc.{crc}
 use Rattle.pst_header.specs.declared.header.Bref.{Bref}
 use Rattle.pst_page.specs.declared.kind.PageKind.{PageKind}
 use Rattle.pst_page.specs.declared.kind.PageKind.TheVariants.{Bbt, Nbt}
-use Rattle.pst_page.specs.Entry.{entry_size, key_of, key_at, child_at, block_entry_at}
+use Rattle.pst_page.specs.Entry.{entry_size, key_of, key_at, child_at, block_entry_at, node_entry_at}
 use Rattle.pst_page.specs.Page.{page_span, count_at, width_at, level_at, places, entries_at}
 use Rattle.pst_page.specs.Good.{HasShape}
 use Rattle.pst_btree.specs.Order.{Rises}
@@ -90,7 +90,7 @@ page_same I T kind end level page same p =
 -- places in a page
 abbrev pub LieIn : ℕ → List ℕ → Type 0
 LieIn ib [] = ⊤
-LieIn ib (at ∷ rest) = (ib ≤ at) × (at + 24 ≤ ib + 512) × LieIn ib rest
+LieIn ib (at ∷ rest) = (ib ≤ at) × (at + 24 ≤ ib + 488) × LieIn ib rest
 
 places_lie : (ib at width n : ℕ) → ib ≤ at → 24 ≤ width → at + n * width ≤ ib + 488 → LieIn ib (places at width n)
 places_lie ib at width zero from wide room = tt
@@ -109,30 +109,44 @@ entries_lie kind I ib shape =
     places_lie ib ib (width_at I ib) (count_at I ib) (omega arith) (omega (arith, wide, shape.wide)) (omega (arith, shape.room))
 
 module _ (I T : List ℕ) (ib : ℕ) (same : IsSamePage I T ib) where
-  pub key_same : (kind : PageKind) (at : ℕ) → ib ≤ at → at + 24 ≤ ib + 512 → key_at kind T at ≡ key_at kind I at
+  pub key_same : (kind : PageKind) (at : ℕ) → ib ≤ at → at + 24 ≤ ib + 488 → key_at kind T at ≡ key_at kind I at
   unfolding key_at
   key_same kind at from to = ap (key_of kind) (num_same I T (page_span ib) at 8 same from (omega arith))
 
-  pub child_same : (at : ℕ) → ib ≤ at → at + 24 ≤ ib + 512 → child_at T at ≡ child_at I at
+  pub child_same : (at : ℕ) → ib ≤ at → at + 24 ≤ ib + 488 → child_at T at ≡ child_at I at
   unfolding child_at
   child_same at from to = rw (num_same I T (page_span ib) (at + 8) 8 same (omega arith) (omega arith), num_same I T (page_span ib) (at + 16) 8 same (omega arith) (omega arith)) refl
-
-  pub block_entry_same : (at : ℕ) → ib ≤ at → at + 24 ≤ ib + 512 → block_entry_at T at ≡ block_entry_at I at
-  unfolding block_entry_at
-  block_entry_same at from to =
-      rw (
-        num_same I T (page_span ib) at 8 same from (omega arith),
-        num_same I T (page_span ib) (at + 8) 8 same (omega arith) (omega arith),
-        num_same I T (page_span ib) (at + 16) 2 same (omega arith) (omega arith),
-      ) refl
 
   keys_same : (kind : PageKind) (at : List ℕ) → LieIn ib at → map (key_at kind T) at ≡ map (key_at kind I) at
   keys_same kind [] lie = refl
   keys_same kind (at ∷ rest) lie = rw (key_same kind at lie.0 lie.1, keys_same kind rest lie.2) refl
 
-  pub block_entries_same : (at : List ℕ) → LieIn ib at → map (block_entry_at T) at ≡ map (block_entry_at I) at
-  block_entries_same [] lie = refl
-  block_entries_same (at ∷ rest) lie = rw (block_entry_same at lie.0 lie.1, block_entries_same rest lie.2) refl
+-- what is read at a place of an entry alone
+abbrev pub IsReadInPage : {X : Type 0} → (List ℕ → ℕ → X) → Type 0
+IsReadInPage read = (I T : List ℕ) (ib at : ℕ) → IsSamePage I T ib → ib ≤ at → at + 24 ≤ ib + 488 → read T at ≡ read I at
+
+pub block_entry_same : IsReadInPage block_entry_at
+unfolding block_entry_at
+block_entry_same I T ib at same from to =
+    rw (
+      num_same I T (page_span ib) at 8 same from (omega arith),
+      num_same I T (page_span ib) (at + 8) 8 same (omega arith) (omega arith),
+      num_same I T (page_span ib) (at + 16) 2 same (omega arith) (omega arith),
+    ) refl
+
+pub node_entry_same : IsReadInPage node_entry_at
+unfolding node_entry_at
+node_entry_same I T ib at same from to =
+    rw (
+      num_same I T (page_span ib) at 8 same from (omega arith),
+      num_same I T (page_span ib) (at + 8) 8 same (omega arith) (omega arith),
+      num_same I T (page_span ib) (at + 16) 8 same (omega arith) (omega arith),
+      num_same I T (page_span ib) (at + 24) 4 same (omega arith) (omega arith),
+    ) refl
+
+read_same : {X : Type 0} (read : List ℕ → ℕ → X) → IsReadInPage read → (I T : List ℕ) (ib : ℕ) → IsSamePage I T ib → (at : List ℕ) → LieIn ib at → map (read T) at ≡ map (read I) at
+read_same read reads I T ib same [] lie = refl
+read_same read reads I T ib same (at ∷ rest) lie = rw (reads I T ib at same lie.0 lie.1, read_same read reads I T ib same rest lie.2) refl
 
 -- ---- trees
 
@@ -196,21 +210,21 @@ tree_same kind I T end root level tree all t = record {
   bounded = bounded_same kind I T end level tree 0 None all t.spells t.bounded;
 }
 
--- the block entries of its leaves
-mutual
-  pub list_same : (kind : PageKind) (I T : List ℕ) (end level : ℕ) (tree : Tree) → AreSamePages I T (pages_of tree) → Spells kind I end level tree → map (block_entry_at T) (entries_of tree) ≡ map (block_entry_at I) (entries_of tree)
-  list_same kind I T end zero (leaf page entries) all s =
-      block_entries_same I T page.ib all.0 entries (subst (LieIn page.ib) (sym s.1) (entries_lie kind I page.ib s.0.shape))
-  list_same kind I T end zero (branch page children) all s = absurd s
-  list_same kind I T end (suc level) (leaf page entries) all s = absurd s
-  list_same kind I T end (suc level) (branch page children) all s = lists_same kind I T end level children (entries_at I page.ib) all.1 s.1
+-- the entries of its leaves
+module _ {X : Type 0} (read : List ℕ → ℕ → X) (reads : IsReadInPage read) (kind : PageKind) (I T : List ℕ) (end : ℕ) where
+  mutual
+    pub list_same : (level : ℕ) (tree : Tree) → AreSamePages I T (pages_of tree) → Spells kind I end level tree → map (read T) (entries_of tree) ≡ map (read I) (entries_of tree)
+    list_same zero (leaf page entries) all s =
+        read_same read reads I T page.ib all.0 entries (subst (LieIn page.ib) (sym s.1) (entries_lie kind I page.ib s.0.shape))
+    list_same zero (branch page children) all s = absurd s
+    list_same (suc level) (leaf page entries) all s = absurd s
+    list_same (suc level) (branch page children) all s = lists_same level children (entries_at I page.ib) all.1 s.1
 
-  lists_same : (kind : PageKind) (I T : List ℕ) (end level : ℕ) (forest : Forest) (at : List ℕ) → AreSamePages I T (forest_pages forest) → SpellsEach kind I end level forest at
-      → map (block_entry_at T) (forest_entries forest) ≡ map (block_entry_at I) (forest_entries forest)
-  lists_same kind I T end level none at all s = refl
-  lists_same kind I T end level (more key tree forest) [] all s = absurd s
-  lists_same kind I T end level (more key tree forest) (at ∷ rest) all s =
-      map-append (block_entry_at T) (entries_of tree) (forest_entries forest)
-      ∙ ap (λ l. l ++ map (block_entry_at T) (forest_entries forest)) (list_same kind I T end level tree (first_pages I T (pages_of tree) (forest_pages forest) all) s.2)
-      ∙ ap (λ l. map (block_entry_at I) (entries_of tree) ++ l) (lists_same kind I T end level forest rest (other_pages I T (pages_of tree) (forest_pages forest) all) s.3)
-      ∙ sym (map-append (block_entry_at I) (entries_of tree) (forest_entries forest))
+    lists_same : (level : ℕ) (forest : Forest) (at : List ℕ) → AreSamePages I T (forest_pages forest) → SpellsEach kind I end level forest at → map (read T) (forest_entries forest) ≡ map (read I) (forest_entries forest)
+    lists_same level none at all s = refl
+    lists_same level (more key tree forest) [] all s = absurd s
+    lists_same level (more key tree forest) (at ∷ rest) all s =
+        map-append (read T) (entries_of tree) (forest_entries forest)
+        ∙ ap (λ l. l ++ map (read T) (forest_entries forest)) (list_same level tree (first_pages I T (pages_of tree) (forest_pages forest) all) s.2)
+        ∙ ap (λ l. map (read I) (entries_of tree) ++ l) (lists_same level forest rest (other_pages I T (pages_of tree) (forest_pages forest) all) s.3)
+        ∙ sym (map-append (read I) (entries_of tree) (forest_entries forest))

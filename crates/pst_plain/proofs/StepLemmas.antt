@@ -10,7 +10,6 @@ use Rattle.pst_crc.specs.Crc.{crc}
 use Rattle.pst_encoding.specs.declared.method.Method.{Method}
 use Rattle.pst_encoding.specs.Method.{decoded}
 use Rattle.pst_encoding.specs.Tables.{IsByte}
-use Rattle.pst_encoding.proofs.MethodLemmas.{method_law}
 use Rattle.pst_page.specs.declared.entry.BlockEntry.{BlockEntry}
 use Rattle.pst_block.specs.Block.{block_size, body_span, trailer_at}
 use Rattle.pst_block.proofs.BlockLemmas.{size_large}
@@ -41,9 +40,6 @@ unfolding with_body with_carried
 body_made I K L method e span at change is place put changes carries =
     let there : at ≡ trailer_at e + 4 = let large = size_large e.cb in omega (arith, large, place) in
     rw (carries, there, changes, put, is) refl
-
-pub decoded_bytes : (method : Method) (bid : ℕ) (body : List ℕ) → All IsByte body → All IsByte (decoded method bid body)
-decoded_bytes method bid body all = (method_law method bid body all).decoded_bytes
 
 -- ---- block by block
 

@@ -1,4 +1,4 @@
--- The trailers of blocks, and the walk over all blocks, once the data blocks among them are decoded.
+-- The trailers of blocks, and the walk over all blocks, once the bodies of the data blocks among them are changed.
 use Rattle.std.proofs.Common.{◌≡◌, ℕ, ◌+◌, List, [], ◌∷◌, length, Option, Some, None, Ok, true, false, cond, refl, sym, ap, ◌∙◌, subst, arith}
 use Rattle.std.specs.Prelude.{⊤}
 use Rattle.std.specs.List.{All, filter}
@@ -15,12 +15,10 @@ use Rattle.pst_block.specs.Block.{block_span, trailer_at}
 use Rattle.pst_block.specs.Fault.{has_block_trailer, block_place_fault, block_trailer_fault}
 use Rattle.pst_block.specs.Walk.{block_spans, block_step, blocks_walk}
 use Rattle.pst_block.proofs.BlockLemmas.{size_large}
-use Rattle.pst_encoding.specs.declared.method.Method.{Method}
-use Rattle.pst_encoding.specs.Method.{decoded}
 use Rattle.pst_encoding.specs.Tables.{IsByte}
 use Rattle.pst_plain.specs.Blocks.{has_data, block_place, claimed_with, placed, EndsBy}
-use Rattle.pst_plain.specs.Twin.{with_body, all_decoded}
-use Rattle.pst_plain.proofs.WriteLemmas.{length_decoded}
+use Rattle.pst_plain.specs.Twin.{with_body}
+use Rattle.pst_plain.proofs.CodingLemmas.{Coding, IsCoding, all_changed}
 use Rattle.pst_plain.proofs.LawLemmas.{told, trailer_told, all_kept}
 use Rattle.pst_plain.proofs.SameLemmas.{part_same, num_same}
 use Rattle.pst_plain.proofs.PlacedLemmas.{filter_from, fields_apart}
@@ -48,46 +46,47 @@ abbrev pub HaveSameTrailers : List ℕ → List ℕ → List BlockEntry → Type
 HaveSameTrailers I T [] = ⊤
 HaveSameTrailers I T (e ∷ rest) = (has_block_trailer T e ≡ has_block_trailer I e) × HaveSameTrailers I T rest
 
--- those beside a block that is decoded
-beside : (I : List ℕ) (method : Method) (d : BlockEntry) (entries : List BlockEntry) → EndsBy (length I) d → IsApartFromAll (block_span d) (block_spans entries) → HaveSameTrailers I (with_body (decoded method d.bid) d I) entries
-beside I method d [] by_end apart = tt
-beside I method d (e ∷ rest) by_end apart = (
-  block_same I (with_body (decoded method d.bid) d I) e (body_elsewhere (decoded method d.bid) d I (block_span e) (length_decoded method d.bid) by_end (turned (block_span d) (block_span e) apart.0)),
-  beside I method d rest by_end apart.1,
+-- those beside a block that is changed
+beside : (I : List ℕ) (coding : Coding) (d : BlockEntry) (entries : List BlockEntry) → IsCoding coding → EndsBy (length I) d → IsApartFromAll (block_span d) (block_spans entries) → HaveSameTrailers I (with_body (coding d.bid) d I) entries
+beside I coding d [] is by_end apart = tt
+beside I coding d (e ∷ rest) is by_end apart = (
+  block_same I (with_body (coding d.bid) d I) e (body_elsewhere (coding d.bid) d I (block_span e) (is.long d.bid) by_end (turned (block_span d) (block_span e) apart.0)),
+  beside I coding d rest is by_end apart.1,
 )
 
 trailers_then : (I J K : List ℕ) (entries : List BlockEntry) → HaveSameTrailers I J entries → HaveSameTrailers J K entries → HaveSameTrailers I K entries
 trailers_then I J K [] first second = tt
 trailers_then I J K (e ∷ rest) first second = (second.0 ∙ first.0, trailers_then I J K rest first.1 second.1)
 
-filter_ends : (end : ℕ) (entries : List BlockEntry) → All (EndsBy end) entries → All (EndsBy end) (filter has_data entries)
+pub filter_ends : (end : ℕ) (entries : List BlockEntry) → All (EndsBy end) entries → All (EndsBy end) (filter has_data entries)
 filter_ends end entries all = All-filter has_data (EndsBy end) entries all
 
--- a block that is apart from those that are decoded
-apart_trailer : (I : List ℕ) (method : Method) (e : BlockEntry) (entries : List BlockEntry) → All IsByte I → All (EndsBy (length I)) entries → IsApartFromAll (block_span e) (block_spans entries)
-    → has_block_trailer (all_decoded method entries I) e ≡ has_block_trailer I e
-apart_trailer I method e entries all ends apart =
-    block_same I (all_decoded method entries I) e ((all_kept entries I method all ends).same.others (block_span e) (fields_apart (block_span e) entries apart))
+-- a block that is apart from those that are changed
+apart_trailer : (I : List ℕ) (coding : Coding) (e : BlockEntry) (entries : List BlockEntry) → IsCoding coding → All IsByte I → All (EndsBy (length I)) entries → IsApartFromAll (block_span e) (block_spans entries)
+    → has_block_trailer (all_changed coding entries I) e ≡ has_block_trailer I e
+apart_trailer I coding e entries is all ends apart =
+    block_same I (all_changed coding entries I) e ((all_kept entries I coding is all ends).same.others (block_span e) (fields_apart (block_span e) entries apart))
 
-pub trailers_kept : (entries : List BlockEntry) (I : List ℕ) (method : Method) → All IsByte I → All (EndsBy (length I)) entries → AreApart (block_spans entries) → HaveSameTrailers I (all_decoded method (filter has_data entries) I) entries
-unfolding all_decoded
-trailers_kept [] I method all ends apart = tt
-trailers_kept (e ∷ rest) I method all ends apart =
+pub trailers_kept : (entries : List BlockEntry) (I : List ℕ) (coding : Coding) → IsCoding coding → All IsByte I → All (EndsBy (length I)) entries → AreApart (block_spans entries)
+    → HaveSameTrailers I (all_changed coding (filter has_data entries) I) entries
+unfolding all_changed
+trailers_kept [] I coding is all ends apart = tt
+trailers_kept (e ∷ rest) I coding is all ends apart =
     let e_end = All-head (EndsBy (length I)) e rest ends in
     let tail = All-tail (EndsBy (length I)) e rest ends in
     let from = filter_from (block_span e) rest apart.0 in
-    elim (has_data e) as (λ b. HaveSameTrailers I (all_decoded method (cond b (e ∷ filter has_data rest) (filter has_data rest)) I) (e ∷ rest)) [
+    elim (has_data e) as (λ b. HaveSameTrailers I (all_changed coding (cond b (e ∷ filter has_data rest) (filter has_data rest)) I) (e ∷ rest)) [
       | true ↦
-          let J = with_body (decoded method e.bid) e I in
-          let says = told I method e all e_end in
+          let J = with_body (coding e.bid) e I in
+          let says = told I coding e is all e_end in
           let later : All (EndsBy (length J)) rest = rw says.len tail in
-          let K = all_decoded method (filter has_data rest) J in (
-            apart_trailer J method e (filter has_data rest) says.bytes (filter_ends (length J) rest later) from ∙ trailer_told I J method e says,
-            trailers_then I J K rest (beside I method e rest e_end apart.0) (trailers_kept rest J method says.bytes later apart.1),
+          let K = all_changed coding (filter has_data rest) J in (
+            apart_trailer J coding e (filter has_data rest) is says.bytes (filter_ends (length J) rest later) from ∙ trailer_told I J coding e says,
+            trailers_then I J K rest (beside I coding e rest is e_end apart.0) (trailers_kept rest J coding is says.bytes later apart.1),
           )
       | false ↦ (
-        apart_trailer I method e (filter has_data rest) all (filter_ends (length I) rest tail) from,
-        trailers_kept rest I method all tail apart.1,
+        apart_trailer I coding e (filter has_data rest) is all (filter_ends (length I) rest tail) from,
+        trailers_kept rest I coding is all tail apart.1,
       )
     ]
 

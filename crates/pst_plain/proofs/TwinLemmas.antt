@@ -10,12 +10,16 @@ use Rattle.pst_encoding.specs.Method.{method_number, method_with}
 use Rattle.pst_encoding.specs.Tables.{IsByte}
 use Rattle.pst_page.specs.declared.entry.BlockEntry.{BlockEntry}
 use Rattle.pst_plain.specs.Blocks.{data_blocks}
-use Rattle.pst_plain.specs.Twin.{is_unicode, method_of, with_method, all_decoded, twin_of}
+use Rattle.pst_plain.specs.Twin.{is_unicode, method_of, with_method, all_decoded, decoded_file, twin_of}
 use Rattle.pst_plain.proofs.HeadLemmas.{method_again}
 
 pub twin_same : (I : List ℕ) → method_of I ≡ None → I ≡ twin_of I
 unfolding twin_of
 twin_same I none = rw none refl
+
+pub twin_is : (I : List ℕ) (method : Method) → method_of I ≡ Some method → twin_of I ≡ decoded_file method (with_method 0 I)
+unfolding twin_of
+twin_is I method is = rw is refl
 
 pub twin_made : (I J K : List ℕ) (method : Method) (entries : List BlockEntry) → method_of I ≡ Some method → J ≡ with_method 0 I → entries ≡ data_blocks J
     → K ≡ all_decoded method entries J → K ≡ twin_of I
@@ -44,7 +48,7 @@ pub method_restored : (I J K : List ℕ) (method : Method) (number : ℕ) → 56
 method_restored I J K method number long all is head value made =
     let stands = number_in I method is in
     let fits = number_byte method in
-    rw (made, head, value) (method_again I (method_number method) long all fits stands)
+    rw (made, head, value) (method_again I (method_number method) 0 long all fits (omega arith) stands)
 
 pub method_long : (I : List ℕ) (method : Method) → method_of I ≡ Some method → 564 ≤ length I
 unfolding method_of is_unicode

@@ -6,6 +6,7 @@ use Rattle.pst_bytes.specs.Image.{num, bytes_at}
 use Rattle.pst_bytes.specs.declared.span.Span.{Span}
 use Rattle.pst_bytes.specs.Span.{IsApartFromAll}
 use Rattle.pst_crc.specs.Crc.{crc}
+use Rattle.pst_header.specs.Header.{header_fault}
 use Rattle.pst_encoding.specs.declared.method.Method.{Method}
 use Rattle.pst_encoding.specs.Method.{decoded}
 use Rattle.pst_encoding.specs.Tables.{IsByte}
@@ -78,3 +79,9 @@ PlacesLaw = (I : List ℕ) → All IsByte I → SameElsewhere I (twin_of I) (cha
 -- A twin that is encoded again is the file, byte for byte: so what is said of the twin is said of that very file.
 abbrev pub AgainLaw : Type 0
 AgainLaw = (I : List ℕ) (method : Method) → All IsByte I → method_of I ≡ Some method → encoded_of (twin_of I) method ≡ I
+
+-- A plain file that is encoded says so, and has the plain file as its twin, byte for byte. So where a twin is no store, the file is
+-- no store that was encoded.
+abbrev pub EncodedLaw : Type 0
+EncodedLaw = (J : List ℕ) (method : Method) → All IsByte J → header_fault J ≡ None →
+    let I = encoded_of J method in (method_of I ≡ Some method) × (twin_of I ≡ J)

@@ -1,7 +1,7 @@
 //! Laws of twins, each the contract of a function that does nothing.
 
 ghost use Rattle.pst_plain.specs.Faults.{HeaderLaw, FrontLaw, LaterLaw};
-ghost use Rattle.pst_plain.specs.Laws.{LinearLaw, CarriedLaw, TrailerLaw, FullCheckLaw, PlacesLaw, AgainLaw};
+ghost use Rattle.pst_plain.specs.Laws.{LinearLaw, CarriedLaw, TrailerLaw, FullCheckLaw, PlacesLaw, AgainLaw, EncodedLaw};
 
 /// The check value ([MS-PST] 5.3) is linear: of bytes exclusive or as many others it is the check value of the ones exclusive
 /// or that of the others.
@@ -28,9 +28,15 @@ pub fn twin_is_the_file()
     ensures { AgainLaw }
 {}
 
-/// The header of an encoded file with bCryptMethod 0 has the fields of the file, and the first fault of its check values and its
-/// ROOT structure. Up to its allocation maps the twin of an encoded file has the first fault that the file would have with bCryptMethod 0, in
-/// kind and place, or none where that has none; what comes later is said of the decoded bytes.
+/// A plain file, encoded by a method, says that method, and the plain file is its twin: so where the twin of a file is no store,
+/// the file is no store that was encoded.
+pub fn plain_is_the_twin()
+    ensures { EncodedLaw }
+{}
+
+/// Up to its allocation maps the twin of an encoded file has the first fault of the file, Encoded aside, in kind and place: that of
+/// its check values and its ROOT structure, then that of its pages, blocks and maps. Where it has none, what comes later is read
+/// from the entries of the file's own B-trees and from the bodies of its blocks, those of all data blocks decoded.
 pub fn faults_stay()
     ensures header { HeaderLaw }
     ensures front { FrontLaw }

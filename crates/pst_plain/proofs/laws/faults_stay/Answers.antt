@@ -1,4 +1,5 @@
-use Rattle.pst_plain.proofs.FaultLemmas.{front_law, later_law}
+use Rattle.pst_plain.proofs.FaultLemmas.{front_law}
+use Rattle.pst_plain.proofs.LaterLemmas.{later_law}
 use Rattle.pst_plain.proofs.HeaderLemmas.{header_law}
 use Rattle.pst_plain.proofs.laws.faults_stay.Goals as goal
 
