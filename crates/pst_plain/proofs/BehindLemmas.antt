@@ -23,10 +23,10 @@ use Rattle.pst_page.specs.Trailer.{has_trailer}
 use Rattle.pst_page.specs.Fault.{has_page_trailer, has_shape, page_place_fault, open_fault, level_fault}
 use Rattle.pst_page.proofs.PageLaws.{place_law}
 use Rattle.pst_space.specs.Claimed.{Claimed, maps_claimed}
-use Rattle.pst_space.specs.Step.{Step, ◌>>=◌, unless, claim_step}
+use Rattle.pst_space.specs.Step.{Step, ◌>>=◌}
 use Rattle.pst_space.proofs.StepLemmas.{bind_ok}
 use Rattle.pst_btree.specs.Order.{order_fault}
-use Rattle.pst_btree.specs.Tree.{Tree, leaf, branch, Forest, none, more, pages_of, forest_pages, span_of, Spells, SpellsEach}
+use Rattle.pst_btree.specs.Tree.{Tree, leaf, branch, Forest, none, more, pages_of, forest_pages, Spells, SpellsEach}
 use Rattle.pst_btree.specs.Walk.{Found, found_so_far, nothing_found, body_fault, opened, next_key, Visit, children, walk_of, tree_walk}
 use Rattle.pst_btree.proofs.TreeLaws.{walk_claims}
 use Rattle.pst_block.specs.Block.{block_span}
@@ -39,7 +39,7 @@ use Rattle.pst_ndb.specs.Entries.{block_list}
 use Rattle.pst_ndb.specs.Space.{space_walk, space_fault, fault_after}
 use Rattle.pst_ndb.specs.Trees.{trees_walk}
 use Rattle.pst_plain.specs.Blocks.{placed}
-use Rattle.pst_plain.proofs.SameLemmas.{num_same, part_same, IsSamePage, AreSamePages, count_same, width_same, level_same, entries_same}
+use Rattle.pst_plain.proofs.SameLemmas.{IsSamePage, AreSamePages, count_same, width_same, level_same, entries_same}
 use Rattle.pst_plain.proofs.EntryLemmas.{blocks_same}
 use Rattle.pst_plain.proofs.PlacedLemmas.{LiesIn, placed_lie}
 use Rattle.pst_plain.proofs.TrailerLemmas.{HaveSameTrailers, block_same, walk_same}

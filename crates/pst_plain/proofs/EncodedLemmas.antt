@@ -1,7 +1,6 @@
 -- A plain file that is encoded says by which method, and is its twin when it is decoded.
-use Rattle.std.proofs.Common.{◌≡◌, ℕ, ◌≤◌, List, length, Some, true, refl, ap, ◌∙◌, arith}
+use Rattle.std.proofs.Common.{◌≡◌, ℕ, List, Some, refl, ap, ◌∙◌, arith}
 use Rattle.std.proofs.lemmas.Bool.{le-leb}
-use Rattle.pst_bytes.specs.Image.{num}
 use Rattle.pst_header.specs.Header.{fields}
 use Rattle.pst_header.specs.Head.{Head}
 use Rattle.pst_header.proofs.Head.{header_law}

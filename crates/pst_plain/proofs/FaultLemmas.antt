@@ -40,7 +40,7 @@ use Rattle.pst_plain.proofs.BlockLemmas.{end_later}
 use Rattle.pst_plain.proofs.LawLemmas.{placed_inside}
 use Rattle.pst_plain.proofs.SameLemmas.{tree_same}
 use Rattle.pst_plain.proofs.EntryLemmas.{block_list_is, blocks_same}
-use Rattle.pst_plain.proofs.PlacedLemmas.{AreApartFrom, apart_cross, apart_back, from_second, filter_pages, fields_apart}
+use Rattle.pst_plain.proofs.PlacedLemmas.{AreApartFrom, apart_cross, from_second, filter_pages, fields_apart}
 use Rattle.pst_encoding.specs.Method.{decoded}
 use Rattle.pst_plain.proofs.CodingLemmas.{Coding, IsCoding, decoding, all_changed}
 use Rattle.pst_plain.proofs.AgainLemmas.{Laid, HasTrees, data_cases, pages_again, the_blocks, the_laid, the_placed_apart, header_again, fields_again, file_changed, decoded_file_is, same_beside, nothing_changed}

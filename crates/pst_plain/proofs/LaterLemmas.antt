@@ -1,5 +1,5 @@
 -- Where a file has no fault up to its allocation maps, the entries of both B-trees stay, and all data blocks are decoded.
-use Rattle.std.proofs.Common.{◌≡◌, ℕ, ◌+◌, ◌≤◌, inl, inr, List, [], ◌∷◌, length, map, Option, Some, None, Ok, Err, true, false, cond, refl, sym, ap, subst, ◌∙◌, arith}
+use Rattle.std.proofs.Common.{◌≡◌, ℕ, inl, inr, List, [], ◌∷◌, length, map, Option, Some, None, Ok, Err, true, false, cond, refl, sym, ap, subst, ◌∙◌, arith}
 use Rattle.std.specs.Prelude.{⊤, if◌then◌else◌}
 use Rattle.std.specs.List.{All, filter}
 use Rattle.std.proofs.lemmas.List.Elements.{All-nil, All-cons, All-head, All-tail}
@@ -34,8 +34,8 @@ use Rattle.pst_amap.specs.Report.{maps_fault}
 use Rattle.pst_ndb.specs.Entries.{block_list, node_list}
 use Rattle.pst_ndb.specs.Space.{space_walk, space_fault, fault_after}
 use Rattle.pst_ndb.specs.Trees.{trees_walk}
-use Rattle.pst_plain.specs.Blocks.{has_data, block_place, claimed_with, placed, Listed, trees_listed, EndsBy}
-use Rattle.pst_plain.specs.Twin.{with_method, with_body, twin_of}
+use Rattle.pst_plain.specs.Blocks.{has_data, block_place, claimed_with, placed, trees_listed, EndsBy}
+use Rattle.pst_plain.specs.Twin.{with_method, with_body}
 use Rattle.pst_plain.specs.Faults.{front_fault, IsDecoded, LaterLaw}
 use Rattle.pst_plain.proofs.CodingLemmas.{Coding, IsCoding, decoding, all_changed}
 use Rattle.pst_plain.proofs.BlockLemmas.{placed_more, end_later}

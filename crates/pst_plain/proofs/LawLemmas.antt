@@ -12,7 +12,6 @@ use Rattle.pst_bytes.specs.declared.span.Span.{Span}
 use Rattle.pst_bytes.specs.Span.{IsApartFromAll}
 use Rattle.pst_crc.specs.Crc.{crc, shifted_by, after_byte}
 use Rattle.pst_crc.proofs.Linear.{shifted_by-xor}
-use Rattle.pst_encoding.specs.declared.method.Method.{Method}
 use Rattle.pst_encoding.specs.Method.{decoded}
 use Rattle.pst_encoding.specs.Tables.{IsByte}
 use Rattle.pst_page.specs.declared.entry.BlockEntry.{BlockEntry}

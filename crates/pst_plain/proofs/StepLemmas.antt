@@ -1,7 +1,6 @@
 -- What the calls that change a file leave, as the definitions say it.
 use Rattle.std.proofs.Common.{◌≡◌, ℕ, ◌+◌, ◌-◌, ◌<◌, ◌≤◌, List, [], ◌∷◌, length, drop, get_or, refl, sym, ap, ◌∙◌, arith}
 use Rattle.std.specs.Prelude.{bit_xor}
-use Rattle.std.specs.List.{All}
 use Rattle.std.proofs.lemmas.List.{drop_more, drop_all, length-drop, length-take-le}
 use Rattle.byteorder.specs.Endian.{little_bytes}
 use Rattle.pst_bytes.specs.Image.{num, bytes_at}
@@ -9,7 +8,6 @@ use Rattle.pst_bytes.specs.declared.span.Span.{Span}
 use Rattle.pst_crc.specs.Crc.{crc}
 use Rattle.pst_encoding.specs.declared.method.Method.{Method}
 use Rattle.pst_encoding.specs.Method.{decoded}
-use Rattle.pst_encoding.specs.Tables.{IsByte}
 use Rattle.pst_page.specs.declared.entry.BlockEntry.{BlockEntry}
 use Rattle.pst_block.specs.Block.{block_size, body_span, trailer_at}
 use Rattle.pst_block.proofs.BlockLemmas.{size_large}

@@ -37,13 +37,13 @@ FrontLaw = (I : List ℕ) (method : Method) → All IsByte I → method_of I ≡
 abbrev pub plain_body : Method → BlockEntry → List ℕ → List ℕ
 plain_body method e body = if has_data e then decoded method e.bid body else body
 
--- The entries of both B-trees are those of the file. Of each block the body is the file's, and of each data block it is decoded.
+-- The entries of both B-trees are those of the file, and the body of each block is the file's, that of each data block decoded.
 pub record IsDecoded (method : Method) (I T : List ℕ) : Type 0 where
   pub nodes : node_list T (fields T) ≡ node_list I (fields I)
   pub blocks : block_list T (fields T) ≡ block_list I (fields I)
   pub bodies : All (λ e. bytes_at T (body_span e) ≡ plain_body method e (bytes_at I (body_span e))) (block_list I (fields I))
 
--- What comes later, the nodes, is read from those entries and those bodies: where the file has no fault up to its maps, no data
--- block is left encoded, and nothing else is decoded.
+-- What comes later, the nodes, is read from these entries and these bodies: where the twin has no fault up to its maps, no data
+-- block is left encoded, and no other block is decoded.
 abbrev pub LaterLaw : Type 0
 LaterLaw = (I : List ℕ) (method : Method) → All IsByte I → method_of I ≡ Some method → front_fault (twin_of I) ≡ None → IsDecoded method I (twin_of I)

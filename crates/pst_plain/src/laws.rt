@@ -34,9 +34,10 @@ pub fn plain_is_the_twin()
     ensures { EncodedLaw }
 {}
 
-/// Up to its allocation maps the twin of an encoded file has the first fault of the file, Encoded aside, in kind and place: that of
-/// its check values and its ROOT structure, then that of its pages, blocks and maps. Where it has none, what comes later is read
-/// from the entries of the file's own B-trees and from the bodies of its blocks, those of all data blocks decoded.
+/// An encoded file with bCryptMethod 0 has the fields of the file. Up to its allocation maps it and the twin have the first fault of
+/// the file, Encoded aside, in kind and place: that of its check values and its ROOT structure, then that of its pages, blocks and
+/// maps. Where there is none, what comes later is read from the entries of the file's own B-trees and from the bodies of its blocks,
+/// those of all data blocks decoded.
 pub fn faults_stay()
     ensures header { HeaderLaw }
     ensures front { FrontLaw }
