@@ -1,7 +1,8 @@
 //! What is asked of the stores.
 
 use crate::awkward::{own_values, turning_lists};
-use crate::digest::digest;
+use crate::bodies::long_mail;
+use crate::digest::{digest, digest_of_long};
 use crate::folders::{bare_nodes, many_folders};
 use crate::mail::{mail, message_nid};
 use crate::message::Kind;
@@ -19,6 +20,8 @@ pub(crate) enum Job {
     Messages,
     /// The properties of a third of all messages.
     Properties,
+    /// The properties of all messages, and all messages as lines, of mail with long bodies.
+    Bodies,
     /// The folders, the nodes, and the contents of a folder.
     Lists,
     /// The verdict of stores that a stranger made to be slow.
@@ -33,6 +36,7 @@ impl Job {
             "encoded" => Some(Job::Encoded),
             "messages" => Some(Job::Messages),
             "properties" => Some(Job::Properties),
+            "bodies" => Some(Job::Bodies),
             "lists" => Some(Job::Lists),
             "awkward" => Some(Job::Awkward),
             _ => None,
@@ -59,6 +63,11 @@ const LONG: Kind = Kind {
     attached: true,
 };
 
+// How many awkward stores of each kind there are, and how far their seeds are apart: those that words ask for are less.
+const AWKWARD: u64 = 3;
+
+const BEYOND_SEEDS: u64 = 0x1_0000_0000;
+
 // The words of a command over standard input.
 fn words_of(alloc: Global, words: &[&'static str]) -> Result<Vec<String>, AllocError> {
     let mut made = Vec::new(alloc);
@@ -68,18 +77,28 @@ fn words_of(alloc: Global, words: &[&'static str]) -> Result<Vec<String>, AllocE
     Ok(made)
 }
 
-// What a run with these words answers of a store.
+// What a run with these words answers of a store: the status, how long the output is, and both outputs.
+fn answered(
+    alloc: Global,
+    words: &[String],
+    store: &[u8],
+) -> Result<(u8, usize, Vec<u8>), AllocError> {
+    let (mut out, mut err) = (Vec::new(alloc), Vec::new(alloc));
+    let mut input = store;
+    let status = run(alloc, words, &mut input, &mut out, &mut err);
+    let length = out.len();
+    out.extend_from_slice(&err)?;
+    Ok((status, length, out))
+}
+
+// The same with a digest of the outputs.
 fn ask(
     alloc: Global,
     what: &'static str,
     words: &[String],
     store: &[u8],
 ) -> Result<Answer, AllocError> {
-    let (mut out, mut err) = (Vec::new(alloc), Vec::new(alloc));
-    let mut input = store;
-    let status = run(alloc, words, &mut input, &mut out, &mut err);
-    let length = out.len();
-    out.extend_from_slice(&err)?;
+    let (status, length, out) = answered(alloc, words, store)?;
     Ok(Answer {
         what,
         status,
@@ -88,11 +107,27 @@ fn ask(
     })
 }
 
-// The words that ask for the properties of every third of so many messages.
-fn third_of(alloc: Global, count: u32) -> Result<Vec<String>, AllocError> {
+// The same of outputs that are so long that the digest would take a good part of the time.
+fn ask_much(
+    alloc: Global,
+    what: &'static str,
+    words: &[String],
+    store: &[u8],
+) -> Result<Answer, AllocError> {
+    let (status, length, out) = answered(alloc, words, store)?;
+    Ok(Answer {
+        what,
+        status,
+        length,
+        digest: digest_of_long(&out),
+    })
+}
+
+// The words that ask for the properties of each of so many messages whose number leaves this rest.
+fn props_of(alloc: Global, count: u32, each: u32, rest: u32) -> Result<Vec<String>, AllocError> {
     let mut words = words_of(alloc, &["props", "-"])?;
     for number in 0..count {
-        if number % 3 == 1 {
+        if number.checked_rem(each) == Some(rest) {
             let nid = message_nid(number);
             words.push(format!(in alloc; "0x{nid:x}")?)?;
         }
@@ -118,14 +153,29 @@ fn lists(alloc: Global, seed: u64, count: u32) -> Result<Vec<Answer>, AllocError
     Ok(answers)
 }
 
-// The verdicts of stores with so many contexts.
+// The properties of so many messages with long bodies, and these as lines.
+fn bodies(alloc: Global, seed: u64, count: u32) -> Result<Vec<Answer>, AllocError> {
+    let mut answers = Vec::new(alloc);
+    let store = long_mail(alloc, seed, count)?;
+    let words = props_of(alloc, count, 1, 0)?;
+    answers.push(ask_much(alloc, "props", &words, &store)?)?;
+    let words = words_of(alloc, &["messages", "-"])?;
+    answers.push(ask_much(alloc, "messages", &words, &store)?)?;
+    Ok(answers)
+}
+
+// The verdicts of stores with so many contexts, three of each kind. The first are of the seed itself, the others of seeds that
+// no word asks for.
 fn awkward(alloc: Global, seed: u64, count: u32) -> Result<Vec<Answer>, AllocError> {
     let mut answers = Vec::new(alloc);
     let words = words_of(alloc, &["check", "-"])?;
-    let store = own_values(alloc, seed, count, count.saturating_mul(300))?;
-    answers.push(ask(alloc, "own values", &words, &store)?)?;
-    let store = turning_lists(alloc, seed, count, count.saturating_mul(200))?;
-    answers.push(ask(alloc, "turning lists", &words, &store)?)?;
+    for number in 0..AWKWARD {
+        let seed = seed.saturating_add(number.saturating_mul(BEYOND_SEEDS));
+        let store = own_values(alloc, seed, count, count.saturating_mul(300))?;
+        answers.push(ask(alloc, "own values", &words, &store)?)?;
+        let store = turning_lists(alloc, seed, count, count.saturating_mul(200))?;
+        answers.push(ask(alloc, "turning lists", &words, &store)?)?;
+    }
     Ok(answers)
 }
 
@@ -177,7 +227,7 @@ pub(crate) fn answers(
             )
         }
         Job::Properties => {
-            let words = third_of(alloc, count)?;
+            let words = props_of(alloc, count, 3, 1)?;
             of_mail(
                 alloc,
                 "props",
@@ -185,6 +235,7 @@ pub(crate) fn answers(
                 mail(alloc, seed, count, SHORT, false)?,
             )
         }
+        Job::Bodies => bodies(alloc, seed, count),
         Job::Lists => lists(alloc, seed, count),
         Job::Awkward => awkward(alloc, seed, count),
     }

@@ -73,12 +73,73 @@ fn messages(
     Ok(made)
 }
 
-// The folder of the next message: each has about half of what is left.
-fn drawn_folder(chance: &mut Chance) -> u32 {
+/// The folder of the next message: each has about half of what is left.
+pub(crate) fn drawn_folder(chance: &mut Chance) -> u32 {
     (chance.below(256) | 0x80)
         .leading_zeros()
         .saturating_sub(24)
         .min(FOLDERS.saturating_sub(1))
+}
+
+/// The folders of a store, into which messages are put.
+#[derive(Drop)]
+pub(crate) struct Folders {
+    class: Vec<u8>,
+    tables: Vec<Table>,
+    encoded: bool,
+}
+
+impl Folders {
+    /// Eight without messages.
+    pub(crate) fn new(alloc: Global, encoded: bool) -> Result<Folders, AllocError> {
+        let class = units_of(alloc, "IPM.Note")?;
+        let mut tables = Vec::new(alloc);
+        for _ in 0..FOLDERS {
+            tables.push(Table::new(alloc, &COLUMNS, encoded)?)?;
+        }
+        Ok(Folders {
+            class,
+            tables,
+            encoded,
+        })
+    }
+
+    /// Writes a message, and puts it into the folder with a number, at most seven.
+    pub(crate) fn put(
+        &mut self,
+        image: &mut Image,
+        inside: u32,
+        nid: u32,
+        message: &Message,
+    ) -> Result<(), AllocError> {
+        let Some(table) = self.tables.get_mut(inside as usize) else {
+            return Ok(());
+        };
+        let (data, sub) = message.lay(image)?;
+        let parent = INBOX.saturating_add(inside.saturating_mul(32));
+        image.node(nid, data, sub, parent)?;
+        add_row(table, nid, &self.class, message)
+    }
+
+    /// Writes them, and the root folder above them.
+    pub(crate) fn close(self, image: &mut Image) -> Result<(), AllocError> {
+        let Folders {
+            tables,
+            encoded,
+            ..
+        } = self;
+        let mut nid = INBOX;
+        let mut names = Vec::new(image.alloc);
+        for table in tables {
+            let falling = nid % 64 == 2;
+            let written = table.written(falling)?;
+            let contents = lay_written(image, &written)?;
+            folder(image, nid, ROOT, "Mail", &[], Some(contents), encoded)?;
+            names.push(nid)?;
+            nid = nid.saturating_add(32);
+        }
+        folder(image, ROOT, ROOT, "", &names, None, encoded)
+    }
 }
 
 /// A store of so many messages.
@@ -93,36 +154,14 @@ pub(crate) fn mail(
     let made = messages(alloc, &mut chance, kind, encoded)?;
     let mut image = Image::new(alloc, (count as usize).saturating_mul(3_000))?;
     begin(&mut image, encoded)?;
-    let class = units_of(alloc, "IPM.Note")?;
-    let mut tables = Vec::new(alloc);
-    for _ in 0..FOLDERS {
-        tables.push(Table::new(alloc, &COLUMNS, encoded)?)?;
-    }
+    let mut folders = Folders::new(alloc, encoded)?;
     for number in 0..count {
         let inside = drawn_folder(&mut chance);
         let drawn = chance.below(MADE) as usize;
-        if let (Some(message), Some(table)) = (made.get(drawn), tables.get_mut(inside as usize)) {
-            let (data, sub) = message.lay(&mut image)?;
-            let nid = message_nid(number);
-            image.node(
-                nid,
-                data,
-                sub,
-                INBOX.saturating_add(inside.saturating_mul(32)),
-            )?;
-            add_row(table, nid, &class, message)?;
+        if let Some(message) = made.get(drawn) {
+            folders.put(&mut image, inside, message_nid(number), message)?;
         }
     }
-    let mut nid = INBOX;
-    let mut names = Vec::new(alloc);
-    for table in tables {
-        let falling = nid % 64 == 2;
-        let written = table.written(falling)?;
-        let contents = lay_written(&mut image, &written)?;
-        folder(&mut image, nid, ROOT, "Mail", &[], Some(contents), encoded)?;
-        names.push(nid)?;
-        nid = nid.saturating_add(32);
-    }
-    folder(&mut image, ROOT, ROOT, "", &names, None, encoded)?;
+    folders.close(&mut image)?;
     finished(image, u8::from(encoded))
 }

@@ -9,6 +9,7 @@
 #![tactic(auto)]
 
 mod awkward;
+mod bodies;
 mod chance;
 mod digest;
 mod folders;
@@ -20,6 +21,8 @@ mod lists;
 mod mail;
 mod message;
 mod pages;
+mod parts;
+mod phrases;
 mod properties;
 mod table;
 mod texts;
