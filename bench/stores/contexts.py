@@ -81,20 +81,23 @@ class Heap:
         return body + struct.pack(f"<HH{len(places)}H", len(items), 0, *places)
 
 
-def add_bth(heap, key_size, data_size, records, in_a_leaf=None, empty=0):
+def add_bth(heap, key_size, data_size, records, in_a_leaf=None, empty=0, behind=0):
     """Adds a BTH (2.3.2) of records, pairs of key and data whose keys rise; answers its header's identifier. In a
-    leaf are so many, or as many as fit; and in front of all others so many leaves without records, which are one
-    item."""
+    leaf are so many, or as many as fit; and so many leaves without records, which are one item, stand behind that
+    many of the others, in front of all where these are none."""
     header = heap.add(struct.pack("<BBBBI", BTH_CLIENT, key_size, data_size, 0, 0))
     key_format, level, width = KEY_FORMATS[key_size], 0, key_size + data_size
     nothing = struct.pack("<I", heap.add_empty()) if empty else b""
     while True:
         per_item = level == 0 and in_a_leaf or LONGEST_ITEM // width
-        above = [(number, nothing) for number in range(empty)] if level == 0 else []
+        above = []
         for first in range(0, len(records), per_item):
             mine = records[first:first + per_item]
             item = b"".join(struct.pack(key_format, key) + data for key, data in mine)
             above.append((mine[0][0], struct.pack("<I", heap.add(item))))
+        if level == 0:
+            least = above[behind - 1][0] + 1 if behind else 0
+            above[behind:behind] = [(least + number, nothing) for number in range(empty)]
         if len(above) <= 1:
             break
         records, level, width = above, level + 1, key_size + 4

@@ -149,6 +149,24 @@ def empty_leaves(store, folders=5000, leaves=50_000):
         store.node(node & ~0x1F | CONTENTS, data)
 
 
+def leaves_behind(store, messages=100, leaves=1000, rows=1, far=1):
+    """MESSAGES LEAVES ROWS FAR: messages that share a table of so many attachments, each under a list of its own;
+    behind the first row the row index has so many leaves without records. Where FAR is 1, all but the first span of
+    the table's heap lie behind a thousand XBLOCKs without entries."""
+    roots(store)
+    message, attached = small_message(store), context(store, [(ATTACHMENT_METHOD, INTEGER32, 1)]).write()[0]
+    nids = identifiers(rows * (leaves + 1), 5)[::leaves + 1]
+    made = TableContext(store, [])
+    if far:
+        made.heap.begin_span()
+    for row in nids:
+        made.add(row, {})
+    data, _ = made.write(write_heap=far_tree if far else data_tree, in_a_leaf=1, empty=leaves, behind=1)
+    entries = [(ATTACHMENTS, data, 0)] + [(row, attached, 0) for row in nids]
+    for node in identifiers(messages, 4):
+        store.node(node, message, leaf_list(store, entries))
+
+
 def many_leaves(store, folders=5000, messages=5000):
     """FOLDERS MESSAGES: folders that share a table of so many messages, whose row index has a leaf for each."""
     roots(store)
@@ -236,4 +254,4 @@ def few_maps(store, messages=3000):
 
 
 MAKERS = (far_values, far_cells, far_names, far_contexts, far_attachments, far_listings, far_objects, shared_matrix,
-          short_leaves, empty_leaves, many_leaves, far_rows, page_maps, few_maps)
+          short_leaves, empty_leaves, leaves_behind, many_leaves, far_rows, page_maps, few_maps)
