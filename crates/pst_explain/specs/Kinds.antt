@@ -1,6 +1,6 @@
 -- The kinds of fault, and the words that name them.
-use Rattle.std.specs.Prelude.{ℕ, Bool, ◌||◌, List, [], ◌∷◌, Option, find, codes}
-use Rattle.std.specs.Str.{bytes_eq}
+use Rattle.std.specs.Prelude.{ℕ, Bool, true, ◌&&◌, ◌||◌, ◌==◌, nat_le, if◌then◌else◌, List, [], ◌∷◌, ◌++◌, length, take, drop, Option, find, codes}
+use Rattle.std.specs.Str.{str_eq_ignore_ascii_case}
 use Rattle.pst_fault.specs.declared.kind.Kind.{Kind}
 use Rattle.pst_fault.specs.declared.kind.Kind.TheVariants.{Short, Magic, Version, Encoded, HeaderCheck, Root, MapsInvalid, PagePlace, PageTrailer, PageShape, KeyOrder, Overlap, BlockPlace, BlockTrailer, BlockMissing, DataTree, Subnode, Nesting, MapPage, MapMissing, Heap, HeapId, Bth, Property, Table, NodeMissing, NodeKind, NoMemory}
 use Rattle.pst_fault.specs.Kind.{kind_name}
@@ -45,10 +45,37 @@ word_of_number NodeMissing = codes "26"
 word_of_number NodeKind = codes "27"
 word_of_number NoMemory = codes "28"
 
--- a word names it: by its number, or by its name
-abbrev pub is_named : List ℕ → Kind → Bool
-is_named word k = bytes_eq (word_of_number k) word || bytes_eq (name_of k) word
+-- both, as a line has them: `14 BlockTrailer`
+abbrev pub both_of : Kind → List ℕ
+both_of k = word_of_number k ++ codes " " ++ name_of k
 
--- the kind that a word names
+-- ---- the word that names a kind: its number, its name or both, of letters of either case, as they are typed or as they are printed
+
+-- the same letters, of either case
+abbrev pub same : List ℕ → List ℕ → Bool
+same a b = str_eq_ignore_ascii_case a b
+
+-- a word begins with these letters, of either case
+abbrev pub begins : List ℕ → List ℕ → Bool
+begins letters word = nat_le (length letters) (length word) && same (take (length letters) word) letters
+
+-- nothing, or a parenthesis or a blank and whatever is behind it: where a name ends that is printed, as in `Encoded(1) at 0x201`
+abbrev pub is_end : List ℕ → Bool
+is_end [] = true
+is_end (b ∷ rest) = b == 40 || b == 32
+
+-- a word begins with these letters, of either case, and they end there
+abbrev pub is_led_by : List ℕ → List ℕ → Bool
+is_led_by letters word = begins letters word && is_end (drop (length letters) word)
+
+-- a word names it: by its number; or by its name, or both, with what is printed behind that
+abbrev pub is_named : List ℕ → Kind → Bool
+is_named word k = same word (word_of_number k) || is_led_by (name_of k) word || is_led_by (both_of k) word
+
+-- a word behind the `no: ` with which the line of a fault begins
+abbrev pub behind_no : List ℕ → List ℕ
+behind_no word = if begins (codes "no: ") word then drop 4 word else word
+
+-- the kind that a word names, with `no: ` in front of it or without
 abbrev pub kind_in_word : List ℕ → Option Kind
-kind_in_word word = find (is_named word) kinds
+kind_in_word word = find (is_named (behind_no word)) kinds

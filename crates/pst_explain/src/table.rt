@@ -2,7 +2,7 @@
 
 ghost use Rattle.std.specs.Prelude.{◌≡◌};
 ghost use Rattle.pst_explain.specs.Text.{all_text, text_of as text_of_kind};
-ghost use Rattle.pst_explain.specs.Kinds.{name_of, word_of_number};
+ghost use Rattle.pst_explain.specs.Kinds.{both_of, name_of, word_of_number};
 
 use pst_fault::Kind;
 
@@ -237,12 +237,12 @@ macro_rules! texts {
     };
 }
 
-// The words that name a kind: its number and its name.
+// The words that name a kind: its number, its name, and both as a line has them.
 macro_rules! words {
     ($wanted:ident $([$kind:pat] $number:literal $name:literal
         $says:literal, $at:literal, $bid:literal, $nid:literal, $next:literal, $section:literal;)*) => {
         match $wanted {
-            $($kind => ($number, $name),)*
+            $($kind => ($number, $name, concat!($number, " ", $name)),)*
         }
     };
 }
@@ -263,10 +263,11 @@ pub fn text_of(kind: Kind) -> &'static str
     table!(texts kind)
 }
 
-// The words that name a kind: its number, in decimal, and its name.
-pub(crate) fn words_of(kind: Kind) -> (&'static str, &'static str)
+// The words that name a kind: its number, in decimal, its name, and both as a line has them.
+pub(crate) fn words_of(kind: Kind) -> (&'static str, &'static str, &'static str)
     ensures number { result.0.now ≡ word_of_number kind }
     ensures name { result.1.now ≡ name_of kind }
+    ensures both { result.2.now ≡ both_of kind }
 {
     table!(words kind)
 }
