@@ -1,5 +1,5 @@
 -- What the matches of the words ask for.
-use Rattle.std.specs.Prelude.{◌≡◌, ℕ, Bool, false, List, [], ◌∷◌, map, Option, Some, None, option_map, Result, Ok, Err, codes}
+use Rattle.std.specs.Prelude.{◌≡◌, ◌⊎◌, ℕ, Bool, false, List, [], ◌∷◌, map, Option, Some, None, option_map, Result, Ok, Err, codes}
 use Rattle.std.specs.Str.{bytes_eq}
 use Rattle.clap.specs.Words.{Text, Row, all_of, first_of, kind_of}
 use Rattle.clap.specs.declared.error.kind.ErrorKind.TheVariants.{OutOfMemory}
@@ -116,6 +116,13 @@ property_named word = named lack.Property property_of_word word
 abbrev pub paths_named : Option (List Text) → Result (List (List ℕ)) Lack
 paths_named None = Err Nothing
 paths_named (Some words) = or_lack Nid (paths_of words)
+
+-- a word names nothing of the sort that is lacking: no path or no node, no property, or no kind
+abbrev pub IsNoName : Lack → Text → Type 0
+IsNoName Nid word = (path_of_word word ≡ None) ⊎ (nid_of_word word ≡ None)
+IsNoName lack.Property word = property_of_word word ≡ None
+IsNoName lack.Kind word = kind_in_word word ≡ None
+IsNoName Nothing word = ⊥
 
 -- a kind, or all where none is named
 abbrev pub kind_named : Option Text → Result (Option Kind) Lack

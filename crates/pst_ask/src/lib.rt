@@ -17,6 +17,7 @@
 #![tactic(auto)]
 
 mod ask;
+mod lacking;
 mod laws;
 mod nid;
 mod path;
@@ -27,6 +28,7 @@ mod words;
 pub use ask::{Ask, Lack, Order, Request};
 pub use clap::Error;
 pub use clap::error::ErrorKind;
+pub use lacking::lacking_word;
 pub use laws::commands_are_asked;
 pub use nid::read_nid;
 pub use path::{Path, read_path};

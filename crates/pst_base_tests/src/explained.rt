@@ -13,7 +13,7 @@ const BLOCK_TRAILER: &str =
 ";
 
 #[test]
-fn a_kind_is_named_by_its_number_or_its_name(rt: HostRuntime) {
+fn a_kind_is_named_as_it_is_typed_or_printed(rt: HostRuntime) {
     for (word, kind) in [
         ("1", Some(Kind::Short)),
         ("Short", Some(Kind::Short)),
@@ -22,12 +22,30 @@ fn a_kind_is_named_by_its_number_or_its_name(rt: HostRuntime) {
         ("14", Some(Kind::BlockTrailer)),
         ("BlockTrailer", Some(Kind::BlockTrailer)),
         ("28", Some(Kind::NoMemory)),
+        ("blocktrailer", Some(Kind::BlockTrailer)),
+        ("HEAP", Some(Kind::Heap)),
+        ("heapid", Some(Kind::HeapId)),
+        ("Encoded(1)", Some(Kind::Encoded(0))),
+        ("version(36)", Some(Kind::Version(0))),
+        ("14 BlockTrailer", Some(Kind::BlockTrailer)),
+        ("no: 14 BlockTrailer", Some(Kind::BlockTrailer)),
+        ("No: 4 Encoded(1)", Some(Kind::Encoded(0))),
+        ("no: 21 Heap at 0x4c80 bid 0xc nid 0x12d", Some(Kind::Heap)),
+        ("no: 14", Some(Kind::BlockTrailer)),
+        ("no: Heap", Some(Kind::Heap)),
         ("0", None),
         ("01", None),
         ("29", None),
         ("", None),
-        ("blocktrailer", None),
-        ("Encoded(1)", None),
+        ("no: ", None),
+        ("no:14", None),
+        (" 14", None),
+        ("14 Heap", None),
+        ("14 ", None),
+        ("14(1)", None),
+        ("BlockTraile", None),
+        ("BlockTrailers", None),
+        ("no: no: 14", None),
     ] {
         is_at(&rt, word, kind_named(word), kind);
     }

@@ -1,2 +1,1 @@
 mod DecodedLemmas
-mod LineLemmas

@@ -1,9 +1,11 @@
 -- What is answered to words and bytes.
-use Rattle.std.specs.Prelude.{◌≡◌, ◌≤◌, ◌<◌, ◌⊎◌, ℕ, Bool, List, [], length, Option, Some, Result, Ok, Err, Vec, codes}
+use Rattle.std.specs.Prelude.{◌≡◌, ◌≤◌, ◌<◌, ◌⊎◌, ℕ, Bool, List, [], length, Option, Result, Ok, Err, Vec, codes}
 use Rattle.std.specs.Global.{Global}
 use Rattle.pst_ask.specs.Ask.{Asked, show, explain}
 use Rattle.pst_ask.specs.Words.{Declines, IsAsked}
 use Rattle.pst_ask.specs.clap.Words.{kind_of}
+use Rattle.pst_ask.specs.clap.declared.error.kind.ErrorKind.{ErrorKind}
+use Rattle.pst_ask.specs.clap.declared.error.kind.ErrorKind.TheVariants as kind
 use Rattle.pst_ask.specs.declared.ask.Lack.{Lack}
 use Rattle.pst_ask.specs.declared.words.NoOrder.{NoOrder}
 use Rattle.pst_ask.specs.declared.words.NoOrder.TheVariants.{Lacks}
@@ -12,7 +14,7 @@ use Rattle.pst_fault.specs.declared.kind.Kind.{Kind}
 use Rattle.pst_run.specs.declared.refusal.Refusal.{Refusal}
 use Rattle.pst_run.specs.Answer.{GivesNone, Told, answer_to}
 use Rattle.pst_run.specs.Refusal.{Refused, input, memory, line_of_text, refusal_text, refused_of, status_of}
-use Rattle.pst_run.specs.Run.{IsStatusOf, MatchNone, SaysLine, lack_text, shown_status}
+use Rattle.pst_run.specs.Run.{MatchNone, lack_text, shown_status}
 use Rattle.pst_c.specs.declared.answer.Answer.{Answer}
 use Rattle.pst_c.specs.declared.words.NoWords.{NoWords}
 use Rattle.pst_c.specs.declared.words.NoWords.TheVariants.{Endless, NoText, Memory}
@@ -50,11 +52,20 @@ AnswersRequest asked bytes a =
 abbrev pub AnswersKind : Option Kind → Answer → Type 0
 AnswersKind kind a = Is 0 (explanation kind) [] a ⊎ IsMemory a
 
--- why nothing is done: help or the version, or a line, which is that of what the words lack, or a front of it
+-- the status for words that are declined with an error of this kind: help and the version are shown, all else is said
+abbrev pub IsDeclinedWith : ErrorKind → ℕ → Type 0
+IsDeclinedWith kind.OutOfMemory status = ⊥
+IsDeclinedWith kind.DisplayHelp status = status ≡ 0
+IsDeclinedWith kind.DisplayVersion status = status ≡ 0
+IsDeclinedWith _ status = status ≡ 2
+
+-- Why nothing is done: help or the version, a text with status 0; or with status 2 a line, which is that of what the words lack,
+-- where they lack something.
 pub record Declined (none : NoOrder) (a : Answer) : Type 0 where
-  pub status : MatchNone none (λ e. IsStatusOf (kind_of e) a.status) (a.status ≡ 2)
-  pub lacking : (lack : Lack) → none ≡ Lacks lack → SaysLine (lack_text lack) (Some []) (Some a.line.items)
-  pub quiet : a.status ≡ 2 → a.text.items ≡ []
+  pub status : MatchNone none (λ e. IsDeclinedWith (kind_of e) a.status) (a.status ≡ 2)
+  pub lacking : (lack : Lack) → none ≡ Lacks lack → a.line.items ≡ line_of_text (lack_text lack)
+  pub no_text : a.status ≡ 2 → a.text.items ≡ []
+  pub no_line : a.status ≡ 0 → a.line.items ≡ []
 
 -- The answer to words, of which one of these holds: they ask for something of a file, or what a kind of fault is, or for nothing
 -- that can be done.

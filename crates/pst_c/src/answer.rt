@@ -3,15 +3,15 @@
 ghost use Rattle.std.specs.Prelude.{◌≡◌, ◌⊎◌, MatchResult, []};
 ghost use Rattle.pst_ask.specs.Ask.{request_of};
 ghost use Rattle.pst_ask.specs.Words.{texts};
+ghost use Rattle.pst_ask.specs.declared.words.NoOrder.TheVariants.{Words};
 ghost use Rattle.pst_run.specs.Refusal.{refused_of};
 ghost use Rattle.pst_c.specs.Answer.{AnswersCall, AnswersWords, Declined, AnswersKind, Is, IsMemory, Refuses, AnswersRequest, WordlessBy};
 
 use crate::kept::Kept;
-use crate::line::line_of;
 use crate::shown::shown_of;
 use crate::words::{NoWords, words_in};
-use pst_ask::{Kind, NoOrder, Order, Request, parse};
-use pst_run::{MOST_BYTES, Refusal, decline, explain_out};
+use pst_ask::{Error, Kind, NoOrder, Order, Request, parse};
+use pst_run::{MOST_BYTES, Refusal, decline, explain_out, line_of, line_of_lack};
 use std::alloc::{AllocError, Global};
 
 /// What is answered to words and the bytes of a file.
@@ -92,12 +92,12 @@ fn explained(alloc: Global, kind: Option<Kind>) -> Answer
     }
 }
 
-// Why nothing is done, or help, or the version. A text that cannot be written whole is want of memory here.
-fn declined(alloc: Global, none: NoOrder) -> Answer
-    ensures { Declined none result ⊎ IsMemory result }
+// Help or the version, or why words are refused. A text that cannot be written whole is want of memory here.
+fn worded(alloc: Global, error: Error) -> Answer
+    ensures { Declined (Words error) result ⊎ IsMemory result }
 {
     let (mut text, mut line) = (Kept::new(alloc), Kept::new(alloc));
-    let status = decline(none, &mut text, &mut line);
+    let status = decline(NoOrder::Words(error), &mut text, &mut line);
     if text.is_refused || line.is_refused || (status != 0 && status != 2) {
         return of_memory(alloc);
     }
@@ -105,6 +105,16 @@ fn declined(alloc: Global, none: NoOrder) -> Answer
         status,
         text: text.bytes,
         line: line.bytes,
+    }
+}
+
+// Why nothing is done, or help, or the version.
+fn declined(alloc: Global, none: NoOrder) -> Answer
+    ensures { Declined none result ⊎ IsMemory result }
+{
+    match none {
+        NoOrder::Words(error) => worded(alloc, error),
+        NoOrder::Lacks(lack) => said(alloc, 2, line_of_lack(alloc, lack)),
     }
 }
 

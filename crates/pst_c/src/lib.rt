@@ -13,7 +13,6 @@ mod answer;
 mod decoded;
 mod exported;
 mod kept;
-mod line;
 mod shown;
 mod words;
 

@@ -3,26 +3,15 @@
 ghost use Rattle.std.specs.Prelude.{◌≡◌, IfOk};
 ghost use Rattle.pst_ask.specs.Ask.{request_of, wanted_of};
 ghost use Rattle.pst_datatree.specs.Shown.{bytes_in};
-ghost use Rattle.pst_run.specs.Answer.{answer_to, answer_with, bytes_shown, digest_for};
+ghost use Rattle.pst_run.specs.Answer.{answer_to, answer_with, bytes_shown};
 ghost use Rattle.pst_c.specs.Answer.{Yields};
 
 use crate::decoded::decoded_if;
 use pst_ask::{Ask, Request};
 use pst_datatree::Value;
 use pst_json::emit_value;
-use pst_run::{Refusal, Text, answer};
-use sha2::{Digest, Sha256};
+use pst_run::{Refusal, Text, answer, digest_if};
 use std::alloc::{AllocError, Global};
-
-// The SHA-256 of the caller's bytes, where it is asked for.
-fn digest_if(ask: &Ask, bytes: &[u8]) -> Option<[u8; 32]>
-    ensures { result ≡ digest_for (wanted_of ask.now) bytes.now }
-{
-    match ask {
-        Ask::Check { digest: true, .. } => Some(Sha256::digest(bytes)),
-        _ => None,
-    }
-}
 
 // The bytes of a value, in memory of their own.
 fn copied(alloc: Global, value: Value) -> Result<Vec<u8>, AllocError>

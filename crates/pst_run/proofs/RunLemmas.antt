@@ -1,13 +1,16 @@
 -- What a run does for words that ask for something.
-use Rattle.std.proofs.Common.{◌≡◌, ◌∙◌, inl, inr, sym, subst, ℕ, List, Ok, Err}
-use Rattle.std.specs.Prelude.{Option}
+use Rattle.std.proofs.Common.{◌≡◌, ◌∙◌, inl, inr, sym, ap, refl, subst, ℕ, List, Ok, Err, arith}
+use Rattle.std.specs.Prelude.{Bool, Option, None, Result}
 use Rattle.pst_fault.specs.declared.kind.Kind.{Kind}
 use Rattle.pst_ask.specs.clap.Words.{IsAmong, Text, kind_of}
 use Rattle.pst_ask.specs.Ask.{Asked, Ordered, show, explain}
 use Rattle.pst_ask.specs.declared.words.NoOrder.{NoOrder}
 use Rattle.pst_ask.specs.declared.words.NoOrder.TheVariants.{Words, Lacks}
 use Rattle.pst_ask.specs.Words.{Declines, IsAsked}
-use Rattle.pst_run.specs.Run.{IsStatusOf, MatchNone}
+use Rattle.pst_run.specs.declared.ending.Ending.{Ending}
+use Rattle.pst_run.specs.Answer.{Told}
+use Rattle.pst_run.specs.Refusal.{Refused, fault, document, input, output, memory, fault_of, status_of}
+use Rattle.pst_run.specs.Run.{CarriesOut, EndsAs, EndsWith, IsStatusOf, MatchNone, Outputs, Shows, TellsFault, fault_in}
 
 -- words ask for one thing: what is done for it is done for all that they ask for
 pub done_as_asked : (words : List Text) (done : Asked → Type 0) (this : Asked) → IsAsked words (show this) → done this → (a : Asked) → IsAsked words (show a) → done a
@@ -23,3 +26,24 @@ pub out_of_memory : (words : List Text) (none : NoOrder) (order : Ordered) (stat
 out_of_memory words (Words e) order status (inl memory) asks is = subst (λ k. IsStatusOf k status) memory is
 out_of_memory words (Words e) order status (inr among) asks is = absurd (subst (IsAmong (kind_of e)) asks.accepted among)
 out_of_memory words (Lacks lack) order status lacks asks is = absurd (let both : Err lack ≡ Ok order = sym lacks.1 ∙ asks.is in cc)
+
+-- ---- the fault with which a run ends
+
+-- what is carried out, without the fault
+pub carried : (a : Asked) (known : Option (List ℕ)) (ending : Ending) (old new : Outputs) → EndsAs a known ending old new → CarriesOut a known ending.status old new
+carried a known ending old new (inl (bytes, are, answers, told)) = inl (bytes, are, answers)
+carried a known ending old new (inr (unread, none)) = inr unread
+
+-- a text is shown
+pub tells_shown : (answer : Result Told Refused) (fails : Bool) (old new : Option (List ℕ)) (ending : Ending) → Shows answer fails old new → ending.fault ≡ None
+    → TellsFault answer ending
+tells_shown answer fails old new ending (told, is, all, written) none = (λ _. none ∙ sym (ap fault_in is), λ _. none)
+
+-- nothing is shown for a reason
+pub tells_refused : (answer : Result Told Refused) (r : Refused) (old new : Option (List ℕ)) (ending : Ending) → EndsWith r answer old new → ending.status ≡ status_of r
+    → ending.fault ≡ fault_of r → TellsFault answer ending
+tells_refused answer (fault f) old new ending ends is told = (λ _. told ∙ sym (ap fault_in ends.0), λ other. absurd (other is))
+tells_refused answer (document path f) old new ending ends is told = (λ _. told ∙ sym (ap fault_in ends.0), λ _. told)
+tells_refused answer input old new ending ends is told = absurd ends
+tells_refused answer (output f) old new ending ends is told = (λ one. absurd (omega (arith, is, one)), λ _. told)
+tells_refused answer memory old new ending ends is told = (λ one. absurd (omega (arith, is, one)), λ _. told)

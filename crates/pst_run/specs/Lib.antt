@@ -1,4 +1,5 @@
 pub mod Answer
+pub mod Hint
 pub mod Loading
 pub mod Refusal
 pub mod Run

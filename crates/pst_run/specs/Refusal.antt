@@ -1,5 +1,5 @@
 -- Refusals: what they come from, the status that each ends with, and what is said of it.
-use Rattle.std.specs.Prelude.{ℕ, Bool, true, false, if◌then◌else◌, List, [], ◌∷◌, ◌++◌, codes}
+use Rattle.std.specs.Prelude.{ℕ, Bool, true, false, if◌then◌else◌, List, [], ◌∷◌, ◌++◌, Option, Some, None, codes}
 use Rattle.pst_fault.specs.Fault.{fault_text, hex}
 use Rattle.pst_fault.specs.declared.fault.Fault.{Fault}
 use Rattle.pst_fault.specs.declared.kind.Kind.{Kind}
@@ -65,6 +65,14 @@ status_of (document path f) = 1
 status_of input = 3
 status_of (output f) = 3
 status_of memory = 4
+
+-- the fault for which a file is refused, where that is why
+abbrev pub fault_of : Refused → Option Fault
+fault_of (fault f) = Some f
+fault_of (document path f) = None
+fault_of input = None
+fault_of (output f) = None
+fault_of memory = None
 
 -- a path: its first identifier behind a blank, and each other behind a slash
 abbrev pub step_text : Bool → ℕ → List ℕ

@@ -1,7 +1,8 @@
 -- What a run writes, and its status.
-use Rattle.std.specs.Prelude.{◌≡◌, ℕ, Bool, true, false, ◌⊎◌, List, Option, Result, Ok, Err, IfSome, codes}
+use Rattle.std.specs.Prelude.{◌≡◌, ◌≢◌, ℕ, Bool, true, false, ◌⊎◌, List, Option, None, Result, Ok, Err, IfSome, codes}
 use Rattle.std.specs.Io.KnownBytes.{Appends, Keeps}
 use Rattle.pst_json.specs.Output.{AppendsFront}
+use Rattle.pst_fault.specs.declared.fault.Fault.{Fault}
 use Rattle.pst_fault.specs.declared.kind.Kind.{Kind as FaultKind}
 use Rattle.pst_explain.specs.Text.{explanation}
 use Rattle.pst_ask.specs.clap.Words.{IsAmong, Kinds}
@@ -16,7 +17,8 @@ use Rattle.pst_ask.specs.declared.words.NoOrder.{NoOrder}
 use Rattle.pst_ask.specs.declared.words.NoOrder.TheVariants.{Words, Lacks}
 use Rattle.pst_run.specs.declared.refusal.Refusal.{Refusal}
 use Rattle.pst_run.specs.Answer.{Told, answer_to}
-use Rattle.pst_run.specs.Refusal.{Refused, fault, document, input, output, memory, refused_of, line_of_text, refusal_line, status_of}
+use Rattle.pst_run.specs.declared.ending.Ending.{Ending}
+use Rattle.pst_run.specs.Refusal.{Refused, fault, fault_of, document, input, output, memory, refused_of, line_of_text, refusal_line, status_of}
 
 -- what both outputs hold, where they tell it
 pub record Outputs : Type 0 where
@@ -85,6 +87,21 @@ abbrev pub CarriesOut : Asked → Option (List ℕ) → ℕ → Outputs → Outp
 CarriesOut a known status old new =
     ((bytes : List ℕ) × IfSome known (λ all. bytes ≡ all) × Answers (answer_to a bytes) status old new)
     ⊎ IsUnread status old new
+
+-- the fault for which a file is refused, where an answer is that
+abbrev pub fault_in : Result Told Refused → Option Fault
+fault_in (Ok told) = None
+fault_in (Err r) = fault_of r
+
+-- a run that ends with status 1 tells the fault of its answer, where that is one; and each other run none
+abbrev pub TellsFault : Result Told Refused → Ending → Type 0
+TellsFault answer ending = (ending.status ≡ 1 → ending.fault ≡ fault_in answer) × (ending.status ≢ 1 → ending.fault ≡ None)
+
+-- `CarriesOut`, and the fault for which those bytes are refused, where that is the answer
+abbrev pub EndsAs : Asked → Option (List ℕ) → Ending → Outputs → Outputs → Type 0
+EndsAs a known ending old new =
+    ((bytes : List ℕ) × IfSome known (λ all. bytes ≡ all) × Answers (answer_to a bytes) ending.status old new × TellsFault (answer_to a bytes) ending)
+    ⊎ (IsUnread ending.status old new × (ending.fault ≡ None))
 
 -- The text that explains a kind of fault, or all of them, is written, and nothing is said; or a front of it, where the output
 -- cannot be written, which is said.

@@ -8,11 +8,15 @@
 //! let status = run(alloc, &words, &mut input, &mut out, &mut err);
 //! ```
 //!
-//! `Source` is what a word of the command line names: a file, or standard input.
+//! `Source` is what a word of the command line names: a file, or standard input. On a terminal `say_what_helps` and `say_word` say
+//! one line more than `carry_out` and `decline`.
 #![tactic(auto)]
 
 mod answers;
+mod ending;
+mod hint;
 mod input;
+mod line;
 mod progress;
 mod refusal;
 mod running;
@@ -21,10 +25,13 @@ mod shown;
 mod source;
 
 pub use answers::answer;
+pub use ending::Ending;
+pub use hint::{say_what_helps, say_word};
 pub use input::{LoadFault, MOST_BYTES, MOST_READS, Reads, load, load_counted};
+pub use line::{line_of, line_of_lack};
 pub use progress::Progress;
 pub use refusal::Refusal;
-pub use running::{answer_out, carry_out, decline, explain_out, run};
+pub use running::{answer_out, carry_out, decline, digest_if, explain_out, lack_text, run};
 pub use said::refuse;
 pub use shown::{Shown, Text};
 pub use source::{Source, Watched, say_cause};

@@ -1,7 +1,7 @@
 //! Why a run shows nothing.
 
 ghost use Rattle.std.specs.Prelude.{◌≡◌};
-ghost use Rattle.pst_run.specs.Refusal.{IsOfInput, memory, output, refusal_of, refusal_for, refused_of, status_of};
+ghost use Rattle.pst_run.specs.Refusal.{IsOfInput, fault_of, memory, output, refusal_of, refusal_for, refused_of, status_of};
 
 use crate::input::LoadFault;
 use pst_fault::{Fault, Kind};
@@ -32,6 +32,16 @@ impl<'a> Refusal<'a> {
             Refusal::Fault(_) | Refusal::Document(..) => 1,
             Refusal::Input | Refusal::Output(_) => 3,
             Refusal::Memory => 4,
+        }
+    }
+
+    /// The fault for which a file is refused, where that is why.
+    pub fn fault(self) -> Option<Fault>
+        ensures { result ≡ fault_of (refused_of self.entry) }
+    {
+        match self {
+            Refusal::Fault(fault) => Some(fault),
+            Refusal::Document(..) | Refusal::Input | Refusal::Output(_) | Refusal::Memory => None,
         }
     }
 

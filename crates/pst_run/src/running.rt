@@ -8,9 +8,10 @@ ghost use Rattle.pst_ask.specs.declared.words.NoOrder.TheVariants.{Lacks};
 ghost use Rattle.pst_run.specs.Answer.{answer_to, bytes_for, digest_for};
 ghost use Rattle.pst_run.specs.Refusal.{memory};
 ghost use Rattle.pst_fault.specs.declared.kind.Kind.{Kind as FaultKind};
-ghost use Rattle.pst_run.specs.Run.{Answers, CarriesOut, Ends, Explains, IsLacking, IsOutOfMemory, IsRefused, IsStatusOf, MatchNone, Says, SaysLine, lack_text, outputs};
+ghost use Rattle.pst_run.specs.Run.{Answers, CarriesOut, Ends, EndsAs, Explains, IsLacking, IsOutOfMemory, IsRefused, IsStatusOf, MatchNone, Says, SaysLine, TellsFault, lack_text as text_of_lack, outputs};
 
 use crate::answers::answer;
+use crate::ending::Ending;
 use crate::input::load_counted;
 use crate::refusal::Refusal;
 use crate::said::{refuse, say};
@@ -23,8 +24,8 @@ use sha2::{Digest, Sha256};
 use std::alloc::{AllocError, Global};
 use std::io::{Read, Write};
 
-// The SHA-256 of the bytes as they lie in the file, where it is asked for.
-fn digest_if(ask: &Ask, bytes: &[u8]) -> Option<[u8; 32]>
+/// The SHA-256 of the bytes as they lie in a file, where it is asked for.
+pub fn digest_if(ask: &Ask, bytes: &[u8]) -> Option<[u8; 32]>
     ensures { result ≡ digest_for (wanted_of ask.now) bytes.now }
 {
     match ask {
@@ -61,9 +62,9 @@ fn write_answer<'a, W: Write>(
     Ok(shown.fails)
 }
 
-// What is said of words that are accepted and ask for nothing that can be done.
-fn words_of(lack: Lack) -> &'static str
-    ensures { result.now ≡ lack_text lack }
+/// What is said of words that are accepted and ask for nothing that can be done, without its line feed.
+pub fn lack_text(lack: Lack) -> &'static str
+    ensures { result.now ≡ text_of_lack lack }
 {
     match lack {
         Lack::Nid => "bad node id",
@@ -77,8 +78,9 @@ fn words_of(lack: Lack) -> &'static str
 pub fn decline<W: Write, E: Write>(none: NoOrder, out: &mut W, err: &mut E) -> u8
     ensures status { MatchNone none (λ e. IsStatusOf (kind_of e) result) (result ≡ 2) }
     ensures lacking { (lack : Lack) → none ≡ Lacks lack →
-        SaysLine (lack_text lack) (E.contents err.old) (E.contents err.new) }
+        SaysLine (text_of_lack lack) (E.contents err.old) (E.contents err.new) }
     ensures quiet { (result ≡ 2) ⊎ (result ≡ 4) → out.new ≡ out.old }
+    ensures silent { result ≡ 0 → err.new ≡ err.old }
     ensures memory { result ≡ 4 → Says memory (E.contents err.old) (E.contents err.new) }
 {
     match none {
@@ -96,7 +98,7 @@ pub fn decline<W: Write, E: Write>(none: NoOrder, out: &mut W, err: &mut E) -> u
             }
         }
         NoOrder::Lacks(lack) => {
-            say(words_of(lack), err);
+            say(lack_text(lack), err);
             2
         }
     }
@@ -105,31 +107,39 @@ pub fn decline<W: Write, E: Write>(none: NoOrder, out: &mut W, err: &mut E) -> u
 /// Shows what is asked for of these bytes of a file, and gives the status with which the program ends: 0 where it is shown, 1
 /// where the file is refused, or has no such folder or node, or has lost space and the check is strict, 3 where the output
 /// cannot be written, 4 where memory is refused. Each other status than 0 comes with a line on `err`, but for lost space and an
-/// output that is closed; a fault of `err` changes nothing.
+/// output that is closed; a fault of `err` changes nothing. With the status comes the fault for which the file is refused, where
+/// that is why.
+#[tactic(auto, using(crate::proofs::RunLemmas::tells_shown, crate::proofs::RunLemmas::tells_refused))]
 pub fn answer_out<W: Write, E: Write>(
     alloc: Global,
     request: &Request,
     bytes: Vec<u8>,
     out: &mut W,
     err: &mut E,
-) -> u8
+) -> Ending
     // The status, what is written and what is said are the answer to the bytes, decoded where that is asked for.
-    ensures answered { Answers (answer_to (request_of request.now) bytes.items) result
+    ensures answered { Answers (answer_to (request_of request.now) bytes.items) result.status
         (outputs (W.contents out.old) (E.contents err.old))
         (outputs (W.contents out.new) (E.contents err.new)) }
+    ensures told { TellsFault (answer_to (request_of request.now) bytes.items) result }
 
     // It is not that of words that are refused.
-    ensures accepted { result ≢ 2 }
+    ensures accepted { result.status ≢ 2 }
 {
     match write_answer(alloc, request, bytes, out) {
-        Ok(false) => 0,
-        Ok(true) => 1,
-        Err(refusal) => refuse(refusal, err),
+        Ok(fails) => Ending {
+            status: u8::from(fails),
+            fault: None,
+        },
+        Err(refusal) => Ending {
+            status: refuse(refusal, err),
+            fault: refusal.fault(),
+        },
     }
 }
 
-/// Shows what is asked for of what the reader gives, and gives the status with which the program ends, as `run` says. So
-/// many bytes are expected of the reader, as `load` says.
+/// Shows what is asked for of what the reader gives, and gives the status with which the program ends, as `run` says, and the
+/// fault for which the file is refused, where that is why. So many bytes are expected of the reader, as `load` says.
 pub fn carry_out<R: Read, W: Write, E: Write>(
     alloc: Global,
     request: &Request,
@@ -137,18 +147,21 @@ pub fn carry_out<R: Read, W: Write, E: Write>(
     expected: usize,
     out: &mut W,
     err: &mut E,
-) -> u8
+) -> Ending
     // The status, what is written and what is said are the answer to the bytes that came, decoded where that is asked for.
-    ensures answered { CarriesOut (request_of request.now) (R.remaining input.old) result
+    ensures answered { EndsAs (request_of request.now) (R.remaining input.old) result
         (outputs (W.contents out.old) (E.contents err.old))
         (outputs (W.contents out.new) (E.contents err.new)) }
 
     // It is not that of words that are refused.
-    ensures accepted { result ≢ 2 }
+    ensures accepted { result.status ≢ 2 }
 {
     match load_counted(alloc, input, expected).0 {
         Ok(bytes) => answer_out(alloc, request, bytes, out, err),
-        Err(fault) => refuse(Refusal::from(fault), err),
+        Err(fault) => Ending {
+            status: refuse(Refusal::from(fault), err),
+            fault: None,
+        },
     }
 }
 
@@ -206,7 +219,7 @@ pub fn run<R: Read, W: Write, E: Write>(
         (result ≡ 2) ⊎ (result ≡ 4) → out.new ≡ out.old }
 {
     match parse(alloc, words) {
-        Ok(Order::Show(request)) => carry_out(alloc, &request, input, 0, out, err),
+        Ok(Order::Show(request)) => carry_out(alloc, &request, input, 0, out, err).status,
         Ok(Order::Explain(kind)) => explain_out(kind, out, err),
         Err(none) => decline(none, out, err),
     }

@@ -65,11 +65,13 @@ fn put<D: Display + Drop, E: Write>(text: D, err: &mut E) -> bool
     }
 }
 
-// An identifier of a path: behind a blank the first, each other behind a slash.
+/// An identifier of a path: behind a blank the first, each other behind a slash.
 #[derive(Clone, Copy)]
-struct Step {
-    first: bool,
-    nid: u32,
+pub(crate) struct Step {
+    /// Whether it is the first.
+    pub first: bool,
+    /// The identifier.
+    pub nid: u32,
 }
 
 impl fmt::Display for Step {

@@ -1,8 +1,5 @@
 //! Where the bytes come from that a word names, and why no more of them came.
 
-ghost use Rattle.std.specs.Io.{ReadsAtMost};
-ghost use Rattle.std.specs.Io.KnownBytes.{ReadConsumes};
-
 use crate::input::{MOST_BYTES, MOST_READS, Reads};
 use crate::progress::Progress;
 use std::alloc::Global;
@@ -13,20 +10,20 @@ use std::{fs, io};
 // The word that names standard input.
 const STANDARD_INPUT: &str = "-";
 
-/// What a word names.
+/// What a word names, by the readers of a file and of standard input.
 #[derive(Drop)]
-pub enum Source {
+pub enum Source<F, I> {
     /// A file, open, and how many bytes it says that it has; 0 where it is no regular one.
-    File(File, usize),
+    File(F, usize),
     /// Standard input.
-    Input(Stdin),
+    Input(I),
     /// Nothing that can be read, and why: each read fails so.
     Missing(io::Error),
 }
 
-impl Source {
+impl Source<File, Stdin> {
     /// What a word names: `-` standard input, and any other word a file.
-    pub fn named(rt: &HostRuntime, name: &str) -> Source {
+    pub fn named(rt: &HostRuntime, name: &str) -> Source<File, Stdin> {
         if name == STANDARD_INPUT {
             return Source::Input(rt.stdin());
         }
@@ -35,7 +32,9 @@ impl Source {
             Err(error) => Source::Missing(error),
         }
     }
+}
 
+impl<F, I> Source<F, I> {
     /// How many bytes it says that it has; 0 where it does not say.
     pub fn expected(&self) -> usize {
         match self {
@@ -63,7 +62,12 @@ fn endless() -> io::Error {
     io::Error::new(ErrorKind::TimedOut, "16777216 reads did not show its end")
 }
 
-impl Read for Source {
+/// The bytes are those of the reader that it has, whatever reader that is; of none that is missing.
+impl<F: Read, I: Read> Read for Source<F, I> {
+    ghost use Rattle.pst_run.specs.Loading.{bytes_in_source};
+
+    ghost remaining = { bytes_in_source F.remaining I.remaining };
+
     fn read(&mut self, buf: &mut [u8]) -> io::Result<usize> {
         match self {
             Source::File(file, _) => file.read(buf),

@@ -16,6 +16,7 @@ mod encoded;
 mod folders;
 mod head;
 mod heaps;
+mod hints;
 mod loading;
 mod messages;
 mod names;

@@ -1,21 +1,23 @@
 //! Checks and shows a Personal Folders File ([MS-PST]).
 #![tactic(auto)]
 
-use pst_ask::{Order, Request, parse};
+use pst_ask::{NoOrder, Order, Request, lacking_word, parse};
 use pst_run::{
     Progress, Refusal, Source, Watched, carry_out, decline, explain_out, refuse, say_cause,
+    say_what_helps, say_word,
 };
-use std::io::Write;
+use std::io::{IsTerminal, Write};
 use std::process::ExitCode;
 use std::{env, io};
 
-// Runs the command on the named file. Where that cannot be read, a line says why.
+// Runs the command on the named file. Where that cannot be read, a line says why; where it is refused, a line on a terminal says
+// what helps.
 fn run_command(rt: &HostRuntime, request: Request<'_>) -> u8 {
     let source = Source::named(rt, request.file);
     let expected = source.expected();
     let mut input = Watched::new(source, Progress::on_terminal(rt, expected));
     let (mut out, mut err) = (rt.stdout(), rt.stderr());
-    let status = carry_out(
+    let ending = carry_out(
         rt.alloc(),
         &request,
         &mut input,
@@ -24,8 +26,31 @@ fn run_command(rt: &HostRuntime, request: Request<'_>) -> u8 {
         &mut err,
     );
     match input.fault() {
-        Some(error) if status == Refusal::Input.status() => {
+        Some(error) if ending.status == Refusal::Input.status() => {
             say_cause(rt.alloc(), request.file, error, &mut err);
+        }
+        _ => {}
+    }
+    match ending.fault {
+        Some(fault) if err.is_terminal() => say_what_helps(fault.kind, request.decode, &mut err),
+        _ => {}
+    }
+    ending.status
+}
+
+// Says why nothing is done, or help, or the version. On a terminal a line says which word names nothing.
+fn say_why_not(rt: &HostRuntime, words: &[String], none: NoOrder) -> u8 {
+    let lacking = match &none {
+        NoOrder::Lacks(lack) => Some(*lack),
+        NoOrder::Words(_) => None,
+    };
+    let mut err = rt.stderr();
+    let status = decline(none, &mut rt.stdout(), &mut err);
+    match lacking {
+        Some(lack) if err.is_terminal() => {
+            if let Some(word) = lacking_word(rt.alloc(), words, lack) {
+                say_word(lack, word, &mut err);
+            }
         }
         _ => {}
     }
@@ -49,7 +74,7 @@ fn status(rt: &HostRuntime) -> Result<u8, Refusal> {
     match parse(rt.alloc(), &words) {
         Ok(Order::Show(request)) => Ok(run_command(rt, request)),
         Ok(Order::Explain(kind)) => Ok(explain_out(kind, &mut rt.stdout(), &mut rt.stderr())),
-        Err(none) => Ok(decline(none, &mut rt.stdout(), &mut rt.stderr())),
+        Err(none) => Ok(say_why_not(rt, &words, none)),
     }
 }
 

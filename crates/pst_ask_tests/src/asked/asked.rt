@@ -183,19 +183,16 @@ fn explain_takes_a_kind_or_none(rt: HostRuntime) -> Result<(), Fail> {
         (&["explain", "--", "1"], Some(Kind::Short)),
         (&["explain", "Encoded"], Some(Kind::Encoded(0))),
         (&["explain", "28"], Some(Kind::NoMemory)),
+        (&["explain", "blocktrailer"], Some(Kind::BlockTrailer)),
+        (&["explain", "Encoded(1)"], Some(Kind::Encoded(0))),
+        (
+            &["explain", "no: 14 BlockTrailer"],
+            Some(Kind::BlockTrailer),
+        ),
     ] {
         is_order(&rt, words, Order::Explain(kind))?;
     }
-    for word in [
-        "",
-        "0",
-        "29",
-        "99",
-        "014",
-        "blocktrailer",
-        "Encoded(1)",
-        "BlockTraile",
-    ] {
+    for word in ["", "0", "29", "99", "014", "no: 99", "BlockTraile"] {
         lacks(&rt, &["explain", word], Lack::Kind)?;
     }
     Ok(())

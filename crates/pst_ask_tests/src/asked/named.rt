@@ -1,8 +1,8 @@
 //! The words that name a node, a path or a property.
 
-use super::lacks;
+use super::{lacks, words_of};
 use crate::told::is_at;
-use pst_ask::{Lack, read_nid, read_path, read_property_id};
+use pst_ask::{Lack, lacking_word, read_nid, read_path, read_property_id};
 use std::test::Fail;
 
 #[test]
@@ -98,4 +98,49 @@ fn four_hexadecimal_digits_name_a_property(rt: HostRuntime) -> Result<(), Fail> 
     }
     // a bad path is told first
     lacks(&rt, &["value", "a.pst", "zz", "37"], Lack::Nid)
+}
+
+#[test]
+fn the_word_that_names_nothing_is_told(rt: HostRuntime) -> Result<(), Fail> {
+    for (words, lack, word) in [
+        (
+            &["contents", "a.pst", "Inbox"][..],
+            Lack::Nid,
+            Some("Inbox"),
+        ),
+        (
+            &["contents", "a", "0x122/0x21"],
+            Lack::Nid,
+            Some("0x122/0x21"),
+        ),
+        (&["contents", "--decode", "-", "21"], Lack::Nid, Some("21")),
+        (
+            &["props", "a", "0x21", "0x21/", "x"],
+            Lack::Nid,
+            Some("0x21/"),
+        ),
+        (
+            &["props", "a", "0x1/0x2", "--places", "y"],
+            Lack::Nid,
+            Some("y"),
+        ),
+        (&["value", "a", "0X21", "37"], Lack::Nid, Some("0X21")),
+        (
+            &["value", "a", "0x21", "0x1000"],
+            Lack::Property,
+            Some("0x1000"),
+        ),
+        (
+            &["value", "--text", "a", "0x21", "37"],
+            Lack::Property,
+            Some("37"),
+        ),
+        (&["explain", "Inbox"], Lack::Kind, Some("Inbox")),
+        (&["contents", "--", "-a.pst", "21"], Lack::Nid, None),
+    ] {
+        lacks(&rt, words, lack)?;
+        let all = words_of(rt.alloc(), words)?;
+        is_at(&rt, words, lacking_word(rt.alloc(), &all, lack), word);
+    }
+    Ok(())
 }

@@ -4,8 +4,9 @@ use super::{SMALL_LINE, head_of};
 use crate::told::{is, is_at};
 use pst_make::m0;
 use pst_run::{LoadFault, Reads, Source, load, load_counted};
+use std::fs::File;
 use std::io;
-use std::io::{ErrorKind, Read};
+use std::io::{ErrorKind, Read, Stdin};
 use std::test::Fail;
 
 // A reader that gives so many bytes, one at each read, and then fails at each read.
@@ -59,11 +60,28 @@ impl<'a> Read for Interrupted<'a> {
     }
 }
 
+/// What is named and cannot be read, for a reason.
+pub(super) fn missing(error: io::Error) -> Source<File, Stdin> {
+    Source::Missing(error)
+}
+
+// The bytes of a source are those of the reader that it has.
+#[test]
+fn a_source_gives_the_bytes_of_its_reader(rt: HostRuntime) -> Result<(), Fail> {
+    let image = m0(rt.alloc())?;
+    let mut file = Source::<&[u8], &[u8]>::File(&image, image.len());
+    is(&rt, file.expected(), image.len());
+    head_of(&rt, &mut file, 0, SMALL_LINE, "")?;
+    let mut input = Source::<&[u8], &[u8]>::Input(&image);
+    is(&rt, input.expected(), 0);
+    head_of(&rt, &mut input, 0, SMALL_LINE, "")
+}
+
 #[test]
 fn a_file_that_cannot_be_read(rt: HostRuntime) -> Result<(), Fail> {
     let line = "cannot read the file\n";
-    let missing = io::Error::from(ErrorKind::NotFound);
-    head_of(&rt, &mut Source::Missing(missing), 3, "", line)?;
+    let error = io::Error::from(ErrorKind::NotFound);
+    head_of(&rt, &mut missing(error), 3, "", line)?;
     for good in [0, 1, 563, 564, 100_000] {
         let mut input = Failing::new(good, ErrorKind::PermissionDenied);
         head_of(&rt, &mut input, 3, "", line)?;

@@ -141,11 +141,11 @@ const EXPLAINED: &str =
 
 #[test]
 fn a_kind_is_explained_without_a_file(rt: HostRuntime) -> Result<(), Fail> {
-    for word in ["14", "BlockTrailer"] {
+    for word in ["14", "BlockTrailer", "no: 14 blocktrailer"] {
         let mut none = b"".as_slice();
         run_of(&rt, &["explain", word], &mut none, 0, EXPLAINED, "")?;
     }
-    for word in ["99", "blocktrailer"] {
+    for word in ["99", "blocktrailers"] {
         let mut none = b"".as_slice();
         run_of(&rt, &["explain", word], &mut none, 2, "", "bad kind\n")?;
     }

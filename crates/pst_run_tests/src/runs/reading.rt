@@ -1,6 +1,6 @@
 //! Reads and writes that fail, are interrupted or give little, and what is said of them.
 
-use super::loading::Failing;
+use super::loading::{Failing, missing};
 use super::writing::{Fault, Slow};
 use super::{ran, run_of};
 use crate::told::{holds, is, is_at};
@@ -200,7 +200,7 @@ fn the_error_of_a_read_is_remembered(rt: HostRuntime) -> Result<(), Fail> {
     ];
     for (code, reason) in rows {
         let error = io::Error::from_raw_os_error(code);
-        let mut input = Watched::new(Source::Missing(error), None);
+        let mut input = Watched::new(missing(error), None);
         let got = load(rt.alloc(), &mut input, 0).map(|bytes| bytes.len());
         is(&rt, got, Err(LoadFault::Read));
         is_explained(&rt, &input, reason)?;

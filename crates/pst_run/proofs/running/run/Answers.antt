@@ -4,15 +4,17 @@ use Rattle.std.specs.Io.KnownBytes.{Keeps}
 use Rattle.std.proofs.KnownBytes.{Keeps-refl}
 use Rattle.pst_ask.specs.Ask.{explain, order_of, request_of}
 use Rattle.pst_ask.specs.Words.{IsAsked, texts}
-use Rattle.pst_run.proofs.RunLemmas.{done_as_asked, out_of_memory}
+use Rattle.pst_run.proofs.RunLemmas.{carried, done_as_asked, out_of_memory}
 use Rattle.pst_run.proofs.running.run.Goals as goal
 
 pub returns-in-Ok-Show-clause-answered : goal.returns-in-Ok-Show-clause-answered
 returns-in-Ok-Show-clause-answered g c =
-    done_as_asked (texts c.args.words.now) (λ a. CarriesOut a (g.R.Read.remaining c.args.input.now) c.carry_out.result
-    (outputs (g.W.Write.contents c.args.out.now) (g.E.Write.contents c.args.err.now))
-    (outputs (g.W.Write.contents c.carry_out.new.out) (g.E.Write.contents c.carry_out.new.err)))
-    (request_of c.in-Ok-Show.request) (subst (λ o. IsAsked (texts c.args.words.now) (order_of o)) c.in-Ok-Show.field-0-is c.in-Ok-Show.ensures.ok) c.carry_out.ensures.answered
+    let known = g.R.Read.remaining c.args.input.now in
+    let old = outputs (g.W.Write.contents c.args.out.now) (g.E.Write.contents c.args.err.now) in
+    let new = outputs (g.W.Write.contents c.carry_out.new.out) (g.E.Write.contents c.carry_out.new.err) in
+    let asks = subst (λ o. IsAsked (texts c.args.words.now) (order_of o)) c.in-Ok-Show.field-0-is c.in-Ok-Show.ensures.ok in
+    done_as_asked (texts c.args.words.now) (λ a. CarriesOut a known c.carry_out.result.status old new)
+    (request_of c.in-Ok-Show.request) asks (carried (request_of c.in-Ok-Show.request) known c.carry_out.result old new c.carry_out.ensures.answered)
 
 pub returns-in-Err-clause-explained : goal.returns-in-Err-clause-explained
 returns-in-Err-clause-explained g c k asks =

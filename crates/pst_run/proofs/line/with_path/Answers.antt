@@ -1,6 +1,6 @@
 use Rattle.std.proofs.Common.{rules, ◌∙◌}
-use Rattle.pst_c.proofs.LineLemmas.{path_more, path_whole}
-use Rattle.pst_c.proofs.line.with_path.Goals as goal
+use Rattle.pst_run.proofs.LineLemmas.{path_more, path_whole}
+use Rattle.pst_run.proofs.line.with_path.Goals as goal
 
 pub loop-nid-preserved : goal.loop-nid-preserved
 loop-nid-preserved c = record {

@@ -1,7 +1,7 @@
 use Rattle.std.proofs.Common.{◌≡◌, ◌++◌, drop, string_bytes}
 use Rattle.std.specs.Prelude.{true}
 use Rattle.pst_run.specs.Refusal.{path_text}
-use Rattle.pst_c.proofs.line.with_path.Given as goal
+use Rattle.pst_run.proofs.line.with_path.Given as goal
 
 -- the text so far, and the identifiers that are left behind it, are all
 abbrev pub invariant-loop-nid : goal.invariant-loop-nid

@@ -1,23 +1,16 @@
-//! The line of a refusal.
+//! The line of a refusal, in memory: for a caller who has no error output.
 
 ghost use Rattle.std.specs.Prelude.{◌≡◌, ◌++◌, true, IfOk, string_bytes};
 ghost use Rattle.pst_json.specs.Told.{doc_fault_text};
-ghost use Rattle.pst_run.specs.Refusal.{path_text, refusal_text, refused_of, line_of_text, step_text};
+ghost use Rattle.pst_run.specs.Run.{lack_text as text_of_lack};
+ghost use Rattle.pst_run.specs.Refusal.{path_text, refusal_text, refused_of, line_of_text};
 
+use crate::refusal::Refusal;
+use crate::running::lack_text;
+use crate::said::Step;
+use pst_ask::Lack;
 use pst_json::DocFault;
-use pst_run::Refusal;
 use std::alloc::{AllocError, Global};
-
-// An identifier of a path: behind a blank the first, each other behind a slash.
-fn step_of(alloc: Global, first: bool, nid: u32) -> Result<String, AllocError>
-    ensures { IfOk result (λ t. string_bytes t ≡ step_text first nid) }
-{
-    if first {
-        format!(in alloc; " 0x{nid:x}")
-    } else {
-        format!(in alloc; "/0x{nid:x}")
-    }
-}
 
 // A text with a path behind it.
 fn with_path(alloc: Global, mut text: String, path: &[u32]) -> Result<String, AllocError>
@@ -25,7 +18,7 @@ fn with_path(alloc: Global, mut text: String, path: &[u32]) -> Result<String, Al
 {
     let mut first = true;
     for nid in path {
-        let step = step_of(alloc, first, *nid)?;
+        let step = format!(in alloc; "{}", Step { first, nid: *nid })?;
         text.push_str(step.as_str())?;
         first = false;
     }
@@ -53,12 +46,25 @@ fn refusal_said(alloc: Global, refusal: Refusal) -> Result<String, AllocError>
     }
 }
 
-/// The line of a refusal.
+// A text as a line.
+fn as_line(mut text: String) -> Result<Vec<u8>, AllocError>
+    ensures { IfOk result (λ line. line.items ≡ line_of_text (string_bytes text)) }
+{
+    text.push_str("\n")?;
+    Ok(text.into_bytes())
+}
+
+/// The line that `refuse` says of a refusal, in memory; of an output that is closed, too, of which `refuse` says nothing.
 pub fn line_of(alloc: Global, refusal: Refusal) -> Result<Vec<u8>, AllocError>
     ensures { let said = refusal_text (refused_of refusal.entry) in
         IfOk result (λ line. line.items ≡ line_of_text said) }
 {
-    let mut line = refusal_said(alloc, refusal)?;
-    line.push_str("\n")?;
-    Ok(line.into_bytes())
+    as_line(refusal_said(alloc, refusal)?)
+}
+
+/// The line that `decline` says of words that lack something, in memory.
+pub fn line_of_lack(alloc: Global, lack: Lack) -> Result<Vec<u8>, AllocError>
+    ensures { IfOk result (λ line. line.items ≡ line_of_text (text_of_lack lack)) }
+{
+    as_line(String::from_str(alloc, lack_text(lack))?)
 }
