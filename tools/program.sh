@@ -224,13 +224,14 @@ need_proved() {
     leave_lock
 }
 
-# Leaves in `program` the one to run: what was proved here comes first, then what is kept; else it is proved and built.
+# Leaves in `program` the one to run, and in `about` the file that tells its digest and the number of its sources: what was
+# proved here comes first, then what is kept; else it is proved and built.
 need_program() {
-    program=$proved
+    program=$proved about=$proved_note
     is_proved && return
-    program=$kept
+    program=$kept about=$kept_text
     is_kept && return
-    program=$proved
+    program=$proved about=$proved_note
     say "$why"
     need_proved
 }

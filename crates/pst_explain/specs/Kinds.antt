@@ -57,7 +57,7 @@ same a b = str_eq_ignore_ascii_case a b
 
 -- a word begins with these letters, of either case
 abbrev pub begins : List ℕ → List ℕ → Bool
-begins letters word = nat_le (length letters) (length word) && same (take (length letters) word) letters
+begins letters word = same (take (length letters) word) letters && nat_le (length letters) (length word)
 
 -- nothing, or a parenthesis or a blank and whatever is behind it: where a name ends that is printed, as in `Encoded(1) at 0x201`
 abbrev pub is_end : List ℕ → Bool
