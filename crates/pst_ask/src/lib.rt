@@ -12,6 +12,8 @@
 //! }
 //! ```
 //!
+//! Which word it was that names nothing tells `lacking_word`.
+//!
 //! verb.rt lists the commands, a line each: its name, what it is for, and what stands behind its name. The command line and help
 //! are made of that list, and so is the law `commands_are_asked`: the words of each command ask for what it shows.
 #![tactic(auto)]

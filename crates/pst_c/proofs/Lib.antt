@@ -1,1 +1,2 @@
+pub mod DeclinedLemmas
 mod DecodedLemmas

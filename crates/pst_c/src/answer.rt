@@ -93,6 +93,7 @@ fn explained(alloc: Global, kind: Option<Kind>) -> Answer
 }
 
 // Help or the version, or why words are refused. A text that cannot be written whole is want of memory here.
+#[tactic(auto, using(crate::proofs::DeclinedLemmas::declined_with))]
 fn worded(alloc: Global, error: Error) -> Answer
     ensures { Declined (Words error) result ⊎ IsMemory result }
 {
