@@ -5,7 +5,7 @@ use crate::told::{is, is_at};
 use pst_ask::{Lack, Order, parse};
 use pst_fault::Kind;
 use pst_make::{Change, m0};
-use pst_run::{Ending, carry_out, say_what_helps, say_word};
+use pst_run::{carry_out, say_what_helps, say_word};
 use std::process::Abort;
 use std::test::Fail;
 
@@ -14,7 +14,8 @@ fn ends<R: Abort + AllocGlobal>(
     rt: &R,
     image: &[u8],
     words: &[&str],
-    expected: (u8, Option<Kind>),
+    status: u8,
+    kind: Option<Kind>,
 ) -> Result<(), Fail> {
     let alloc = rt.alloc();
     let all = words_of(alloc, words)?;
@@ -23,23 +24,24 @@ fn ends<R: Abort + AllocGlobal>(
     };
     let (mut out, mut err) = (Vec::new(alloc), Vec::new(alloc));
     let mut input = image;
-    let Ending { status, fault } = carry_out(alloc, &request, &mut input, 0, &mut out, &mut err);
-    is_at(rt, words, (status, fault.map(|fault| fault.kind)), expected);
+    let ending = carry_out(alloc, &request, &mut input, 0, &mut out, &mut err);
+    is_at(rt, words, ending.status, status);
+    is_at(rt, words, ending.fault.map(|fault| fault.kind), kind);
     Ok(())
 }
 
 #[test]
 fn a_run_tells_the_fault_of_the_file(rt: HostRuntime) -> Result<(), Fail> {
     let mut image = m0(rt.alloc())?;
-    ends(&rt, &image, &["check", "a.pst"], (0, None))?;
-    ends(&rt, &image, &["check", "--strict", "a.pst"], (0, None))?;
-    ends(&rt, &image, &["contents", "a.pst", "0x21"], (1, None))?;
-    ends(&rt, &image, &["value", "a.pst", "0x21", "0000"], (1, None))?;
-    ends(&rt, &[], &["head", "a.pst"], (1, Some(Kind::Short)))?;
+    ends(&rt, &image, &["check", "a.pst"], 0, None)?;
+    ends(&rt, &image, &["check", "--strict", "a.pst"], 0, None)?;
+    ends(&rt, &image, &["contents", "a.pst", "0x21"], 1, None)?;
+    ends(&rt, &image, &["value", "a.pst", "0x21", "0000"], 1, None)?;
+    ends(&rt, &[], &["head", "a.pst"], 1, Some(Kind::Short))?;
     Change::Flip(0x4c74).apply(&mut image)?;
-    let expected = (1, Some(Kind::BlockTrailer));
-    ends(&rt, &image, &["check", "a.pst"], expected)?;
-    ends(&rt, &image, &["props", "a.pst", "0x21"], expected)
+    let kind = Some(Kind::BlockTrailer);
+    ends(&rt, &image, &["check", "a.pst"], 1, kind)?;
+    ends(&rt, &image, &["props", "a.pst", "0x21"], 1, kind)
 }
 
 #[test]

@@ -69,10 +69,10 @@ pub(super) fn missing(error: io::Error) -> Source<File, Stdin> {
 #[test]
 fn a_source_gives_the_bytes_of_its_reader(rt: HostRuntime) -> Result<(), Fail> {
     let image = m0(rt.alloc())?;
-    let mut file = Source::<&[u8], &[u8]>::File(&image, image.len());
+    let mut file = Source::<&[u8], &[u8]>::File(image.as_slice(), image.len());
     is(&rt, file.expected(), image.len());
     head_of(&rt, &mut file, 0, SMALL_LINE, "")?;
-    let mut input = Source::<&[u8], &[u8]>::Input(&image);
+    let mut input = Source::<&[u8], &[u8]>::Input(image.as_slice());
     is(&rt, input.expected(), 0);
     head_of(&rt, &mut input, 0, SMALL_LINE, "")
 }
