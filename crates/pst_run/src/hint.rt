@@ -16,7 +16,7 @@ fn is_decoding_needed(kind: Kind, is_decoded: bool) -> bool
     ensures { result ≡ is_to_decode is_decoded kind }
 {
     match kind {
-        Kind::Encoded(1 | 2) => !is_decoded,
+        Kind::Encoded(method) => !is_decoded && (method == 1 || method == 2),
         _ => false,
     }
 }

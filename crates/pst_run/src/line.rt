@@ -3,7 +3,7 @@
 ghost use Rattle.std.specs.Prelude.{◌≡◌, ◌++◌, true, IfOk, string_bytes};
 ghost use Rattle.pst_json.specs.Told.{doc_fault_text};
 ghost use Rattle.pst_run.specs.Run.{lack_text as text_of_lack};
-ghost use Rattle.pst_run.specs.Refusal.{path_text, refusal_text, refused_of, line_of_text};
+ghost use Rattle.pst_run.specs.Refusal.{path_text, refusal_text, refused_of, line_of_text, step_text};
 
 use crate::refusal::Refusal;
 use crate::running::lack_text;
@@ -12,13 +12,21 @@ use pst_ask::Lack;
 use pst_json::DocFault;
 use std::alloc::{AllocError, Global};
 
+// An identifier of a path.
+fn step_of(alloc: Global, first: bool, nid: u32) -> Result<String, AllocError>
+    ensures { IfOk result (λ t. string_bytes t ≡ step_text first nid) }
+{
+    let step = Step { first, nid };
+    format!(in alloc; "{step}")
+}
+
 // A text with a path behind it.
 fn with_path(alloc: Global, mut text: String, path: &[u32]) -> Result<String, AllocError>
     ensures { IfOk result (λ t. string_bytes t ≡ string_bytes text ++ path_text true path.now) }
 {
     let mut first = true;
     for nid in path {
-        let step = format!(in alloc; "{}", Step { first, nid: *nid })?;
+        let step = step_of(alloc, first, *nid)?;
         text.push_str(step.as_str())?;
         first = false;
     }

@@ -127,8 +127,12 @@ pub fn answer_out<W: Write, E: Write>(
     ensures accepted { result.status ≢ 2 }
 {
     match write_answer(alloc, request, bytes, out) {
-        Ok(fails) => Ending {
-            status: u8::from(fails),
+        Ok(false) => Ending {
+            status: 0,
+            fault: None,
+        },
+        Ok(true) => Ending {
+            status: 1,
             fault: None,
         },
         Err(refusal) => Ending {
