@@ -1,12 +1,12 @@
 -- What is known of subnode lists, and what is counted.
-use Rattle.std.specs.Prelude.{◌≡◌, ℕ, ◌<◌, Option, Some, None, List}
+use Rattle.std.specs.Prelude.{◌≡◌, ℕ, ◌<◌, Option, Some, None, List, length}
 use Rattle.std.specs.Map.{keys_of}
 use Rattle.pst_block.specs.Block.{bid_key}
 use Rattle.pst_block.specs.Table.{Table}
 use Rattle.pst_datatree.specs.Seen.{raised}
 use Rattle.pst_subnode.specs.declared.heights.Heights.{Heights}
 use Rattle.pst_subnode.specs.Ranges.{AreRangesTrue}
-use Rattle.pst_subnode.specs.States.{state_in, count_in}
+use Rattle.pst_subnode.specs.States.{state_in}
 use Rattle.pst_subnode.specs.Tree.{sub_fault, sub_height}
 
 -- how many blocks of lists have been expanded
@@ -51,7 +51,7 @@ NoNewMarks old new = (bid : ℕ) → state_of new bid ≡ Some 0 → state_of ol
 
 -- how many lists are known, marked ones among them
 abbrev pub known_lists : Heights → ℕ
-known_lists h = count_in h.states
+known_lists h = length h.states.entries
 
 -- the blocks that were expanded are those that are known
 abbrev pub AreHeightsCounted : Heights → Type 0

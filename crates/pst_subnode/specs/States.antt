@@ -1,5 +1,5 @@
 -- What is known of lists, by their keys: one that may stand apart, and the others.
-use Rattle.std.specs.Prelude.{◌≡◌, ℕ, ◌<◌, Bool, true, false, cond, Option, Some, None, List, length}
+use Rattle.std.specs.Prelude.{◌≡◌, ℕ, ◌<◌, Bool, true, false, cond, Option, Some, None, List}
 use Rattle.std.specs.Ordering.{nat_cmp, eq_by_cmp}
 use Rattle.std.specs.Map.{lookup}
 use Rattle.std.specs.BTreeMap.{insert_entry, is_at}
@@ -20,10 +20,6 @@ pub record KnownStates : Type 0 where
 -- what is known of a key
 abbrev pub state_in : KnownStates → ℕ → Option ℕ
 state_in states key = entry_at states.entries key
-
--- of how many keys something is known
-abbrev pub count_in : KnownStates → ℕ
-count_in states = length states.entries
 
 -- ---- one that may stand apart
 

@@ -123,7 +123,7 @@ impl States {
     ghost use Rattle.std.specs.Ordering.{nat_cmp, eq_by_cmp};
     ghost use Rattle.std.specs.Map.{keys_of};
     ghost use Rattle.pst_fault.specs.Fault.{no_memory};
-    ghost use Rattle.pst_subnode.specs.States.{state_in, count_in};
+    ghost use Rattle.pst_subnode.specs.States.{state_in};
 
     // Nothing is known. No memory is taken.
     pub(crate) fn new(alloc: Global) -> States
@@ -158,7 +158,7 @@ impl States {
         requires { state_in self.old key ≡ None }
         ensures put { OnOk result ((q : ℕ) → state_in self.new q ≡
             cond (eq_by_cmp nat_cmp key q) (Some state) (state_in self.old q)) }
-        ensures count { OnOk result (count_in self.new ≡ count_in self.old + 1) }
+        ensures count { OnOk result (length self.new.entries ≡ length self.old.entries + 1) }
         ensures same { OnErr result (self.new ≡ self.old) }
         ensures memory { IfErr result (λ f. f ≡ no_memory) }
     {
@@ -172,7 +172,7 @@ impl States {
         ensures put { OnOk result ((q : ℕ) → state_in self.new q ≡
             cond (eq_by_cmp nat_cmp key q) (Some state) (state_in self.old q)) }
         ensures count { IfOk result (λ is_new.
-            count_in self.new ≡ count_in self.old + (if is_new then 1 else 0)) }
+            length self.new.entries ≡ length self.old.entries + (if is_new then 1 else 0)) }
         ensures same { OnErr result (self.new ≡ self.old) }
         ensures memory { IfErr result (λ f. f ≡ no_memory) }
     {
