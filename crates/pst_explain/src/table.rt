@@ -129,7 +129,7 @@ macro_rules! table {
                 "the block of the list with the breach, or the four bytes that name the subnode",
                 "that of the block's entry, or the identifier of the node's or subnode's data, as it is written",
                 "the node",
-                "Take the file from a backup; others of its parts may be whole",
+                "Ask check of the file: props and value tell this also of a node that has no properties, as a table, in a store that is whole. Else take the file from a backup; others of its parts may be whole",
                 "2.2.2.8.3.3";
             [Kind::Nesting] "18" "Nesting"
                 "subnodes nest more than 256 deep, or in a circle",
@@ -157,28 +157,28 @@ macro_rules! table {
                 "the block of the data, 0x0 where there is none",
                 "the identifier of the node's or subnode's data, as it is written",
                 "the node",
-                "Take the file from a backup; others of its parts may be whole",
+                "Ask check of the file: props and value tell this also of a node that has no properties, as a table, in a store that is whole. Else take the file from a backup; others of its parts may be whole",
                 "2.3.1";
             [Kind::HeapId] "22" "HeapId"
                 "something is named in a heap that is not there",
                 "the four bytes that name it",
                 "the identifier of the node's or subnode's data, as it is written",
                 "the node",
-                "Take the file from a backup; others of its parts may be whole",
+                "Ask check of the file: props and value tell this also of a node that has no properties, as a table, in a store that is whole. Else take the file from a backup; others of its parts may be whole",
                 "2.3.1.1";
             [Kind::Bth] "23" "Bth"
                 "an index in a heap is broken or out of order",
                 "the item of the heap, or the record out of order",
                 "the identifier of the node's or subnode's data, as it is written",
                 "the node",
-                "Take the file from a backup; others of its parts may be whole",
+                "Ask check of the file: props and value tell this also of a node that has no properties, as a table, in a store that is whole. Else take the file from a backup; others of its parts may be whole",
                 "2.3.2";
             [Kind::Property] "24" "Property"
                 "the value of a property has a length that its type does not allow, or the map of the names of properties is broken",
                 "the record of the property, or the cell; of that map, the stream or the entry with the breach",
                 "the identifier of the node's or subnode's data, as it is written",
                 "the node",
-                "Take the file from a backup; others of its parts may be whole",
+                "Ask check of the file: props and value tell this also of a node that has no properties, as a table, in a store that is whole. Else take the file from a backup; others of its parts may be whole",
                 "2.3.3, of that map 2.4.7";
             [Kind::Table] "25" "Table"
                 "a table's description, a column or a row is broken",
