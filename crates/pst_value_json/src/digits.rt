@@ -95,6 +95,18 @@ pub(crate) fn put_tag(tag: u32, text: &mut Vec<u8>) -> Result<(), AllocError>
     Ok(())
 }
 
+// The digits of sixteen bytes, in lower case.
+fn lower_of(bytes: &[u8; 16]) -> [u8; 32]
+    ensures { result ≡ escape (encode_lower bytes.now) }
+{
+    let mut digits = [0; 32];
+    for i in 0..16 {
+        digits[2 * i] = digit(bytes[i] / 16);
+        digits[2 * i + 1] = digit(bytes[i] % 16);
+    }
+    digits
+}
+
 // Puts the two digits of a byte behind a text, in lower case.
 #[tactic(auto, using(crate::proofs::DigitLemmas::lower_put))]
 fn put_lower(byte: u8, text: &mut Vec<u8>) -> Result<(), AllocError>
@@ -104,14 +116,28 @@ fn put_lower(byte: u8, text: &mut Vec<u8>) -> Result<(), AllocError>
     Ok(())
 }
 
-/// Puts the digits of bytes behind a text, in lower case and without quotes.
-pub(crate) fn put_lower_bytes(bytes: &[u8], text: &mut Vec<u8>) -> Result<(), AllocError>
+// Puts the digits of bytes behind a text, one by one.
+fn put_each(bytes: &[u8], text: &mut Vec<u8>) -> Result<(), AllocError>
     ensures { OnOk result (text.new.items ≡ text.old.items ++ escape (encode_lower bytes.now)) }
 {
     for byte in bytes {
         put_lower(*byte, text)?;
     }
     Ok(())
+}
+
+/// Puts the digits of bytes behind a text, in lower case and without quotes. Room is taken once, and they are put sixteen bytes at a
+/// time, and one by one at the end.
+pub(crate) fn put_lower_bytes(bytes: &[u8], text: &mut Vec<u8>) -> Result<(), AllocError>
+    ensures { OnOk result (text.new.items ≡ text.old.items ++ escape (encode_lower bytes.now)) }
+{
+    text.reserve(2 * bytes.len())?;
+    let mut left = bytes;
+    while let Some((chunk, rest)) = left.split_first_chunk::<16>() {
+        text.extend_from_slice(&lower_of(chunk))?;
+        left = rest;
+    }
+    put_each(left, text)
 }
 
 /// Puts bytes behind a text, in hexadecimal.

@@ -1,6 +1,6 @@
 //! Texts in the quotes of JSON, put behind a text.
 
-ghost use Rattle.std.specs.Prelude.{◌≡◌, ◌+◌, ◌≤◌, ◌<◌, ◌++◌, OnOk, length, drop};
+ghost use Rattle.std.specs.Prelude.{◌≡◌, ◌+◌, ◌≤◌, ◌<◌, ◌++◌, OnOk, length, drop, vec_len, vec_capacity};
 ghost use Rattle.std.specs.Char.{digit_char};
 ghost use Rattle.std.specs.List.{prefix_len};
 ghost use Rattle.json.specs.Print.{escape_letter, escape_byte, escape, quoted};
@@ -48,20 +48,36 @@ pub(crate) fn digit(value: u8) -> u8
     }
 }
 
-/// Puts what stands for a byte between quotes behind a text.
+/// Puts what stands for a byte between quotes behind a text, in which there is room for it.
 #[tactic(auto, unfolding(json::specs::Print::escape_byte))]
-pub(crate) fn put_escape(byte: u8, text: &mut Vec<u8>) -> Result<(), AllocError>
-    ensures { OnOk result (text.new.items ≡ text.old.items ++ escape_byte byte) }
+pub(crate) fn put_escape_reserved(byte: u8, text: &mut Vec<u8>)
+    requires { vec_len text.old + 6 ≤ vec_capacity text.old }
+    ensures put { text.new.items ≡ text.old.items ++ escape_byte byte }
+    ensures long { vec_len text.new ≤ vec_len text.old + 6 }
+    ensures room { vec_capacity text.new ≡ vec_capacity text.old }
 {
     let letter = letter(byte);
     if letter > 0 {
-        text.extend_from_slice(&[b'\\', letter])?;
+        text.push_reserved(b'\\');
+        text.push_reserved(letter);
     } else if byte < 0x20 {
-        let (high, low) = (digit(byte / 16), digit(byte % 16));
-        text.extend_from_slice(&[b'\\', b'u', b'0', b'0', high, low])?;
+        text.push_reserved(b'\\');
+        text.push_reserved(b'u');
+        text.push_reserved(b'0');
+        text.push_reserved(b'0');
+        text.push_reserved(digit(byte / 16));
+        text.push_reserved(digit(byte % 16));
     } else {
-        text.push(byte)?;
+        text.push_reserved(byte);
     }
+}
+
+// Puts what stands for a byte between quotes behind a text.
+fn put_escape(byte: u8, text: &mut Vec<u8>) -> Result<(), AllocError>
+    ensures { OnOk result (text.new.items ≡ text.old.items ++ escape_byte byte) }
+{
+    text.reserve(6)?;
+    put_escape_reserved(byte, text);
     Ok(())
 }
 

@@ -1,10 +1,7 @@
-use Rattle.std.proofs.Common.{rules, refl}
-use Rattle.hex.specs.Hex.{lower_digits}
-use Rattle.pst_value_json.proofs.DigitLemmas.{byte_next, bytes_end}
+use Rattle.std.proofs.Common.{rules}
+use Rattle.pst_value_json.proofs.DigitLemmas.{chunk_next}
 use Rattle.pst_value_json.proofs.digits.put_lower_bytes.Goals as goal
 
-pub loop-byte-preserved : goal.loop-byte-preserved
-loop-byte-preserved c = byte_next lower_digits c.args.bytes.now c.loop-byte.byte-index 0 _ _ _ _ (search rules) refl c.in_ok-put_lower.ensures c.loop-byte.invariant
-
-pub returns : goal.returns
-returns c = bytes_end lower_digits c.args.bytes.now c.loop-byte.byte-index _ _ (search rules) c.loop-byte.invariant
+pub loop-chunk-preserved : goal.loop-chunk-preserved
+loop-chunk-preserved c =
+    chunk_next c.loop-chunk.left.now c.in-Some.chunk.now c.in-Some.rest.now _ _ _ _ 16 (search rules) (search rules) c.lower_of.ensures c.in_ok-extend_from_slice.ensures.items c.loop-chunk.invariant

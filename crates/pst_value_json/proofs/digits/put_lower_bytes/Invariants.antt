@@ -1,8 +1,11 @@
-use Rattle.std.proofs.Common.{◌≡◌, ◌++◌, drop}
+use Rattle.std.proofs.Common.{◌≡◌, ◌++◌, length}
 use Rattle.hex.specs.Hex.{encode_lower}
 use Rattle.json.specs.Print.{escape}
 use Rattle.pst_value_json.proofs.digits.put_lower_bytes.Given as goal
 
 -- what stands there, with the bytes that are left, is all
-abbrev pub invariant-loop-byte : goal.invariant-loop-byte
-invariant-loop-byte l = l.text.items ++ escape (encode_lower (drop l.byte-index l.bytes)) ≡ l.initial.text.items ++ escape (encode_lower l.bytes)
+abbrev pub invariant-loop-chunk : goal.invariant-loop-chunk
+invariant-loop-chunk l = l.text.items ++ escape (encode_lower l.left) ≡ l.fn.text.items ++ escape (encode_lower l.bytes)
+
+abbrev pub decreases-loop-chunk : goal.decreases-loop-chunk
+decreases-loop-chunk l = length l.left

@@ -1,14 +1,14 @@
 use Rattle.std.proofs.Common.{◌≡◌, ◌++◌, ◌-◌, ◌≤◌, length, drop}
 use Rattle.json.specs.Print.{escape}
 use Rattle.pst_value_json.specs.Value.{utf8_of}
-use Rattle.pst_value_json.proofs.utf16.put_ascii.Given as goal
+use Rattle.pst_value_json.proofs.utf16.put_slice.Given as goal
 
 -- what stands there, with what is left, is all
-abbrev pub invariant-loop-end : goal.invariant-loop-end
-invariant-loop-end l = record {
+abbrev pub invariant-loop-at : goal.invariant-loop-at
+invariant-loop-at l = record {
   within : l.at ≤ length l.bytes;
   all : l.text.items ++ escape (utf8_of (drop l.at l.bytes)) ≡ l.initial.text.items ++ escape (utf8_of l.bytes);
 }
 
-abbrev pub decreases-loop-end : goal.decreases-loop-end
-decreases-loop-end l = length l.bytes - l.at
+abbrev pub decreases-loop-at : goal.decreases-loop-at
+decreases-loop-at l = length l.bytes - l.at
