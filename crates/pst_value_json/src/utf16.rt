@@ -1,8 +1,9 @@
 //! Texts of 16-bit units, put behind a text as they stand between quotes.
 
-ghost use Rattle.std.specs.Prelude.{◌≡◌, ◌++◌, ◌+◌, ◌-◌, ◌*◌, ◌%◌, ◌≤◌, ◌<◌, IfOk, OnOk, length, drop, slice_index, vec_len, vec_capacity, encode_utf8};
+ghost use Rattle.std.specs.Prelude.{◌≡◌, ◌++◌, ◌+◌, ◌-◌, ◌*◌, ◌%◌, ◌≤◌, ◌<◌, IsTrue, IfOk, OnOk, true, length, drop, slice_index, vec_len, vec_capacity, encode_utf8};
 ghost use Rattle.std.specs.List.{concat};
 ghost use Rattle.json.specs.Print.{escape};
+ghost use Rattle.json.specs.Run.{is_plain};
 ghost use Rattle.pst_datatree.specs.Left.{slices_left};
 ghost use Rattle.pst_datatree.specs.Shown.{bytes_in};
 ghost use Rattle.pst_value_json.specs.Value.{utf8_of};
@@ -29,6 +30,31 @@ const FIRST: u32 = 0xD800;
 const SECOND: u32 = 0xDC00;
 
 const BEHIND: u32 = 0xE000;
+
+// Whether a unit is ASCII and stands for itself between quotes.
+fn is_plain_unit(low: u8, high: u8) -> bool
+    ensures ascii { IsTrue result → (low < 0x80) × (high ≡ 0) }
+    ensures plain { IsTrue result → is_plain low ≡ true }
+{
+    high == 0 && low < 0x80 && low >= 0x20 && low != b'"' && low != b'\\'
+}
+
+// Puts the units that stand for themselves behind a text, from a place on, and says where they end. There is room for all
+// units before the first is put, so that none has to ask for it.
+fn put_plain_units(bytes: &[u8], from: usize, text: &mut Vec<u8>) -> Result<usize, AllocError>
+    requires { from ≤ length bytes.now }
+    ensures within { IfOk result (λ end. (from ≤ end) × (end ≤ length bytes.now)) }
+    ensures put { IfOk result (λ end. text.new.items ++ escape (utf8_of (drop end bytes.now))
+        ≡ text.old.items ++ escape (utf8_of (drop from bytes.now))) }
+{
+    text.reserve((bytes.len() - from) / 2)?;
+    let mut at = from;
+    while bytes.len() - at >= 2 && is_plain_unit(bytes[at], bytes[at + 1]) {
+        text.push_reserved(bytes[at]);
+        at += 2;
+    }
+    Ok(at)
+}
 
 // The last six bits of a character, as a byte behind its first.
 fn following(bits: u32) -> u8
@@ -151,11 +177,11 @@ fn put_run(bytes: &[u8], from: usize, count: usize, text: &mut Vec<u8>) -> usize
     at
 }
 
-// Puts the text of units in one slice behind a text, run by run.
+// Puts the text of units in one slice behind a text: those at the front that stand for themselves, and then run by run.
 fn put_slice(bytes: &[u8], text: &mut Vec<u8>) -> Result<(), AllocError>
     ensures { OnOk result (text.new.items ≡ text.old.items ++ escape (utf8_of bytes.now)) }
 {
-    let mut at = 0;
+    let mut at = put_plain_units(bytes, 0, text)?;
     while bytes.len() - at >= 2 {
         let count = min((bytes.len() - at) / 2, RUN);
         text.reserve(MOST * count)?;

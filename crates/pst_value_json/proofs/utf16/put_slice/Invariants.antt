@@ -7,7 +7,7 @@ use Rattle.pst_value_json.proofs.utf16.put_slice.Given as goal
 abbrev pub invariant-loop-at : goal.invariant-loop-at
 invariant-loop-at l = record {
   within : l.at ≤ length l.bytes;
-  all : l.text.items ++ escape (utf8_of (drop l.at l.bytes)) ≡ l.initial.text.items ++ escape (utf8_of l.bytes);
+  all : l.text.items ++ escape (utf8_of (drop l.at l.bytes)) ≡ l.fn.text.items ++ escape (utf8_of l.bytes);
 }
 
 abbrev pub decreases-loop-at : goal.decreases-loop-at

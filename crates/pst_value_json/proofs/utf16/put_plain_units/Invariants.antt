@@ -1,0 +1,16 @@
+use Rattle.std.proofs.Common.{◌≡◌, ◌++◌, ◌+◌, ◌-◌, ◌/◌, ◌≤◌, length, drop}
+use Rattle.std.specs.Prelude.{vec_len, vec_capacity}
+use Rattle.json.specs.Print.{escape}
+use Rattle.pst_value_json.specs.Value.{utf8_of}
+use Rattle.pst_value_json.proofs.utf16.put_plain_units.Given as goal
+
+-- what stands there, with what is left, is all, and there is room for what is left
+abbrev pub invariant-loop-at : goal.invariant-loop-at
+invariant-loop-at l = record {
+  within : (l.from ≤ l.at) × (l.at ≤ length l.bytes);
+  room : vec_len l.text + (length l.bytes - l.at) / 2 ≤ vec_capacity l.text;
+  all : l.text.items ++ escape (utf8_of (drop l.at l.bytes)) ≡ l.fn.text.items ++ escape (utf8_of (drop l.from l.bytes));
+}
+
+abbrev pub decreases-loop-at : goal.decreases-loop-at
+decreases-loop-at l = length l.bytes - l.at
