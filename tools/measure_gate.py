@@ -62,7 +62,8 @@ def provers(top, every):
     """The provers that `top` started, each with its seconds and those of its copies."""
     for pid in below(top, every):
         it = every[pid]
-        if it["name"].startswith("rattle") and not every[it["parent"]]["name"].startswith("rattle"):
+        above = every.get(it["parent"], {"name": ""})
+        if it["name"].startswith("rattle") and not above["name"].startswith("rattle"):
             yield pid, it["seconds"] + sum(every[low]["seconds"] for low in below(pid, every))
 
 
