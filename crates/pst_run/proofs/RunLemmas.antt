@@ -23,7 +23,7 @@ explained_as_asked words done this is held k asks = let same : this ≡ k = cc i
 -- words that ask for something are declined only for want of memory
 pub out_of_memory : (words : List Text) (none : NoOrder) (order : Ordered) (status : ℕ) → Declines words none → IsAsked words order
     → MatchNone none (λ e. IsStatusOf (kind_of e) status) (status ≡ 2) → status ≡ 4
-out_of_memory words (Words e) order status (inl memory) asks is = subst (λ k. IsStatusOf k status) memory is
+out_of_memory words (Words e) order status (inl refused) asks is = subst (λ k. IsStatusOf k status) refused is
 out_of_memory words (Words e) order status (inr among) asks is = absurd (subst (IsAmong (kind_of e)) asks.accepted among)
 out_of_memory words (Lacks lack) order status lacks asks is = absurd (let both : Err lack ≡ Ok order = sym lacks.1 ∙ asks.is in cc)
 

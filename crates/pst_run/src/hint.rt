@@ -1,6 +1,8 @@
 //! What is said on a terminal, in one line more, below the line of a no and of a word that names nothing.
 
-ghost use Rattle.std.specs.Prelude.{◌≡◌, Some};
+ghost use Rattle.std.specs.Prelude.{◌≡◌, true, Some};
+ghost use Rattle.std.specs.Io.KnownBytes.{Appends};
+ghost use Rattle.pst_json.specs.Output.{AppendsFront};
 ghost use Rattle.pst_run.specs.Hint.{form_text, help_text, is_to_decode, word_text};
 ghost use Rattle.pst_run.specs.Run.{SaysLine};
 
@@ -63,19 +65,27 @@ fn form_of(lack: Lack) -> &'static str
     }
 }
 
+// Writes a text, and tells whether all of it was written.
+fn put_text<E: Write>(text: &str, err: &mut E) -> bool
+    ensures all { result ≡ true → Appends (E.contents err.old) (E.contents err.new) text.now }
+    ensures front { AppendsFront (E.contents err.old) (E.contents err.new) text.now }
+{
+    emit(text.as_bytes(), err).is_ok()
+}
+
 /// Says below the line of what words lack which word it was, and what one looks like. A line that cannot be written changes
 /// nothing.
 pub fn say_word<E: Write>(lack: Lack, word: &str, err: &mut E)
     ensures { SaysLine (word_text lack word.now) (E.contents err.old) (E.contents err.new) }
 {
-    if emit(b"  ", err).is_err() {
+    if !put_text("  ", err) {
         return;
     }
-    if emit(word.as_bytes(), err).is_err() {
+    if !put_text(word, err) {
         return;
     }
-    if emit(form_of(lack).as_bytes(), err).is_err() {
+    if !put_text(form_of(lack), err) {
         return;
     }
-    let _ = emit(b"\n", err);
+    put_text("\n", err);
 }
