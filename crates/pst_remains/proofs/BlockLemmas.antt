@@ -1,5 +1,5 @@
 -- Blocks that are judged one after another.
-use Rattle.std.proofs.Common.{◌≡◌, ℕ, zero, suc, ◌+◌, ◌*◌, ◌<◌, ◌≤◌, ◌&&◌, Bool, true, false, List, [], ◌∷◌, ◌++◌, length, drop, get_or, map, Option, Some, None, Result, Ok, Err, refl, sym, ap, subst, ◌∙◌, arith}
+use Rattle.std.proofs.Common.{◌≡◌, ℕ, zero, suc, ◌+◌, ◌*◌, ◌<◌, ◌≤◌, ◌&&◌, Bool, true, false, List, [], ◌∷◌, ◌++◌, length, drop, get_or, map, Option, Some, None, Ok, refl, sym, ap, subst, ◌∙◌, arith}
 use Rattle.std.proofs.lemmas.Bool.{ltb-true, lt-ltb}
 use Rattle.std.proofs.lemmas.List.{drop_more, map-append}
 use Rattle.pst_bytes.specs.declared.span.Span.{Span}
@@ -12,7 +12,7 @@ use Rattle.pst_page.specs.declared.entry.BlockEntry.{BlockEntry}
 use Rattle.pst_page.specs.declared.kind.PageKind.TheVariants.{Bbt}
 use Rattle.pst_page.specs.Entry.{block_entry_at, key_at}
 use Rattle.pst_page.specs.Page.{entries_at, entries_from, count_at, width_at}
-use Rattle.pst_page.proofs.EntryLemmas.{entries_from_next, entries_from_end, block_entry_key}
+use Rattle.pst_page.proofs.EntryLemmas.{entries_from_next, block_entry_key}
 use Rattle.pst_space.specs.Claimed.{Claimed, is_clear, first_unit, unit_count}
 use Rattle.pst_btree.specs.Entries.{block_key}
 use Rattle.pst_btree.specs.Order.{Rises}

@@ -1,21 +1,18 @@
 -- What is judged of a page.
-use Rattle.std.proofs.Common.{◌≡◌, ℕ, ◌&&◌, ◌||◌, Bool, true, false, List, Option, Some, None, Result, Ok, Err, refl, sym, ap, ◌∙◌}
-use Rattle.std.specs.Prelude.{not, is_none}
+use Rattle.std.proofs.Common.{◌≡◌, ℕ, ◌&&◌, Bool, true, false, List, Option, Some, None, Result, Ok, Err, refl, sym, ◌∙◌}
+use Rattle.std.specs.Prelude.{not}
 use Rattle.pst_bytes.specs.declared.span.Span.{Span}
 use Rattle.pst_fault.specs.declared.fault.Fault.{Fault}
-use Rattle.pst_fault.specs.First.{◌then◌}
 use Rattle.pst_fault.proofs.FirstLemmas.{then_some, then_none, none_then, holds_or_none}
 use Rattle.pst_fault.proofs.GeneralLemmas.{some_is}
 use Rattle.pst_header.specs.declared.header.Bref.{Bref}
 use Rattle.pst_page.specs.declared.kind.PageKind.{PageKind}
-use Rattle.pst_page.specs.Page.{entries_at}
-use Rattle.pst_page.specs.Fault.{open_fault, page_place_fault, page_trailer_fault, page_shape_fault, level_fault, has_page_trailer}
+use Rattle.pst_page.specs.Fault.{open_fault, page_place_fault, has_page_trailer}
 use Rattle.pst_space.specs.Claimed.{Claimed, ClaimAnswers, claim_of, is_clear, first_unit, unit_count, with_span}
-use Rattle.pst_btree.specs.Order.{order_fault}
 use Rattle.pst_btree.specs.Tree.{span_of}
 use Rattle.pst_btree.specs.Walk.{body_fault}
 use Rattle.pst_remains.specs.Judged.{overlap_fault}
-use Rattle.pst_remains.specs.Pages.{claim_fault, page_damage, has_types, is_node_leaf, inner_fault, leads_on, is_followed, is_open}
+use Rattle.pst_remains.specs.Pages.{claim_fault, page_damage, inner_fault, leads_on, is_followed, is_open}
 
 -- where nothing lies, a claim is made
 pub claim_free : {X : Type 0} (old new : Claimed) (span : Span) (r : Result X Fault) → ClaimAnswers old span new r → is_clear old (first_unit span) (unit_count span) ≡ true → new ≡ with_span old span

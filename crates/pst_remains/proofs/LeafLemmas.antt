@@ -1,6 +1,6 @@
 -- The leaves that a walk leaves: they have the shape of leaves, and the keys of their entries rise.
-use Rattle.std.proofs.Common.{◌≡◌, ℕ, suc, zero, ◌+◌, ◌<◌, ◌≤◌, ◌&&◌, ◌||◌, Bool, true, false, List, [], ◌∷◌, ◌++◌, length, get_or, map, All, Option, Some, None, refl, sym, ap, subst, ◌∙◌, append_assoc, inl, inr, le_refl, arith}
-use Rattle.std.specs.Prelude.{⊤, not, is_none}
+use Rattle.std.proofs.Common.{◌≡◌, ℕ, suc, zero, ◌+◌, ◌<◌, ◌≤◌, ◌||◌, Bool, true, false, List, [], ◌∷◌, ◌++◌, length, get_or, map, Option, Some, None, refl, sym, ap, subst, ◌∙◌, append_assoc, le_refl, arith}
+use Rattle.std.specs.Prelude.{⊤, is_none}
 use Rattle.std.proofs.lemmas.Bool.{leb-true, eqb-true, and_parts}
 use Rattle.std.proofs.lemmas.List.{append-nil, map-append}
 use Rattle.pst_fault.specs.declared.fault.Fault.{Fault}
@@ -11,16 +11,16 @@ use Rattle.pst_header.proofs.PlaceLemmas.{is_place_good}
 use Rattle.pst_page.specs.declared.kind.PageKind.{PageKind}
 use Rattle.pst_page.specs.Page.{entries_at, level_at}
 use Rattle.pst_page.specs.Entry.{key_at, child_at}
-use Rattle.pst_page.specs.Fault.{open_fault, page_place_fault, page_trailer_fault, page_shape_fault, level_fault, has_page_trailer, has_shape}
+use Rattle.pst_page.specs.Fault.{open_fault, page_place_fault, page_trailer_fault, page_shape_fault, level_fault, has_shape}
 use Rattle.pst_space.specs.Claimed.{Claimed}
 use Rattle.pst_btree.specs.Order.{order_fault, Rises, IsBelow}
 use Rattle.pst_btree.specs.Tree.{span_of}
-use Rattle.pst_btree.specs.Walk.{body_fault, next_key}
+use Rattle.pst_btree.specs.Walk.{body_fault}
 use Rattle.pst_btree.proofs.RiseLemmas.{lower, rises_join}
 use Rattle.pst_remains.specs.declared.pages.Broken.{Broken}
 use Rattle.pst_remains.specs.Judged.{overlap_fault}
 use Rattle.pst_remains.specs.Leaf.{IsLeaf, AreLeaves}
-use Rattle.pst_remains.specs.Pages.{Left, Look, claim_fault, page_damage, inner_fault, leads_on, is_followed, is_open, entries_in, keys_end, look_at, look_each, told_page, with_leaf, with_page, tree_left, left_so_far}
+use Rattle.pst_remains.specs.Pages.{Left, Look, claim_fault, page_damage, inner_fault, leads_on, is_followed, is_open, entries_in, look_at, look_each, told_page, with_page, tree_left, left_so_far}
 use Rattle.pst_remains.proofs.WalkLemmas.{look_shut, look_leaf, look_branch}
 
 -- ---- what is known of a page that is open

@@ -1,5 +1,5 @@
 -- What remains of a file, of what its parts leave.
-use Rattle.std.proofs.Common.{◌≡◌, ℕ, ◌+◌, ◌≤◌, ◌&&◌, Bool, true, false, List, [], ◌∷◌, ◌++◌, map, Option, Some, None, refl, sym, ap, subst, ◌∙◌, arith}
+use Rattle.std.proofs.Common.{◌≡◌, ℕ, ◌≤◌, Bool, true, false, List, [], ◌∷◌, ◌++◌, map, Option, Some, None, refl, ap, subst, ◌∙◌, arith}
 use Rattle.pst_bytes.specs.declared.span.Span.{Span}
 use Rattle.pst_fault.specs.declared.fault.Fault.{Fault}
 use Rattle.pst_fault.specs.declared.kind.Kind.TheVariants.{PagePlace}
@@ -14,8 +14,6 @@ use Rattle.pst_page.specs.Entry.{block_entry_at, node_entry_at}
 use Rattle.pst_page.specs.Page.{page_span}
 use Rattle.pst_page.specs.Fault.{page_place_fault}
 use Rattle.pst_space.specs.Claimed.{Claimed, maps_claimed}
-use Rattle.pst_btree.specs.Entries.{block_key}
-use Rattle.pst_btree.specs.Order.{Rises}
 use Rattle.pst_block.specs.Walk.{blocks_fault}
 use Rattle.pst_amap.specs.Report.{maps_fault}
 use Rattle.pst_remains.specs.declared.pages.Broken.{Broken}

@@ -1,6 +1,6 @@
 -- A check that stops at its first fault, and a walk that tells each fault: the first that is told is the one that stops the check,
 -- and where none is told both find the same.
-use Rattle.std.proofs.Common.{◌≡◌, ℕ, suc, zero, ◌+◌, Bool, true, false, cond, List, [], ◌∷◌, ◌++◌, Option, Some, None, Ok, Err, refl, sym, ap, subst, ◌∙◌, append_assoc}
+use Rattle.std.proofs.Common.{◌≡◌, ℕ, suc, zero, ◌+◌, Bool, true, false, cond, List, [], ◌∷◌, ◌++◌, Option, Some, None, Ok, Err, refl, sym, ap, ◌∙◌, append_assoc}
 use Rattle.std.specs.Prelude.{is_none, ◌||◌}
 use Rattle.std.proofs.lemmas.List.{append-nil}
 use Rattle.pst_bytes.specs.declared.span.Span.{Span}
@@ -11,7 +11,7 @@ use Rattle.pst_fault.specs.First.{◌then◌, holds_or}
 use Rattle.pst_header.specs.declared.header.Bref.{Bref}
 use Rattle.pst_page.specs.declared.kind.PageKind.{PageKind}
 use Rattle.pst_page.specs.declared.entry.BlockEntry.{BlockEntry}
-use Rattle.pst_page.specs.Page.{entries_at, level_at}
+use Rattle.pst_page.specs.Page.{entries_at}
 use Rattle.pst_page.specs.Entry.{key_at, child_at}
 use Rattle.pst_page.specs.Fault.{page_place_fault}
 use Rattle.pst_space.specs.Claimed.{Claimed, claim_of, is_clear, first_unit, unit_count, with_span}

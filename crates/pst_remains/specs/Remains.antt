@@ -2,11 +2,9 @@
 -- allocation maps, each part looked at over what those before it have left; and the blocks and nodes that are left.
 use Rattle.std.specs.Prelude.{ℕ, List, [], ◌++◌, map, Option, None, if◌then◌else◌}
 use Rattle.pst_fault.specs.declared.fault.Fault.{Fault}
-use Rattle.pst_header.specs.declared.header.Header.{Header}
 use Rattle.pst_header.specs.declared.header.TheConstants.{FIRST_AMAP}
 use Rattle.pst_header.specs.Header.{end_of, fields}
 use Rattle.pst_page.specs.declared.kind.PageKind.TheVariants.{Bbt, Nbt}
-use Rattle.pst_page.specs.declared.entry.BlockEntry.{BlockEntry}
 use Rattle.pst_page.specs.declared.entry.NodeEntry.{NodeEntry}
 use Rattle.pst_page.specs.Entry.{block_entry_at, node_entry_at}
 use Rattle.pst_space.specs.Claimed.{Claimed, maps_claimed}

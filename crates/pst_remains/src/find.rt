@@ -81,7 +81,7 @@ fn nothing_mapped<'a>(
     Ok(remains)
 }
 
-// Where something is mapped: the pages, the blocks and the maps one after another, each beside what is claimed by those before.
+// Where something is mapped: the pages, the blocks and the maps one after another, each beside what those before it claim.
 fn look_through<'a>(alloc: Global, image: Image<'a>, header: &Header) -> Result<Remains<'a>, Fault>
     requires long { 564 ≤ length (bytes_of image) }
     requires header { header.now ≡ mended_header (bytes_of image) }
@@ -114,12 +114,12 @@ fn look_through<'a>(alloc: Global, image: Image<'a>, header: &Header) -> Result<
     Ok(remains)
 }
 
-/// What remains of a file whose magic numbers, version and method are right, up to its nodes ([MS-PST] 2.2.2.6 to 2.2.2.8): the
-/// header's first fault, the faults of the pages of both B-trees, of the blocks, and the first of the allocation maps, each part
-/// looked at over what those before it have left; and the blocks and nodes that are left. What has a fault claims nothing. The
-/// pages below one with a fault are looked at where only its trailer is wrong, and it is no leaf of the node B-tree. NoMemory
-/// where memory is refused: an entry is kept for each block and each node that is left, 8 bytes for each leaf, and a bit for each 64
-/// bytes of the file.
+/// What remains of a file whose magic numbers, version and method are right, up to its nodes ([MS-PST] 2.2.2.6 to 2.2.2.8):
+/// the header's first fault, the faults of the pages of both B-trees, those of the blocks, and the first of the allocation
+/// maps, each part looked at over what those before it have left; and the blocks and nodes that are left. What has a fault
+/// claims nothing. The pages below one with a fault are looked at where only its trailer is wrong, its types are right, and
+/// it is no leaf of the node B-tree. NoMemory where memory is refused: an entry is kept for each block and each node that is
+/// left, 8 bytes for each leaf, and a bit for each 64 bytes of the file.
 #[tactic(auto, using(crate::proofs::HeaderLemmas::mended_mapped, crate::proofs::HeaderLemmas::maps_there, crate::proofs::HeaderLemmas::maps_lack))]
 pub fn find_remains<'a>(alloc: Global, image: Image<'a>) -> Result<Remains<'a>, Fault>
     requires { 564 ≤ length (bytes_of image) }

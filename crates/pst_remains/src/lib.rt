@@ -16,6 +16,7 @@ mod blocks;
 mod find;
 mod header;
 mod judged;
+mod laws;
 mod pages;
 mod remains;
 mod trees;
@@ -23,5 +24,6 @@ mod walk_page;
 
 pub use behind::page_before;
 pub use find::find_remains;
+pub use laws::{first_told_decides, untold_is_whole};
 pub use pages::Broken;
 pub use remains::Remains;

@@ -1,4 +1,4 @@
-use Rattle.std.proofs.Common.{◌≡◌, ◌+◌, ◌*◌, ◌<◌, ◌∙◌, arith}
+use Rattle.std.proofs.Common.{◌≡◌, ◌+◌, ◌*◌, ◌∙◌, arith}
 use Rattle.pst_bytes.specs.Image.{bytes_of}
 use Rattle.pst_header.specs.Header.{end_of}
 use Rattle.pst_page.specs.Entry.{block_entry_at}
