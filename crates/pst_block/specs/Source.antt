@@ -6,6 +6,6 @@ use Rattle.pst_btree.specs.Trees.{block_entries}
 use Rattle.pst_block.specs.declared.source.Source.{Source}
 use Rattle.pst_block.specs.declared.source.Source.TheVariants.{Tree, Gathered}
 
-abbrev pub entries_in : Source → List BlockEntry
+unfoldable pub entries_in : Source → List BlockEntry
 entries_in (Tree tree) = block_entries tree
 entries_in (Gathered list) = listed_blocks list

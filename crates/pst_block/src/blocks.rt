@@ -36,6 +36,7 @@ impl<'a> Blocks<'a> {
 
     /// The blocks of entries that were gathered, in a mapped part that ends at `end`, an offset in the file. Each of them has
     /// to be known to be good. Nothing is checked.
+    #[tactic(auto, unfolding(crate::specs::Source::entries_in))]
     pub fn known(image: Image<'a>, end: u64, entries: BlockList<'a>) -> Blocks<'a>
         requires inside { end ≤ length (bytes_of image) }
         requires good { blocks_fault end (bytes_of image) (listed_blocks entries) ≡ None }

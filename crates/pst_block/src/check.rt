@@ -79,7 +79,7 @@ fn check_each(
 }
 
 /// The blocks of a file, as `check_blocks` says, and how many were check-summed: each once.
-#[tactic(auto, using(pst_header::proofs::Head::head_end, crate::proofs::WalkLaws::walked_no_fault))]
+#[tactic(auto, using(pst_header::proofs::Head::head_end, crate::proofs::WalkLaws::walked_no_fault), unfolding(crate::specs::Source::entries_in))]
 pub fn sum_blocks<'a>(
     image: Image<'a>,
     header: &Header,

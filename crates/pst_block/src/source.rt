@@ -18,6 +18,7 @@ impl<'a> Source<'a> {
     ghost use Rattle.pst_block.specs.Source.{entries_in};
 
     /// The entry of a block, by its identifier with its bit 0 ignored.
+    #[tactic(auto, unfolding(crate::specs::Source::entries_in))]
     pub(crate) fn find(&self, bid: u64) -> Option<BlockEntry>
         ensures entry { result ≡ block_with (bid_key bid) (entries_in self.now) }
     {
