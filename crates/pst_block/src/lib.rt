@@ -19,10 +19,11 @@ mod check;
 mod laws;
 mod read;
 mod size;
+mod source;
 
 pub use blocks::Blocks;
 pub use check::{check_blocks, sum_blocks};
 pub use laws::{block_decides, blocks_decide};
 pub use pst_page::BlockEntry;
-pub use read::{Block, read_block};
+pub use read::{Block, block_place, check_trailer, read_block};
 pub use size::block_size;

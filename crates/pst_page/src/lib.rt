@@ -28,5 +28,5 @@ pub use entry::{BlockEntry, NodeEntry, block_entry_at, child_at, node_entry_at};
 pub use kind::PageKind;
 pub use laws::page_decides;
 pub use page::Page;
-pub use read::{known_page, open_page, page_place, read_page};
+pub use read::{check_shape, decode_page, known_page, open_page, page_place, read_page};
 pub use trailer::has_trailer;

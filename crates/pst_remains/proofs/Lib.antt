@@ -1,0 +1,10 @@
+pub mod BehindLemmas
+pub mod BlockLemmas
+pub mod HeaderLemmas
+pub mod JudgedLemmas
+pub mod LawLemmas
+pub mod LeafLemmas
+pub mod NodeLemmas
+pub mod RemainsLemmas
+pub mod SameLemmas
+pub mod WalkLemmas
