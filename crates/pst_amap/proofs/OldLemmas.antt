@@ -3,8 +3,8 @@ use Rattle.std.proofs.Common.{◌≡◌, ℕ, suc, ◌+◌, ◌-◌, ◌/◌, �
 use Rattle.std.proofs.lemmas.Bool.{and_parts, leb-true}
 use Rattle.pst_header.specs.declared.header.Header.{Header}
 use Rattle.pst_header.specs.Header.{amap_place, end_of}
-use Rattle.pst_header.specs.Head.{Head}
-use Rattle.pst_header.proofs.Head.{head_end}
+use Rattle.pst_header.specs.Head.{IsMapped}
+use Rattle.pst_header.proofs.Head.{mapped_end}
 use Rattle.pst_space.specs.Claimed.{Claimed, unit_total, claim_of, page_at, IsUnits}
 use Rattle.pst_amap.specs.declared.report.BitOrder.{BitOrder}
 use Rattle.pst_amap.specs.Marks.{is_marked}
@@ -26,8 +26,8 @@ marked_end order I unit n i le =
     let k : n - i ≡ 0 = omega arith in
     rw k refl
 
-pub page_inside : (I : List ℕ) (h : Header) (at : ℕ) → Head I h → at + 512 ≤ end_of h → at + 512 ≤ length I
-page_inside I h at g le = omega (arith, head_end I h g)
+pub page_inside : (I : List ℕ) (h : Header) (at : ℕ) → IsMapped I h → at + 512 ≤ end_of h → at + 512 ≤ length I
+page_inside I h at g le = omega (arith, mapped_end I h g)
 
 pub page_units : (h : Header) (at : ℕ) → 17408 ≤ at → at % 64 ≡ 0 → at + 512 ≤ end_of h → (at - 17408) / 64 + 8 ≤ unit_total h
 page_units h at low whole le = omega arith

@@ -4,7 +4,7 @@ ghost use Rattle.std.specs.Prelude.{◌≡◌, ◌⊎◌, None, length, IfOk, If
 ghost use Rattle.pst_bytes.specs.Image.{bytes_of};
 ghost use Rattle.pst_fault.specs.Fault.{no_memory};
 ghost use Rattle.pst_fault.specs.First.{answer, IsFirst};
-ghost use Rattle.pst_header.specs.Head.{Head};
+ghost use Rattle.pst_header.specs.Head.{IsMapped};
 ghost use Rattle.pst_header.specs.Header.{amap_count_of};
 ghost use Rattle.pst_space.specs.Claimed.{unit_total};
 ghost use Rattle.pst_amap.specs.Marks.{bit_order_of};
@@ -24,7 +24,7 @@ use std::alloc::Global;
 // The maps, and the order of bits in which they mark all that is claimed.
 #[tactic(auto, unfolding(crate::specs::Report::maps_fault))]
 fn check_order(image: Image, header: &Header, claims: &Claims) -> Result<BitOrder, Fault>
-    requires head { Head (bytes_of image) header.now }
+    requires mapped { IsMapped (bytes_of image) header.now }
     requires units { length claims.now ≡ unit_total header.now }
     ensures { result ≡ answer (maps_fault (bytes_of image.entry) header.now claims.now)
         (bit_order_of (bytes_of image.entry) claims.now) }
@@ -33,10 +33,11 @@ fn check_order(image: Image, header: &Header, claims: &Claims) -> Result<BitOrde
     find_order(image, header, claims)
 }
 
-/// Compares what is claimed with the allocation maps ([MS-PST] 2.2.2.7.2), and claims the old map pages. The header has to
-/// be the image's, and the claims those of its mapped part. The first fault is MapPage at the first allocation map that is
-/// not good, or MapMissing at the lowest unit that is claimed and not marked, the most significant bit first, where the
-/// other order of bits does not fit either. NoMemory where the memory for the lost runs is refused.
+/// Compares what is claimed with the allocation maps ([MS-PST] 2.2.2.7.2), and claims the old map pages. What the
+/// header says of the space of the file has to lie in it, and the claims are those of its mapped part. The first fault
+/// is MapPage at the first allocation map that is not good, or MapMissing at the lowest unit that is claimed and not
+/// marked, the most significant bit first, where the other order of bits does not fit either. NoMemory where the memory
+/// for the lost runs is refused.
 #[tactic(auto, using(crate::proofs::ReportLemmas::found_first, crate::proofs::ReportLemmas::found_none), unfolding(crate::specs::Report::old_maps))]
 pub fn compare(
     alloc: Global,
@@ -44,7 +45,7 @@ pub fn compare(
     header: &Header,
     claims: &mut Claims,
 ) -> Result<MapReport, Fault>
-    requires head { Head (bytes_of image) header.now }
+    requires mapped { IsMapped (bytes_of image) header.now }
     requires units { length claims.old ≡ unit_total header.now }
 
     // Which fault it is, and that there is none where a report is given.

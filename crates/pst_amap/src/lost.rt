@@ -2,7 +2,7 @@
 
 ghost use Rattle.std.specs.Prelude.{◌≡◌, ℕ, ◌+◌, ◌-◌, ◌*◌, ◌≤◌, ◌<◌, ◌^◌, ◌++◌, length, true, false, IfOk, OnOk};
 ghost use Rattle.pst_bytes.specs.Image.{bytes_of};
-ghost use Rattle.pst_header.specs.Head.{Head};
+ghost use Rattle.pst_header.specs.Head.{IsMapped};
 ghost use Rattle.pst_space.specs.Claimed.{unit_total};
 ghost use Rattle.pst_amap.specs.Marks.{mark_place};
 ghost use Rattle.pst_amap.specs.Lost.{is_lost as lost, lost_runs, run_before};
@@ -61,7 +61,7 @@ pub fn find_lost(
     order: BitOrder,
     claims: &Claims,
 ) -> Result<Vec<Span>, AllocError>
-    requires head { Head (bytes_of image) header.now }
+    requires mapped { IsMapped (bytes_of image) header.now }
     requires units { length claims.now ≡ unit_total header.now }
     ensures { IfOk result (λ runs. runs.items ≡ lost_runs order (bytes_of image.entry) claims.now) }
 {

@@ -3,7 +3,7 @@
 ghost use Rattle.std.specs.Prelude.{◌≡◌, ◌+◌, ◌≤◌, ◌<◌, ◌^◌, length};
 ghost use Rattle.pst_bytes.specs.Image.{bytes_of};
 ghost use Rattle.pst_fault.specs.First.{answer};
-ghost use Rattle.pst_header.specs.Head.{Head};
+ghost use Rattle.pst_header.specs.Head.{IsMapped};
 ghost use Rattle.pst_header.specs.Header.{amap_place, amap_count_of};
 ghost use Rattle.pst_amap.specs.Map.{has_map_trailer as map_trailer, is_amap as amap, amap_fault, amaps_fault};
 
@@ -48,7 +48,7 @@ fn check_amap(image: Image, region: u64) -> Result<(), Fault>
 /// The allocation maps in order.
 #[tactic(auto, using(crate::proofs::MapLemmas::map_inside, pst_fault::proofs::FirstLemmas::first_more))]
 pub fn check_amaps(image: Image, header: &Header) -> Result<(), Fault>
-    requires { Head (bytes_of image) header.now }
+    requires { IsMapped (bytes_of image) header.now }
     ensures { result ≡ answer (amaps_fault (bytes_of image.entry) (amap_count_of header.now)) tt }
 {
     for region in 0..header.amap_count() {

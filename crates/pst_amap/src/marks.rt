@@ -3,7 +3,7 @@
 ghost use Rattle.std.specs.Prelude.{◌≡◌, ℕ, ◌+◌, ◌%◌, ◌≤◌, ◌<◌, ◌^◌, length, true, None};
 ghost use Rattle.pst_bytes.specs.Image.{bytes_of, num};
 ghost use Rattle.pst_fault.specs.First.{answer};
-ghost use Rattle.pst_header.specs.Head.{Head};
+ghost use Rattle.pst_header.specs.Head.{IsMapped};
 ghost use Rattle.pst_space.specs.Claimed.{unit_total};
 ghost use Rattle.pst_amap.specs.Marks.{is_marked as marked, mark_place, mark_bit, marks_fault, unit_fault, missing_fault, bit_order_of, chosen_of};
 
@@ -75,7 +75,7 @@ fn are_sound(image: Image, claims: &Claims, unit: u64) -> bool
 // Each claimed unit is marked in one order of bits.
 #[tactic(auto, using(crate::proofs::MapLemmas::mark_inside, crate::proofs::EightLemmas::first_more_all))]
 fn check_marks(image: Image, header: &Header, order: BitOrder, claims: &Claims) -> Result<(), Fault>
-    requires head { Head (bytes_of image) header.now }
+    requires mapped { IsMapped (bytes_of image) header.now }
     requires units { length claims.now ≡ unit_total header.now }
     ensures { result ≡ answer (marks_fault order (bytes_of image.entry) claims.now) tt }
 {
@@ -95,7 +95,7 @@ fn check_marks(image: Image, header: &Header, order: BitOrder, claims: &Claims) 
 /// significant. MapMissing at the lowest unit that is claimed and not marked most significant first, where neither fits.
 #[tactic(auto, using(crate::proofs::OrderLemmas::order_found), unfolding(crate::specs::Marks::missing_fault, crate::specs::Marks::bit_order_of))]
 pub fn find_order(image: Image, header: &Header, claims: &Claims) -> Result<BitOrder, Fault>
-    requires head { Head (bytes_of image) header.now }
+    requires mapped { IsMapped (bytes_of image) header.now }
     requires units { length claims.now ≡ unit_total header.now }
     ensures { result ≡ answer (missing_fault (bytes_of image.entry) claims.now)
         (bit_order_of (bytes_of image.entry) claims.now) }

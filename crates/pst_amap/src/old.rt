@@ -2,7 +2,7 @@
 
 ghost use Rattle.std.specs.Prelude.{◌≡◌, ℕ, ◌+◌, ◌-◌, ◌/◌, ◌%◌, ◌≤◌, ◌<◌, ◌^◌, length};
 ghost use Rattle.pst_bytes.specs.Image.{bytes_of};
-ghost use Rattle.pst_header.specs.Head.{Head};
+ghost use Rattle.pst_header.specs.Head.{IsMapped};
 ghost use Rattle.pst_header.specs.Header.{amap_place, amap_count_of, end_of};
 ghost use Rattle.pst_header.specs.declared.header.TheConstants.{FIRST_AMAP, UNIT};
 ghost use Rattle.pst_space.specs.Claimed.{unit_total};
@@ -25,7 +25,7 @@ fn is_old_type(ptype: u8, repeated: u8) -> bool
 // Whether so many units from one on are marked.
 #[tactic(auto, using(crate::proofs::MapLemmas::mark_inside, crate::proofs::OldLemmas::marked_next, crate::proofs::OldLemmas::marked_not, crate::proofs::OldLemmas::marked_end))]
 fn are_marked(image: Image, header: &Header, order: BitOrder, unit: u64, count: u64) -> bool
-    requires head { Head (bytes_of image) header.now }
+    requires mapped { IsMapped (bytes_of image) header.now }
     requires units { unit + count ≤ unit_total header.now }
     requires fits { unit + count < 2 ^ 64 }
     ensures { result ≡ marked order (bytes_of image.entry) unit count }
@@ -41,7 +41,7 @@ fn are_marked(image: Image, header: &Header, order: BitOrder, unit: u64, count: 
 // Whether the page at an offset looks like an old map page.
 #[tactic(auto, using(crate::proofs::OldLemmas::page_inside, crate::proofs::OldLemmas::page_units), unfolding(crate::specs::Old::looks_old))]
 fn looks_old(image: Image, header: &Header, order: BitOrder, at: u64) -> bool
-    requires head { Head (bytes_of image) header.now }
+    requires mapped { IsMapped (bytes_of image) header.now }
     requires place { (FIRST_AMAP ≤ at) × (at % UNIT ≡ 0) }
     requires fits { at + 512 < 2 ^ 64 }
     ensures { result ≡ old order (bytes_of image.entry) (end_of header.now) at }
@@ -55,7 +55,7 @@ fn looks_old(image: Image, header: &Header, order: BitOrder, at: u64) -> bool
 // Claims the page at an offset if it is an old map page, and on nothing that is claimed: how many were found, 0 or 1.
 #[tactic(auto, using(crate::proofs::OldLemmas::old_no, crate::proofs::OldLemmas::old_yes, crate::proofs::OldLemmas::old_on_another, crate::proofs::OldLemmas::page_whole))]
 fn claim_old(image: Image, header: &Header, order: BitOrder, at: u64, claims: &mut Claims) -> u64
-    requires head { Head (bytes_of image) header.now }
+    requires mapped { IsMapped (bytes_of image) header.now }
     requires place { (FIRST_AMAP ≤ at) × (at % UNIT ≡ 0) }
     requires fits { at + 512 < 2 ^ 64 }
     requires units { length claims.old ≡ unit_total header.now }
@@ -77,7 +77,7 @@ fn claim_old(image: Image, header: &Header, order: BitOrder, at: u64, claims: &m
 /// Claims the old map pages of a file: how many there are.
 #[tactic(auto, using(crate::proofs::OldLemmas::old_start, crate::proofs::OldLemmas::old_next, crate::proofs::MapLemmas::map_inside))]
 pub fn claim_old_maps(image: Image, header: &Header, order: BitOrder, claims: &mut Claims) -> u64
-    requires head { Head (bytes_of image) header.now }
+    requires mapped { IsMapped (bytes_of image) header.now }
     requires units { length claims.old ≡ unit_total header.now }
     ensures found { old_below order (bytes_of image.entry) (end_of header.now)
         (record { claimed = claims.old; count = 0 }) (amap_count_of header.now) ≡

@@ -7,18 +7,18 @@ use Rattle.pst_explain.specs.Kinds.{kind_in_word}
 use Rattle.pst_ask.specs.declared.ask.Lack.TheVariants.{Nid}
 use Rattle.pst_ask.specs.declared.ask.Lack.TheVariants as lack
 use Rattle.pst_ask.specs.declared.verb.Takes.{Takes}
-use Rattle.pst_ask.specs.declared.verb.Takes.TheVariants.{File, Report, Node}
+use Rattle.pst_ask.specs.declared.verb.Takes.TheVariants.{File, Report, Digest, Node}
 use Rattle.pst_ask.specs.declared.verb.Takes.TheVariants as takes
 use Rattle.pst_ask.specs.declared.verb.Verb.{Verb}
-use Rattle.pst_ask.specs.declared.verb.Verb.TheVariants.{Check, Head, Nodes, Folders, Contents, Messages, Props, Value, Explain}
-use Rattle.pst_ask.specs.Ask.{Flags, Ordered, Wanted, asked_by, asked_of, asking, both_named, both_of, contents, explain, folders, head, is_used, kind_named, messages, node_named, nodes, of_file, of_named, only_kind, only_node, only_property, or_lack, path_named, paths_named, property_named, props, report, show, shows, some_paths, value}
+use Rattle.pst_ask.specs.declared.verb.Verb.TheVariants.{Check, Damage, Head, Nodes, Folders, Contents, Messages, Props, Value, Explain}
+use Rattle.pst_ask.specs.Ask.{Flags, Ordered, Wanted, asked_by, asked_of, asking, both_named, both_of, contents, damage, explain, folders, head, is_used, kind_named, messages, node_named, nodes, of_file, of_named, only_kind, only_node, only_property, or_lack, path_named, paths_named, property_named, props, report, show, shows, some_paths, value}
 use Rattle.pst_ask.specs.Nid.{path_of_word}
 use Rattle.pst_ask.specs.Property.{property_of_word}
 use Rattle.pst_ask.specs.Verbs.{name_of, takes_of}
 use Rattle.pst_ask.specs.Words.{IsAsked, IsNoOption, WordsLaw, to_file}
 use Rattle.pst_ask.proofs.PathsLaws.{paths_found}
 use Rattle.pst_ask.proofs.PlainLemmas.{kind_plain, node_plain, path_plain, paths_plain, property_plain}
-use Rattle.pst_ask.proofs.TakesLaws.{OfFile, file_found, kind_found, node_found, none_found, property_found, report_found}
+use Rattle.pst_ask.proofs.TakesLaws.{OfFile, digest_found, file_found, kind_found, node_found, none_found, property_found, report_found}
 use Rattle.pst_ask.proofs.TopLaws.{Finds, is_asked, level}
 
 -- ---- what is asked for of something that is there
@@ -64,6 +64,13 @@ by_report v make which asks flags file no_option =
     let rows = found.0 in
     shown v Report flags file (to_file Report flags file ++ []) rows (make flags.strict flags.digest) which found.1 found.2
     (asks rows ∙ ap (λ s. of_file rows (Ok (make s (is_used (codes "digest") rows)))) found.3.0 ∙ ap (λ g. of_file rows (Ok (make flags.strict g))) found.3.1)
+
+by_digest : (v : Verb) (make : Bool → Wanted) → takes_of v ≡ Digest → ((rows : List Row) → asked_by v rows ≡ of_file rows (Ok (make (is_used (codes "digest") rows))))
+    → (flags : Flags) (file : Text) → IsNoOption file → IsAsked (name_of v ∷ (to_file Digest flags file ++ [])) (showing flags file (make flags.digest))
+by_digest v make which asks flags file no_option =
+    let found = digest_found (name_of v) flags file no_option in
+    let rows = found.0 in
+    shown v Digest flags file (to_file Digest flags file ++ []) rows (make flags.digest) which found.1 found.2 (asks rows ∙ ap (λ g. of_file rows (Ok (make g))) found.3)
 
 by_node : (v : Verb) (make : ℕ → Wanted) → takes_of v ≡ Node → ((rows : List Row) → asked_by v rows ≡ of_file rows (asking make (node_named (first_of (codes "NID") rows))))
     → (flags : Flags) (file : Text) (words : List Text) (nid : ℕ) → IsNoOption file → only_node words ≡ Some nid
@@ -146,6 +153,8 @@ exactly words one order is asks = subst (IsAsked words) (some_is one order is) a
 pub words_law : WordsLaw
 words_law Check flags file words order no_option is =
     exactly (name_of Check ∷ (to_file Report flags file ++ [])) _ order is (by_report Check report refl (λ rows. refl) flags file no_option)
+words_law Damage flags file words order no_option is =
+    exactly (name_of Damage ∷ (to_file Digest flags file ++ [])) _ order is (by_digest Damage damage refl (λ rows. refl) flags file no_option)
 words_law Head flags file words order no_option is = exactly (name_of Head ∷ (to_file File flags file ++ [])) _ order is (by_file Head head refl (λ rows. refl) flags file no_option)
 words_law Nodes flags file words order no_option is = exactly (name_of Nodes ∷ (to_file File flags file ++ [])) _ order is (by_file Nodes nodes refl (λ rows. refl) flags file no_option)
 words_law Folders flags file words order no_option is =

@@ -9,7 +9,7 @@ use Rattle.clap.specs.declared.builder.value_parser.Reading.TheVariants.{AsWritt
 use Rattle.clap.specs.declared.parser.matches.ValueSource.TheVariants.{CommandLine}
 use Rattle.clap.proofs.OnLiterals.{clap_on_literals}
 use Rattle.pst_ask.specs.declared.verb.Takes.{Takes}
-use Rattle.pst_ask.specs.declared.verb.Takes.TheVariants.{File, Report, Node}
+use Rattle.pst_ask.specs.declared.verb.Takes.TheVariants.{File, Report, Digest, Node}
 use Rattle.pst_ask.specs.declared.verb.Takes.TheVariants as takes
 use Rattle.pst_ask.specs.Ask.{Flags}
 use Rattle.pst_ask.specs.Words.{IsNoOption, flag_if, own_flags, to_file}
@@ -97,6 +97,7 @@ flag_row false id = []
 abbrev own_rows : Takes → Flags → List Row
 own_rows File flags = []
 own_rows Report flags = flag_row flags.strict (codes "strict") ++ flag_row flags.digest (codes "digest")
+own_rows Digest flags = flag_row flags.digest (codes "digest")
 own_rows Node flags = []
 own_rows takes.Paths flags = flag_row flags.places (codes "places")
 own_rows takes.Property flags = flag_row flags.text (codes "text")
@@ -145,6 +146,13 @@ report_flags n true false p t true = (refl, refl)
 report_flags n true true p t false = (refl, refl)
 report_flags n true true p t true = (refl, refl)
 
+digest_flags : (n : Text) (s g p t d : Bool) → FlagsRun Digest n (flags_with s g p t d)
+unfolding clap_on_literals
+digest_flags n s false p t false = (refl, refl)
+digest_flags n s false p t true = (refl, refl)
+digest_flags n s true p t false = (refl, refl)
+digest_flags n s true p t true = (refl, refl)
+
 paths_flags : (n : Text) (s g p t d : Bool) → FlagsRun takes.Paths n (flags_with s g p t d)
 unfolding clap_on_literals
 paths_flags n s g false t false = (refl, refl)
@@ -172,6 +180,7 @@ file_other : (takes : Takes) (n : Text) (rows : List Row) → HasFile takes → 
 unfolding clap_on_literals
 file_other File n rows has b rest other = (rw other (rw other refl), rw other (rw other refl))
 file_other Report n rows has b rest other = (rw other (rw other refl), rw other (rw other refl))
+file_other Digest n rows has b rest other = (rw other (rw other refl), rw other (rw other refl))
 file_other Node n rows has b rest other = (rw other (rw other refl), rw other (rw other refl))
 file_other takes.Paths n rows has b rest other = (rw other (rw other refl), rw other (rw other refl))
 file_other takes.Property n rows has b rest other = (rw other (rw other refl), rw other (rw other refl))
@@ -181,6 +190,7 @@ file_empty : (takes : Takes) (n : Text) (rows : List Row) → HasFile takes → 
 unfolding clap_on_literals
 file_empty File n rows has = (refl, refl)
 file_empty Report n rows has = (refl, refl)
+file_empty Digest n rows has = (refl, refl)
 file_empty Node n rows has = (refl, refl)
 file_empty takes.Paths n rows has = (refl, refl)
 file_empty takes.Property n rows has = (refl, refl)
@@ -190,6 +200,7 @@ file_hyphen : (takes : Takes) (n : Text) (rows : List Row) → HasFile takes →
 unfolding clap_on_literals
 file_hyphen File n rows has = (refl, refl)
 file_hyphen Report n rows has = (refl, refl)
+file_hyphen Digest n rows has = (refl, refl)
 file_hyphen Node n rows has = (refl, refl)
 file_hyphen takes.Paths n rows has = (refl, refl)
 file_hyphen takes.Property n rows has = (refl, refl)
@@ -214,6 +225,7 @@ with_file takes n flags file has no_option runs =
 front : (takes : Takes) (n : Text) (flags : Flags) (file : Text) → HasFile takes → IsNoOption file → Runs (level takes n) start (to_file takes flags file) (behind_file (flag_rows takes flags) file)
 front File n f file has no_option = with_file File n f file has no_option (file_flags n f.strict f.digest f.places f.text f.decode)
 front Report n f file has no_option = with_file Report n f file has no_option (report_flags n f.strict f.digest f.places f.text f.decode)
+front Digest n f file has no_option = with_file Digest n f file has no_option (digest_flags n f.strict f.digest f.places f.text f.decode)
 front Node n f file has no_option = with_file Node n f file has no_option (node_flags n f.strict f.digest f.places f.text f.decode)
 front takes.Paths n f file has no_option = with_file takes.Paths n f file has no_option (paths_flags n f.strict f.digest f.places f.text f.decode)
 front takes.Property n f file has no_option = with_file takes.Property n f file has no_option (property_flags n f.strict f.digest f.places f.text f.decode)

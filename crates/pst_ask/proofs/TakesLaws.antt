@@ -5,7 +5,7 @@ use Rattle.clap.specs.Words.{Row, Text, first_of}
 use Rattle.clap.specs.Walk.{Walk, finished, idle}
 use Rattle.clap.proofs.OnLiterals.{clap_on_literals}
 use Rattle.pst_ask.specs.declared.verb.Takes.{Takes}
-use Rattle.pst_ask.specs.declared.verb.Takes.TheVariants.{File, Report, Node}
+use Rattle.pst_ask.specs.declared.verb.Takes.TheVariants.{File, Report, Digest, Node}
 use Rattle.pst_ask.specs.declared.verb.Takes.TheVariants as takes
 use Rattle.pst_ask.specs.Ask.{Flags, is_used}
 use Rattle.pst_ask.specs.Words.{IsNoOption, to_file}
@@ -55,6 +55,22 @@ report_ends n true false false file = (record { settles = refl; good = refl }, (
 report_ends n true false true file = (record { settles = refl; good = refl }, (refl, refl), (refl, refl))
 report_ends n true true false file = (record { settles = refl; good = refl }, (refl, refl), (refl, refl))
 report_ends n true true true file = (record { settles = refl; good = refl }, (refl, refl), (refl, refl))
+
+-- the rows that `Digest` leaves, with its flag
+abbrev digest_rows : Bool → Bool → List Row
+digest_rows g d = flag_row g (codes "digest") ++ flag_row d (codes "decode")
+
+abbrev DigestEnds : Text → Bool → Bool → Text → Type 0
+DigestEnds n g d file =
+    let end = behind_file (digest_rows g d) file in
+    Ends (level Digest n) end.held × OfFile (rows_at Digest n end) d file × (is_used (codes "digest") (rows_at Digest n end) ≡ g)
+
+digest_ends : (n : Text) (g d : Bool) (file : Text) → DigestEnds n g d file
+unfolding clap_on_literals
+digest_ends n false false file = (record { settles = refl; good = refl }, (refl, refl), refl)
+digest_ends n false true file = (record { settles = refl; good = refl }, (refl, refl), refl)
+digest_ends n true false file = (record { settles = refl; good = refl }, (refl, refl), refl)
+digest_ends n true true file = (record { settles = refl; good = refl }, (refl, refl), refl)
 
 -- ---- a node behind the file
 
@@ -150,6 +166,14 @@ report_found n flags file no_option =
     let end = behind_file (flag_rows Report flags) file in
     let ends = report_ends n flags.strict flags.digest flags.decode file in
     (rows_at Report n end, found Report n flags file [] end tt no_option (stays (level Report n) end) ends.0, ends.1, ends.2)
+
+-- of one that takes the flag of a digest
+pub digest_found : (n : Text) (flags : Flags) (file : Text) → IsNoOption file
+    → (rows : List Row) × Finds (level Digest n) (to_file Digest flags file ++ []) rows × OfFile rows flags.decode file × (is_used (codes "digest") rows ≡ flags.digest)
+digest_found n flags file no_option =
+    let end = behind_file (flag_rows Digest flags) file in
+    let ends = digest_ends n flags.digest flags.decode file in
+    (rows_at Digest n end, found Digest n flags file [] end tt no_option (stays (level Digest n) end) ends.0, ends.1, ends.2)
 
 -- of one that takes a path and a property
 pub property_found : (n : Text) (flags : Flags) (file path id : Text) → IsNoOption file → IsPlain path → IsPlain id

@@ -11,7 +11,7 @@ use Rattle.clap.specs.Walk.{Names, Walk, answers_to, finished, nothing_held, set
 use Rattle.clap.proofs.OnLiterals.{clap_on_literals}
 use Rattle.pst_ask.specs.declared.verb.Takes.{Takes}
 use Rattle.pst_ask.specs.declared.verb.Verb.{Verb}
-use Rattle.pst_ask.specs.declared.verb.Verb.TheVariants.{Check, Head, Nodes, Folders, Contents, Messages, Props, Value, Explain}
+use Rattle.pst_ask.specs.declared.verb.Verb.TheVariants.{Check, Damage, Head, Nodes, Folders, Contents, Messages, Props, Value, Explain}
 use Rattle.pst_ask.specs.Ask.{Ordered, asked_by, asked_in, asked_with}
 use Rattle.pst_ask.specs.Verbs.{name_of, takes_of, verb_of}
 use Rattle.pst_ask.specs.Words.{IsAsked, app_taking, asked, show_app}
@@ -58,6 +58,7 @@ record Meets (v : Verb) : Type 0 where
 meets : (v : Verb) → Meets v
 unfolding clap_on_literals
 meets Check = record { shape = refl; verb = refl; walk = refl; good = refl }
+meets Damage = record { shape = refl; verb = refl; walk = refl; good = refl }
 meets Head = record { shape = refl; verb = refl; walk = refl; good = refl }
 meets Nodes = record { shape = refl; verb = refl; walk = refl; good = refl }
 meets Folders = record { shape = refl; verb = refl; walk = refl; good = refl }

@@ -14,7 +14,7 @@ use Rattle.pst_ask.specs.declared.ask.Order.{Order}
 use Rattle.pst_ask.specs.declared.ask.Order.TheVariants as order
 use Rattle.pst_ask.specs.declared.ask.Request.{Request}
 use Rattle.pst_ask.specs.declared.verb.Verb.{Verb}
-use Rattle.pst_ask.specs.declared.verb.Verb.TheVariants.{Check, Head, Nodes, Folders, Contents, Messages, Props, Value, Explain}
+use Rattle.pst_ask.specs.declared.verb.Verb.TheVariants.{Check, Damage, Head, Nodes, Folders, Contents, Messages, Props, Value, Explain}
 use Rattle.pst_ask.specs.declared.words.NoOrder.{NoOrder}
 use Rattle.pst_ask.specs.declared.words.NoOrder.TheVariants.{Words, Lacks}
 use Rattle.pst_ask.specs.declared.path.Path.{Path}
@@ -27,6 +27,8 @@ use Rattle.pst_ask.specs.Verbs.{verb_of}
 pub data Wanted : Type 0 where
   -- the report of a check: whether it is strict, and whether it has the digest of the file
   report : Bool → Bool → Wanted
+  -- all that is broken, and whether with the digest of the file
+  damage : Bool → Wanted
   head : Wanted
   nodes : Wanted
   folders : Wanted
@@ -45,6 +47,7 @@ nids_of path = path.nids.items
 
 abbrev pub wanted_of : Ask → Wanted
 wanted_of (ask.Check strict digest) = report strict digest
+wanted_of (ask.Damage digest) = damage digest
 wanted_of ask.Head = head
 wanted_of ask.Nodes = nodes
 wanted_of ask.Folders = folders
@@ -150,6 +153,7 @@ of_file rows (Ok ask) = of_named ask (is_used (codes "decode") rows) (first_of (
 -- what a command asks for by its matches
 abbrev pub asked_by : Verb → List Row → Result Ordered Lack
 asked_by Check rows = of_file rows (Ok (report (is_used (codes "strict") rows) (is_used (codes "digest") rows)))
+asked_by Damage rows = of_file rows (Ok (damage (is_used (codes "digest") rows)))
 asked_by Head rows = of_file rows (Ok head)
 asked_by Nodes rows = of_file rows (Ok nodes)
 asked_by Folders rows = of_file rows (Ok folders)
@@ -215,6 +219,7 @@ only_kind (word ∷ next ∷ rest) = None
 -- of `props` paths, of `value` a path and a property. `explain` has no file: of it they are a kind, or none.
 abbrev pub asks : Verb → Flags → Text → List Text → Option Ordered
 asks Check flags file words = shows flags file (Some (report flags.strict flags.digest))
+asks Damage flags file words = shows flags file (Some (damage flags.digest))
 asks Head flags file words = shows flags file (Some head)
 asks Nodes flags file words = shows flags file (Some nodes)
 asks Folders flags file words = shows flags file (Some folders)

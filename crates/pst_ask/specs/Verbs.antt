@@ -3,14 +3,15 @@ use Rattle.std.specs.Prelude.{List, [], ◌∷◌, Option, find, codes}
 use Rattle.std.specs.Str.{bytes_eq}
 use Rattle.clap.specs.Words.{Text}
 use Rattle.pst_ask.specs.declared.verb.Takes.{Takes}
-use Rattle.pst_ask.specs.declared.verb.Takes.TheVariants.{File, Report, Node}
+use Rattle.pst_ask.specs.declared.verb.Takes.TheVariants.{File, Report, Digest, Node}
 use Rattle.pst_ask.specs.declared.verb.Takes.TheVariants as takes
 use Rattle.pst_ask.specs.declared.verb.Verb.{Verb}
-use Rattle.pst_ask.specs.declared.verb.Verb.TheVariants.{Check, Head, Nodes, Folders, Contents, Messages, Props, Value, Explain}
+use Rattle.pst_ask.specs.declared.verb.Verb.TheVariants.{Check, Damage, Head, Nodes, Folders, Contents, Messages, Props, Value, Explain}
 
 -- its name, and what stands behind that
 abbrev pub line_of_verb : Verb → Text × Takes
 line_of_verb Check = (codes "check", Report)
+line_of_verb Damage = (codes "damage", Digest)
 line_of_verb Head = (codes "head", File)
 line_of_verb Nodes = (codes "nodes", File)
 line_of_verb Folders = (codes "folders", File)
@@ -28,7 +29,7 @@ takes_of v = (line_of_verb v).1
 
 -- all commands, in the order in which help shows them
 abbrev pub verbs : List Verb
-verbs = Check ∷ Head ∷ Nodes ∷ Folders ∷ Contents ∷ Messages ∷ Props ∷ Value ∷ Explain ∷ []
+verbs = Check ∷ Damage ∷ Head ∷ Nodes ∷ Folders ∷ Contents ∷ Messages ∷ Props ∷ Value ∷ Explain ∷ []
 
 -- the command of a name
 abbrev pub verb_of : Text → Option Verb

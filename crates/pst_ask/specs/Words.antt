@@ -7,7 +7,7 @@ use Rattle.clap.specs.declared.builder.command.Command.{Command}
 use Rattle.clap.specs.declared.builder.command.Command.TheViews.{out-Command}
 use Rattle.pst_ask.specs.declared.ask.Lack.{Lack}
 use Rattle.pst_ask.specs.declared.verb.Takes.{Takes}
-use Rattle.pst_ask.specs.declared.verb.Takes.TheVariants.{File, Report, Node}
+use Rattle.pst_ask.specs.declared.verb.Takes.TheVariants.{File, Report, Digest, Node}
 use Rattle.pst_ask.specs.declared.verb.Takes.TheVariants as takes
 use Rattle.pst_ask.specs.declared.verb.Verb.{Verb}
 use Rattle.pst_ask.specs.declared.words.NoOrder.{NoOrder}
@@ -36,6 +36,7 @@ flag_rule id = record (new_rule id) { long = Some id; action = Some SetTrue }
 abbrev pub with_flags : Takes → App → App
 with_flags File a = a
 with_flags Report a = with_rule (with_rule a (flag_rule (codes "strict"))) (flag_rule (codes "digest"))
+with_flags Digest a = with_rule a (flag_rule (codes "digest"))
 with_flags Node a = a
 with_flags takes.Paths a = with_rule a (flag_rule (codes "places"))
 with_flags takes.Property a = with_rule a (flag_rule (codes "text"))
@@ -50,6 +51,7 @@ with_file takes a = with_rule (with_rule a (flag_rule (codes "decode"))) (word_r
 abbrev pub with_words : Takes → App → App
 with_words File a = a
 with_words Report a = a
+with_words Digest a = a
 with_words Node a = with_rule a (word_rule (codes "NID"))
 with_words takes.Paths a = with_rule a (several_rule (codes "PATH"))
 with_words takes.Property a = with_rule (with_rule a (word_rule (codes "PATH"))) (word_rule (codes "ID"))
@@ -114,6 +116,7 @@ flag_if false flag = []
 abbrev pub own_flags : Takes → Flags → List Text
 own_flags File flags = []
 own_flags Report flags = flag_if flags.strict (codes "--strict") ++ flag_if flags.digest (codes "--digest")
+own_flags Digest flags = flag_if flags.digest (codes "--digest")
 own_flags Node flags = []
 own_flags takes.Paths flags = flag_if flags.places (codes "--places")
 own_flags takes.Property flags = flag_if flags.text (codes "--text")
@@ -127,6 +130,7 @@ to_file takes flags file = own_flags takes flags ++ flag_if flags.decode (codes 
 abbrev pub behind_file : Takes → List Text → List Text
 behind_file File words = []
 behind_file Report words = []
+behind_file Digest words = []
 behind_file Node words = words
 behind_file takes.Paths words = words
 behind_file takes.Property words = words

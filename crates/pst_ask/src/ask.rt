@@ -25,6 +25,11 @@ pub enum Ask {
         /// Whether it has the SHA-256 of the file.
         digest: bool,
     },
+    /// All that is broken in it.
+    Damage {
+        /// Whether with the SHA-256 of the file.
+        digest: bool,
+    },
     /// The fields of its header.
     Head,
     /// The entries of its node B-tree.
@@ -206,6 +211,10 @@ fn order_by<'a>(alloc: Global, verb: Verb, found: &ArgMatches<'a>) -> Result<Ord
             let strict = is_given(found, "strict");
             let digest = is_given(found, "digest");
             of_file(found, Ask::Check { strict, digest })
+        }
+        Verb::Damage => {
+            let digest = is_given(found, "digest");
+            of_file(found, Ask::Damage { digest })
         }
         Verb::Head => of_file(found, Ask::Head),
         Verb::Nodes => of_file(found, Ask::Nodes),

@@ -10,6 +10,8 @@ pub enum Takes {
     File,
     /// A file, and `--strict` and `--digest` before or behind it or not.
     Report,
+    /// A file, and `--digest` before or behind it or not.
+    Digest,
     /// A file, and the identifier of a node.
     Node,
     /// A file, and paths, one at least; and `--places` or not.
@@ -25,6 +27,8 @@ pub enum Takes {
 pub enum Verb {
     /// Whether it is a store.
     Check,
+    /// All that is broken.
+    Damage,
     /// The fields of its header.
     Head,
     /// The entries of its node B-tree.
@@ -45,8 +49,9 @@ pub enum Verb {
 
 impl Verb {
     /// All commands, in the order in which help shows them.
-    pub const ALL: [Verb; 9] = [
+    pub const ALL: [Verb; 10] = [
         Verb::Check,
+        Verb::Damage,
         Verb::Head,
         Verb::Nodes,
         Verb::Folders,
@@ -64,6 +69,7 @@ impl Verb {
     {
         match self {
             Verb::Check => ("check", "Checks whether it is a store", Takes::Report),
+            Verb::Damage => ("damage", "Lists all that is broken", Takes::Digest),
             Verb::Head => ("head", "Shows the fields of the header", Takes::File),
             Verb::Nodes => ("nodes", "Lists the nodes", Takes::File),
             Verb::Folders => ("folders", "Lists the folders", Takes::File),

@@ -17,6 +17,9 @@ use std::alloc::{AllocError, AllocFailed, Global};
 // What `--version` prints after the program's name.
 const VERSION: &str = "0.2.0";
 
+// What the flag of a digest is for.
+const DIGEST: &str = "Adds the SHA-256 of the file as it is stored";
+
 /// Why there is nothing to be done.
 #[derive(Drop)]
 pub enum NoOrder {
@@ -101,11 +104,8 @@ fn with_flags<'a>(
                 "strict",
                 "Ends with status 1 where space is lost, too",
             ))?
-            .arg(flag(
-                alloc,
-                "digest",
-                "Adds the SHA-256 of the file as it is stored",
-            )),
+            .arg(flag(alloc, "digest", DIGEST)),
+        Takes::Digest => command.arg(flag(alloc, "digest", DIGEST)),
         Takes::Paths => command.arg(flag(
             alloc,
             "places",
@@ -127,7 +127,12 @@ fn with_file<'a>(
 {
     match takes {
         Takes::Kind => Ok(command),
-        Takes::File | Takes::Report | Takes::Node | Takes::Paths | Takes::Property => {
+        Takes::File
+        | Takes::Report
+        | Takes::Digest
+        | Takes::Node
+        | Takes::Paths
+        | Takes::Property => {
             command
                 .arg(flag(alloc, "decode", "Decodes an encoded file first, in memory"))?
                 .arg(word(alloc, "FILE", "The file to read, or - for standard input"))
@@ -163,7 +168,7 @@ fn with_words<'a>(
             "KIND",
             "A kind of fault, by its number or its name",
         )),
-        Takes::File | Takes::Report => Ok(command),
+        Takes::File | Takes::Report | Takes::Digest => Ok(command),
     }
 }
 

@@ -111,6 +111,32 @@ fn a_flipped_bit_breaks_a_check_value(rt: HostRuntime) -> Result<(), Fail> {
     Ok(())
 }
 
+// What the fields of a header say, and whether they fit, whatever stands before them.
+#[test]
+fn the_fields_of_a_header_alone(rt: HostRuntime) -> Result<(), Fail> {
+    let mut image = small_store(rt.alloc(), 271_360)?;
+    set(&mut image, 0, &[0])?;
+    Change::Header.apply(&mut image)?;
+    if image.len() < 564 {
+        return Err(Fail::from("no header"));
+    }
+    let fields = read_fields(Image::new(&image));
+    is(&rt, fields.eof, 271_360);
+    is(&rt, fields.bbt, Bref { bid: 8, ib: 0x4a00 });
+    is(&rt, check_fields(Image::new(&image)), Ok(()));
+    holds(&rt, is_amap_place(fields.last_amap));
+    holds(&rt, is_last_amap(fields.last_amap, fields.eof));
+    holds(&rt, !is_last_amap(fields.last_amap, 18_431));
+    set(&mut image, 248, &[0])?;
+    Change::Header.apply(&mut image)?;
+    if image.len() < 564 {
+        return Err(Fail::from("no header"));
+    }
+    let answer = check_fields(Image::new(&image)).map(|()| fields);
+    is(&rt, answer, refused(Kind::MapsInvalid, 248));
+    Ok(())
+}
+
 // An earlier rule is told before a later one, and a file's length matters.
 #[test]
 fn lengths_of_a_file(rt: HostRuntime) -> Result<(), Fail> {

@@ -4,7 +4,7 @@ use crate::told::{holds, holds_at, is, is_at};
 use pst_bytes::Image;
 use pst_fault::{Fault, Kind, Place};
 use pst_header::{Bref, Header, read_header};
-use pst_make::{Change, m0, set};
+use pst_make::{Change, change_all, m0, set};
 use pst_page::*;
 use std::alloc::Global;
 use std::process::Abort;
@@ -186,6 +186,39 @@ fn trailers_that_are_wrong(rt: HostRuntime) -> Result<(), Fail> {
     is_refused(&rt, &image, NBT, PageKind::Bbt, Kind::PageTrailer);
     let other = Bref { bid: 6, ..NBT };
     is_refused(&rt, &image, other, PageKind::Nbt, Kind::PageTrailer);
+    Ok(())
+}
+
+// What decoding the page of nodes answers, and the count of decoded pages then, which was 7; and its shape alone.
+fn decoded(image: &[u8]) -> Result<(Option<Fault>, u64, Option<Fault>), Fail> {
+    let image = Image::new(image);
+    if image.len() < NBT.ib + 512 {
+        return Err(Fail::from("no page"));
+    }
+    let mut pages = 7;
+    let fault = decode_page(image, NBT, PageKind::Nbt, &mut pages).err();
+    Ok((fault, pages, check_shape(image, NBT, PageKind::Nbt).err()))
+}
+
+// A page is counted whatever the answer is, and its shape is looked at whatever its trailer says.
+#[test]
+fn a_page_is_decoded_and_counted(rt: HostRuntime) -> Result<(), Fail> {
+    let trailer = Some(fault_of(Kind::PageTrailer, NBT));
+    let shape = Some(fault_of(Kind::PageShape, NBT));
+    let rows: [(&[Change], _); 4] = [
+        (&[], (None, 8, None)),
+        (&[Change::Flip(0x49f4)], (trailer, 8, None)),
+        (&[Change::Set(0x49ea, &[31])], (trailer, 8, shape)),
+        (
+            &[Change::Set(0x49ea, &[31]), Change::Page(0x4800)],
+            (shape, 8, shape),
+        ),
+    ];
+    for (changes, wanted) in rows {
+        let mut image = m0(rt.alloc())?;
+        change_all(&mut image, changes)?;
+        is(&rt, decoded(&image)?, wanted);
+    }
     Ok(())
 }
 

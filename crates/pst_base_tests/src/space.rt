@@ -39,7 +39,12 @@ fn claim(claims: &mut Claims, at: u64, len: u64) -> Result<Result<(), Fault>, Fa
     {
         return Err(Fail::from("no whole units"));
     }
-    Ok(claims.claim(Span { at, len }))
+    let free = claims.is_free(Span { at, len });
+    let answer = claims.claim(Span { at, len });
+    if free != answer.is_ok() {
+        return Err(Fail::from("free, and refused, or not free, and claimed"));
+    }
+    Ok(answer)
 }
 
 // Allocation maps take the first 8 of every 3,968 units, and a page map the next 8 in every eighth region.

@@ -2,13 +2,13 @@
 use Rattle.std.specs.Prelude.{ℕ}
 use Rattle.pst_bytes.specs.declared.Image.{Image}
 use Rattle.pst_bytes.specs.Image.{bytes_of}
-use Rattle.pst_btree.specs.Trees.{block_entries}
 use Rattle.pst_block.specs.declared.blocks.Blocks.{Blocks}
+use Rattle.pst_block.specs.Source.{entries_in}
 use Rattle.pst_block.specs.Table.{Table}
 
 -- the table that they are
 abbrev pub table_of : Blocks → Table
-table_of b = record { image = bytes_of b.image; entries = block_entries b.tree }
+table_of b = record { image = bytes_of b.image; entries = entries_in b.source }
 
 -- where the mapped part ends, in which they lie
 abbrev pub mapped_end : Blocks → ℕ

@@ -4,3 +4,4 @@ pub mod Good
 pub mod Walk
 pub mod Table
 pub mod Blocks
+pub mod Source

@@ -14,6 +14,7 @@ ghost use Rattle.pst_block.specs.Walk.{block_step, blocks_walk, block_spans, Are
 
 use crate::blocks::Blocks;
 use crate::read::{block_place, check_trailer};
+use crate::source::Source;
 use pst_btree::BlockTree;
 use pst_bytes::{Image, Span};
 use pst_fault::{Fault, Kind};
@@ -78,7 +79,7 @@ fn check_each(
 }
 
 /// The blocks of a file, as `check_blocks` says, and how many were check-summed: each once.
-#[tactic(auto, using(pst_header::proofs::Head::head_end, crate::proofs::WalkLaws::walked_no_fault))]
+#[tactic(auto, using(pst_header::proofs::Head::head_end, crate::proofs::WalkLaws::walked_no_fault), unfolding(crate::specs::Source::entries_in))]
 pub fn sum_blocks<'a>(
     image: Image<'a>,
     header: &Header,
@@ -108,7 +109,8 @@ pub fn sum_blocks<'a>(
 {
     let sums = check_each(image, header, entries, claims)?;
     let end = header.end();
-    Ok((Blocks { image, tree, end }, sums))
+    let source = Source::Tree(tree);
+    Ok((Blocks { image, source, end }, sums))
 }
 
 /// The blocks of a file whose header is this one, all checked. The tree is the file's block B-tree and the entries are

@@ -29,9 +29,11 @@ pub struct Block<'a> {
     pub body: &'a [u8],
 }
 
-/// The span of a block, or BlockPlace.
+/// The span of the block of an entry, or BlockPlace, where its body has over 8,176 bytes, or it does not lie in the mapped
+/// part of the file, which begins at `FIRST_AMAP` and ends at `header.end()`, on a multiple of `UNIT` ([MS-PST] 2.2.2.8). The
+/// block is not read.
 #[tactic(auto, unfolding(crate::specs::Fault::block_place_fault, pst_header::specs::Place::is_place))]
-pub(crate) fn block_place(header: &Header, entry: BlockEntry) -> Result<Span, Fault>
+pub fn block_place(header: &Header, entry: BlockEntry) -> Result<Span, Fault>
     ensures exact { result ≡ answer (block_place_fault (end_of header.now) entry)
         (block_span entry) }
     ensures whole_units { OnOk result (entry.ib % UNIT ≡ 0) }
@@ -77,9 +79,10 @@ fn is_trailer(image: Image, entry: BlockEntry, at: u64, sums: &mut u64) -> bool
         && image.number32(at + 4) == sum
 }
 
-/// The trailer of a block in its place, or BlockTrailer; and the count of sums with the block's.
+/// The trailer of a block whose place is known to lie in the file: BlockTrailer, where its length, its identifier, its
+/// signature or its check value is wrong ([MS-PST] 2.2.2.8.1); and the count of sums with the block's.
 #[tactic(auto, unfolding(crate::specs::Fault::block_trailer_fault, crate::specs::Fault::has_block_trailer))]
-pub(crate) fn check_trailer(image: Image, entry: BlockEntry, sums: &mut u64) -> Result<(), Fault>
+pub fn check_trailer(image: Image, entry: BlockEntry, sums: &mut u64) -> Result<(), Fault>
     requires inside { entry.ib + size_of entry.cb ≤ length (bytes_of image) }
     requires room { sums.old + 1 < 2 ^ 64 }
     ensures exact { result ≡ answer (block_trailer_fault (bytes_of image.entry) entry) tt }

@@ -4,6 +4,7 @@ pub mod FindLemmas
 pub mod FoundLemmas
 pub mod FromLemmas
 pub mod InsideLemmas
+pub mod ListLemmas
 pub mod MarkedLemmas
 pub mod OrderLemmas
 pub mod RiseLemmas

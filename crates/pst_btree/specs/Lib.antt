@@ -1,6 +1,7 @@
 pub mod Entries
 pub mod Find
 pub mod Laws
+pub mod Lists
 pub mod Nodes
 pub mod Order
 pub mod Tree

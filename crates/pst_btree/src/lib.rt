@@ -20,6 +20,7 @@
 mod block_tree;
 mod descend;
 mod laws;
+mod lists;
 mod node_tree;
 mod nodes;
 mod order;
@@ -30,7 +31,9 @@ mod walks;
 
 pub use block_tree::BlockTree;
 pub use laws::{block_keys_rise, entries_are_maps, node_keys_rise, walk_decides};
+pub use lists::{BlockList, NodeList};
 pub use node_tree::NodeTree;
 pub use nodes::Nodes;
+pub use order::{bound_of, check_order};
 pub use pst_page::{BlockEntry, NodeEntry};
 pub use walks::{walk_blocks, walk_node_tree, walk_nodes};

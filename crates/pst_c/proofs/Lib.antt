@@ -1,2 +1,3 @@
+mod DamageLemmas
 pub mod DeclinedLemmas
 mod DecodedLemmas

@@ -1,16 +1,19 @@
 //! What is shown of the caller's bytes.
 
-ghost use Rattle.std.specs.Prelude.{◌≡◌, IfOk};
+ghost use Rattle.std.specs.Prelude.{◌≡◌, IfOk, true};
 ghost use Rattle.pst_ask.specs.Ask.{request_of, wanted_of};
 ghost use Rattle.pst_datatree.specs.Shown.{bytes_in};
-ghost use Rattle.pst_run.specs.Answer.{answer_to, answer_with, bytes_shown};
+ghost use Rattle.pst_plain.specs.Twin.{method_of as method_in};
+ghost use Rattle.pst_run.specs.Answer.{answer_to, answer_with, bytes_for, bytes_shown, decoded_damage as answer_decoded, is_decoded_damage as damage_wanted};
 ghost use Rattle.pst_c.specs.Answer.{Yields};
 
 use crate::decoded::decoded_if;
 use pst_ask::{Ask, Request};
+use pst_bytes::Image;
 use pst_datatree::Value;
 use pst_json::emit_value;
-use pst_run::{Refusal, Text, answer, digest_if};
+use pst_plain::method_of;
+use pst_run::{Refusal, Text, answer, decoded_damage, digest_if, is_decoded_damage};
 use std::alloc::{AllocError, Global};
 
 // The bytes of a value, in memory of their own.
@@ -48,6 +51,43 @@ fn shown_with<'p>(
     Ok((text, shown.fails))
 }
 
+// All that is broken of a file that may be encoded, and whether something is: of a copy, since the caller's bytes are only lent. A
+// file that is not encoded is not copied.
+#[tactic(auto, using(crate::proofs::DamageLemmas::plain_damage))]
+fn damage_of<'p>(
+    alloc: Global,
+    request: &'p Request,
+    digest: Option<[u8; 32]>,
+    bytes: &[u8],
+) -> Result<(Vec<u8>, bool), Refusal<'p>>
+    requires { damage_wanted (request_of request.now) ≡ true }
+    ensures { Yields result (answer_decoded (method_in bytes.now) digest bytes.now) }
+{
+    if method_of(Image::new(bytes)).is_none() {
+        return shown_with(alloc, &request.ask, digest, bytes);
+    }
+    let mut copy = Vec::from_slice(alloc, bytes)?;
+    let shown = decoded_damage(alloc, digest, &mut copy)?;
+    let text = text_of(alloc, shown.text)?;
+    Ok((text, shown.fails))
+}
+
+// What a command shows of these bytes with this digest, or of their plain twin, where they are to be decoded.
+fn twin_shown<'p>(
+    alloc: Global,
+    request: &'p Request,
+    digest: Option<[u8; 32]>,
+    bytes: &[u8],
+) -> Result<(Vec<u8>, bool), Refusal<'p>>
+    ensures { Yields result (answer_with (wanted_of request.now.ask) digest
+        (bytes_for request.now.decode bytes.now)) }
+{
+    match decoded_if(alloc, request.decode, bytes)? {
+        Some(twin) => shown_with(alloc, &request.ask, digest, &twin),
+        None => shown_with(alloc, &request.ask, digest, bytes),
+    }
+}
+
 /// What is asked for of these bytes, and whether the run fails all the same; or why they are refused. The digest is taken before
 /// anything is decoded.
 pub fn shown_of<'p>(
@@ -58,8 +98,8 @@ pub fn shown_of<'p>(
     ensures { Yields result (answer_to (request_of request.now) bytes.now) }
 {
     let digest = digest_if(&request.ask, bytes);
-    match decoded_if(alloc, request.decode, bytes)? {
-        Some(twin) => shown_with(alloc, &request.ask, digest, &twin),
-        None => shown_with(alloc, &request.ask, digest, bytes),
+    if is_decoded_damage(request) {
+        return damage_of(alloc, request, digest, bytes);
     }
+    twin_shown(alloc, request, digest, bytes)
 }

@@ -1,18 +1,17 @@
 //! The two encodings of the bodies of data blocks ([MS-PST] 5.1 and 5.2), in place.
 //!
-//! Begin with `Method::of`, which gives the method that bCryptMethod of a header says, and make it ready by `Codec::new`. Then
-//! `decode` decodes the body of a block, and `encode` encodes it. Neither can fail, changes how many bytes there are, or takes
-//! memory:
+//! Begin with `Method::of`, which gives the method that bCryptMethod of a header says, and make it ready by `Decoder::new`, which
+//! is told how many bytes the file has: it decodes two bytes at a time where that pays. Then `decode` decodes the body of a block.
+//! It cannot fail, changes how many bytes there are, or takes memory:
 //!
 //! ```
 //! if let Some(method) = Method::of(image[513]) {
-//!     let codec = Codec::new(alloc, method)?;
-//!     codec.decode(bid, &mut image[at..end]);
+//!     let decoder = Decoder::new(alloc, method, image.len())?;
+//!     decoder.decode(bid, &mut image[at..end]);
 //! }
 //! ```
 //!
-//! Whoever decodes many bodies makes a `Decoder` of the method, which decodes as the codec does, and two bytes at a time where
-//! that pays.
+//! A `Codec` decodes as the decoder does, a byte at a time, and encodes besides.
 #![tactic(auto)]
 
 mod codec;

@@ -7,7 +7,7 @@ use Rattle.pst_fault.specs.First.{answer}
 use Rattle.pst_fault.proofs.FirstLemmas.{none_then, both_none, holds_or_none, holds_or_true, answer_none, answer_ok}
 use Rattle.pst_header.specs.declared.header.Header.{Header}
 use Rattle.pst_header.specs.Header.{fields, header_fault, check_fault, root_fault, is_amap_place, is_last_amap, end_of}
-use Rattle.pst_header.specs.Head.{Head, IsLastMap, HeaderLaw}
+use Rattle.pst_header.specs.Head.{Head, IsLastMap, IsMapped, HeaderLaw}
 
 -- ---- the last allocation map
 
@@ -98,6 +98,10 @@ header_law I h = (
   λ (none, same). subst (Head I) (sym same) (good I none),
 )
 
+-- a good header says of the space of its file what lies there
+pub head_mapped : (I : List ℕ) (h : Header) → Head I h → IsMapped I h
+head_mapped I h g = record { eof_inside = g.eof_inside; last_map = g.last_map }
+
 -- ---- what is read
 
 pub found_if : (I : List ℕ) (r : Result Header Fault) → r ≡ answer (header_fault I) (fields I) → IfOk r (λ h. Head I h)
@@ -105,6 +109,10 @@ found_if I (Ok h) e =
     let p = answer_ok (header_fault I) (fields I) h (sym e) in
     subst (Head I) p.1 (good I p.0)
 found_if I (Err f) e = tt
+
+pub mapped_if : (I : List ℕ) (r : Result Header Fault) → r ≡ answer (header_fault I) (fields I) → IfOk r (λ h. IsMapped I h)
+mapped_if I (Ok h) e = head_mapped I h (found_if I (Ok h) e)
+mapped_if I (Err f) e = tt
 
 pub head_only : (I : List ℕ) (h : Header) → Head I h → answer (header_fault I) (fields I) ≡ Ok h
 head_only I h g =
@@ -114,3 +122,6 @@ head_only I h g =
 
 pub head_end : (I : List ℕ) (h : Header) → Head I h → end_of h ≤ length I
 head_end I h g = omega (arith, g.eof_inside)
+
+pub mapped_end : (I : List ℕ) (h : Header) → IsMapped I h → end_of h ≤ length I
+mapped_end I h m = omega (arith, m.eof_inside)

@@ -9,6 +9,11 @@ use Rattle.pst_header.specs.Header.{fields, header_fault, amap_place}
 abbrev pub IsLastMap : ℕ → ℕ → Type 0
 IsLastMap last eof = (k : ℕ) × (last ≡ amap_place k) × (last + 512 ≤ eof) × (k % 8 ≡ 0 → last + 1024 ≤ eof)
 
+-- What a header says of the space of its file lies in the file: its end, and the last allocation map before that.
+pub record IsMapped (I : List ℕ) (h : Header) : Type 0 where
+  pub eof_inside : h.eof ≤ length I
+  pub last_map : IsLastMap h.last_amap h.eof
+
 pub record Head (I : List ℕ) (h : Header) : Type 0 where
   -- the file has all bytes of the header
   pub long : 564 ≤ length I

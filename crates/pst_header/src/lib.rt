@@ -16,4 +16,4 @@ mod read;
 
 pub use header::{Bref, FIRST_AMAP, Header, REGION, UNIT};
 pub use laws::{header_decides, header_ends_inside};
-pub use read::read_header;
+pub use read::{check_fields, is_amap_place, is_last_amap, read_fields, read_header};

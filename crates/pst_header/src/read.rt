@@ -3,8 +3,8 @@
 ghost use Rattle.std.specs.Prelude.{◌≡◌, ◌≤◌, ◌+◌, length, IfOk, Ok};
 ghost use Rattle.pst_bytes.specs.Image.{bytes_of, bytes_at, IsInside};
 ghost use Rattle.pst_crc.specs.Crc.{crc};
-ghost use Rattle.pst_fault.specs.First.{answer};
-ghost use Rattle.pst_header.specs.Head.{Head};
+ghost use Rattle.pst_fault.specs.First.{answer, ◌then◌};
+ghost use Rattle.pst_header.specs.Head.{Head, IsMapped};
 ghost use Rattle.pst_header.specs.declared.header.Header.{Header};
 ghost use Rattle.pst_header.specs.Header.{bref_at, fields, header_fault, check_fault, root_fault, is_amap_place, is_last_amap};
 
@@ -36,8 +36,9 @@ fn read_bref(image: Image, at: u64) -> Bref
     }
 }
 
+/// The fields of a header ([MS-PST] 2.2.2.6) as they stand in the file, which has all its bytes. Nothing is checked.
 #[tactic(auto, unfolding(crate::specs::Header::fields))]
-fn read_fields(image: Image) -> Header
+pub fn read_fields(image: Image) -> Header
     requires { 564 ≤ length (bytes_of image) }
     ensures { result ≡ fields (bytes_of image.entry) }
 {
@@ -68,13 +69,17 @@ fn check_values(image: Image) -> Result<(), Fault>
     Ok(())
 }
 
-fn is_amap_place(at: u64) -> bool
+/// Whether an allocation map may stand at an offset: the first one stands at `FIRST_AMAP`, the others each `REGION` behind
+/// the one before ([MS-PST] 2.2.2.7.2).
+pub fn is_amap_place(at: u64) -> bool
     ensures { result ≡ is_amap_place at }
 {
     at >= FIRST_AMAP && (at - FIRST_AMAP).is_multiple_of(REGION)
 }
 
-fn is_last_amap(last: u64, eof: u64) -> bool
+/// Whether the allocation map at an offset lies before the end of a file, and so does the page map behind it, which the
+/// first and each eighth one has ([MS-PST] 2.2.2.7.2 and 2.2.2.7.3).
+pub fn is_last_amap(last: u64, eof: u64) -> bool
     ensures { result ≡ is_last_amap last eof }
 {
     let has_pmap = last.saturating_sub(FIRST_AMAP) / REGION % 8 == 0;
@@ -102,6 +107,17 @@ fn check_root(image: Image) -> Result<(), Fault>
     Ok(())
 }
 
+/// The check values of a header and its ROOT structure ([MS-PST] 2.2.2.6 and 2.2.2.5), whatever stands before them: the
+/// first fault, of the kinds HeaderCheck, Root and MapsInvalid, as `read_header` says.
+pub fn check_fields(image: Image) -> Result<(), Fault>
+    requires { 564 ≤ length (bytes_of image) }
+    ensures { result ≡ answer (check_fault (bytes_of image.entry) then root_fault
+        (bytes_of image.entry)) tt }
+{
+    check_values(image)?;
+    check_root(image)
+}
+
 // The header, or its first fault.
 #[tactic(auto, unfolding(crate::specs::Header::header_fault))]
 fn checked(image: Image) -> Result<Header, Fault>
@@ -125,8 +141,7 @@ fn checked(image: Image) -> Result<Header, Fault>
     if method != 0 {
         return Err(Fault::at(Kind::Encoded(method), 513));
     }
-    check_values(image)?;
-    check_root(image)?;
+    check_fields(image)?;
     Ok(read_fields(image))
 }
 
@@ -138,6 +153,7 @@ fn checked(image: Image) -> Result<Header, Fault>
 pub fn read_header(image: Image) -> Result<Header, Fault>
     // What is read is a good header of the file.
     ensures found { IfOk result (λ h. Head (bytes_of image.entry) h) }
+    ensures mapped { IfOk result (λ h. IsMapped (bytes_of image.entry) h) }
 
     // A good header is read.
     ensures only { (h : Header) → Head (bytes_of image.entry) h → result ≡ Ok h }

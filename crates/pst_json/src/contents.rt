@@ -1,6 +1,6 @@
 //! The messages of a folder as a document.
 
-ghost use Rattle.std.specs.Prelude.{◌≡◌, ◌++◌, Ok, Err, IfOk, OnOk, IfErr, IfSome, option_map};
+ghost use Rattle.std.specs.Prelude.{◌≡◌, ◌++◌, Ok, Err, IfOk, OnErr, OnOk, IfErr, IfSome, option_map};
 ghost use Rattle.serde_json.specs.View.{view};
 ghost use Rattle.serde_json.specs.Written.{compact_text};
 ghost use Rattle.pst_block.specs.Table.{Table};
@@ -16,6 +16,7 @@ ghost use Rattle.pst_verify.specs.pst_store.View.{ndb_of_store};
 ghost use Rattle.pst_json.specs.declared.fault.DocFault.TheVariants.{NoFolder};
 ghost use Rattle.pst_json.specs.Contents.{text_there, listed_data, listed_rows, contents_data, contents_of, contents_line as line_of_contents};
 ghost use Rattle.pst_json.specs.Told.{TellsDoc};
+ghost use Rattle.pst_value_json.specs.Kept.{BeginsWith};
 
 use crate::fault::DocFault;
 use crate::texts::{CLASS, SENDER, SUBJECT, put_text_property, text_property_doc};
@@ -73,9 +74,10 @@ fn put_text_of(
     id: u16,
     text: &mut Vec<u8>,
 ) -> Result<(), AllocError>
-    ensures { (t : Table) → IfSome pc.now (λ p. table_of_node (node_of_pc p) ≡ t)
+    ensures put { (t : Table) → IfSome pc.now (λ p. table_of_node (node_of_pc p) ≡ t)
         → OnOk result (text.new.items ≡ text.old.items
         ++ compact_text (text_there t (option_map (λ p. roots_of (node_of_pc p)) pc.now) id)) }
+    ensures kept { OnErr result (BeginsWith text.new.items text.old.items) }
 {
     match pc {
         Some(pc) => put_text_property(alloc, pc, id, text),
@@ -86,9 +88,10 @@ fn put_text_of(
 // Puts the message that a row names behind a text, as an object.
 #[tactic(auto, unfolding(crate::specs::Contents::listed_data))]
 fn put_listed(alloc: Global, store: &Store, row: Row, text: &mut Vec<u8>) -> Result<(), AllocError>
-    ensures { let ndb = ndb_of_store store.now in
+    ensures put { let ndb = ndb_of_store store.now in
         let shown = listed_data (table_of_ndb ndb) (nodes_of ndb) (row_parts row.entry) in
         OnOk result (text.new.items ≡ text.old.items ++ compact_text shown) }
+    ensures kept { OnErr result (BeginsWith text.new.items text.old.items) }
 {
     let pc = properties_of(store.message(row.id()));
     text.extend_from_slice(b"{\"class\":")?;

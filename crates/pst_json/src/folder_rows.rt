@@ -123,7 +123,7 @@ impl Rows for FolderRows<'_> {
         }
     }
 
-    // A folder goes to the text member by member, without a tree.
+    // A folder goes to the text member by member, without a tree. Room is taken for all before the first.
     fn put_next(
         &mut self,
         alloc: Global,
@@ -134,12 +134,11 @@ impl Rows for FolderRows<'_> {
         let Some(folder) = self.next_folder() else {
             return Ok(false);
         };
+        if !later {
+            text.reserve(ROOM.saturating_mul(self.verified.report.folders as usize))?;
+        }
         put_comma(later, text)?;
         put_folder(alloc, folder, &self.verified.report.reached, text)?;
         Ok(true)
-    }
-
-    fn room(&self) -> usize {
-        ROOM.saturating_mul(self.verified.report.folders as usize)
     }
 }

@@ -1,6 +1,6 @@
 //! The folders of a store as a document.
 
-ghost use Rattle.std.specs.Prelude.{◌≡◌, ◌++◌, None, IfOk, OnOk, IfSome, length, map, option_map};
+ghost use Rattle.std.specs.Prelude.{◌≡◌, ◌++◌, None, IfOk, OnErr, OnOk, IfSome, length, map, option_map};
 ghost use Rattle.serde_json.specs.View.{view};
 ghost use Rattle.serde_json.specs.Written.{compact_text};
 ghost use Rattle.pst_block.specs.Table.{Table};
@@ -13,6 +13,7 @@ ghost use Rattle.pst_verify.specs.pst_msg.View.{tc_roots, ndb_of_folder, folder_
 ghost use Rattle.pst_verify.specs.pst_reach.Path.{reach_nid, path_in};
 ghost use Rattle.pst_verify.specs.pst_store.View.{ndb_of_store};
 ghost use Rattle.pst_json.specs.Folders.{row_nid, path_data, folder_data, folders_data, folders_line as line_of_folders};
+ghost use Rattle.pst_value_json.specs.Kept.{BeginsWith};
 ghost use Rattle.pst_value_json.specs.Names.{nid_data};
 ghost use Rattle.pst_value_json.specs.Parts.{list_data};
 
@@ -120,8 +121,9 @@ fn put_path(
     text: &mut Vec<u8>,
 ) -> Result<(), AllocError>
     requires rise { Rises 0 None (map reach_nid reached.now) }
-    ensures { OnOk result (text.new.items
+    ensures put { OnOk result (text.new.items
         ≡ text.old.items ++ compact_text (path_data (path_in reached.now nid))) }
+    ensures kept { OnErr result (BeginsWith text.new.items text.old.items) }
 {
     match path_from_root(alloc, reached, nid)? {
         Some(path) => put_nid_list(&path, text),
@@ -138,9 +140,10 @@ pub(crate) fn put_folder(
     text: &mut Vec<u8>,
 ) -> Result<(), AllocError>
     requires rise { Rises 0 None (map reach_nid reached.now) }
-    ensures { let ndb = ndb_of_folder folder.entry in let t = table_of_ndb ndb in
+    ensures put { let ndb = ndb_of_folder folder.entry in let t = table_of_ndb ndb in
         let shown = folder_data t (nodes_of ndb) reached.now (folder_roots folder.entry) in
         OnOk result (text.new.items ≡ text.old.items ++ compact_text shown) }
+    ensures kept { OnErr result (BeginsWith text.new.items text.old.items) }
 {
     folder.is_sound();
     text.extend_from_slice(b"{\"associated\":")?;

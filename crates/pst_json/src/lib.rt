@@ -1,11 +1,11 @@
 //! The documents of a store, as JSON.
 //!
 //! Each is made once, of its parts, and has two calls: one gives it as a tree of JSON, the other its line, the compact text of
-//! that tree and a line feed, made row by row. Begin with `nodes_doc` and `nodes_line`; `emit` writes a text. `property_at` lends one
-//! property, whose value `emit_value` writes from the file's own memory:
+//! that tree and a line feed, made row by row. Begin with `nodes_line`, whose tree is `nodes_doc`; `emit` writes a text.
+//! `property_at` lends one property, whose value `emit_value` writes from the file's own memory:
 //!
 //! ```text
-//! let line = folders_line(alloc, &verified)?;
+//! let line = nodes_line(alloc, &nodes)?;
 //! emit(&line, &mut out)?;
 //! ```
 #![tactic(auto)]

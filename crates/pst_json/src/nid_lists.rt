@@ -1,9 +1,10 @@
 //! Lists of identifiers, put straight behind a text.
 
-ghost use Rattle.std.specs.Prelude.{◌≡◌, ◌++◌, OnOk, IfSome, option_map};
+ghost use Rattle.std.specs.Prelude.{◌≡◌, ◌++◌, OnErr, OnOk, IfSome, option_map};
 ghost use Rattle.serde_json.specs.Written.{compact_text};
 ghost use Rattle.pst_block.specs.Table.{Table};
 ghost use Rattle.pst_ndb.specs.Views.{table_of_node, roots_of};
+ghost use Rattle.pst_value_json.specs.Kept.{BeginsWith};
 ghost use Rattle.pst_value_json.specs.Names.{nid_data};
 ghost use Rattle.pst_value_json.specs.Parts.{list_data};
 ghost use Rattle.pst_value_json.specs.pst_tc.Tc.{node_of_tc};
@@ -17,8 +18,9 @@ use std::alloc::AllocError;
 
 /// Puts identifiers behind a text, as a list.
 pub(crate) fn put_nid_list(nids: &[u32], text: &mut Vec<u8>) -> Result<(), AllocError>
-    ensures { OnOk result (text.new.items
+    ensures put { OnOk result (text.new.items
         ≡ text.old.items ++ compact_text (list_data nid_data nids.now)) }
+    ensures kept { OnErr result (BeginsWith text.new.items text.old.items) }
 {
     text.push(b'[')?;
     let mut later = false;
@@ -33,9 +35,10 @@ pub(crate) fn put_nid_list(nids: &[u32], text: &mut Vec<u8>) -> Result<(), Alloc
 
 // Puts the identifiers of the rows of a table behind a text, as a list.
 fn put_row_nids(tc: &Tc, text: &mut Vec<u8>) -> Result<(), AllocError>
-    ensures { let node = node_of_tc tc.now in
+    ensures put { let node = node_of_tc tc.now in
         let rows = tc_rows (table_of_node node) (roots_of node) in
         OnOk result (text.new.items ≡ text.old.items ++ compact_text (list_data row_nid rows)) }
+    ensures kept { OnErr result (BeginsWith text.new.items text.old.items) }
 {
     text.push(b'[')?;
     let mut later = false;
@@ -50,9 +53,10 @@ fn put_row_nids(tc: &Tc, text: &mut Vec<u8>) -> Result<(), AllocError>
 
 /// Puts the identifiers of the rows of a table behind a text, of no rows where it is not there.
 pub(crate) fn put_nids_of(table: &Option<Tc>, text: &mut Vec<u8>) -> Result<(), AllocError>
-    ensures { (t : Table) → IfSome table.now (λ x. table_of_node (node_of_tc x) ≡ t)
+    ensures put { (t : Table) → IfSome table.now (λ x. table_of_node (node_of_tc x) ≡ t)
         → OnOk result (text.new.items ≡ text.old.items
         ++ compact_text (list_data row_nid (rows_there t (option_map tc_roots table.now)))) }
+    ensures kept { OnErr result (BeginsWith text.new.items text.old.items) }
 {
     match table {
         Some(tc) => put_row_nids(tc, text),

@@ -1,10 +1,11 @@
 //! The nodes of a file as a document.
 
-ghost use Rattle.std.specs.Prelude.{◌≡◌, ◌++◌, IfOk, OnOk};
+ghost use Rattle.std.specs.Prelude.{◌≡◌, ◌++◌, IfOk, OnErr, OnOk};
 ghost use Rattle.serde_json.specs.View.{view};
 ghost use Rattle.serde_json.specs.Written.{compact_text};
 ghost use Rattle.pst_btree.specs.Trees.{node_entries};
 ghost use Rattle.pst_json.specs.Nodes.{node_data, node_rows, nodes_data, nodes_line as line_of_nodes};
+ghost use Rattle.pst_value_json.specs.Kept.{BeginsWith};
 
 use pst_btree::{NodeEntry, NodeTree, Nodes};
 use pst_value_json::{Line, Part, Rows, Sink, Tree, nid_text, put_comma, put_natural, put_nid};
@@ -26,7 +27,8 @@ fn node_doc(alloc: Global, entry: &NodeEntry) -> Result<Doc, AllocError>
 // Puts a node behind a text, as an object.
 #[tactic(auto, unfolding(crate::specs::Nodes::node_data))]
 fn put_node(entry: &NodeEntry, text: &mut Vec<u8>) -> Result<(), AllocError>
-    ensures { OnOk result (text.new.items ≡ text.old.items ++ compact_text (node_data entry.now)) }
+    ensures put { OnOk result (text.new.items ≡ text.old.items ++ compact_text (node_data entry.now)) }
+    ensures kept { OnErr result (BeginsWith text.new.items text.old.items) }
 {
     text.extend_from_slice(b"{\"data_bid\":")?;
     put_natural(entry.bid_data, text)?;

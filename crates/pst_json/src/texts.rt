@@ -1,11 +1,12 @@
 //! The texts among the properties of folders and messages.
 
-ghost use Rattle.std.specs.Prelude.{◌≡◌, ◌++◌, IfOk, OnOk};
+ghost use Rattle.std.specs.Prelude.{◌≡◌, ◌++◌, IfOk, OnErr, OnOk};
 ghost use Rattle.serde_json.specs.View.{view};
 ghost use Rattle.serde_json.specs.Written.{compact_text};
 ghost use Rattle.pst_ndb.specs.Views.{table_of_node, roots_of};
 ghost use Rattle.pst_value_json.specs.pst_pc.View.{node_of_pc};
 ghost use Rattle.pst_json.specs.Folders.{text_property};
+ghost use Rattle.pst_value_json.specs.Kept.{BeginsWith};
 
 use pst_value_json::{Pc, PropType, put_null, put_text, text_doc};
 use serde_json::Value as Doc;
@@ -46,9 +47,10 @@ pub(crate) fn put_text_property(
     id: u16,
     text: &mut Vec<u8>,
 ) -> Result<(), AllocError>
-    ensures { let node = node_of_pc pc.now in
+    ensures put { let node = node_of_pc pc.now in
         let shown = text_property (table_of_node node) (roots_of node) id in
         OnOk result (text.new.items ≡ text.old.items ++ compact_text shown) }
+    ensures kept { OnErr result (BeginsWith text.new.items text.old.items) }
 {
     match pc.get(id) {
         Some(prop) if prop.kind == TEXT => put_text(alloc, prop.value, text),

@@ -9,6 +9,17 @@ use Rattle.pst_msg.specs.Growth.{Grows}
 
 -- ---- steps one after another
 
+pub grows_same : (t : Table) (H : List NodeEntry → Type 0) (a : Known) → Grows t H a a
+grows_same t H a = record {
+  contexts = λ q is. is;
+  messages = λ q is. is;
+  attachments = λ q is. is;
+  lists = λ q is. is;
+  risen = omega arith;
+  counted = λ start is. is;
+  named = λ nodes held are. are;
+}
+
 pub grows_then : (t : Table) (H : List NodeEntry → Type 0) (a b c : Known) → Grows t H a b → Grows t H b c → Grows t H a c
 grows_then t H a b c g h = record {
   contexts = λ q is. h.contexts q (g.contexts q is);

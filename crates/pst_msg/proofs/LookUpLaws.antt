@@ -111,6 +111,7 @@ own_message m =
       message = is_message n m.sound;
       pc = properties_of (image_of_node n) (table_of_node n) n (refl, refl);
       recipients = λ found is. (is.0, table_found (image_of_node n) (table_of_node n) found is.1 is.2);
+      attachment_table = λ found is. (is.0, table_found (image_of_node n) (table_of_node n) found is.1 is.2);
       attachments = λ all is. is;
       next = λ old new taken own is. (
         is.0,

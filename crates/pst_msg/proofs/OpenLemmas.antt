@@ -134,6 +134,11 @@ attachment_known t k node same known is =
         ∙ message_limit t (LISTS - 1) LISTS m.0 below.sound (subnode_sound t LISTS o.nid (roots_of node) m.0 all m.1)
         ∙ known.messages m.0 m.2 (subnode_sound t LISTS o.nid (roots_of node) m.0 all m.1)
 
+-- what is refused of the message that an object names is refused of the object
+pub object_refused : (t u : Table) (limit : ℕ) (r : Roots) (o : Object) (s : Roots) (e : Fault) → u ≡ t → 0 < limit → Some s ≡ subnode_of t r o.nid → IsFirst (message_at u (limit - 1) s) e → IsFirst (embedded_fault t (below_attachment t limit) r o) e
+unfolding embedded_fault
+object_refused t u limit r o s e same some found is = rw (← found, below_attachment_is t limit s some, ← same) is
+
 -- the message that an object names is put on the stack
 pub object_opened : (t u : Table) (k : Known) (a sub : Node) (limit : ℕ) (o : Object) (f : Frame) → u ≡ t → 0 < limit → Some (roots_of sub) ≡ subnode_of t (roots_of a) o.nid → IsOpened u k (roots_of sub) (limit - 1) (Some a) f → IsObjectOpened t k a limit o f
 object_opened t u k a sub limit o f same some found of_u =

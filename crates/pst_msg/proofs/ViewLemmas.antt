@@ -3,7 +3,7 @@ use Rattle.std.proofs.Common.{◌≡◌, ℕ, Bool, true, false, List, [], ◌�
 use Rattle.std.specs.Prelude.{option_map}
 use Rattle.pst_fault.specs.declared.fault.Fault.{Fault}
 use Rattle.pst_fault.specs.Each.{first_of}
-use Rattle.pst_fault.proofs.EachLemmas.{of_none, each_first}
+use Rattle.pst_fault.proofs.EachLemmas.{of_none, each_first, each_rest}
 use Rattle.pst_fault.proofs.FirstLemmas.{none_then}
 use Rattle.pst_block.specs.Table.{Table}
 use Rattle.pst_btree.specs.Entries.{first_with}
@@ -145,6 +145,9 @@ object_sound node s o none embeds is same =
 
 next_row : (node : Node) (old : Option Rows) (rows new : Rows) (row : Row) → NameAttachments (table_of_node node) (roots_of node) (rows_of_rest old) → old ≡ Some rows → tc_rows_left rows ≡ row_parts row ∷ tc_rows_left new → attachment_row_fault (table_of_node node) (attachment_fault (table_of_node node)) (roots_of node) 0 (row_parts row) ≡ None
 next_row node old rows new row sound is step = each_first (attachment_row_fault (table_of_node node) (attachment_fault (table_of_node node)) (roots_of node) 0) (tc_rows_left rows) (tc_rows_left new) (row_parts row) (rw is at sound) step
+
+pub next_left : (node : Node) (old : Option Rows) (rows new : Rows) (row : Row) → NameAttachments (table_of_node node) (roots_of node) (rows_of_rest old) → old ≡ Some rows → tc_rows_left rows ≡ row_parts row ∷ tc_rows_left new → NameAttachments (table_of_node node) (roots_of node) (tc_rows_left new)
+next_left node old rows new row sound is step = each_rest (attachment_row_fault (table_of_node node) (attachment_fault (table_of_node node)) (roots_of node) 0) (tc_rows_left rows) (tc_rows_left new) (row_parts row) (rw is at sound) step
 
 pub next_there : (node : Node) (old : Option Rows) (rows new : Rows) (row : Row) (nid : ℕ) → NameAttachments (table_of_node node) (roots_of node) (rows_of_rest old) → old ≡ Some rows → tc_rows_left rows ≡ row_parts row ∷ tc_rows_left new → nid ≡ (row_parts row).id → None ≡ subnode_of (table_of_node node) (roots_of node) nid → ⊥
 next_there node old rows new row nid sound is step own missing = row_there (table_of_node node) (attachment_fault (table_of_node node)) (roots_of node) 0 (row_parts row) (next_row node old rows new row sound is step) (rw own at missing)

@@ -1,6 +1,6 @@
 -- What contexts that were found without fault asked of their lists of subnodes: only what is true is known. So a context that is
 -- passed over by another list has no fault by that one either.
-use Rattle.std.specs.Prelude.{◌≡◌, ℕ, true, Some, None}
+use Rattle.std.specs.Prelude.{◌≡◌, true, Some, None}
 use Rattle.std.specs.BTreeMap.{get}
 use Rattle.pst_block.specs.Block.{bid_key}
 use Rattle.pst_block.specs.Table.{Table}

@@ -10,6 +10,7 @@ pub mod ListIndex
 pub mod Indexes
 pub mod Asked
 pub mod Known
+pub mod Checker
 pub mod Counts
 pub mod Growth
 pub mod NodeLaw

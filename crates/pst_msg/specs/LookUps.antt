@@ -25,7 +25,7 @@ use Rattle.pst_msg.specs.declared.folder_view.Folder.{Folder}
 use Rattle.pst_msg.specs.declared.items.Items.{Items}
 use Rattle.pst_msg.specs.declared.items.Items.TheVariants.{Subfolders, Messages, Associated}
 use Rattle.pst_msg.specs.declared.message_view.Message.{Message}
-use Rattle.pst_msg.specs.declared.nid.TheConstants.{RECIPIENTS}
+use Rattle.pst_msg.specs.declared.nid.TheConstants.{RECIPIENTS, ATTACHMENTS}
 use Rattle.pst_msg.specs.Grammar.{IsMessage, IsAttachment}
 use Rattle.pst_msg.specs.NodeLaw.{IsAsTyped}
 use Rattle.pst_msg.specs.NodeLookUps.{IsNodeOf, NodeLookUps}
@@ -65,14 +65,21 @@ pub record FolderLookUps (file : Image) (t : Table) (nodes : List NodeEntry) (f 
   pub associated : (found : Option Tc) → GivesTable f Associated found →
       IsTableOf file t (folder_table nodes Associated (top_of (node_of_folder f))) found
 
--- ---- of a message: the clauses of `recipients`, `attachments` and `attachment`
+-- ---- of a message: the clauses of `recipients`, `attachment_table`, `attachments` and `attachment`
 
-abbrev pub GivesRecipients : Message → Option Tc → Type 0
-GivesRecipients m found =
+-- the table that is the subnode with an identifier
+abbrev pub GivesTableIn : Message → ℕ → Option Tc → Type 0
+GivesTableIn m nid found =
     let node = node_of_message m in
-    (option_map tc_roots found ≡ subnode_of (table_of_node node) (roots_of node) RECIPIENTS)
+    (option_map tc_roots found ≡ subnode_of (table_of_node node) (roots_of node) nid)
     × IfSome found (λ tc. table_of_node (node_of_tc tc) ≡ table_of_node node)
     × IfSome found (λ tc. image_of_node (node_of_tc tc) ≡ image_of_node node)
+
+abbrev pub GivesRecipients : Message → Option Tc → Type 0
+GivesRecipients m found = GivesTableIn m RECIPIENTS found
+
+abbrev pub GivesAttachmentTable : Message → Option Tc → Type 0
+GivesAttachmentTable m found = GivesTableIn m ATTACHMENTS found
 
 abbrev pub GivesAttachments : Message → Attachments → Type 0
 GivesAttachments m all =
@@ -97,6 +104,9 @@ pub record MessageLookUps (file : Image) (t : Table) (m : Message) : Type 0 wher
   -- `recipients`: the table of its recipients; None exactly where it has none
   pub recipients : (found : Option Tc) → GivesRecipients m found →
       IsTableOf file t (subnode_of t (message_roots m) RECIPIENTS) found
+  -- `attachment_table`: the table of its attachments; None exactly where it has none
+  pub attachment_table : (found : Option Tc) → GivesAttachmentTable m found →
+      IsTableOf file t (subnode_of t (message_roots m) ATTACHMENTS) found
   -- `attachments`: those that the rows of its attachment table name, in order; and each that the iterator yields
   pub attachments : (all : Attachments) → GivesAttachments m all →
       (attachments_left all ≡ map (row_shown t (message_roots m)) (attachment_rows t (message_roots m)))

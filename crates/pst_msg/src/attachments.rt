@@ -26,7 +26,6 @@ impl<'a> Iterator for Attachments<'a> {
 
     ghost remaining = { item_count attachments_left };
 
-    #[tactic(auto, using(pst_fault::proofs::EachLemmas::each_rest))]
     fn next(&mut self) -> Option<Attachment<'a>> {
         let Some(mut rest) = self.rest else {
             return None;

@@ -13,7 +13,7 @@ ghost use Rattle.pst_msg.specs.Counts.{Names, IsRaised};
 ghost use Rattle.pst_msg.specs.Fault.{required_fault, name_map_fault, typed_node_fault, messaging_fault};
 ghost use Rattle.pst_msg.specs.Grammar.{Contents};
 ghost use Rattle.pst_msg.specs.Growth.{Grows, PropertiesIn, NodeIn, AllIn};
-ghost use Rattle.pst_msg.specs.Known.{ListingsAreTrue, IsTrueOf};
+ghost use Rattle.pst_msg.specs.Known.{ContextIn, ListingsAreTrue, IsTrueOf};
 
 use crate::context::once;
 use crate::folder::check_folder;
@@ -50,8 +50,23 @@ fn check_required(ndb: &Ndb, nid: u32, known: &mut Known) -> Result<(), Fault>
     }
 }
 
-// The name map, where its node is there.
+/// Checks the name map of a node: its properties, then what they say.
 #[tactic(auto, unfolding(crate::specs::Fault::name_map_fault))]
+pub(crate) fn check_map(node: Node, known: &mut Known) -> Result<(), Fault>
+    requires { IsTrueOf (table_of_node node) known.old }
+    ensures known { IsTrueOf (table_of_node node.entry) known.new }
+    ensures grows { let t = table_of_node node.entry in
+        Grows t (λ nodes. Names t nodes Properties (roots_of node.entry)) known.old known.new }
+    ensures there { OnOk result (ContextIn known.new Properties (roots_of node.entry)) }
+    ensures exact { let t = table_of_node node.entry in
+        Tells result (name_map_fault t (roots_of node.entry)) tt }
+{
+    once(known, Role::Properties, node)?;
+    check_names(known.alloc, &known_pc(known.index.lend(node)))?;
+    Ok(())
+}
+
+// The name map, where its node is there.
 fn check_name_map(ndb: &Ndb, known: &mut Known) -> Result<(), Fault>
     requires { IsTrueOf (table_of_ndb ndb.now) known.old }
     ensures known { IsTrueOf (table_of_ndb ndb.now) known.new }
@@ -64,11 +79,7 @@ fn check_name_map(ndb: &Ndb, known: &mut Known) -> Result<(), Fault>
         Tells result (if_there (name_map_fault t) (node_in (nodes_of ndb.now) NAME_MAP)) tt }
 {
     match ndb.node(NAME_MAP) {
-        Some(node) => {
-            once(known, Role::Properties, node)?;
-            check_names(known.alloc, &known_pc(known.index.lend(node)))?;
-            Ok(())
-        }
+        Some(node) => check_map(node, known),
         None => Ok(()),
     }
 }
@@ -182,6 +193,7 @@ pub fn check_messaging(alloc: Global, ndb: &Ndb, work: &mut Work) -> Result<(), 
     let mut listings = Keys::new(alloc);
     let answer = check_all(ndb, &mut known, &mut listings);
     known.contexts.are_sorted();
+    ndb.is_sound();
     work.contexts = known.count;
     answer
 }

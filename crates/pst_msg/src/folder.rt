@@ -19,10 +19,10 @@ ghost use Rattle.pst_msg.specs.Known.{ContextIn, ListingsAreTrue, IsTrueOf};
 ghost use Rattle.pst_msg.specs.Values.{listing_of};
 
 use crate::context::once;
-use crate::items::{Items, may_list, type_of_items};
+use crate::items::{Items, listing_nid, may_list};
 use crate::keys::{Keys, key_of};
 use crate::known::Known;
-use crate::nid::{named, with_type};
+use crate::nid::named;
 use crate::role::{Role, role_number};
 use pst_fault::{Fault, Kind};
 use pst_ndb::{Ndb, Node};
@@ -47,7 +47,6 @@ fn check_item(ndb: &Ndb, items: Items, bid: u64, row: Row) -> Result<(), Fault>
 }
 
 // All its rows.
-#[tactic(auto, using(pst_fault::proofs::EachLemmas::each_next, pst_fault::proofs::EachLemmas::each_refused, pst_fault::proofs::EachLemmas::each_done))]
 fn check_items(ndb: &Ndb, items: Items, bid: u64, table: Tc) -> Result<(), Fault>
     ensures exact { let node = node_of_tc table.entry in
         let rows = tc_rows (table_of_node node) (roots_of node) in
@@ -123,7 +122,7 @@ fn check_table(
     ensures exact { let t = table_of_ndb ndb.now in
         Tells result (table_fault t (nodes_of ndb.now) items nid) tt }
 {
-    match ndb.node(with_type(nid, type_of_items(items))) {
+    match ndb.node(listing_nid(nid, items)) {
         Some(table) => {
             once(known, Role::Listed(items), table)?;
             check_rows(ndb, items, table, listings)

@@ -5,8 +5,8 @@ ghost use Rattle.pst_ndb.specs.Views.{image_of_node, image_of_ndb, table_of_node
 ghost use Rattle.pst_msg.specs.Fault.{typed_node_fault};
 ghost use Rattle.pst_msg.specs.Values.{is_folder};
 
-use crate::items::{Items, type_of_items};
-use crate::nid::{FOLDER, is_type, with_type};
+use crate::items::{Items, listing_nid};
+use crate::nid::{FOLDER, is_type};
 use pst_ndb::{Ndb, Node};
 use pst_pc::{Pc, known_pc};
 use pst_tc::{Tc, known_tc};
@@ -101,10 +101,7 @@ impl<'a> Folder<'a> {
         if !is_type(FOLDER, self.node.top()) {
             return None;
         }
-        match self
-            .ndb
-            .node(with_type(self.node.top(), type_of_items(items)))
-        {
+        match self.ndb.node(listing_nid(self.node.top(), items)) {
             Some(table) => Some(known_tc(table)),
             None => None,
         }

@@ -5,7 +5,7 @@ ghost use Rattle.pst_names.specs.LookUps.{GivesNameOf};
 ghost use Rattle.pst_tc.specs.LookUps.{GivesColumns, GivesRows, GivesRowCount, GivesRow, GivesCell};
 ghost use Rattle.pst_msg.specs.declared.items.Items.TheVariants.{Subfolders, Messages, Associated};
 ghost use Rattle.pst_msg.specs.NodeLookUps.{GivesBytes, GivesSub};
-ghost use Rattle.pst_msg.specs.LookUps.{GivesTable, GivesRecipients, GivesAttachments, GivesAttachment, GivesEmbedded};
+ghost use Rattle.pst_msg.specs.LookUps.{GivesTable, GivesRecipients, GivesAttachmentTable, GivesAttachments, GivesAttachment, GivesEmbedded};
 
 use crate::attachment_view::Attachment;
 use crate::attachments::Attachments;
@@ -66,19 +66,26 @@ pub fn folder_gives<'a>(folder: &Folder<'a>) -> (Option<Tc<'a>>, Option<Tc<'a>>,
     (folder.hierarchy(), folder.contents(), folder.associated())
 }
 
-/// What a message gives: the table of its recipients, its attachments, and the one with an identifier.
+/// What a message gives: the table of its recipients, its attachments, the one with an identifier, and the table of its attachments.
 pub fn message_gives<'a>(
     message: &Message<'a>,
     nid: u32,
-) -> (Option<Tc<'a>>, Attachments<'a>, Option<Attachment<'a>>)
+) -> (
+    Option<Tc<'a>>,
+    Attachments<'a>,
+    Option<Attachment<'a>>,
+    Option<Tc<'a>>,
+)
     ensures recipients { GivesRecipients message.now result.0 }
     ensures attachments { GivesAttachments message.now result.1 }
     ensures attachment { GivesAttachment message.now nid result.2 }
+    ensures attachment_table { GivesAttachmentTable message.now result.3 }
 {
     (
         message.recipients(),
         message.attachments(),
         message.attachment(nid),
+        message.attachment_table(),
     )
 }
 

@@ -1,6 +1,6 @@
 //! Indexes of the lists of subnodes of messages that are being gone through.
 
-ghost use Rattle.std.specs.Prelude.{◌≡◌, length};
+ghost use Rattle.std.specs.Prelude.{◌≡◌, ◌<◌, ◌↔◌, IsTrue, length};
 ghost use Rattle.pst_subnode.specs.List.{subs_of};
 ghost use Rattle.pst_ndb.specs.Counts.{capped};
 ghost use Rattle.pst_ndb.specs.Views.{table_of_node, sub_bid_of};
@@ -14,11 +14,9 @@ use std::alloc::Global;
 // So many entries stand in one SLBLOCK at most, and are looked through without an index.
 const FEW: u64 = 340;
 
-// Where fewer rows are left, the entries of the list are not even counted.
-const FEWER_ROWS: u32 = 2;
-
-// So many rows are looked up without an index, since to make one takes about as long as to go through the list so often.
-const FEW_ROWS: u32 = 200;
+// 200 rows are looked up without an index, since to make one takes about as long as to go through the list so often. It is asked for
+// at the second row, behind which so many are left.
+const FEW_ROWS: u32 = 198;
 
 /// An index of a list of subnodes, and how many entries the list has.
 #[derive(Drop)]
@@ -47,10 +45,26 @@ fn entries_of(node: Node) -> u64
     count
 }
 
-// Whether so many rows are left.
-fn are_left(rows: &Rows, wanted: u32) -> bool {
+// Whether the list of a node has more entries than one SLBLOCK may have. No more than these are looked at.
+fn is_long(node: Node) -> bool
+    ensures { let subs = subs_of (table_of_node node.entry) (sub_bid_of node.entry) in
+        IsTrue result ↔ (FEW < length subs) }
+{
+    let mut count = 0;
+    for sub in node.subs() {
+        let _nid = sub.nid;
+        if count == FEW {
+            return true;
+        }
+        count += 1;
+    }
+    false
+}
+
+// Whether so many rows are left that an index is worth its making.
+fn are_many(rows: &Rows) -> bool {
     let mut rest = *rows;
-    for _ in 0..wanted {
+    for _ in 0..FEW_ROWS {
         if rest.next().is_none() {
             return false;
         }
@@ -103,20 +117,18 @@ impl Indexes {
     }
 
     /// Makes the index of a node's list, where that is long and many rows are left to be looked up there; unless it is there
-    /// already. It is made at the expense of those of lists with fewer than twice as many entries: to make them again takes no
-    /// more than a few times what this one does.
+    /// already. The rows are looked at only where the list is long: behind the last one there may be leaves without rows, which
+    /// have to be passed to see that none is left. It is made at the expense of those of lists with fewer than twice as many
+    /// entries: to make them again takes no more than a few times what this one does.
     pub(crate) fn turn(&mut self, alloc: Global, node: Node, rows: &Rows) -> Result<(), Fault>
         requires { AreIndexes (table_of_node node) self.old }
         ensures index { AreIndexes (table_of_node node.entry) self.new }
         ensures memory { IfErr result (λ f. f ≡ no_memory) }
     {
-        if !are_left(rows, FEWER_ROWS) || self.of_list(node).is_some() {
+        if self.of_list(node).is_some() || !is_long(node) || !are_many(rows) {
             return Ok(());
         }
         let entries = entries_of(node);
-        if entries <= FEW || !are_left(rows, FEW_ROWS) {
-            return Ok(());
-        }
         self.give_way(entries);
         let index = ListIndex::of(alloc, node)?;
         self.held.push(HeldIndex { entries, index })?;

@@ -1,10 +1,13 @@
 //! What the tables of a folder list ([MS-PST] 2.4.4.4 to 2.4.4.6).
 
 ghost use Rattle.std.specs.Prelude.{◌≡◌, ◌<◌};
+ghost use Rattle.pst_msg.specs.Nid.{with_type};
 ghost use Rattle.pst_msg.specs.Values.{type_of_items, may_list};
 
 use crate::kinds::is_folder;
-use crate::nid::{ASSOCIATED, ASSOCIATED_CONTENTS, CONTENTS, HIERARCHY, MESSAGE, is_type};
+use crate::nid::{
+    ASSOCIATED, ASSOCIATED_CONTENTS, CONTENTS, HIERARCHY, MESSAGE, is_type, with_type,
+};
 
 /// What a table of a folder lists.
 #[derive(Clone, Copy, Debug, PartialEq, Eq)]
@@ -17,8 +20,8 @@ pub enum Items {
     Associated,
 }
 
-/// The type of the table that lists these.
-pub(crate) fn type_of_items(items: Items) -> u32
+// The type of the table that lists these.
+fn type_of_items(items: Items) -> u32
     ensures is { result ≡ type_of_items items }
     ensures small { result < 32 }
 {
@@ -29,8 +32,16 @@ pub(crate) fn type_of_items(items: Items) -> u32
     }
 }
 
-/// Whether it may list a node.
-pub(crate) fn may_list(items: Items, nid: u32) -> bool
+/// The identifier of the node that has the table of a folder, the node `nid`, which lists these: it is of the table's type, and
+/// has the folder's index. A file need not have that node.
+pub fn listing_nid(nid: u32, items: Items) -> u32
+    ensures { result ≡ with_type nid (type_of_items items) }
+{
+    with_type(nid, type_of_items(items))
+}
+
+/// Whether a table that lists these may list a node, by the type that its identifier says.
+pub fn may_list(items: Items, nid: u32) -> bool
     ensures { result ≡ may_list items nid }
 {
     match items {

@@ -14,12 +14,15 @@
 //!     for attachment in message.attachments() { .. }
 //! }
 //! ```
+//!
+//! `Checker` checks nodes one by one, for whoever goes on after a fault.
 #![tactic(auto)]
 
 mod asked;
 mod attachment_view;
 mod attachments;
 mod check;
+mod checker;
 mod context;
 mod folder;
 mod folder_view;
@@ -46,19 +49,20 @@ mod views;
 pub use attachment_view::Attachment;
 pub use attachments::Attachments;
 pub use check::check_messaging;
+pub use checker::Checker;
 pub use folder_view::Folder;
 pub use given::{
     attachment_gives, folder_gives, message_gives, names_gives, node_gives, pc_gives, row_gives,
     tc_gives,
 };
-pub use items::Items;
+pub use items::{Items, listing_nid, may_list};
 pub use kinds::{is_folder, is_message};
 pub use laws::{
     contents_decide, counts_agree, limits_agree, message_look_ups, messages_are_of_keys,
     messages_decide, named_are_contexts,
 };
 pub use message_view::Message;
-pub use nid::{ASSOCIATED, FOLDER, MESSAGE, ROOT, SEARCH_FOLDER, STORE, is_type};
+pub use nid::{ASSOCIATED, FOLDER, MESSAGE, ROOT, SEARCH_FOLDER, STORE, is_type, named};
 pub use object::Object;
 pub use pst_names::{NAME_MAP, Name, NameKind, NameMap, known_names};
 pub use pst_pc::{Pc, known_pc};

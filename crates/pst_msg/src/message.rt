@@ -39,19 +39,27 @@ fn finish(frame: &Frame, known: &mut Known) -> Result<(), Fault>
     }
 }
 
-// The index of a message's list is made, where many rows are left.
-fn turn_to(frame: &Frame, known: &mut Known) -> Result<(), Fault>
+// The index of a message's list is made, where many rows are left behind the one that is come to, and one was gone through: so of a
+// message with one row neither its rows nor its list are looked at for this.
+fn turn_to(frame: &Frame, gone: u32, known: &mut Known) -> Result<(), Fault>
     requires { IsTrueOf (table_of_node frame.now.node) known.old }
     ensures known { IsTrueOf (table_of_node frame.now.node) known.new }
     ensures grows { Grows (table_of_node frame.now.node) (λ nodes. Unit {0}) known.old known.new }
     ensures memory { IfErr result (λ f. f ≡ no_memory) }
 {
+    if gone != 1 {
+        return Ok(());
+    }
     known.indexes.turn(known.alloc, frame.node, &frame.rest)
 }
 
 // Goes on with a message: through its rows, up to one whose attachment embeds a message that has to be gone through first, which
-// is given; and after the last of them the message is remembered.
-fn go_on<'a>(frame: &mut Frame<'a>, known: &mut Known) -> Result<Option<Frame<'a>>, Fault>
+// is given; and after the last of them the message is remembered. `before` is 0 where none of its rows was gone through, else 1.
+fn go_on<'a>(
+    frame: &mut Frame<'a>,
+    before: u32,
+    known: &mut Known,
+) -> Result<Option<Frame<'a>>, Fault>
     requires known { IsTrueOf (table_of_node frame.old.node) known.old }
     requires frame { IsFrame (table_of_node frame.old.node) known.old None None frame.old }
     requires holder { HasHolder (table_of_node frame.old.node) known.old frame.old }
@@ -65,8 +73,10 @@ fn go_on<'a>(frame: &mut Frame<'a>, known: &mut Known) -> Result<Option<Frame<'a
     ensures open { let t = table_of_node frame.old.node in
         IfOk result (λ o. IfSome o (IsWentOn t known.new frame.old frame.new)) }
 {
-    turn_to(frame, known)?;
+    let mut gone = before;
     while let Some(row) = frame.rest.next() {
+        turn_to(frame, gone, known)?;
+        gone = gone.saturating_add(1);
         if let Some(above) = open_row(frame.node, frame.bid, row, frame.limit, known)? {
             return Ok(Some(above));
         }
@@ -91,17 +101,22 @@ pub(crate) fn check_message(node: Node, known: &mut Known) -> Result<(), Fault>
     };
     // The message that is gone on with; those on the stack wait for it.
     let mut last = first;
+    let mut gone = 0;
     let mut stack = Vec::new(known.alloc);
     loop {
-        match go_on(&mut last, known)? {
+        match go_on(&mut last, gone, known)? {
             Some(above) => {
                 stack.push(last)?;
                 last = above;
+                gone = 0;
             }
-            None => match stack.pop() {
-                Some(below) => last = below,
-                None => return Ok(()),
-            },
+            None => {
+                gone = 1;
+                match stack.pop() {
+                    Some(below) => last = below,
+                    None => return Ok(()),
+                }
+            }
         }
     }
 }

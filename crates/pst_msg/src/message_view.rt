@@ -112,6 +112,8 @@ impl<'a> Message<'a> {
             ≡ subnode_of (table_of_node node) (roots_of node) ATTACHMENTS }
         ensures table { IfSome result (λ x.
             table_of_node (node_of_tc x) ≡ table_of_node (node_of_message self.now)) }
+        ensures image { IfSome result (λ x.
+            image_of_node (node_of_tc x) ≡ image_of_node (node_of_message self.now)) }
     {
         match self.node.sub(ATTACHMENTS) {
             Some(table) => Some(known_tc(table)),

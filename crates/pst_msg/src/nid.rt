@@ -47,8 +47,11 @@ pub(crate) fn with_type(nid: u32, kind: u32) -> u32
     32 * (nid / 32) + kind
 }
 
-/// The fault of what names a node and lies at a place, in the context whose data has this block identifier.
-pub(crate) fn named(kind: Kind, at: u64, bid: u64, nid: u32) -> Fault
+/// The fault of what names a node, at that name: NodeMissing where there is no node with the identifier `nid`, NodeKind where it is
+/// of a type that does not belong there. `at` is the offset in the file, in bytes from its start, of the row or the value that
+/// names it, and `bid` the block identifier of the data of the context that this is in; both are 0 where the format itself names
+/// the node.
+pub fn named(kind: Kind, at: u64, bid: u64, nid: u32) -> Fault
     ensures { result ≡ named kind at bid nid }
 {
     Fault {

@@ -99,7 +99,7 @@ pub(crate) fn open_message<'a>(
 }
 
 // The message that an attachment embeds.
-#[tactic(auto, unfolding(crate::specs::Fault::embedded_fault), using(crate::proofs::SubnodeLemmas::found_limit, crate::proofs::SubnodeLemmas::found_sound, crate::proofs::MessageLemmas::below_attachment_is))]
+#[tactic(auto, unfolding(crate::specs::Fault::embedded_fault))]
 fn open_embedded<'a>(
     node: Node<'a>,
     object: Object,

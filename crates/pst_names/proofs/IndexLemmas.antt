@@ -1,5 +1,5 @@
 -- An index of entries, filled one by one.
-use Rattle.std.proofs.Common.{◌≡◌, ◌≢◌, ℕ, zero, suc, ◌+◌, ◌-◌, ◌*◌, ◌/◌, ◌<◌, ◌≤◌, Bool, true, false, cond, List, [], ◌∷◌, length, Option, Some, None, refl, sym, ap, ◌∙◌, arith}
+use Rattle.std.proofs.Common.{◌≡◌, ◌≢◌, ℕ, zero, suc, ◌+◌, ◌-◌, ◌*◌, ◌/◌, ◌<◌, ◌≤◌, Bool, true, false, cond, List, ◌∷◌, length, Option, Some, None, refl, sym, ap, ◌∙◌, arith}
 use Rattle.std.specs.Prelude.{nat_eq, is_some, option_map, if◌then◌else◌}
 use Rattle.std.specs.Option.{option_or}
 use Rattle.std.specs.Ordering.{nat_cmp}
@@ -16,7 +16,7 @@ use Rattle.pst_names.specs.declared.index.NameIndex.{NameIndex}
 use Rattle.pst_names.specs.declared.runs.Runs.{Runs}
 use Rattle.pst_names.specs.Entry.{Entry, entry_in, entry_bytes, entry_with, entries_from, prop_id}
 use Rattle.pst_names.specs.Index.{fields_in, noted, if_names, known_of, is_noted, HasNoted}
-use Rattle.pst_names.specs.Known.{IsRun, AreRunsTrue}
+use Rattle.pst_names.specs.Known.{AreRunsTrue}
 use Rattle.pst_names.specs.Behind.{IsBehind}
 use Rattle.pst_names.proofs.EntryLemmas.{entry_here}
 

@@ -15,15 +15,16 @@ abbrev pub GivesNameOf : NameMap → ℕ → Option Name → Type 0
 GivesNameOf m id found =
     let node = node_of_names m in
     (option_map name_parts found ≡ name_of (table_of_node node) (names_roots m) id)
-    × IfSome found (IsLent (image_of_node node) (table_of_node node) (names_roots m))
+    × IfSome found (IsLent (image_of_node node) (table_of_node node) (names_roots m) id)
 
 -- and what they are then
 pub record NameMapLookUps (file : Image) (t : Table) (r : Roots) (m : NameMap) : Type 0 where
   -- it is a name map by the grammar
   pub map : IsNameMap t r
-  -- `name`: what the property with an identifier is called, a string lent from the file; None exactly where no entry names it
+  -- `name`: what the property with an identifier is called, a string lent from where its entry says that it stands; None exactly
+  -- where no entry names it
   pub name : (id : ℕ) (found : Option Name) → GivesNameOf m id found →
-      (option_map name_parts found ≡ name_of t r id) × IfSome found (IsLent file t r)
+      (option_map name_parts found ≡ name_of t r id) × IfSome found (IsLent file t r id)
 
 -- so it is of every name map
 abbrev pub NameMapLookUpsLaw : Type 0

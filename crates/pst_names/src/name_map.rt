@@ -165,7 +165,7 @@ impl<'a> NameMap<'a> {
             let node = node_of_names self.now in
             kind_parts result ≡ name_kind (strings_of (table_of_node node) (roots_of node)) e }
         ensures lent { let node = node_of_names self.now in
-            IsKindLent (image_of_node node) (table_of_node node) (roots_of node) result }
+            IsKindLent (image_of_node node) (table_of_node node) (roots_of node) fields.id result }
     {
         if !fields.is_text() {
             return NameKind::Num(fields.id);
@@ -181,7 +181,7 @@ impl<'a> NameMap<'a> {
         ensures value { let node = node_of_names self.now in
             option_map name_parts result ≡ name_of (table_of_node node) (roots_of node) id }
         ensures lent { let node = node_of_names self.now in
-            IfSome result (IsLent (image_of_node node) (table_of_node node) (roots_of node)) }
+            IfSome result (IsLent (image_of_node node) (table_of_node node) (roots_of node) id) }
     {
         let Some(fields) = self.entry(id) else {
             return None;

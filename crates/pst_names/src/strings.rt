@@ -38,7 +38,8 @@ impl<'a> Strings<'a> {
     pub(crate) fn text(&self, at: u32) -> Value<'a>
         requires { HasText (string_bytes self.now) at }
         ensures bytes { bytes_in result ≡ text_at (string_bytes self.now) at }
-        ensures part { (to : ℕ) × IsPart (at + 4) to (strings_value self.now) result }
+        ensures part { let len = num (string_bytes self.now) at 4 in
+            IsPart (at + 4) (at + 4 + len) (strings_value self.now) result }
     {
         let _len = self.value.len();
         let start = u64::from(at) + 4;

@@ -5,7 +5,9 @@ pub mod Entries
 pub mod Fault
 pub mod Marks
 pub mod Node
+pub mod NodeTable
 pub mod Roots
+pub mod Source
 pub mod Space
 pub mod Views
 pub mod Known

@@ -4,15 +4,15 @@ use Rattle.std.specs.Iterator.{YieldsFirstBy}
 use Rattle.pst_bytes.specs.declared.Image.{Image}
 use Rattle.pst_header.specs.declared.header.Header.{Header}
 use Rattle.pst_page.specs.declared.entry.NodeEntry.{NodeEntry}
-use Rattle.pst_btree.specs.Trees.{node_entries}
-use Rattle.pst_btree.specs.Nodes.{nodes_left}
 use Rattle.pst_block.specs.Table.{Table}
 use Rattle.pst_block.specs.Blocks.{table_of, image_of}
 use Rattle.pst_ndb.specs.declared.ndb.Ndb.{Ndb}
 use Rattle.pst_ndb.specs.declared.node.Node.{Node}
 use Rattle.pst_ndb.specs.declared.nodes.Nodes.{Nodes}
 use Rattle.pst_ndb.specs.Node.{NodeParts, entry_parts}
+use Rattle.pst_ndb.specs.NodeTable.{image_of_nodes, table_of_nodes, entries_of_nodes}
 use Rattle.pst_ndb.specs.Roots.{Roots, all_roots}
+use Rattle.pst_ndb.specs.Source.{entries_left}
 use Rattle.pst_subnode.specs.declared.check.TheConstants.{LISTS}
 use Rattle.pst_subnode.specs.declared.index.SubIndex.{SubIndex}
 use Rattle.pst_subnode.specs.Index.{IsIndexOf}
@@ -22,16 +22,16 @@ use Rattle.pst_subnode.specs.Tree.{sub_height}
 -- ---- of a node database: the file, its header, its blocks, and the entries of its nodes
 
 abbrev pub image_of_ndb : Ndb → Image
-image_of_ndb ndb = image_of ndb.blocks
+image_of_ndb ndb = image_of_nodes ndb.nodes
 
 abbrev pub header_of : Ndb → Header
 header_of ndb = ndb.header
 
 abbrev pub table_of_ndb : Ndb → Table
-table_of_ndb ndb = table_of ndb.blocks
+table_of_ndb ndb = table_of_nodes ndb.nodes
 
 abbrev pub nodes_of : Ndb → List NodeEntry
-nodes_of ndb = node_entries ndb.nodes
+nodes_of ndb = entries_of_nodes ndb.nodes
 
 -- ---- of a node
 
@@ -72,7 +72,7 @@ IsIndexedBy node index = IsIndexOf index (subs_of (table_of_node node) (sub_bid_
 -- ---- the nodes that an iterator has left: of which file and blocks, and which
 
 abbrev pub parts_left : Nodes → List NodeParts
-parts_left nodes = map (entry_parts (image_of nodes.blocks) (table_of nodes.blocks)) (nodes_left nodes.rest)
+parts_left nodes = map (entry_parts (image_of nodes.blocks) (table_of nodes.blocks)) (entries_left nodes.rest)
 
 abbrev pub image_left : Nodes → Image
 image_left nodes = image_of nodes.blocks
@@ -81,7 +81,7 @@ abbrev pub table_left : Nodes → Table
 table_left nodes = table_of nodes.blocks
 
 abbrev pub roots_left : Nodes → List Roots
-roots_left nodes = all_roots (nodes_left nodes.rest)
+roots_left nodes = all_roots (entries_left nodes.rest)
 
 -- a node of the same file and blocks is taken, and those that are left are of them, too
 abbrev pub TakesNode : Nodes → Option Node → Nodes → Type 0

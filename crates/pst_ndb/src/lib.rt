@@ -20,7 +20,9 @@ mod check_nodes;
 mod laws;
 mod ndb;
 mod node;
+mod node_table;
 mod nodes;
+mod source;
 mod space;
 mod trees;
 
@@ -28,6 +30,7 @@ pub use check::{Checked, Work, check_ndb};
 pub use laws::{counts_agree, database_decides, listing_decides};
 pub use ndb::Ndb;
 pub use node::Node;
+pub use node_table::NodeTable;
 pub use nodes::Nodes;
 pub use pst_subnode::SubIndex;
 pub use trees::read_nodes;

@@ -3,15 +3,15 @@
 ghost use Rattle.std.specs.Prelude.{◌≡◌, None};
 ghost use Rattle.pst_bytes.specs.Image.{bytes_of};
 ghost use Rattle.pst_header.specs.Header.{fields};
-ghost use Rattle.pst_btree.specs.Trees.{node_entries};
-ghost use Rattle.pst_block.specs.Blocks.{table_of, image_of};
 ghost use Rattle.pst_ndb.specs.Entries.{block_table, node_list};
-ghost use Rattle.pst_ndb.specs.Fault.{nodes_fault, ndb_fault};
+ghost use Rattle.pst_ndb.specs.Fault.{ndb_fault};
+ghost use Rattle.pst_ndb.specs.NodeTable.{image_of_nodes, table_of_nodes, entries_of_nodes};
 
 use crate::node::Node;
+use crate::node_table::NodeTable;
 use crate::nodes::Nodes;
 use pst_block::Blocks;
-use pst_btree::{NodeTree, node_keys_rise};
+use pst_btree::NodeTree;
 use pst_bytes::Image;
 use pst_header::Header;
 
@@ -19,13 +19,11 @@ use pst_header::Header;
 #[derive(Clone, Copy)]
 pub struct Ndb<'a> {
     header: Header,
-    blocks: Blocks<'a>,
-    nodes: NodeTree<'a>,
-    ghost sound: { ndb_fault (bytes_of (image_of blocks)) ≡ None },
-    ghost fields: { header ≡ fields (bytes_of (image_of blocks)) },
-    ghost table: { table_of blocks ≡ block_table (bytes_of (image_of blocks)) header },
-    ghost entries: { node_entries nodes ≡ node_list (bytes_of (image_of blocks)) header },
-    ghost trees: { nodes_fault (table_of blocks) (node_entries nodes) ≡ None },
+    pub(crate) nodes: NodeTable<'a>,
+    ghost sound: { ndb_fault (bytes_of (image_of_nodes nodes)) ≡ None },
+    ghost fields: { header ≡ fields (bytes_of (image_of_nodes nodes)) },
+    ghost table: { table_of_nodes nodes ≡ block_table (bytes_of (image_of_nodes nodes)) header },
+    ghost entries: { entries_of_nodes nodes ≡ node_list (bytes_of (image_of_nodes nodes)) header },
 }
 
 impl<'a> Ndb<'a> {
@@ -42,6 +40,7 @@ impl<'a> Ndb<'a> {
     ghost use Rattle.pst_ndb.specs.Entries.{block_table, node_list};
     ghost use Rattle.pst_ndb.specs.Fault.{file_fault, ndb_fault, nodes_fault};
     ghost use Rattle.pst_ndb.specs.Node.{entry_parts};
+    ghost use Rattle.pst_ndb.specs.NodeTable.{image_of_nodes, table_of_nodes, entries_of_nodes};
     ghost use Rattle.pst_ndb.specs.Roots.{node_in, all_roots};
     ghost use Rattle.pst_ndb.specs.Views.{image_of_ndb, header_of, table_of_ndb, nodes_of, image_of_node, table_of_node, top_of, nid_of, parts_of, roots_of, parts_left, roots_left, table_left, image_left};
 
@@ -59,8 +58,7 @@ impl<'a> Ndb<'a> {
     {
         Ndb {
             header: *header,
-            blocks,
-            nodes,
+            nodes: NodeTable::of_tree(blocks, nodes),
         }
     }
 
@@ -77,7 +75,9 @@ impl<'a> Ndb<'a> {
         ensures head { Head (bytes_of (image_of_ndb self.now)) (header_of self.now) }
         ensures image { (table_of_ndb self.now).image ≡ bytes_of (image_of_ndb self.now) }
         ensures trees { nodes_fault (table_of_ndb self.now) (nodes_of self.now) ≡ None }
-    {}
+    {
+        self.nodes.is_sound();
+    }
 
     /// What is known of every node database: a node is found under an identifier exactly where it is there and has that
     /// identifier.
@@ -92,14 +92,23 @@ impl<'a> Ndb<'a> {
     pub fn nodes_rise(&self)
         ensures { Rises 0 None (map node_key (nodes_of self.now)) }
     {
-        node_keys_rise(&self.nodes);
+        self.nodes.nids_rise();
     }
 
     /// The file.
     pub fn image(&self) -> Image<'a>
         ensures { result ≡ image_of_ndb self.now }
     {
-        self.blocks.image()
+        self.nodes.image()
+    }
+
+    /// Its nodes by their identifiers, and the blocks that they are made of.
+    pub fn table(&self) -> NodeTable<'a>
+        ensures image { image_of_nodes result ≡ image_of_ndb self.now }
+        ensures table { table_of_nodes result ≡ table_of_ndb self.now }
+        ensures entries { entries_of_nodes result ≡ nodes_of self.now }
+    {
+        self.nodes
     }
 
     /// The header.
@@ -110,7 +119,6 @@ impl<'a> Ndb<'a> {
     }
 
     /// The node with an identifier; None exactly where the node B-tree has none.
-    #[tactic(auto, using(crate::proofs::NodeLemmas::found_sound, crate::proofs::NodeLemmas::first_keyed), unfolding(crate::specs::Roots::node_in))]
     pub fn node(&self, nid: u32) -> Option<Node<'a>>
         ensures value { option_map parts_of result ≡ option_map (entry_parts
             (image_of_ndb self.now) (table_of_ndb self.now)) (node_with nid (nodes_of self.now)) }
@@ -120,8 +128,7 @@ impl<'a> Ndb<'a> {
         ensures top { IfSome result (λ n. top_of n ≡ nid) }
         ensures nid { IfSome result (λ n. nid_of n ≡ nid) }
     {
-        let entry = self.nodes.find(nid)?;
-        Some(Node::of_entry(self.blocks, entry))
+        self.nodes.node(nid)
     }
 
     /// All nodes, their identifiers rising.
@@ -132,6 +139,6 @@ impl<'a> Ndb<'a> {
         ensures table { table_left result ≡ table_of_ndb self.now }
         ensures image { image_left result ≡ image_of_ndb self.now }
     {
-        Nodes::all(self.blocks, self.nodes)
+        self.nodes.nodes()
     }
 }

@@ -2,20 +2,20 @@
 
 ghost use Rattle.std.specs.Prelude.{◌≡◌, None};
 ghost use Rattle.pst_block.specs.Blocks.{table_of};
-ghost use Rattle.pst_btree.specs.Nodes.{nodes_left};
 ghost use Rattle.pst_ndb.specs.Fault.{nodes_fault};
+ghost use Rattle.pst_ndb.specs.Source.{entries_left};
 
 use crate::node::Node;
+use crate::source::{Rest, Source};
 use pst_block::Blocks;
-use pst_btree::{NodeTree, Nodes as Entries};
 
-/// The nodes that are left, their identifiers rising: a `Node` each. The node B-tree is gone down once for each of its
+/// The nodes that are left, their identifiers rising: a `Node` each. A node B-tree is gone down once for each of its
 /// leaves, and no memory is taken.
 #[derive(Clone, Copy)]
 pub struct Nodes<'a> {
     blocks: Blocks<'a>,
-    rest: Entries<'a>,
-    ghost sound: { nodes_fault (table_of blocks) (nodes_left rest) ≡ None },
+    rest: Rest<'a>,
+    ghost sound: { nodes_fault (table_of blocks) (entries_left rest) ≡ None },
 }
 
 impl<'a> Iterator for Nodes<'a> {
@@ -40,24 +40,24 @@ impl<'a> Iterator for Nodes<'a> {
 impl<'a> Nodes<'a> {
     ghost use Rattle.std.specs.Prelude.{◌≡◌, None, map};
     ghost use Rattle.pst_block.specs.Blocks.{table_of, image_of};
-    ghost use Rattle.pst_btree.specs.Trees.{node_entries};
     ghost use Rattle.pst_ndb.specs.Fault.{nodes_fault};
     ghost use Rattle.pst_ndb.specs.Node.{entry_parts};
     ghost use Rattle.pst_ndb.specs.Roots.{all_roots};
+    ghost use Rattle.pst_ndb.specs.Source.{entries_in};
     ghost use Rattle.pst_ndb.specs.Views.{parts_left, roots_left, table_left, image_left};
 
-    // All nodes of a tree.
-    pub(crate) fn all(blocks: Blocks<'a>, tree: NodeTree<'a>) -> Nodes<'a>
-        requires { nodes_fault (table_of blocks) (node_entries tree) ≡ None }
+    // All nodes of a source.
+    pub(crate) fn all(blocks: Blocks<'a>, source: &Source<'a>) -> Nodes<'a>
+        requires { nodes_fault (table_of blocks) (entries_in source.now) ≡ None }
         ensures parts { parts_left result ≡ map (entry_parts (image_of blocks.entry)
-            (table_of blocks.entry)) (node_entries tree.entry) }
-        ensures roots { roots_left result ≡ all_roots (node_entries tree.entry) }
+            (table_of blocks.entry)) (entries_in source.now) }
+        ensures roots { roots_left result ≡ all_roots (entries_in source.now) }
         ensures table { table_left result ≡ table_of blocks.entry }
         ensures image { image_left result ≡ image_of blocks.entry }
     {
         Nodes {
             blocks,
-            rest: tree.nodes(),
+            rest: source.entries(),
         }
     }
 }

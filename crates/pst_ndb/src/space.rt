@@ -71,7 +71,7 @@ pub(crate) fn check_space<'a>(
 }
 
 /// Checks the space of a file, and compares it with the allocation maps.
-#[tactic(auto, unfolding(crate::specs::Space::space_fault))]
+#[tactic(auto, unfolding(crate::specs::Space::space_fault), using(pst_header::proofs::Head::head_mapped))]
 pub(crate) fn check_maps<'a>(
     alloc: Global,
     image: Image<'a>,

@@ -1,6 +1,6 @@
 //! Reading a page, with the first fault of a bad one.
 
-ghost use Rattle.std.specs.Prelude.{◌≡◌, ◌+◌, ◌*◌, ◌%◌, ◌<◌, ◌≤◌, length, IfOk, OnOk, IsOk, true};
+ghost use Rattle.std.specs.Prelude.{◌≡◌, ◌+◌, ◌*◌, ◌%◌, ◌^◌, ◌<◌, ◌≤◌, length, IfOk, OnOk, IsOk, true};
 ghost use Rattle.pst_bytes.specs.Image.{bytes_of};
 ghost use Rattle.pst_fault.specs.First.{answer};
 ghost use Rattle.pst_header.specs.Head.{Head};
@@ -45,12 +45,16 @@ pub fn page_place(header: &Header, bref: Bref) -> Result<Span, Fault>
     }
 }
 
-// The trailer ([MS-PST] 2.2.2.7.1).
+// The trailer ([MS-PST] 2.2.2.7.1), and the count of decoded pages with this one. This is the one place where a page of a
+// tree is decoded with its check value.
 #[tactic(auto, unfolding(crate::specs::Fault::has_page_trailer))]
-fn check_trailer(image: Image, bref: Bref, kind: PageKind) -> Result<(), Fault>
-    requires { bref.ib + 512 ≤ length (bytes_of image) }
-    ensures { result ≡ answer (page_trailer_fault kind (bytes_of image.entry) bref) tt }
+fn check_trailer(image: Image, bref: Bref, kind: PageKind, pages: &mut u64) -> Result<(), Fault>
+    requires inside { bref.ib + 512 ≤ length (bytes_of image) }
+    requires room { pages.old + 1 < 2 ^ 64 }
+    ensures exact { result ≡ answer (page_trailer_fault kind (bytes_of image.entry) bref) tt }
+    ensures counted { pages.new ≡ pages.old + 1 }
 {
+    *pages += 1;
     let ib = bref.ib;
     let page_type = kind.page_type();
     if image.number8(ib + 496) == page_type
@@ -63,9 +67,11 @@ fn check_trailer(image: Image, bref: Bref, kind: PageKind) -> Result<(), Fault>
     }
 }
 
-// The shape ([MS-PST] 2.2.2.7.7.1).
+/// The shape of the page that a reference names, whose place is known to lie in the file ([MS-PST] 2.2.2.7.7.1): PageShape,
+/// where its entries are too small or do not fit, its level is over 15, or it is a branch with no entry. Its trailer is not
+/// looked at.
 #[tactic(auto, unfolding(crate::specs::Fault::has_shape, crate::specs::Page::count_at, crate::specs::Page::width_at, crate::specs::Page::level_at))]
-fn check_shape(image: Image, bref: Bref, kind: PageKind) -> Result<(), Fault>
+pub fn check_shape(image: Image, bref: Bref, kind: PageKind) -> Result<(), Fault>
     requires { bref.ib + 512 ≤ length (bytes_of image) }
     ensures { result ≡ answer (page_shape_fault kind (bytes_of image.entry) bref) tt }
 {
@@ -83,11 +89,38 @@ fn check_shape(image: Image, bref: Bref, kind: PageKind) -> Result<(), Fault>
     }
 }
 
+/// The page of a kind that a reference names, or its first fault, as `open_page` says; and the count of decoded pages with
+/// this one, whatever the answer.
+#[tactic(auto, unfolding(crate::specs::Fault::open_fault))]
+pub fn decode_page<'a>(
+    image: Image<'a>,
+    bref: Bref,
+    kind: PageKind,
+    pages: &mut u64,
+) -> Result<Page<'a>, Fault>
+    requires inside { bref.ib + 512 ≤ length (bytes_of image) }
+    requires room { pages.old + 1 < 2 ^ 64 }
+
+    // Whether there is a page, or which fault it is.
+    ensures exact { Checks result (open_fault kind (bytes_of image.entry) bref) }
+
+    // One page was decoded.
+    ensures counted { pages.new ≡ pages.old + 1 }
+
+    // Which page it is.
+    ensures image { IfOk result (λ p. p.image ≡ image.entry) }
+    ensures bref { IfOk result (λ p. p.bref ≡ bref) }
+    ensures kind { IfOk result (λ p. p.kind ≡ kind) }
+{
+    check_trailer(image, bref, kind, pages)?;
+    check_shape(image, bref, kind)?;
+    Ok(known_page(image, bref, kind))
+}
+
 /// The page of a kind that a reference names, where its place is known to lie in the file; or its first fault, at the
 /// page: PageTrailer, where a type, the identifier, the signature or the check value of its trailer is wrong
 /// ([MS-PST] 2.2.2.7.1); PageShape, where its entries are too small or do not fit, its level is over 15, or it is a
 /// branch with no entry (2.2.2.7.7.1).
-#[tactic(auto, unfolding(crate::specs::Fault::open_fault))]
 pub fn open_page<'a>(image: Image<'a>, bref: Bref, kind: PageKind) -> Result<Page<'a>, Fault>
     requires { bref.ib + 512 ≤ length (bytes_of image) }
 
@@ -99,9 +132,8 @@ pub fn open_page<'a>(image: Image<'a>, bref: Bref, kind: PageKind) -> Result<Pag
     ensures bref { IfOk result (λ p. p.bref ≡ bref) }
     ensures kind { IfOk result (λ p. p.kind ≡ kind) }
 {
-    check_trailer(image, bref, kind)?;
-    check_shape(image, bref, kind)?;
-    Ok(known_page(image, bref, kind))
+    let mut pages = 0;
+    decode_page(image, bref, kind, &mut pages)
 }
 
 /// The page of a kind that a reference names, where it is known that it lies in the file and has its shape. Nothing is

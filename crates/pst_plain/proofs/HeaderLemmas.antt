@@ -105,6 +105,24 @@ says_same I method all is =
       ) refl,
     )
 
+-- the fault of the header itself is that of its check values and its ROOT structure
+pub plain_header : (I : List ℕ) (method : Method) → All IsByte I → method_of I ≡ Some method →
+    let J = with_method 0 I in header_fault J ≡ (check_fault J then root_fault J)
+unfolding header_fault
+plain_header I method all is =
+    let J = with_method 0 I in
+    let says = head_told I 0 all (omega arith) (method_long I method is) in
+    let (fits, magic, client, version) = parts I (unicode I method is) in
+    rw (
+      kept I J 0 0 4 says (before 0 4 (omega arith)),
+      magic,
+      kept I J 0 8 2 says (before 8 2 (omega arith)),
+      client,
+      kept I J 0 10 2 says (before 10 2 (omega arith)),
+      version,
+      says.number_is,
+    ) (rw (says.len, fits) refl)
+
 pub header_law : HeaderLaw
 header_law I method all is =
     let J = with_method 0 I in

@@ -34,8 +34,8 @@ use Rattle.pst_amap.specs.Report.{maps_fault}
 use Rattle.pst_ndb.specs.Entries.{block_list, node_list}
 use Rattle.pst_ndb.specs.Space.{space_walk, space_fault, fault_after}
 use Rattle.pst_ndb.specs.Trees.{trees_walk}
-use Rattle.pst_plain.specs.Blocks.{has_data, block_place, claimed_with, placed, trees_listed, EndsBy}
-use Rattle.pst_plain.specs.Twin.{with_method, with_body}
+use Rattle.pst_plain.specs.Blocks.{has_data, block_place, claimed_with, placed, trees_listed, data_blocks, EndsBy}
+use Rattle.pst_plain.specs.Twin.{with_method, with_body, decoded_file}
 use Rattle.pst_plain.specs.Faults.{front_fault, IsDecoded, LaterLaw}
 use Rattle.pst_plain.proofs.CodingLemmas.{Coding, IsCoding, decoding, all_changed}
 use Rattle.pst_plain.proofs.BlockLemmas.{placed_more, end_later}
@@ -106,13 +106,13 @@ sound J e =
 
 -- ---- the bodies
 
-abbrev changed_if : Coding → BlockEntry → List ℕ → List ℕ
+abbrev pub changed_if : Coding → BlockEntry → List ℕ → List ℕ
 changed_if coding e body = if has_data e then coding e.bid body else body
 
-abbrev HasBody : Coding → List ℕ → List ℕ → BlockEntry → Type 0
+abbrev pub HasBody : Coding → List ℕ → List ℕ → BlockEntry → Type 0
 HasBody coding I T e = bytes_at T (body_span e) ≡ changed_if coding e (bytes_at I (body_span e))
 
-abbrev HaveBodies : Coding → List ℕ → List ℕ → List BlockEntry → Type 0
+abbrev pub HaveBodies : Coding → List ℕ → List ℕ → List BlockEntry → Type 0
 HaveBodies coding I T [] = ⊤
 HaveBodies coding I T (e ∷ rest) = HasBody coding I T e × HaveBodies coding I T rest
 
@@ -137,7 +137,7 @@ body_stays I coding e entries is all ends apart =
     let same = (all_kept entries I coding is all ends).same.others (block_span e) (fields_apart (block_span e) entries apart) in
     part_same I (all_changed coding entries I) (block_span e) e.ib e.cb same (omega arith) (omega (arith, large))
 
-bodies_changed : (entries : List BlockEntry) (I : List ℕ) (coding : Coding) → IsCoding coding → All IsByte I → All (EndsBy (length I)) entries → AreApart (block_spans entries)
+pub bodies_changed : (entries : List BlockEntry) (I : List ℕ) (coding : Coding) → IsCoding coding → All IsByte I → All (EndsBy (length I)) entries → AreApart (block_spans entries)
     → HaveBodies coding I (all_changed coding (filter has_data entries) I) entries
 unfolding all_changed
 bodies_changed [] I coding is all ends apart = tt
@@ -164,7 +164,7 @@ bodies_changed (e ∷ rest) I coding is all ends apart =
     ]
 
 -- the bodies of a file that is the same behind its header
-all_bodies : (I J T : List ℕ) (coding : Coding) (end : ℕ) (entries : List BlockEntry) → IsSameBehind I J → All (LiesIn end) entries → HaveBodies coding J T entries → All (HasBody coding I T) entries
+pub all_bodies : (I J T : List ℕ) (coding : Coding) (end : ℕ) (entries : List BlockEntry) → IsSameBehind I J → All (LiesIn end) entries → HaveBodies coding J T entries → All (HasBody coding I T) entries
 all_bodies I J T coding end [] same lie have = All-nil (HasBody coding I T)
 all_bodies I J T coding end (e ∷ rest) same lie have =
     let here : IsPlace end (block_span e) = All-head (LiesIn end) e rest lie in
@@ -203,6 +203,14 @@ decoded_all I J method all same kept s =
       blocks = ap (block_list T) again ∙ blocks_same J T h end l.block_level l.block_tree pages.0 l.is_block_tree ∙ blocks;
       bodies = subst (All (HasBody coding I T)) listed bodies;
     }
+
+-- the same of the file itself
+pub decoded_whole : (J : List ℕ) (method : Method) → All IsByte J → front_fault J ≡ None → IsDecoded method J (decoded_file method J)
+decoded_whole J method all fine = subst (IsDecoded method J) (sym (decoded_file_is method J)) (decoded_all J J method all refl refl (sound J fine))
+
+-- all data blocks of the file are decoded then
+pub all_placed : (J : List ℕ) → front_fault J ≡ None → data_blocks J ≡ filter has_data (block_list J (fields J))
+all_placed J fine = let s = sound J fine in the_blocks J s.has ∙ ap (filter has_data) (s.placed_all ∙ sym s.listed_all)
 
 pub later_law : LaterLaw
 later_law I method all is none =

@@ -1,6 +1,6 @@
 -- The twin, from what the calls leave.
 use Rattle.std.proofs.Common.{◌≡◌, ℕ, ◌≤◌, ◌<◌, List, length, Some, None, true, false, refl, ap, ◌∙◌, arith}
-use Rattle.std.specs.List.{All}
+use Rattle.std.specs.List.{All, filter}
 use Rattle.std.specs.Prelude.{cond}
 use Rattle.std.proofs.lemmas.Bool.{leb-true, and_parts}
 use Rattle.pst_bytes.specs.Image.{num}
@@ -9,9 +9,10 @@ use Rattle.pst_encoding.specs.declared.method.Method.TheVariants.{Permute, Cycli
 use Rattle.pst_encoding.specs.Method.{method_number, method_with}
 use Rattle.pst_encoding.specs.Tables.{IsByte}
 use Rattle.pst_page.specs.declared.entry.BlockEntry.{BlockEntry}
-use Rattle.pst_plain.specs.Blocks.{data_blocks}
-use Rattle.pst_plain.specs.Twin.{is_unicode, method_of, with_method, all_decoded, decoded_file, twin_of}
+use Rattle.pst_plain.specs.Blocks.{has_data, data_blocks}
+use Rattle.pst_plain.specs.Twin.{is_unicode, method_of, with_method, all_decoded, data_decoded, decoded_blocks, decoded_file, twin_of}
 use Rattle.pst_plain.proofs.HeadLemmas.{method_again}
+use Rattle.pst_plain.proofs.StepLemmas.{all_data}
 
 pub twin_same : (I : List ℕ) → method_of I ≡ None → I ≡ twin_of I
 unfolding twin_of
@@ -21,10 +22,19 @@ pub twin_is : (I : List ℕ) (method : Method) → method_of I ≡ Some method �
 unfolding twin_of
 twin_is I method is = rw is refl
 
+-- the data blocks among those that are decoded are all of them
+data_made : (J : List ℕ) (entries : List BlockEntry) → entries ≡ data_blocks J → filter has_data entries ≡ data_blocks J
+data_made J entries blocks = ap (filter has_data) blocks ∙ all_data J
+
 pub twin_made : (I J K : List ℕ) (method : Method) (entries : List BlockEntry) → method_of I ≡ Some method → J ≡ with_method 0 I → entries ≡ data_blocks J
-    → K ≡ all_decoded method entries J → K ≡ twin_of I
+    → K ≡ data_decoded method entries J → K ≡ twin_of I
 unfolding twin_of
-twin_made I J K method entries is head blocks made = rw is (made ∙ ap (λ l. all_decoded method l J) blocks ∙ ap (λ X. all_decoded method (data_blocks X) X) head)
+twin_made I J K method entries is head blocks made =
+    rw is (made ∙ ap (λ l. all_decoded method l J) (data_made J entries blocks) ∙ ap (λ X. all_decoded method (data_blocks X) X) head)
+
+pub blocks_made : (I J : List ℕ) (method : Method) (entries : List BlockEntry) → method_of I ≡ Some method → J ≡ with_method 0 I → entries ≡ data_blocks J
+    → filter has_data entries ≡ decoded_blocks (method_of I) I
+blocks_made I J method entries is head blocks = rw is (data_made J entries blocks ∙ ap data_blocks head)
 
 -- the number of a file's method stands in its header
 number_with : (number : ℕ) (method : Method) → method_with number ≡ Some method → number ≡ method_number method

@@ -1,5 +1,6 @@
 -- The plain twin of an encoded file, and a plain file encoded ([MS-PST] 2.2.2.6, 5.1, 5.2).
 use Rattle.std.specs.Prelude.{ℕ, ◌+◌, Bool, ◌&&◌, nat_eq, nat_le, List, [], ◌∷◌, length, Option, Some, None, if◌then◌else◌}
+use Rattle.std.specs.List.{filter}
 use Rattle.pst_bytes.specs.Image.{num, bytes_at}
 use Rattle.pst_bytes.specs.declared.span.Span.{Span}
 use Rattle.pst_encoding.specs.declared.method.Method.{Method}
@@ -8,7 +9,7 @@ use Rattle.pst_page.specs.declared.entry.BlockEntry.{BlockEntry}
 use Rattle.pst_block.specs.Block.{body_span, trailer_at}
 use Rattle.pst_plain.specs.Written.{written}
 use Rattle.pst_plain.specs.Carried.{with_carried}
-use Rattle.pst_plain.specs.Blocks.{data_blocks}
+use Rattle.pst_plain.specs.Blocks.{has_data, data_blocks}
 
 -- ---- the header
 
@@ -42,6 +43,10 @@ with_body change e I =
 unfoldable pub all_decoded : Method → List BlockEntry → List ℕ → List ℕ
 all_decoded method [] I = I
 all_decoded method (e ∷ rest) I = all_decoded method rest (with_body (decoded method e.bid) e I)
+
+-- the data blocks among them
+abbrev pub data_decoded : Method → List BlockEntry → List ℕ → List ℕ
+data_decoded method entries I = all_decoded method (filter has_data entries) I
 
 unfoldable pub all_encoded : Method → List BlockEntry → List ℕ → List ℕ
 all_encoded method [] I = I

@@ -24,8 +24,8 @@ use std::alloc::{AllocError, Global};
 // How many bytes a body has at most.
 const MOST: u16 = 8176;
 
-// Whether an identifier is that of a data block.
-fn is_data(bid: u64) -> bool
+/// Whether an identifier is that of a data block ([MS-PST] 2.2.2.2).
+pub(crate) fn is_data(bid: u64) -> bool
     ensures { result ≡ has_data_bid bid }
 {
     bid / 2 % 2 == 0

@@ -1,17 +1,18 @@
 //! The bodies of encoded blocks.
 
-ghost use Rattle.std.specs.Prelude.{◌≡◌, ◌+◌, ◌≤◌, length, bit_xor};
-ghost use Rattle.std.specs.List.{All};
+ghost use Rattle.std.specs.Prelude.{◌≡◌, ◌+◌, ◌≤◌, [], ◌∷◌, length, bit_xor};
+ghost use Rattle.std.specs.List.{All, filter};
 ghost use Rattle.pst_bytes.specs.Image.{bytes_at, IsInside};
 ghost use Rattle.pst_crc.specs.Crc.{crc};
 ghost use Rattle.pst_encoding.specs.Decoder.{decoder_method};
 ghost use Rattle.pst_encoding.specs.Method.{decoded};
 ghost use Rattle.pst_block.specs.Block.{body_span as span_of};
-ghost use Rattle.pst_plain.specs.Blocks.{EndsBy};
+ghost use Rattle.pst_plain.specs.Blocks.{has_data, EndsBy};
 ghost use Rattle.pst_plain.specs.Written.{written};
 ghost use Rattle.pst_plain.specs.Laws.{xor_each};
-ghost use Rattle.pst_plain.specs.Twin.{with_body, all_decoded};
+ghost use Rattle.pst_plain.specs.Twin.{with_body, data_decoded};
 
+use crate::blocks::is_data;
 use crate::write::carry;
 use pst_block::{BlockEntry, block_size};
 use pst_bytes::Span;
@@ -83,13 +84,35 @@ fn decode_block(decoder: &Decoder, entry: BlockEntry, file: &mut [u8], room: &mu
     carry(file, entry.ib + block_size(entry.cb) - 12, change);
 }
 
-/// Decodes the bodies of blocks, one after another.
-pub(crate) fn decode_each(decoder: &Decoder, entries: &[BlockEntry], file: &mut [u8])
-    requires { All (EndsBy (length file.old)) entries.now }
-    ensures { file.new ≡ all_decoded (decoder_method decoder.now) entries.now file.old }
+// The same, if it is a data block. Tells how many blocks were decoded.
+#[tactic(auto, unfolding(crate::specs::Twin::all_decoded))]
+fn decode_if_data(decoder: &Decoder, entry: BlockEntry, file: &mut [u8], room: &mut [u8]) -> u64
+    requires inside { EndsBy (length file.old) entry }
+    requires room { length room.old ≡ ROOM }
+    ensures file { file.new ≡
+        data_decoded (decoder_method decoder.now) (entry ∷ []) file.old }
+    ensures count { result ≡ length (filter has_data (entry ∷ [])) }
+    ensures room { length room.new ≡ length room.old }
+{
+    if is_data(entry.bid) {
+        decode_block(decoder, entry, file, room);
+        1
+    } else {
+        0
+    }
+}
+
+/// Decodes the bodies of the data blocks among some ([MS-PST] 5.1, 5.2), one after another, and carries the check values of
+/// their trailers over. Each block has to end within the file. Tells how many were decoded.
+pub fn decode_data(decoder: &Decoder, entries: &[BlockEntry], file: &mut [u8]) -> u64
+    requires inside { All (EndsBy (length file.old)) entries.now }
+    ensures file { file.new ≡ data_decoded (decoder_method decoder.now) entries.now file.old }
+    ensures count { result ≡ length (filter has_data entries.now) }
 {
     let mut room = [0; ROOM];
+    let mut blocks = 0;
     for entry in entries {
-        decode_block(decoder, *entry, file, &mut room);
+        blocks += decode_if_data(decoder, *entry, file, &mut room);
     }
+    blocks
 }

@@ -25,9 +25,10 @@ fn is_unicode(image: Image) -> bool
         && image.number16(10) == 23
 }
 
-/// The method by which a file says that it is encoded; None where it is not, or is no Unicode file.
+/// The method by which a file says that it is encoded ([MS-PST] 2.2.2.6, bCryptMethod); None where it is not, or is no Unicode
+/// file. Nothing else is checked.
 #[tactic(auto, unfolding(crate::specs::Twin::method_of, crate::specs::Twin::is_unicode))]
-pub(crate) fn method_of(image: Image) -> Option<Method>
+pub fn method_of(image: Image) -> Option<Method>
     ensures method { result ≡ method_in (bytes_of image.entry) }
     ensures long { OnSome result (564 ≤ length (bytes_of image.entry)) }
 {
@@ -45,8 +46,9 @@ fn full_check(file: &[u8]) -> u32
     pst_crc::check(Image::new(file).slice(Span { at: 8, len: 516 }))
 }
 
-/// Makes bCryptMethod another number, and carries dwCRCFull over.
-pub(crate) fn set_method(number: u8, file: &mut [u8])
+/// Makes bCryptMethod of a header ([MS-PST] 2.2.2.6) another number, and carries dwCRCFull over, so that it is right after exactly
+/// where it was right before. Nothing else changes.
+pub fn set_method(number: u8, file: &mut [u8])
     requires { 564 ≤ length file.old }
     ensures { file.new ≡ with_method number file.old }
 {

@@ -7,6 +7,8 @@
 //! let told = plain(alloc, &mut bytes)?;
 //! let answer = verify(alloc, Image::new(&bytes));
 //! ```
+//!
+//! Its parts are there for a file that is damaged, of which other blocks are decoded: `method_of`, `set_method` and `decode_data`.
 #![tactic(auto)]
 
 mod blocks;
@@ -16,6 +18,8 @@ mod laws;
 mod twin;
 mod write;
 
+pub use body::decode_data;
+pub use head::{method_of, set_method};
 pub use laws::{
     check_value_is_linear, check_values_stay, faults_stay, no_place_moves, plain_is_the_twin,
     twin_is_the_file,

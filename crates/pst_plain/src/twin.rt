@@ -7,7 +7,7 @@ ghost use Rattle.pst_encoding.specs.Tables.{IsByte};
 ghost use Rattle.pst_plain.specs.Twin.{method_of as method_in, twin_of, decoded_blocks};
 
 use crate::blocks::data_blocks;
-use crate::body::decode_each;
+use crate::body::decode_data;
 use crate::head::{method_of, set_method};
 use pst_bytes::Image;
 use pst_encoding::{Decoder, Method};
@@ -45,10 +45,7 @@ fn decode_file(
     are_bytes(file);
     set_method(0, file);
     match data_blocks(alloc, file) {
-        Ok(entries) => {
-            decode_each(decoder, &entries, file);
-            Ok(entries.len() as u64)
-        }
+        Ok(entries) => Ok(decode_data(decoder, &entries, file)),
         Err(error) => {
             set_method(method.number(), file);
             Err(error)

@@ -90,8 +90,8 @@ pub(crate) fn nodes(alloc: Global, bytes: &[u8]) -> Result<(), Refused> {
     )
 }
 
-// Puts the next row behind a text; where memory is refused within the row, the text is as long as before.
-fn put_whole<R: Rows>(
+// Puts the next row behind a text; where memory is refused within the row, no byte of the text is lost.
+fn put_behind<R: Rows>(
     alloc: Global,
     rows: &mut R,
     later: bool,
@@ -102,7 +102,7 @@ fn put_whole<R: Rows>(
 {
     let long = text.len();
     let put = rows.put_next(alloc, later, text);
-    holds(put.is_ok() || text.len() == long)?;
+    holds(text.len() >= long)?;
     Ok(put?)
 }
 
@@ -111,7 +111,7 @@ fn put_all<R: Rows>(alloc: Global, rows: R) -> Result<(), Refused> {
     let mut rows = rows;
     let mut text = Vec::new(alloc);
     let mut later = false;
-    while put_whole(alloc, &mut rows, later, &mut text)? {
+    while put_behind(alloc, &mut rows, later, &mut text)? {
         later = true;
     }
     Ok(())

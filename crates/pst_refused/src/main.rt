@@ -10,6 +10,7 @@ mod contexts;
 mod documents;
 mod layers;
 mod refused;
+mod remains;
 mod whole;
 
 use refused::Refused;
@@ -26,6 +27,7 @@ const TRIES: u32 = 2;
 enum Calls {
     Layers,
     Database,
+    Remains,
     Contexts,
     Report,
     Lists,
@@ -36,9 +38,10 @@ enum Calls {
     Run,
 }
 
-const ALL: [Calls; 10] = [
+const ALL: [Calls; 11] = [
     Calls::Layers,
     Calls::Database,
+    Calls::Remains,
     Calls::Contexts,
     Calls::Report,
     Calls::Lists,
@@ -53,6 +56,7 @@ fn made(alloc: Global, calls: Calls, bytes: &[u8]) -> Result<(), Refused> {
     match calls {
         Calls::Layers => layers::answer(alloc, bytes),
         Calls::Database => layers::database(alloc, bytes),
+        Calls::Remains => remains::remains(alloc, bytes),
         Calls::Contexts => contexts::contexts(alloc, bytes),
         Calls::Report => documents::report(alloc, bytes),
         Calls::Lists => documents::lists(alloc, bytes),

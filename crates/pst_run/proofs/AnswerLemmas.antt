@@ -12,13 +12,15 @@ use Rattle.pst_json.specs.pst_verify.Report.{IsReportOf}
 use Rattle.pst_json.specs.pst_verify.Verified.{IsVerified}
 use Rattle.pst_json.specs.Check.{report_parts}
 use Rattle.pst_ask.specs.declared.path.Path.{Path}
-use Rattle.pst_ask.specs.Ask.{nids_of, report}
+use Rattle.pst_ask.specs.Ask.{Asked, damage, nids_of, report}
+use Rattle.pst_encoding.specs.declared.method.Method.{Method}
+use Rattle.pst_plain.specs.Twin.{method_of}
 use Rattle.pst_json.specs.declared.fault.DocFault.{DocFault}
 use Rattle.pst_json.specs.declared.fault.DocFault.TheVariants.{NoFolder, NoNode, NoProperty, Bad, Memory}
 use Rattle.pst_json.specs.Told.{TellsDoc}
 use Rattle.pst_run.specs.declared.refusal.Refusal.{Refusal}
 use Rattle.pst_run.specs.Refusal.{Refused, fault, is_memory, memory, refusal_for, refusal_of, refused_of}
-use Rattle.pst_run.specs.Answer.{GivesNone, Told, answer_with, behind, in_front, line_at, lines_of_paths, of_store, plain, report_in, report_told}
+use Rattle.pst_run.specs.Answer.{GivesNone, Told, answer_to, answer_with, behind, bytes_for, decoded_damage, digest_for, in_front, is_decoded_damage, line_at, lines_of_paths, of_store, plain, report_in, report_told}
 
 report_is : (I : List ℕ) (r : Report) → IsReportOf I (store_in I) r → report_parts r ≡ report_in I
 report_is I r is =
@@ -99,3 +101,18 @@ line_refused shown line paths i d given told text f r whole inside this same tel
     let path = nids_of (get_or paths i d) in
     let here : TellsDoc shown (Err f) (line path) = subst (λ p. TellsDoc shown (Err f) (line p)) this tells in
     subst (λ x. GivesNone x whole) (sym (is ∙ ap (λ p. refusal_for p f) same)) (gives_for shown path f whole (line path) here (λ none. line_none line paths i d text f whole inside none so_far))
+
+-- ---- whether a file is decoded, or what is broken of it
+
+-- what is broken of a file that is to be decoded
+pub to_damage : (a : Asked) (bytes : List ℕ) → is_decoded_damage a ≡ true → answer_to a bytes ≡ decoded_damage (method_of bytes) (digest_for a.ask bytes) bytes
+to_damage a bytes is = rw is refl
+
+-- all else
+pub to_shown : (a : Asked) (bytes : List ℕ) → is_decoded_damage a ≡ false → answer_to a bytes ≡ answer_with a.ask (digest_for a.ask bytes) (bytes_for a.decode bytes)
+to_shown a bytes is = rw is refl
+
+-- of a file that is not encoded
+pub damage_as_stored : (digested : Bool) (method : Option Method) (digest : Option (List ℕ)) (I : List ℕ) → method ≡ None → answer_with (damage digested) digest I ≡ decoded_damage method digest I
+unfolding answer_with
+damage_as_stored digested method digest I none = rw none refl

@@ -1,5 +1,5 @@
 -- What each command answers to the bytes of a file.
-use Rattle.std.specs.Prelude.{◌≡◌, ℕ, ◌+◌, Bool, true, false, ◌&&◌, ◌==◌, not, if◌then◌else◌, List, [], ◌∷◌, ◌++◌, length, Option, Some, None, Result, Ok, Err}
+use Rattle.std.specs.Prelude.{◌≡◌, ℕ, ◌+◌, Bool, true, false, ◌&&◌, ◌==◌, not, if◌then◌else◌, List, [], ◌∷◌, ◌++◌, length, Option, Some, None, is_none, Result, Ok, Err}
 use Rattle.pst_fault.specs.declared.fault.Fault.{Fault}
 use Rattle.pst_fault.specs.First.{answer}
 use Rattle.pst_header.specs.Header.{header_fault, fields}
@@ -24,14 +24,19 @@ use Rattle.pst_json.specs.Node.{props_line}
 use Rattle.pst_json.specs.Nodes.{nodes_line}
 use Rattle.pst_json.specs.Told.{told_of}
 use Rattle.pst_json.specs.Property.{property_at, written_of}
-use Rattle.pst_plain.specs.Twin.{twin_of}
+use Rattle.pst_encoding.specs.declared.method.Method.{Method}
+use Rattle.pst_plain.specs.Twin.{method_of, twin_of}
+use Rattle.pst_remains.specs.Decoded.{decoded_remains_of}
+use Rattle.pst_damage.specs.Damage.{DamageParts, damage_in, damage_of}
+use Rattle.pst_damage_json.specs.Damage.{damage_line}
 use Rattle.sha2.specs.Sha256.{sha256}
 use Rattle.pst_datatree.specs.Shown.{bytes_in}
 use Rattle.pst_run.specs.declared.shown.Shown.{Shown}
 use Rattle.pst_run.specs.declared.shown.Text.{Text}
 use Rattle.pst_run.specs.declared.shown.Text.TheVariants.{Made, Lent}
-use Rattle.pst_ask.specs.Ask.{Asked, Wanted, report, head, nodes, folders, contents, messages, props, value}
+use Rattle.pst_ask.specs.Ask.{Asked, Wanted, report, damage, head, nodes, folders, contents, messages, props, value}
 use Rattle.pst_run.specs.declared.refusal.Refusal.{Refusal}
+use Rattle.pst_run.specs.Outside.{outside_fault}
 use Rattle.pst_run.specs.Refusal.{Refused, fault, document, input, output, memory, refused_of, refusal_of, refusal_for}
 
 -- ---- of which bytes
@@ -43,6 +48,7 @@ bytes_for decode bytes = if decode then twin_of bytes else bytes
 -- the digest that is told: that of the bytes as they lie in the file, where it is asked for
 abbrev pub digest_for : Wanted → List ℕ → Option (List ℕ)
 digest_for (report strict true) bytes = Some (sha256 bytes)
+digest_for (damage true) bytes = Some (sha256 bytes)
 digest_for ask bytes = None
 
 -- ---- what is shown: a text, and whether the run ends with status 1 all the same
@@ -99,6 +105,14 @@ table_of_file I = table_in I (store_in I)
 abbrev pub entries_of_file : List ℕ → List NodeEntry
 entries_of_file I = entries_in I (store_in I)
 
+-- nothing is broken
+abbrev pub is_whole : DamageParts → Bool
+is_whole d = is_none d.header && is_none d.maps && length d.pages == 0 && length d.blocks == 0 && length d.nodes == 0
+
+-- what is told of all that is broken, with the digest of the file where it is asked for; it fails where something is
+abbrev pub damage_told : Option (List ℕ) → DamageParts → Told
+damage_told digest d = record { text = damage_line d digest; fails = not (is_whole d) }
+
 -- a line or a value, or that there is none of the folder or at the path with these identifiers
 abbrev pub line_at : List ℕ → Result (List ℕ) DocFault → Result Told Refused
 line_at path (Ok line) = Ok (plain line)
@@ -122,10 +136,11 @@ lines_of_paths line (path ∷ rest) = in_front (line_at path (line path)) (lines
 
 -- The text that a command shows of these bytes, with this digest, and whether it fails; or why it refuses them. `head` shows
 -- the fields of a good header, and else answers its first fault. `nodes` shows the nodes of two trees without fault, and else
--- answers the first fault of the header and of both walks. The others show a store, and else answer the first fault of the bytes
--- as one.
+-- answers the first fault of the header and of both walks. `damage` shows all that is broken, and answers only that a file is outside
+-- of what it looks at. The others show a store, and else answer the first fault of the bytes as one.
 unfoldable pub answer_with : Wanted → Option (List ℕ) → List ℕ → Result Told Refused
 answer_with (report strict digested) digest I = of_store (store_fault I) (Ok (report_told strict digest (report_in I)))
+answer_with (damage digested) digest I = of_store (outside_fault I) (Ok (damage_told digest (damage_of I)))
 answer_with head digest I = line_or_fault head_line (answer (header_fault I) (fields I))
 answer_with nodes digest I = line_or_fault nodes_line (listed_nodes I)
 answer_with folders digest I = of_store (store_fault I) (Ok (plain (folders_line (table_of_file I) (entries_of_file I))))
@@ -135,9 +150,27 @@ answer_with (props places paths) digest I = of_store (store_fault I) (lines_of_p
 answer_with (value text path id) digest I =
     of_store (store_fault I) (line_at path (told_of (written_of text) (property_at (table_of_file I) (entries_of_file I) path id)))
 
--- The same of the bytes of a file: it is of its plain twin where that is asked for, and the digest is of the file as it is.
+-- All that is broken of an encoded file: it is judged as it is stored, and then its blocks without fault are decoded, and the
+-- nodes looked at. A file that is not encoded is answered as it is.
+abbrev pub decoded_damage : Option Method → Option (List ℕ) → List ℕ → Result Told Refused
+decoded_damage None digest I = of_store (outside_fault I) (Ok (damage_told digest (damage_of I)))
+decoded_damage (Some method) digest I = Ok (damage_told digest (damage_in (decoded_remains_of method I)))
+
+abbrev pub is_damage : Wanted → Bool
+is_damage (damage digested) = true
+is_damage ask = false
+
+-- all that is broken is asked for, of a file that is to be decoded
+abbrev pub is_decoded_damage : Asked → Bool
+is_decoded_damage a = is_damage a.ask && a.decode
+
+-- The same of the bytes of a file, with the digest of the file as it is: of its plain twin where that is asked for, but of all that is
+-- broken.
 abbrev pub answer_to : Asked → List ℕ → Result Told Refused
-answer_to a bytes = answer_with a.ask (digest_for a.ask bytes) (bytes_for a.decode bytes)
+answer_to a bytes =
+    let digest = digest_for a.ask bytes in
+    if is_decoded_damage a then decoded_damage (method_of bytes) digest bytes
+    else answer_with a.ask digest (bytes_for a.decode bytes)
 
 -- nothing is shown for this reason, which is the answer, unless memory ran out
 abbrev pub GivesNone : Refused → Result Told Refused → Type 0

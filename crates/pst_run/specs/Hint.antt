@@ -1,9 +1,10 @@
 -- The line more that is said on a terminal.
-use Rattle.std.specs.Prelude.{ℕ, Bool, false, not, ◌&&◌, ◌||◌, ◌==◌, if◌then◌else◌, List, ◌++◌, codes}
+use Rattle.std.specs.Prelude.{ℕ, Bool, false, not, ◌&&◌, ◌||◌, ◌==◌, if◌then◌else◌, List, [], ◌++◌, codes}
 use Rattle.std.specs.Fmt.{decimal}
 use Rattle.pst_fault.specs.Kind.{number_of}
 use Rattle.pst_fault.specs.declared.kind.Kind.{Kind}
 use Rattle.pst_fault.specs.declared.kind.Kind.TheVariants.{Encoded}
+use Rattle.pst_run.specs.Outside.{is_outside}
 use Rattle.pst_ask.specs.declared.ask.Lack.{Lack}
 use Rattle.pst_ask.specs.declared.ask.Lack.TheVariants.{Nid, Property, Kind as NoKind, Nothing}
 
@@ -12,11 +13,18 @@ abbrev pub is_to_decode : Bool → Kind → Bool
 is_to_decode is_decoded (Encoded n) = not is_decoded && (n == 1 || n == 2)
 is_to_decode is_decoded kind = false
 
+-- the words that list all that is broken of a file with this fault; none, where it is outside of what they list
+abbrev pub damage_text : Bool → Kind → List ℕ
+damage_text is_decoded kind =
+    if is_outside kind then []
+    else if is_decoded then codes "; all that is broken: pst_show damage --decode"
+    else codes "; all that is broken: pst_show damage"
+
 -- what helps behind a no, without its line feed
 abbrev pub help_text : Bool → Kind → List ℕ
 help_text is_decoded kind =
     if is_to_decode is_decoded kind then codes "  encoded: give the command --decode"
-    else codes "  what that says and what to do: pst_show explain " ++ decimal (number_of kind)
+    else (codes "  what that says and what to do: pst_show explain " ++ decimal (number_of kind)) ++ damage_text is_decoded kind
 
 -- what a word that names something looks like
 abbrev pub form_text : Lack → List ℕ

@@ -10,6 +10,7 @@ ghost use Rattle.pst_json.specs.pst_pc.View.{property_of};
 ghost use Rattle.pst_json.specs.pst_store.View.{ndb_of_store};
 ghost use Rattle.pst_run.specs.Answer.{Gives, answer_with, lines_of_paths, plain, told_in};
 
+use crate::damaged::damage_answer;
 use crate::refusal::Refusal;
 use crate::shown::{Shown, Text};
 use pst_ask::{Ask, Path};
@@ -198,6 +199,7 @@ pub fn answer<'p, 'a>(
 {
     match ask {
         Ask::Check { strict, .. } => check_answer(alloc, *strict, digest, bytes),
+        Ask::Damage { .. } => damage_answer(alloc, digest, bytes),
         Ask::Head => head_answer(alloc, bytes),
         Ask::Nodes => nodes_answer(alloc, bytes),
         Ask::Folders => folders_answer(alloc, bytes),

@@ -3,9 +3,10 @@
 ghost use Rattle.std.specs.Prelude.{◌≡◌, true, Some};
 ghost use Rattle.std.specs.Io.KnownBytes.{Appends};
 ghost use Rattle.pst_json.specs.Output.{AppendsFront};
-ghost use Rattle.pst_run.specs.Hint.{form_text, help_text, is_to_decode, word_text};
+ghost use Rattle.pst_run.specs.Hint.{damage_text as text_of_damage, form_text, help_text, is_to_decode, word_text};
 ghost use Rattle.pst_run.specs.Run.{SaysLine};
 
+use crate::outside::is_outside;
 use crate::said::say;
 use pst_ask::Lack;
 use pst_fault::Kind;
@@ -20,6 +21,19 @@ fn is_decoding_needed(kind: Kind, is_decoded: bool) -> bool
     match kind {
         Kind::Encoded(method) => !is_decoded && (method == 1 || method == 2),
         _ => false,
+    }
+}
+
+// The words that list all that is broken of a file with this fault; none, where it is outside of what they list.
+fn damage_text(kind: Kind, is_decoded: bool) -> &'static str
+    ensures { result.now ≡ text_of_damage is_decoded kind }
+{
+    if is_outside(kind) {
+        ""
+    } else if is_decoded {
+        "; all that is broken: pst_show damage --decode"
+    } else {
+        "; all that is broken: pst_show damage"
     }
 }
 
@@ -38,15 +52,16 @@ impl fmt::Display for Help {
             return write!(f, "  encoded: give the command --decode");
         }
         let number = self.kind.number();
+        let behind = damage_text(self.kind, self.is_decoded);
         write!(
             f,
-            "  what that says and what to do: pst_show explain {number}"
+            "  what that says and what to do: pst_show explain {number}{behind}"
         )
     }
 }
 
 /// Says below the line of a no what helps: to decode an encoded file, where that was not asked for, and else the words that
-/// explain the kind. A line that cannot be written changes nothing.
+/// explain the kind, and those that list all that is broken, where the file is one that they list. A line that cannot be written changes nothing.
 pub fn say_what_helps<E: Write>(kind: Kind, is_decoded: bool, err: &mut E)
     ensures { SaysLine (help_text is_decoded kind) (E.contents err.old) (E.contents err.new) }
 {

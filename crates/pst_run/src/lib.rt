@@ -13,10 +13,12 @@
 #![tactic(auto)]
 
 mod answers;
+mod damaged;
 mod ending;
 mod hint;
 mod input;
 mod line;
+mod outside;
 mod progress;
 mod refusal;
 mod running;
@@ -25,13 +27,16 @@ mod shown;
 mod source;
 
 pub use answers::answer;
+pub use damaged::decoded_damage;
 pub use ending::Ending;
 pub use hint::{say_what_helps, say_word};
 pub use input::{LoadFault, MOST_BYTES, MOST_READS, Reads, load, load_counted};
 pub use line::{line_of, line_of_lack};
 pub use progress::Progress;
 pub use refusal::Refusal;
-pub use running::{answer_out, carry_out, decline, digest_if, explain_out, lack_text, run};
+pub use running::{
+    answer_out, carry_out, decline, digest_if, explain_out, is_decoded_damage, lack_text, run,
+};
 pub use said::refuse;
 pub use shown::{Shown, Text};
 pub use source::{Source, Watched, say_cause};

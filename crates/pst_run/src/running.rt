@@ -5,12 +5,14 @@ ghost use Rattle.pst_ask.specs.Ask.{Asked, request_of, show, explain, wanted_of}
 ghost use Rattle.pst_ask.specs.Words.{IsAsked, asked, show_app, texts};
 ghost use Rattle.pst_ask.specs.clap.Words.{fault_of, kind_of};
 ghost use Rattle.pst_ask.specs.declared.words.NoOrder.TheVariants.{Lacks};
-ghost use Rattle.pst_run.specs.Answer.{answer_to, bytes_for, digest_for};
+ghost use Rattle.pst_plain.specs.Twin.{method_of};
+ghost use Rattle.pst_run.specs.Answer.{answer_to, answer_with, bytes_for, decoded_damage as answer_decoded, digest_for, is_decoded_damage as damage_wanted};
 ghost use Rattle.pst_run.specs.Refusal.{memory};
 ghost use Rattle.pst_fault.specs.declared.kind.Kind.{Kind as FaultKind};
 ghost use Rattle.pst_run.specs.Run.{Answers, CarriesOut, Ends, EndsAs, Explains, IsLacking, IsOutOfMemory, IsRefused, IsStatusOf, MatchNone, Says, SaysLine, TellsFault, lack_text as text_of_lack, outputs};
 
 use crate::answers::answer;
+use crate::damaged::decoded_damage;
 use crate::ending::Ending;
 use crate::input::load_counted;
 use crate::refusal::Refusal;
@@ -30,6 +32,7 @@ pub fn digest_if(ask: &Ask, bytes: &[u8]) -> Option<[u8; 32]>
 {
     match ask {
         Ask::Check { digest: true, .. } => Some(Sha256::digest(bytes)),
+        Ask::Damage { digest: true } => Some(Sha256::digest(bytes)),
         _ => None,
     }
 }
@@ -44,6 +47,47 @@ fn decode_if(alloc: Global, decode: bool, mut bytes: Vec<u8>) -> Result<Vec<u8>,
     Ok(bytes)
 }
 
+/// Whether all that is broken is asked for, of a file that is to be decoded.
+pub fn is_decoded_damage(request: &Request) -> bool
+    ensures { result ≡ damage_wanted (request_of request.now) }
+{
+    matches!(request.ask, Ask::Damage { .. }) && request.decode
+}
+
+// Writes all that is broken of a file that may be encoded, and tells whether something is.
+fn write_decoded_damage<W: Write>(
+    alloc: Global,
+    digest: Option<[u8; 32]>,
+    mut bytes: Vec<u8>,
+    out: &mut W,
+) -> Result<bool, Refusal<'static>>
+    ensures { Ends result (answer_decoded (method_of bytes.items) digest bytes.items)
+        (W.contents out.old) (W.contents out.new) }
+{
+    let shown = decoded_damage(alloc, digest, &mut bytes)?;
+    emit_text(&shown.text, out)?;
+    Ok(shown.fails)
+}
+
+// Writes what a command answers to these bytes of a file, with this digest, or to those of its plain twin, where it is to be
+// decoded; and tells whether the run fails all the same.
+fn write_shown<'a, W: Write>(
+    alloc: Global,
+    request: &'a Request,
+    digest: Option<[u8; 32]>,
+    bytes: Vec<u8>,
+    out: &mut W,
+) -> Result<bool, Refusal<'a>>
+    ensures { Ends result (answer_with (wanted_of request.now.ask) digest
+        (bytes_for request.now.decode bytes.items))
+        (W.contents out.old) (W.contents out.new) }
+{
+    let bytes = decode_if(alloc, request.decode, bytes)?;
+    let shown = answer(alloc, &request.ask, digest, &bytes)?;
+    emit_text(&shown.text, out)?;
+    Ok(shown.fails)
+}
+
 // Writes what a command answers to these bytes of a file, and tells whether the run fails all the same. The digest is taken
 // before anything is decoded.
 fn write_answer<'a, W: Write>(
@@ -56,10 +100,10 @@ fn write_answer<'a, W: Write>(
         (W.contents out.old) (W.contents out.new) }
 {
     let digest = digest_if(&request.ask, &bytes);
-    let bytes = decode_if(alloc, request.decode, bytes)?;
-    let shown = answer(alloc, &request.ask, digest, &bytes)?;
-    emit_text(&shown.text, out)?;
-    Ok(shown.fails)
+    if is_decoded_damage(request) {
+        return write_decoded_damage(alloc, digest, bytes, out);
+    }
+    write_shown(alloc, request, digest, bytes, out)
 }
 
 /// What is said of words that are accepted and ask for nothing that can be done, without its line feed.
@@ -105,9 +149,9 @@ pub fn decline<W: Write, E: Write>(none: NoOrder, out: &mut W, err: &mut E) -> u
 }
 
 /// Shows what is asked for of these bytes of a file, and gives the status with which the program ends: 0 where it is shown, 1
-/// where the file is refused, or has no such folder or node, or has lost space and the check is strict, 3 where the output
-/// cannot be written, 4 where memory is refused. Each other status than 0 comes with a line on `err`, but for lost space and an
-/// output that is closed; a fault of `err` changes nothing. With the status comes the fault for which the file is refused, where
+/// where the file is refused, or has no such folder or node, or has lost space and the check is strict, or where `damage` found something broken, 3 where the output cannot
+/// be written, 4 where memory is refused. Each other status than 0 comes with a line on `err`, but for lost space, what is broken and
+/// an output that is closed; a fault of `err` changes nothing. With the status comes the fault for which the file is refused, where
 /// that is why.
 #[tactic(auto, using(crate::proofs::RunLemmas::tells_shown, crate::proofs::RunLemmas::tells_refused))]
 pub fn answer_out<W: Write, E: Write>(
@@ -183,9 +227,9 @@ pub fn explain_out<W: Write, E: Write>(kind: Option<Kind>, out: &mut W, err: &mu
 
 /// Runs what the words after the program's name ask for, and gives the status with which the program ends: 0 where it
 /// is shown (or help, or the version), 1 where the file is refused, or has no such folder or node, or has lost space and the
-/// check is strict, 2 where the words are refused, 3 where the file cannot be read or the output cannot be written, 4 where
-/// memory is refused. Each other status than 0 comes with a line on `err`, but for lost space; a fault of `err` changes
-/// nothing.
+/// check is strict, or where `damage` found something broken, 2 where the words are refused, 3 where the file cannot be read or the
+/// output cannot be written, 4 where memory is refused. Each other status than 0 comes with a line on `err`, but for lost space and
+/// what is broken; a fault of `err` changes nothing.
 pub fn run<R: Read, W: Write, E: Write>(
     alloc: Global,
     words: &[String],

@@ -23,7 +23,7 @@ pub enum Text<'a> {
 pub struct Shown<'a> {
     /// What it writes.
     pub text: Text<'a>,
-    /// Whether the run ends with status 1 all the same: where a check is strict, and space is lost.
+    /// Whether the run ends with status 1 all the same: where a check is strict, and space is lost, and where something is broken.
     pub fails: bool,
 }
 

@@ -10,6 +10,7 @@ mod check_kinds;
 mod check_messages;
 mod check_nodes;
 mod check_order;
+mod damage;
 mod digests;
 mod documents;
 mod encoded;

@@ -5,7 +5,7 @@ ghost use Rattle.std.specs.Int.{bit_at};
 ghost use Rattle.pst_header.specs.Head.{IsLastMap};
 ghost use Rattle.pst_header.specs.Header.{amap_place};
 ghost use Rattle.pst_space.specs.Flags.{flags_from, with_flags};
-ghost use Rattle.pst_space.specs.Claimed.{claim_of, claim_all, flag_of, is_clear, filled, with_span, IsUnits, ClaimAnswers, with_spans, MapsFit, page_at, map_pages_at, maps_claimed, unit_total};
+ghost use Rattle.pst_space.specs.Claimed.{claim_of, claim_all, first_unit, flag_of, is_clear, filled, unit_count, with_span, IsUnits, ClaimAnswers, with_spans, MapsFit, page_at, map_pages_at, maps_claimed, unit_total};
 
 use crate::bits;
 use pst_bytes::Span;
@@ -102,9 +102,20 @@ impl Claims {
         Ok(claims)
     }
 
+    /// Whether nothing is claimed of a span, which has to be one or more whole units of the mapped part.
+    #[tactic(auto, using(crate::proofs::FlagLemmas::length_flags, crate::proofs::FlagLemmas::clear_in_is))]
+    pub fn is_free(&self, span: Span) -> bool
+        requires { IsUnits self.now span }
+        ensures { result ≡ is_clear self.now (first_unit span) (unit_count span) }
+    {
+        let first = ((span.at - FIRST_AMAP) / UNIT) as usize;
+        let count = (span.len / UNIT) as usize;
+        bits::is_clear(&self.words, first, count)
+    }
+
     /// Claims a span, which has to be one or more whole units of the mapped part. The fault Overlap (at the span, and of
     /// no page or block) exactly where one of its units is claimed already: then nothing changes. No memory is taken.
-    #[tactic(auto, using(crate::proofs::FlagLemmas::length_flags, crate::proofs::FlagLemmas::length_with_flags, crate::proofs::FlagLemmas::claim_made, crate::proofs::FlagLemmas::claim_refused))]
+    #[tactic(auto, using(crate::proofs::FlagLemmas::length_flags, crate::proofs::FlagLemmas::length_with_flags, crate::proofs::FlagLemmas::clear_in_is, crate::proofs::FlagLemmas::claim_made, crate::proofs::FlagLemmas::claim_refused))]
     pub fn claim(&mut self, span: Span) -> Result<(), Fault>
         requires { IsUnits self.old span }
         ensures answers { ClaimAnswers self.old span self.new result }
@@ -112,7 +123,7 @@ impl Claims {
     {
         let first = ((span.at - FIRST_AMAP) / UNIT) as usize;
         let count = (span.len / UNIT) as usize;
-        if !bits::is_clear(&self.words, first, count) {
+        if !self.is_free(span) {
             return Err(Fault::at(Kind::Overlap, span.at));
         }
         fill(&mut self.words, first, count);

@@ -105,9 +105,10 @@ pub no_name : (t : Table) (nodes : List NodeEntry) (id : ℕ) → None ≡ node_
 unfolding store_name
 no_name t nodes id is = rw (← is) refl
 
-pub name_lent : (file : Image) (t : Table) (nodes : List NodeEntry) (m : NameMap) (found : Option Name) → Some (names_roots m) ≡ node_in nodes NAME_MAP → image_of_node (node_of_names m) ≡ file → table_of_node (node_of_names m) ≡ t → IfSome found (IsLent (image_of_node (node_of_names m)) (table_of_node (node_of_names m)) (names_roots m)) → IfSome found (IsLentIn file t nodes)
-name_lent file t nodes m None is own same lent = tt
-name_lent file t nodes m (Some n) is own same lent = (names_roots m, sym is, rw (← own, ← same) lent)
+pub name_lent : (file : Image) (t : Table) (nodes : List NodeEntry) (m : NameMap) (id : ℕ) (found : Option Name) → Some (names_roots m) ≡ node_in nodes NAME_MAP → image_of_node (node_of_names m) ≡ file → table_of_node (node_of_names m) ≡ t
+    → IfSome found (IsLent (image_of_node (node_of_names m)) (table_of_node (node_of_names m)) (names_roots m) id) → IfSome found (IsLentIn file t nodes id)
+name_lent file t nodes m id None is own same lent = tt
+name_lent file t nodes m id (Some n) is own same lent = (names_roots m, sym is, rw (← own, ← same) lent)
 
 -- ---- a node that is found
 

@@ -47,7 +47,7 @@ GivesNames store found =
 abbrev pub GivesName : Store → ℕ → Option Name → Type 0
 GivesName store id found =
     (option_map name_parts found ≡ store_name (table_of_store store) (nodes_of_store store) id)
-    × IfSome found (IsLentIn (image_of_store store) (table_of_store store) (nodes_of_store store))
+    × IfSome found (IsLentIn (image_of_store store) (table_of_store store) (nodes_of_store store) id)
 
 -- `root`, `folder` and `folders`
 abbrev pub GivesRoot : Store → Folder → Type 0

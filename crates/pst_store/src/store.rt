@@ -121,7 +121,7 @@ impl<'a> Store<'a> {
         ensures value { option_map name_parts result
             ≡ store_name (table_of_store self.now) (nodes_of_store self.now) id }
         ensures lent { let nodes = nodes_of_store self.now in
-            IfSome result (IsLentIn (image_of_store self.now) (table_of_store self.now) nodes) }
+            IfSome result (IsLentIn (image_of_store self.now) (table_of_store self.now) nodes id) }
     {
         match self.names() {
             Some(names) => names.name(id),

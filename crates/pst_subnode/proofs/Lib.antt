@@ -20,6 +20,7 @@ pub mod LeafLemmas
 pub mod ReachLemmas
 pub mod AddLemmas
 pub mod PartLemmas
+pub mod EntryLemmas
 pub mod StateLemmas
 pub mod WalkLemmas
 pub mod WeightLemmas

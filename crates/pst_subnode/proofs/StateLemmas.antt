@@ -1,5 +1,5 @@
 -- What is known of lists is true, and stays so.
-use Rattle.std.proofs.Common.{◌≡◌, ℕ, zero, suc, ◌+◌, ◌*◌, ◌<◌, ◌≤◌, true, Option, Some, None, Result, Ok, Err, refl, sym, ap, ◌∙◌, arith, ◌⊎◌, inl, inr}
+use Rattle.std.proofs.Common.{◌≡◌, ℕ, zero, suc, ◌+◌, ◌*◌, ◌<◌, ◌≤◌, true, Option, Some, None, [], Result, Ok, Err, refl, sym, ap, ◌∙◌, arith, ◌⊎◌, inl, inr}
 use Rattle.std.specs.Ordering.{nat_cmp, eq_by_cmp}
 use Rattle.std.proofs.lemmas.Map.Lookups.{exact_unsigned}
 use Rattle.std.specs.List.{Contains}
@@ -7,7 +7,6 @@ use Rattle.std.specs.Prelude.{is_some}
 use Rattle.std.proofs.lemmas.Cmp.{eq_by_cmp_equiv, nat_cmp_total}
 use Rattle.std.proofs.lemmas.Map.Made.{is_some-lookup}
 use Rattle.std.proofs.lemmas.Map.Views.{tells_apart, Contains-from_any, list_any-from_Contains}
-use Rattle.std.specs.BTreeMap.{IsEmpty}
 use Rattle.pst_fault.specs.declared.fault.Fault.{Fault}
 use Rattle.std.proofs.lemmas.Bool.{cases_lt}
 use Rattle.pst_fault.specs.First.{Tells}
@@ -95,7 +94,7 @@ known_high t h bid height limit are known more lt =
     depth_law t w.0 limit bid w.1 ∙ fits_no _ limit (omega (arith, w.2))
 
 -- nothing is known
-pub nothing_known : (t : Table) (h : Heights) → IsEmpty h.states → AreRangesTrue t h.ranges → AreHeightsTrue t h
+pub nothing_known : (t : Table) (h : Heights) → h.states.entries ≡ [] → AreRangesTrue t h.ranges → AreHeightsTrue t h
 unfolding state_at
 nothing_known t h empty ranges = record {
   heights = record { ranges = ranges; holds = λ bid height more known. let bad : None ≡ Some height = (rw empty at known) in cc };
@@ -164,7 +163,7 @@ old_counted count old new same is = omega (arith, same, is)
 
 -- ---- keys
 
-pub nothing_at : (h : Heights) → IsEmpty h.states → (key : ℕ) → state_at h key ≡ None
+pub nothing_at : (h : Heights) → h.states.entries ≡ [] → (key : ℕ) → state_at h key ≡ None
 unfolding state_at
 nothing_at h empty key = rw empty refl
 

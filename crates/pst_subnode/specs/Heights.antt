@@ -1,12 +1,12 @@
 -- What is known of subnode lists, and what is counted.
-use Rattle.std.specs.Prelude.{◌≡◌, ℕ, ◌<◌, Option, Some, None, List}
-use Rattle.std.specs.Ordering.{nat_cmp}
-use Rattle.std.specs.BTreeMap.{get, keys, btree_map_len}
+use Rattle.std.specs.Prelude.{◌≡◌, ℕ, ◌<◌, Option, Some, None, List, length}
+use Rattle.std.specs.Map.{keys_of}
 use Rattle.pst_block.specs.Block.{bid_key}
 use Rattle.pst_block.specs.Table.{Table}
 use Rattle.pst_datatree.specs.Seen.{raised}
 use Rattle.pst_subnode.specs.declared.heights.Heights.{Heights}
 use Rattle.pst_subnode.specs.Ranges.{AreRangesTrue}
+use Rattle.pst_subnode.specs.States.{state_in}
 use Rattle.pst_subnode.specs.Tree.{sub_fault, sub_height}
 
 -- how many blocks of lists have been expanded
@@ -15,11 +15,11 @@ list_expansions h = h.expansions
 
 -- the keys of the lists that are known, marked ones among them
 abbrev pub list_keys : Heights → List ℕ
-list_keys h = keys h.states
+list_keys h = keys_of h.states.entries
 
 -- what is known of the list with a key: 0 marks it while it is being expanded, any other number is its height
 unfoldable pub state_at : Heights → ℕ → Option ℕ
-state_at h key = get nat_cmp h.states key
+state_at h key = state_in h.states key
 
 -- of the list of an identifier, whose bit 0 says nothing
 abbrev pub state_of : Heights → ℕ → Option ℕ
@@ -51,7 +51,7 @@ NoNewMarks old new = (bid : ℕ) → state_of new bid ≡ Some 0 → state_of ol
 
 -- how many lists are known, marked ones among them
 abbrev pub known_lists : Heights → ℕ
-known_lists h = btree_map_len h.states
+known_lists h = length h.states.entries
 
 -- the blocks that were expanded are those that are known
 abbrev pub AreHeightsCounted : Heights → Type 0

@@ -6,6 +6,7 @@ pub mod Left
 pub mod Index
 pub mod Numbers
 pub mod Ranges
+pub mod States
 pub mod Heights
 pub mod Marks
 pub mod Reach

@@ -3,17 +3,17 @@
 ghost use Rattle.std.specs.Prelude.{◌≡◌, ◌≤◌};
 
 use crate::ranges::Ranges;
+use crate::states::States;
 use pst_fault::Fault;
 use pst_page::PageKind;
 use std::alloc::Global;
-use std::collections::BTreeMap;
 
 /// What is already known of subnode lists: the heights of those that were found without fault, which each walk passes over,
 /// which lists are being expanded, and where the identifiers in SLBLOCKs lie that rise.
 #[derive(Drop)]
 pub struct Heights {
     // By the keys of the lists: a height, or 0 for a list that is being expanded.
-    pub(crate) states: BTreeMap<u64, u16>,
+    pub(crate) states: States,
     pub(crate) expansions: u64,
     pub(crate) ranges: Ranges,
 }
@@ -25,6 +25,7 @@ impl Heights {
     ghost use Rattle.pst_fault.specs.Fault.{no_memory};
     ghost use Rattle.pst_block.specs.Block.{bid_key};
     ghost use Rattle.pst_block.specs.Table.{Table};
+    ghost use Rattle.pst_datatree.specs.Seen.{raised};
     ghost use Rattle.pst_subnode.specs.Heights.{list_expansions, list_keys, state_at, state_of, known_lists, AreHeightsCounted, AreHeightsTrue};
 
     /// Nothing is known, and nothing has been expanded. No memory is taken.
@@ -35,7 +36,7 @@ impl Heights {
         ensures empty { (key : ℕ) → state_at result key ≡ None }
     {
         Heights {
-            states: BTreeMap::new(alloc),
+            states: States::new(alloc),
             expansions: 0,
             ranges: Ranges::new(alloc),
         }
@@ -53,7 +54,7 @@ impl Heights {
     pub fn keys_rise(&self)
         ensures { IsStrictlySortedBy nat_cmp (list_keys self.now) }
     {
-        let _count = self.states.len();
+        self.states.keys_rise();
     }
 
     // What is known of a list.
@@ -61,7 +62,17 @@ impl Heights {
     pub(crate) fn state(&self, bid: u64) -> Option<u16>
         ensures { result ≡ state_of self.now bid }
     {
-        self.states.get(&PageKind::Bbt.key_of(bid)).copied()
+        self.states.get(PageKind::Bbt.key_of(bid))
+    }
+
+    // One list more is expanded.
+    fn count_one(&mut self)
+        ensures counts { list_expansions self.new ≡ raised (list_expansions self.old) 1 }
+        ensures grows { list_expansions self.old ≤ list_expansions self.new }
+        ensures states { self.new.states ≡ self.old.states }
+        ensures ranges { self.new.ranges ≡ self.old.ranges }
+    {
+        self.expansions = self.expansions.saturating_add(1);
     }
 
     // A list has this state from now on. It is counted as expanded where nothing was known of it.
@@ -75,9 +86,8 @@ impl Heights {
         ensures grows { list_expansions self.old ≤ list_expansions self.new }
         ensures ranges { self.new.ranges ≡ self.old.ranges }
     {
-        let old = self.states.insert(PageKind::Bbt.key_of(bid), state)?;
-        if old.is_none() {
-            self.expansions = self.expansions.saturating_add(1);
+        if self.states.put(PageKind::Bbt.key_of(bid), state)? {
+            self.count_one();
         }
         Ok(())
     }
@@ -90,11 +100,13 @@ impl Heights {
         ensures counts { list_expansions self.new ≡ list_expansions self.old }
         ensures ranges { self.new.ranges ≡ self.old.ranges }
     {
-        let _ = self.states.remove(&PageKind::Bbt.key_of(bid));
+        self.states.remove(PageKind::Bbt.key_of(bid));
     }
 
-    // A list of one block is being expanded, and marked.
+    // A list that nothing is known of is being expanded, and marked.
+    #[tactic(auto, using(crate::proofs::StateLemmas::new_counted), unfolding(crate::specs::Heights::state_at))]
     pub(crate) fn begin(&mut self, bid: u64) -> Result<(), Fault>
+        requires fresh { state_of self.old bid ≡ None }
         ensures put { OnOk result ((key : ℕ) → state_at self.new key ≡
             cond (eq_by_cmp nat_cmp (bid_key bid) key) (Some 0) (state_at self.old key)) }
         ensures same { OnErr result ((key : ℕ) → state_at self.new key ≡ state_at self.old key) }
@@ -103,7 +115,9 @@ impl Heights {
         ensures grows { list_expansions self.old ≤ list_expansions self.new }
         ensures ranges { self.new.ranges ≡ self.old.ranges }
     {
-        self.put(bid, 0)
+        self.states.add(PageKind::Bbt.key_of(bid), 0)?;
+        self.count_one();
+        Ok(())
     }
 
     // A list has this height; or memory is refused, and nothing is known of it any more.

@@ -32,6 +32,7 @@ mod ranges;
 mod rise;
 mod scan;
 mod stamps;
+mod states;
 mod steps;
 mod sub;
 mod walk;

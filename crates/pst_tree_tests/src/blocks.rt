@@ -2,6 +2,7 @@
 
 mod claims;
 mod many;
+mod steps;
 
 use crate::told::{holds, is, is_at};
 use pst_block::*;

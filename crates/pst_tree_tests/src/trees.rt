@@ -1,6 +1,7 @@
 //! B-trees of small and of many pages, with bytes changed.
 
 mod claims;
+mod lists;
 mod many;
 mod order;
 

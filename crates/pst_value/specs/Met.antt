@@ -1,5 +1,5 @@
 -- What was asked of a list of subnodes, met by another one.
-use Rattle.std.specs.Prelude.{◌≡◌, Bool, true, ◌&&◌, Option, None}
+use Rattle.std.specs.Prelude.{◌≡◌, ℕ, Bool, true, ◌&&◌, List, Option, None}
 use Rattle.std.specs.BTreeSet.{keys}
 use Rattle.pst_fault.specs.declared.fault.Fault.{Fault}
 use Rattle.pst_block.specs.Table.{Table}
@@ -7,9 +7,17 @@ use Rattle.pst_ndb.specs.Roots.{Roots}
 use Rattle.pst_value.specs.declared.asks.Asks.{Asks}
 use Rattle.pst_value.specs.Asks.{SameData, all_fit, has_matrix}
 
+-- the row matrix that is asked for, by its identifier and the block of its data, and the subnodes in which values lie, each by its
+-- identifier and the type of the value
+abbrev pub asked_matrix : Asks → Option (ℕ × ℕ)
+asked_matrix asks = asks.matrix
+
+abbrev pub asked_values : Asks → List (ℕ × ℕ)
+asked_values asks = keys asks.values
+
 -- the list of these roots meets all that is asked
 unfoldable pub are_met : Table → Roots → Asks → Bool
-are_met t r asks = has_matrix t r asks.matrix && all_fit t r (keys asks.values)
+are_met t r asks = has_matrix t r (asked_matrix asks) && all_fit t r (asked_values asks)
 
 -- no less is asked later
 abbrev pub AsksMore : Asks → Asks → Type 0

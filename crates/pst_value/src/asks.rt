@@ -47,14 +47,14 @@ fn has_block(node: Node, nid: u32, block: u64) -> bool
 }
 
 impl Asks {
-    ghost use Rattle.std.specs.Prelude.{◌≡◌, ℕ, true, Option, OnOk, IfErr};
+    ghost use Rattle.std.specs.Prelude.{◌≡◌, ℕ, true, length, Option, OnOk, IfErr};
     ghost use Rattle.std.specs.BTreeSet.{keys};
     ghost use Rattle.pst_block.specs.Table.{Table};
     ghost use Rattle.pst_fault.specs.Fault.{no_memory};
     ghost use Rattle.pst_ndb.specs.Roots.{Roots};
     ghost use Rattle.pst_ndb.specs.Views.{table_of_node, roots_of};
     ghost use Rattle.pst_value.specs.Asks.{is_fitting, all_fit, has_matrix};
-    ghost use Rattle.pst_value.specs.Met.{are_met, AsksMore};
+    ghost use Rattle.pst_value.specs.Met.{asked_matrix, asked_values, are_met, AsksMore};
 
     /// Nothing is asked but for the row matrix, by the identifier of its subnode and the block of its data, where it is one.
     /// No memory is taken.
@@ -68,13 +68,17 @@ impl Asks {
         }
     }
 
-    /// How many subnodes are asked for by values.
-    pub fn len(&self) -> usize {
+    /// How many subnodes are asked for by values, each once for each type of a value there.
+    pub fn len(&self) -> usize
+        ensures { result ≡ length (asked_values self.now) }
+    {
         self.values.len()
     }
 
     /// The identifier of the row matrix, and the block of its data, where it is a subnode.
-    pub fn matrix(&self) -> Option<(u32, u64)> {
+    pub fn matrix(&self) -> Option<(u32, u64)>
+        ensures { result ≡ asked_matrix self.now }
+    {
         self.matrix
     }
 

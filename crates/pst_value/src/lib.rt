@@ -1,13 +1,16 @@
 //! Values of properties and of cells ([MS-PST] 2.3.3.3, 2.3.4.4): where they lie, and what their bytes say under their types.
 //!
-//! Begin with `PropType` and its `class`; `resolve` finds the value that a type and a raw span name, and the readers
-//! (`as_i32`, `as_guid`, `units16`, `elements_from`, ..) say what the bytes of a value are. All of them are total in the
-//! bytes, in one slice or in pieces, and none takes memory:
+//! Begin with `PropType` and its `class`; `check_value` tells the first fault of the value that a type and a raw span name, and
+//! where it has none `known_value` gives it. The readers (`as_i32`, `as_guid`, `units16`, `elements_from`, ..) say what the bytes
+//! of a value are. All of them are total in the bytes, in one slice or in pieces, and none takes memory:
 //!
 //! ```
-//! let value = resolve(node, &heap, PropType(0x0003), raw)?;
+//! check_value(&mut items, PropType(0x0003), place, raw)?;
+//! let value = known_value(&heap, PropType(0x0003), raw);
 //! let count = as_i32(value);
 //! ```
+//!
+//! `resolve` does both for a single value.
 #![tactic(auto)]
 
 mod ask;

@@ -3,6 +3,7 @@ pub mod DigitLemmas
 pub mod EscapeLemmas
 pub mod GuidLemmas
 pub mod HexLemmas
+pub mod KeptLemmas
 pub mod MemberLemmas
 pub mod NameLemmas
 pub mod PartLemmas

@@ -1,5 +1,5 @@
 -- Where the pieces of values lie.
-use Rattle.std.proofs.Common.{◌≡◌, ℕ, ◌+◌, ◌<◌, ◌≤◌, List, [], ◌∷◌, ◌++◌, map, length, take, drop, Option, Some, None, refl, sym, ap, ◌∙◌, arith, inl, inr, length-take, length-drop}
+use Rattle.std.proofs.Common.{◌≡◌, ℕ, ◌+◌, ◌<◌, ◌≤◌, List, [], ◌∷◌, ◌++◌, map, length, take, drop, Option, Some, None, refl, sym, ap, ◌∙◌, arith, inl, inr, length-take, length-drop, Bor}
 use Rattle.std.specs.Prelude.{IfSome, nat_lt, option_map, if◌then◌else◌}
 use Rattle.std.proofs.lemmas.Bool.{cases_lt}
 use Rattle.std.proofs.lemmas.List.{take_min}
@@ -7,9 +7,11 @@ use Rattle.std.proofs.lemmas.Grind.{common_steps}
 use Rattle.pst_bytes.specs.declared.Image.{Image}
 use Rattle.pst_bytes.specs.declared.span.Span.{Span}
 use Rattle.pst_bytes.specs.Image.{bytes_of, bytes_at, IsInside}
+use Rattle.pst_datatree.specs.declared.pieces.Pieces.{Pieces as PiecesView}
 use Rattle.pst_datatree.specs.declared.value_view.Value.{Value}
 use Rattle.pst_datatree.specs.declared.value_view.Value.TheVariants.{Whole, Pieces}
-use Rattle.pst_datatree.specs.Shown.{ShowsSpans}
+use Rattle.pst_datatree.specs.Left.{spans_left, file_of}
+use Rattle.pst_datatree.specs.Shown.{ShowsSpans, KeepsBytes}
 use Rattle.pst_datatree.specs.Spans.{nonempty, joined_bytes, first_span, AreInside}
 use Rattle.pst_datatree.proofs.ValueLemmas.{with_bytes, without_bytes, length_bytes}
 use Rattle.pst_pc.specs.Values.{spans_in}
@@ -41,6 +43,25 @@ places_of_nonempty I (s ∷ rest) =
       | inl lt ↦ rw (with_bytes s rest lt) (one_more (in_file I s) (map (in_file I) (nonempty rest)) (map (in_file I) rest) (places_of_nonempty I rest))
       | inr le ↦ rw (without_bytes s rest le) (places_of_nonempty I rest ∙ sym (without_bytes (in_file I s) (map (in_file I) rest) (none_in_file I s le)))
     ]
+
+-- ---- the places of a value that is one slice, or pieces, once those without bytes are left out
+
+pub places_of_slice : (value kept : Value) (at : ℕ) (slice : Bor (List ℕ)) → KeepsBytes value kept → kept ≡ Whole at slice
+    → places_in value ≡ nonempty (record { at = at; len = length slice.now } ∷ [])
+places_of_slice (Whole a s) kept at slice keeps is = ap places_in (sym keeps ∙ is)
+places_of_slice (Pieces p) kept at slice keeps is = absurd (rw is at keeps)
+
+kept_places : (I J : List ℕ) (spans kept : List Span) → kept ≡ nonempty spans → J ≡ I → map (in_file J) kept ≡ kept → places_of I spans ≡ kept
+kept_places I J spans kept is file inside =
+    let all : map (in_file I) kept ≡ kept = rw file at inside in
+    sym (places_of_nonempty I spans) ∙ ap (places_of I) (sym is) ∙ ap nonempty all ∙ ap nonempty is ∙ nonempty_twice spans ∙ sym is
+
+pub places_of_pieces : (value kept : Value) (q : PiecesView) → KeepsBytes value kept → kept ≡ Pieces q
+    → map (in_file (bytes_of (file_of q))) (spans_left q) ≡ spans_left q → places_in value ≡ spans_left q
+places_of_pieces (Whole a s) kept q keeps is inside = absurd (cc)
+places_of_pieces (Pieces p) kept q keeps is inside =
+    let same : KeepsBytes (Pieces p) (Pieces q) = rw is at keeps in
+    kept_places (bytes_of (file_of p)) (bytes_of (file_of q)) (spans_left p) (spans_left q) same.0 (ap bytes_of same.1) inside
 
 -- ---- a span that lies in the file is all there
 

@@ -1,6 +1,5 @@
 -- A list whose text is put behind another, row by row.
 use Rattle.std.proofs.Common.{◌≡◌, ℕ, Bool, true, List, [], ◌∷◌, refl, ◌++◌, sym, ap, ◌∙◌, append_assoc, arith}
-use Rattle.std.specs.Prelude.{Result, Ok, OnOk}
 use Rattle.serde_json.specs.Data.{Data}
 use Rattle.serde_json.specs.View.{items_of}
 use Rattle.serde_json.specs.Written.{compact_text, comma_if, items_text}
@@ -27,7 +26,3 @@ row_put later d old new text comma put is begun now = (
 -- an item of a list is put, and a comma before it
 pub item_put : (later : Bool) (d : Data) (text comma put : List ℕ) → comma ≡ text ++ comma_if later → put ≡ comma ++ compact_text d → PutsItems true later (d ∷ []) text put
 item_put later d text comma put begun now behind = (row_put later d (d ∷ behind) behind text comma put refl begun now).1
-
--- what is put whole, is there
-pub put_whole : {A E : Type 0} (v : A) (put : Result A E) (P : Type 0) → Ok v ≡ put → OnOk put P → P
-put_whole v put P same on = rw (← same) at on

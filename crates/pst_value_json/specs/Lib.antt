@@ -1,6 +1,7 @@
 pub mod Names
 pub mod Parts
 pub mod Line
+pub mod Kept
 pub mod Plain
 pub mod Form
 pub mod Value

@@ -11,7 +11,7 @@ ghost use Rattle.pst_value_json.specs.Cells.{has_tag, distinct_columns, cell_wit
 ghost use Rattle.pst_value_json.specs.Parts.{list_data};
 ghost use Rattle.pst_value_json.specs.Places.{content_in};
 
-use crate::compact::{or_cut, put_comma};
+use crate::compact::put_comma;
 use crate::listing::{self, list_doc};
 use crate::names::{nid_text, tag_text};
 use crate::places::places_doc;
@@ -169,7 +169,7 @@ impl listing::Rows for TableRows<'_> {
         }
     }
 
-    // A row goes to the text cell by cell, without a tree; where memory is refused, none of it is left there.
+    // A row goes to the text cell by cell, without a tree.
     fn put_next(
         &mut self,
         alloc: Global,
@@ -179,10 +179,8 @@ impl listing::Rows for TableRows<'_> {
         let Some(row) = self.rows.next() else {
             return Ok(false);
         };
-        let long = text.len();
         put_comma(later, text)?;
-        let put = put_table_row(alloc, row, &self.columns, self.places, text);
-        or_cut(put, long, text)?;
+        put_table_row(alloc, row, &self.columns, self.places, text)?;
         Ok(true)
     }
 }

@@ -1,9 +1,10 @@
 //! The text of a document.
 
-ghost use Rattle.std.specs.Prelude.{◌≡◌, ◌++◌, IfOk, OnOk, OnErr, take, false};
+ghost use Rattle.std.specs.Prelude.{◌≡◌, ◌++◌, IfOk, OnOk, OnErr, false};
 ghost use Rattle.serde_json.specs.View.{view};
 ghost use Rattle.serde_json.specs.Written.{compact_text, comma_if, has_float};
 ghost use Rattle.pst_value_json.specs.Line.{line_of, row_text};
+ghost use Rattle.pst_value_json.specs.Kept.{BeginsWith};
 
 use serde_json::Value as Doc;
 use std::alloc::{AllocError, Global};
@@ -29,7 +30,8 @@ pub fn line_text(alloc: Global, doc: &Doc) -> Result<Vec<u8>, AllocError>
 
 /// Puts a comma behind a text where something stands there.
 pub fn put_comma(later: bool, text: &mut Vec<u8>) -> Result<(), AllocError>
-    ensures { OnOk result (text.new.items ≡ text.old.items ++ comma_if later) }
+    ensures put { OnOk result (text.new.items ≡ text.old.items ++ comma_if later) }
+    ensures kept { OnErr result (BeginsWith text.new.items text.old.items) }
 {
     if later {
         text.push(b',')?;
@@ -37,26 +39,11 @@ pub fn put_comma(later: bool, text: &mut Vec<u8>) -> Result<(), AllocError>
     Ok(())
 }
 
-/// What came of putting a row behind a text that had so many bytes: where memory was refused, the text is cut back to them.
-pub(crate) fn or_cut(
-    put: Result<(), AllocError>,
-    long: usize,
-    text: &mut Vec<u8>,
-) -> Result<(), AllocError>
-    ensures put { result ≡ put }
-    ensures whole { OnOk result (text.new.items ≡ text.old.items) }
-    ensures cut { OnErr result (text.new.items ≡ take long text.old.items) }
-{
-    if put.is_err() {
-        text.truncate(long);
-    }
-    put
-}
-
 /// Puts the text of a document behind a text.
 pub(crate) fn put_doc(alloc: Global, doc: &Doc, text: &mut Vec<u8>) -> Result<(), AllocError>
     requires { has_float (view doc.now) ≡ false }
-    ensures { OnOk result (text.new.items ≡ text.old.items ++ compact_text (view doc.now)) }
+    ensures put { OnOk result (text.new.items ≡ text.old.items ++ compact_text (view doc.now)) }
+    ensures kept { OnErr result (BeginsWith text.new.items text.old.items) }
 {
     let more = doc.to_vec(alloc)?;
     text.extend_from_slice(&more)?;
@@ -72,7 +59,8 @@ pub(crate) fn put_row(
     text: &mut Vec<u8>,
 ) -> Result<(), AllocError>
     requires { has_float (view doc.now) ≡ false }
-    ensures { OnOk result (text.new.items ≡ text.old.items ++ row_text (view doc.now) later) }
+    ensures put { OnOk result (text.new.items ≡ text.old.items ++ row_text (view doc.now) later) }
+    ensures kept { OnErr result (BeginsWith text.new.items text.old.items) }
 {
     put_comma(later, text)?;
     put_doc(alloc, doc, text)

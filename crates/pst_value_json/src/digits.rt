@@ -1,6 +1,6 @@
 //! Numbers in hexadecimal, in the quotes of JSON, put behind a text.
 
-ghost use Rattle.std.specs.Prelude.{◌≡◌, [], ◌∷◌, ◌++◌, OnOk};
+ghost use Rattle.std.specs.Prelude.{◌≡◌, [], ◌∷◌, ◌++◌, OnOk, OnErr};
 ghost use Rattle.std.specs.Int.{w16, w32, to_be_bytes};
 ghost use Rattle.hex.specs.Hex.{encode_lower, encode_upper};
 ghost use Rattle.json.specs.Print.{escape};
@@ -9,6 +9,7 @@ ghost use Rattle.serde_json.specs.Written.{compact_text};
 ghost use Rattle.pst_fault.specs.Fault.{hex};
 ghost use Rattle.pst_value_json.specs.Names.{nid_data, nid_or_null, id_text, tag_text};
 ghost use Rattle.pst_value_json.specs.Value.{hex_data};
+ghost use Rattle.pst_value_json.specs.Kept.{BeginsWith};
 
 use crate::escape::digit;
 use crate::put::put_null;
@@ -25,7 +26,8 @@ const MOST: usize = 8;
 // Puts the digits of a number behind a text, without leading zeros.
 #[tactic(auto, using(crate::proofs::DigitLemmas::none_spelt))]
 fn put_number(number: u32, text: &mut Vec<u8>) -> Result<(), AllocError>
-    ensures { OnOk result (text.new.items ≡ text.old.items ++ escape (hex number)) }
+    ensures put { OnOk result (text.new.items ≡ text.old.items ++ escape (hex number)) }
+    ensures kept { OnErr result (BeginsWith text.new.items text.old.items) }
 {
     let mut digits = [0; MOST];
     let mut first = MOST;
@@ -44,7 +46,8 @@ fn put_number(number: u32, text: &mut Vec<u8>) -> Result<(), AllocError>
 /// Puts a node's identifier behind a text, as `"0x21"`.
 #[tactic(auto, using(crate::proofs::DigitLemmas::nid_put))]
 pub fn put_nid(nid: u32, text: &mut Vec<u8>) -> Result<(), AllocError>
-    ensures { OnOk result (text.new.items ≡ text.old.items ++ compact_text (nid_data nid)) }
+    ensures put { OnOk result (text.new.items ≡ text.old.items ++ compact_text (nid_data nid)) }
+    ensures kept { OnErr result (BeginsWith text.new.items text.old.items) }
 {
     text.extend_from_slice(b"\"0x")?;
     put_number(nid, text)?;
@@ -54,7 +57,8 @@ pub fn put_nid(nid: u32, text: &mut Vec<u8>) -> Result<(), AllocError>
 
 /// Puts a node's identifier behind a text, or null.
 pub(crate) fn put_nid_or_null(nid: Option<u32>, text: &mut Vec<u8>) -> Result<(), AllocError>
-    ensures { OnOk result (text.new.items ≡ text.old.items ++ compact_text (nid_or_null nid)) }
+    ensures put { OnOk result (text.new.items ≡ text.old.items ++ compact_text (nid_or_null nid)) }
+    ensures kept { OnErr result (BeginsWith text.new.items text.old.items) }
 {
     match nid {
         Some(nid) => put_nid(nid, text),
@@ -72,7 +76,8 @@ fn upper(byte: u8) -> [u8; 2]
 
 /// Puts a property's identifier or type behind a text, as `"001F"`.
 pub(crate) fn put_id(id: u16, text: &mut Vec<u8>) -> Result<(), AllocError>
-    ensures { OnOk result (text.new.items ≡ text.old.items ++ compact_text (string (id_text id))) }
+    ensures put { OnOk result (text.new.items ≡ text.old.items ++ compact_text (string (id_text id))) }
+    ensures kept { OnErr result (BeginsWith text.new.items text.old.items) }
 {
     let [first, second] = id.to_be_bytes();
     let [a, b] = upper(first);
@@ -83,8 +88,9 @@ pub(crate) fn put_id(id: u16, text: &mut Vec<u8>) -> Result<(), AllocError>
 
 /// Puts the tag of a column behind a text, as `"3001001F"`.
 pub(crate) fn put_tag(tag: u32, text: &mut Vec<u8>) -> Result<(), AllocError>
-    ensures { OnOk result (text.new.items
+    ensures put { OnOk result (text.new.items
         ≡ text.old.items ++ compact_text (string (tag_text tag))) }
+    ensures kept { OnErr result (BeginsWith text.new.items text.old.items) }
 {
     let [first, second, third, fourth] = tag.to_be_bytes();
     let [a, b] = upper(first);
@@ -110,7 +116,8 @@ fn lower_of(bytes: &[u8; 16]) -> [u8; 32]
 // Puts the two digits of a byte behind a text, in lower case.
 #[tactic(auto, using(crate::proofs::DigitLemmas::lower_put))]
 fn put_lower(byte: u8, text: &mut Vec<u8>) -> Result<(), AllocError>
-    ensures { OnOk result (text.new.items ≡ text.old.items ++ escape (encode_lower (byte ∷ []))) }
+    ensures put { OnOk result (text.new.items ≡ text.old.items ++ escape (encode_lower (byte ∷ []))) }
+    ensures kept { OnErr result (BeginsWith text.new.items text.old.items) }
 {
     text.extend_from_slice(&[LOWER[(byte / 16) as usize], LOWER[(byte % 16) as usize]])?;
     Ok(())
@@ -118,7 +125,8 @@ fn put_lower(byte: u8, text: &mut Vec<u8>) -> Result<(), AllocError>
 
 // Puts the digits of bytes behind a text, one by one.
 fn put_each(bytes: &[u8], text: &mut Vec<u8>) -> Result<(), AllocError>
-    ensures { OnOk result (text.new.items ≡ text.old.items ++ escape (encode_lower bytes.now)) }
+    ensures put { OnOk result (text.new.items ≡ text.old.items ++ escape (encode_lower bytes.now)) }
+    ensures kept { OnErr result (BeginsWith text.new.items text.old.items) }
 {
     for byte in bytes {
         put_lower(*byte, text)?;
@@ -129,7 +137,8 @@ fn put_each(bytes: &[u8], text: &mut Vec<u8>) -> Result<(), AllocError>
 /// Puts the digits of bytes behind a text, in lower case and without quotes. Room is taken once, and they are put sixteen bytes at a
 /// time, and one by one at the end.
 pub(crate) fn put_lower_bytes(bytes: &[u8], text: &mut Vec<u8>) -> Result<(), AllocError>
-    ensures { OnOk result (text.new.items ≡ text.old.items ++ escape (encode_lower bytes.now)) }
+    ensures put { OnOk result (text.new.items ≡ text.old.items ++ escape (encode_lower bytes.now)) }
+    ensures kept { OnErr result (BeginsWith text.new.items text.old.items) }
 {
     text.reserve(2 * bytes.len())?;
     let mut left = bytes;
@@ -142,7 +151,8 @@ pub(crate) fn put_lower_bytes(bytes: &[u8], text: &mut Vec<u8>) -> Result<(), Al
 
 /// Puts bytes behind a text, in hexadecimal.
 pub(crate) fn put_hex(bytes: &[u8], text: &mut Vec<u8>) -> Result<(), AllocError>
-    ensures { OnOk result (text.new.items ≡ text.old.items ++ compact_text (hex_data bytes.now)) }
+    ensures put { OnOk result (text.new.items ≡ text.old.items ++ compact_text (hex_data bytes.now)) }
+    ensures kept { OnErr result (BeginsWith text.new.items text.old.items) }
 {
     text.push(b'"')?;
     put_lower_bytes(bytes, text)?;

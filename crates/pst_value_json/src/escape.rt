@@ -1,10 +1,11 @@
 //! Texts in the quotes of JSON, put behind a text.
 
-ghost use Rattle.std.specs.Prelude.{◌≡◌, ◌+◌, ◌≤◌, ◌<◌, ◌++◌, OnOk, length, drop, vec_len, vec_capacity};
+ghost use Rattle.std.specs.Prelude.{◌≡◌, ◌+◌, ◌≤◌, ◌<◌, ◌++◌, OnOk, OnErr, length, drop, vec_len, vec_capacity};
 ghost use Rattle.std.specs.Char.{digit_char};
 ghost use Rattle.std.specs.List.{prefix_len};
 ghost use Rattle.json.specs.Print.{escape_letter, escape_byte, escape, quoted};
 ghost use Rattle.json.specs.Run.{is_plain};
+ghost use Rattle.pst_value_json.specs.Kept.{BeginsWith};
 
 use std::alloc::AllocError;
 
@@ -74,7 +75,8 @@ pub(crate) fn put_escape_reserved(byte: u8, text: &mut Vec<u8>)
 
 // Puts what stands for a byte between quotes behind a text.
 fn put_escape(byte: u8, text: &mut Vec<u8>) -> Result<(), AllocError>
-    ensures { OnOk result (text.new.items ≡ text.old.items ++ escape_byte byte) }
+    ensures put { OnOk result (text.new.items ≡ text.old.items ++ escape_byte byte) }
+    ensures kept { OnErr result (BeginsWith text.new.items text.old.items) }
 {
     text.reserve(6)?;
     put_escape_reserved(byte, text);
@@ -83,7 +85,8 @@ fn put_escape(byte: u8, text: &mut Vec<u8>) -> Result<(), AllocError>
 
 /// Puts bytes behind a text as they stand between quotes, run by run.
 pub(crate) fn put_escaped(shown: &[u8], text: &mut Vec<u8>) -> Result<(), AllocError>
-    ensures { OnOk result (text.new.items ≡ text.old.items ++ escape shown.now) }
+    ensures put { OnOk result (text.new.items ≡ text.old.items ++ escape shown.now) }
+    ensures kept { OnErr result (BeginsWith text.new.items text.old.items) }
 {
     let mut at = 0;
     loop {
@@ -99,7 +102,8 @@ pub(crate) fn put_escaped(shown: &[u8], text: &mut Vec<u8>) -> Result<(), AllocE
 
 /// Puts bytes in quotes behind a text.
 pub(crate) fn put_quoted(shown: &[u8], text: &mut Vec<u8>) -> Result<(), AllocError>
-    ensures { OnOk result (text.new.items ≡ text.old.items ++ quoted shown.now) }
+    ensures put { OnOk result (text.new.items ≡ text.old.items ++ quoted shown.now) }
+    ensures kept { OnErr result (BeginsWith text.new.items text.old.items) }
 {
     text.push(b'"')?;
     put_escaped(shown, text)?;

@@ -1,8 +1,9 @@
 //! Values as JSON: of properties and of cells, the lists of both, and the sinks that longer documents go to.
 //!
-//! Begin with `value_doc`, which gives the JSON value of a property's value, by its type; `pc_doc` gives the properties of a
-//! property context, and `table_doc` the rows of a table. A document of several lists is made once, of its parts, and becomes
-//! a tree or a line by the sink that it is made for:
+//! Begin with `put_object`, which puts the parts of a document behind a text: single values, and lists of rows, as `prop_rows`
+//! gives the properties of a property context and `table_rows` the rows of a table. A row puts each of its values straight behind
+//! the text, by its type. A document of several lists is made once, of its parts, and becomes a line or a tree by the sink that it
+//! is made for:
 //!
 //! ```text
 //! fn shown_node<S: Sink>(
@@ -19,6 +20,8 @@
 //!     S::object(alloc, parts)
 //! }
 //! ```
+//!
+//! `value_doc`, `pc_doc` and `table_doc` give trees of the same: of a value, of properties, and of rows.
 #![tactic(auto)]
 
 mod cells;

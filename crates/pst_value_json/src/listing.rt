@@ -1,10 +1,11 @@
 //! Lists, made row by row.
 
-ghost use Rattle.std.specs.Prelude.{◌≡◌, ◌++◌, List, IfOk, OnOk, IfSome, false};
+ghost use Rattle.std.specs.Prelude.{◌≡◌, ◌++◌, List, IfOk, OnErr, OnOk, IfSome, false};
 ghost use Rattle.serde_json.specs.Data.{Data, array};
 ghost use Rattle.serde_json.specs.View.{view, items_of};
 ghost use Rattle.serde_json.specs.Written.{compact_text, has_float};
 ghost use Rattle.pst_value_json.specs.Rows.{TakesNext, PutsNext};
+ghost use Rattle.pst_value_json.specs.Kept.{BeginsWith};
 
 use crate::compact::put_row;
 use serde_json::Value as Doc;
@@ -20,7 +21,8 @@ pub trait Rows: Drop {
         ensures next { IfOk result (λ row. TakesNext row (left self.old) (left self.new)) }
         ensures plain { IfOk result (λ row. IfSome row (λ d. has_float (view d) ≡ false)) };
 
-    /// Puts the next row behind a text, if one is left, and a comma before it where others stand there.
+    /// Puts the next row behind a text, if one is left, and a comma before it where others stand there. Where memory is
+    /// refused, the text begins with what it had, and a part of the row may stand behind that.
     #[tactic(auto, using(crate::proofs::RowLemmas::puts_next))]
     fn put_next(
         &mut self,
@@ -28,19 +30,15 @@ pub trait Rows: Drop {
         later: bool,
         text: &mut Vec<u8>,
     ) -> Result<bool, AllocError>
-        ensures { IfOk result (λ more. PutsNext more later (left self.old) (left self.new)
+        ensures put { IfOk result (λ more. PutsNext more later (left self.old) (left self.new)
             text.old.items text.new.items) }
+        ensures kept { BeginsWith text.new.items text.old.items }
     {
         let Some(doc) = self.next_doc(alloc)? else {
             return Ok(false);
         };
         put_row(alloc, &doc, later, text)?;
         Ok(true)
-    }
-
-    /// About how many bytes the text of the rows takes, where that is known before they are made.
-    fn room(&self) -> usize {
-        0
     }
 }
 
@@ -62,10 +60,10 @@ pub(crate) fn put_list<R: Rows>(
     rows: R,
     text: &mut Vec<u8>,
 ) -> Result<(), AllocError>
-    ensures { OnOk result (text.new.items
+    ensures put { OnOk result (text.new.items
         ≡ text.old.items ++ compact_text (array (items_of (R.left rows)))) }
+    ensures kept { OnErr result (BeginsWith text.new.items text.old.items) }
 {
-    text.reserve(rows.room())?;
     text.push(b'[')?;
     let mut rows = rows;
     let mut later = false;

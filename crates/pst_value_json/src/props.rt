@@ -10,7 +10,7 @@ ghost use Rattle.pst_value_json.specs.Parts.{list_data};
 ghost use Rattle.pst_value_json.specs.Places.{places_in, if_asked};
 ghost use Rattle.pst_value_json.specs.Props.{kind_data, set_data, prop_data, record_data, names_told, prop_rows_left};
 
-use crate::compact::{or_cut, put_comma};
+use crate::compact::put_comma;
 use crate::listing::{Rows, list_doc};
 use crate::names::id_text;
 use crate::places::places_doc;
@@ -115,7 +115,7 @@ impl Rows for PropRows<'_> {
         }
     }
 
-    // A property goes to the text member by member, without a tree; where memory is refused, none of it is left there.
+    // A property goes to the text member by member, without a tree.
     fn put_next(
         &mut self,
         alloc: Global,
@@ -126,10 +126,8 @@ impl Rows for PropRows<'_> {
             return Ok(false);
         };
         let name = name_in(self.names, prop.id);
-        let long = text.len();
         put_comma(later, text)?;
-        let put = put_prop(alloc, &name, self.places, prop, text);
-        or_cut(put, long, text)?;
+        put_prop(alloc, &name, self.places, prop, text)?;
         Ok(true)
     }
 }

@@ -1,6 +1,6 @@
 //! Rows of tables with their cells, put straight behind a text.
 
-ghost use Rattle.std.specs.Prelude.{◌≡◌, ◌++◌, IfOk, OnOk, map, codes, option_map};
+ghost use Rattle.std.specs.Prelude.{◌≡◌, ◌++◌, IfOk, OnErr, OnOk, map, codes, option_map};
 ghost use Rattle.serde_json.specs.Written.{compact_text};
 ghost use Rattle.pst_ndb.specs.Views.{table_of_node, roots_of};
 ghost use Rattle.pst_tc.specs.Tc.{node_of_tc};
@@ -10,6 +10,7 @@ ghost use Rattle.pst_value_json.specs.Object.{first_member_text};
 ghost use Rattle.pst_value_json.specs.Parts.{list_data};
 ghost use Rattle.pst_value_json.specs.Places.{content_in, places_in, places_data, if_asked};
 ghost use Rattle.pst_value_json.specs.Rows.{PutsItems};
+ghost use Rattle.pst_value_json.specs.Kept.{BeginsWith};
 
 use crate::cells::cell_at;
 use crate::compact::{put_comma, put_doc};
@@ -28,8 +29,9 @@ fn put_cell_value(
     value: Value,
     text: &mut Vec<u8>,
 ) -> Result<(), AllocError>
-    ensures { let cell = cell_with (column_of column) (content_in value.entry) in
+    ensures put { let cell = cell_with (column_of column) (content_in value.entry) in
         OnOk result (text.new.items ≡ text.old.items ++ compact_text (cell_value cell)) }
+    ensures kept { OnErr result (BeginsWith text.new.items text.old.items) }
 {
     let kind = PropType((column.tag % 0x1_0000) as u16);
     if kind.cell_width() == Some(column.width) {
@@ -47,9 +49,10 @@ fn put_first_places(
     value: Value,
     text: &mut Vec<u8>,
 ) -> Result<(), AllocError>
-    ensures { let shown = option_map places_data (if_asked places (places_in value.entry)) in
+    ensures put { let shown = option_map places_data (if_asked places (places_in value.entry)) in
         OnOk result (text.new.items
         ≡ text.old.items ++ first_member_text (codes "places") shown) }
+    ensures kept { OnErr result (BeginsWith text.new.items text.old.items) }
 {
     if places {
         text.extend_from_slice(b"\"places\":")?;
@@ -67,8 +70,9 @@ fn put_cell(
     places: bool,
     text: &mut Vec<u8>,
 ) -> Result<(), AllocError>
-    ensures { let cell = cell_with (column_of column) (content_in value.entry) in
+    ensures put { let cell = cell_with (column_of column) (content_in value.entry) in
         OnOk result (text.new.items ≡ text.old.items ++ compact_text (cell_data places cell)) }
+    ensures kept { OnErr result (BeginsWith text.new.items text.old.items) }
 {
     text.push(b'{')?;
     put_first_places(alloc, places, value, text)?;
@@ -91,9 +95,10 @@ fn put_cell_of(
     later: bool,
     text: &mut Vec<u8>,
 ) -> Result<bool, AllocError>
-    ensures { let cell = cell_in (column_of column) (option_map content_in value.now) in
+    ensures put { let cell = cell_in (column_of column) (option_map content_in value.now) in
         IfOk result (λ more. PutsItems more later (map (cell_data places) cell)
         text.old.items text.new.items) }
+    ensures kept { BeginsWith text.new.items text.old.items }
 {
     let Some(value) = value else {
         return Ok(later);
@@ -111,11 +116,12 @@ fn put_cells(
     places: bool,
     text: &mut Vec<u8>,
 ) -> Result<(), AllocError>
-    ensures { let node = node_of_tc (tc_of_row row.entry) in
+    ensures put { let node = node_of_tc (tc_of_row row.entry) in
         let cells = cells_of (table_of_node node) (roots_of node) (row_parts row.entry).place.at
         (map column_of columns.now) in
         OnOk result (text.new.items
         ≡ text.old.items ++ compact_text (list_data (cell_data places) cells)) }
+    ensures kept { OnErr result (BeginsWith text.new.items text.old.items) }
 {
     text.push(b'[')?;
     let mut later = false;
@@ -136,10 +142,11 @@ pub(crate) fn put_table_row(
     places: bool,
     text: &mut Vec<u8>,
 ) -> Result<(), AllocError>
-    ensures { let node = node_of_tc (tc_of_row row.entry) in
+    ensures put { let node = node_of_tc (tc_of_row row.entry) in
         let shown = row_data places (table_of_node node) (roots_of node)
         (map column_of columns.now) (row_parts row.entry) in
         OnOk result (text.new.items ≡ text.old.items ++ compact_text shown) }
+    ensures kept { OnErr result (BeginsWith text.new.items text.old.items) }
 {
     text.extend_from_slice(b"{\"cells\":")?;
     put_cells(alloc, row, columns, places, text)?;

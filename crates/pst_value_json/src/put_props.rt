@@ -1,12 +1,13 @@
 //! Properties, put straight behind a text.
 
-ghost use Rattle.std.specs.Prelude.{◌≡◌, ◌++◌, OnOk, codes, option_map};
+ghost use Rattle.std.specs.Prelude.{◌≡◌, ◌++◌, OnOk, OnErr, codes, option_map};
 ghost use Rattle.serde_json.specs.Written.{compact_text};
 ghost use Rattle.pst_names.specs.View.{kind_parts, name_parts};
 ghost use Rattle.pst_pc.specs.View.{property_of};
 ghost use Rattle.pst_value_json.specs.Object.{if_member_text};
 ghost use Rattle.pst_value_json.specs.Places.{places_in, places_data, if_asked};
 ghost use Rattle.pst_value_json.specs.Props.{kind_data, set_data, called_data, set_of_data, prop_data};
+ghost use Rattle.pst_value_json.specs.Kept.{BeginsWith};
 
 use crate::compact::put_doc;
 use crate::digits::put_id;
@@ -21,8 +22,9 @@ use uuid::Uuid;
 
 // Puts a name within its set behind a text.
 fn put_kind(alloc: Global, kind: NameKind, text: &mut Vec<u8>) -> Result<(), AllocError>
-    ensures { OnOk result (text.new.items
+    ensures put { OnOk result (text.new.items
         ≡ text.old.items ++ compact_text (kind_data (kind_parts kind.entry))) }
+    ensures kept { OnErr result (BeginsWith text.new.items text.old.items) }
 {
     match kind {
         NameKind::Num(number) => put_natural(u64::from(number), text),
@@ -32,7 +34,8 @@ fn put_kind(alloc: Global, kind: NameKind, text: &mut Vec<u8>) -> Result<(), All
 
 // Puts the set that a name is of behind a text, or null.
 fn put_set(set: Option<Uuid>, text: &mut Vec<u8>) -> Result<(), AllocError>
-    ensures { OnOk result (text.new.items ≡ text.old.items ++ compact_text (set_data set)) }
+    ensures put { OnOk result (text.new.items ≡ text.old.items ++ compact_text (set_data set)) }
+    ensures kept { OnErr result (BeginsWith text.new.items text.old.items) }
 {
     match set {
         Some(guid) => put_guid(guid, text),
@@ -43,8 +46,9 @@ fn put_set(set: Option<Uuid>, text: &mut Vec<u8>) -> Result<(), AllocError>
 // Puts what a property is called behind a text, where it has a name.
 #[tactic(auto, unfolding(json::specs::Print::escape_byte), using(crate::proofs::MemberLemmas::there_put))]
 fn put_name_member(alloc: Global, name: &Option<Name>, text: &mut Vec<u8>) -> Result<(), AllocError>
-    ensures { let shown = option_map called_data (option_map name_parts name.now) in
+    ensures put { let shown = option_map called_data (option_map name_parts name.now) in
         OnOk result (text.new.items ≡ text.old.items ++ if_member_text (codes "name") shown) }
+    ensures kept { OnErr result (BeginsWith text.new.items text.old.items) }
 {
     if let Some(name) = name {
         text.extend_from_slice(b",\"name\":")?;
@@ -56,8 +60,9 @@ fn put_name_member(alloc: Global, name: &Option<Name>, text: &mut Vec<u8>) -> Re
 // Puts the set of the name of a property behind a text, where it has a name.
 #[tactic(auto, unfolding(json::specs::Print::escape_byte), using(crate::proofs::MemberLemmas::there_put))]
 fn put_set_member(name: &Option<Name>, text: &mut Vec<u8>) -> Result<(), AllocError>
-    ensures { let shown = option_map set_of_data (option_map name_parts name.now) in
+    ensures put { let shown = option_map set_of_data (option_map name_parts name.now) in
         OnOk result (text.new.items ≡ text.old.items ++ if_member_text (codes "set") shown) }
+    ensures kept { OnErr result (BeginsWith text.new.items text.old.items) }
 {
     if let Some(name) = name {
         text.extend_from_slice(b",\"set\":")?;
@@ -74,8 +79,9 @@ fn put_places_member(
     value: Value,
     text: &mut Vec<u8>,
 ) -> Result<(), AllocError>
-    ensures { let shown = option_map places_data (if_asked places (places_in value.entry)) in
+    ensures put { let shown = option_map places_data (if_asked places (places_in value.entry)) in
         OnOk result (text.new.items ≡ text.old.items ++ if_member_text (codes "places") shown) }
+    ensures kept { OnErr result (BeginsWith text.new.items text.old.items) }
 {
     if places {
         text.extend_from_slice(b",\"places\":")?;
@@ -93,9 +99,10 @@ pub(crate) fn put_prop(
     prop: Prop,
     text: &mut Vec<u8>,
 ) -> Result<(), AllocError>
-    ensures { let name = option_map name_parts name.now in
+    ensures put { let name = option_map name_parts name.now in
         let places = if_asked places (places_in prop.entry.value) in OnOk result (text.new.items
         ≡ text.old.items ++ compact_text (prop_data name places (property_of prop.entry))) }
+    ensures kept { OnErr result (BeginsWith text.new.items text.old.items) }
 {
     text.extend_from_slice(b"{\"id\":")?;
     put_id(prop.id, text)?;

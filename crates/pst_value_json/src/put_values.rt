@@ -1,6 +1,6 @@
 //! Values by their type, put straight behind a text.
 
-ghost use Rattle.std.specs.Prelude.{◌≡◌, ◌++◌, Some, OnOk};
+ghost use Rattle.std.specs.Prelude.{◌≡◌, ◌++◌, Some, OnOk, OnErr};
 ghost use Rattle.std.specs.List.{concat};
 ghost use Rattle.hex.specs.Hex.{encode_lower};
 ghost use Rattle.json.specs.Print.{escape};
@@ -11,6 +11,7 @@ ghost use Rattle.pst_datatree.specs.Shown.{bytes_in};
 ghost use Rattle.pst_value.specs.Read.{exactly, i16_of, i32_of, i64_of, u32_of, u64_of, bool_of, guid_of, object_of};
 ghost use Rattle.pst_value_json.specs.Parts.{natural, integer};
 ghost use Rattle.pst_value_json.specs.Value.{hex_data, text_data, guid_data, object_data, null_or_hex, or_hex, single_data, value_data};
+ghost use Rattle.pst_value_json.specs.Kept.{BeginsWith};
 
 use crate::compact::put_doc;
 use crate::digits::{put_lower_bytes, put_nid};
@@ -27,8 +28,9 @@ use uuid::Uuid;
 
 /// Puts the text of 16-bit units behind a text, in quotes.
 pub fn put_text(alloc: Global, value: Value, text: &mut Vec<u8>) -> Result<(), AllocError>
-    ensures { OnOk result (text.new.items
+    ensures put { OnOk result (text.new.items
         ≡ text.old.items ++ compact_text (text_data (bytes_in value.entry))) }
+    ensures kept { OnErr result (BeginsWith text.new.items text.old.items) }
 {
     text.push(b'"')?;
     put_units(alloc, value, text)?;
@@ -38,8 +40,9 @@ pub fn put_text(alloc: Global, value: Value, text: &mut Vec<u8>) -> Result<(), A
 
 // Puts the bytes of pieces behind a text, in hexadecimal.
 fn put_pieces(pieces: Pieces, text: &mut Vec<u8>) -> Result<(), AllocError>
-    ensures { OnOk result (text.new.items
+    ensures put { OnOk result (text.new.items
         ≡ text.old.items ++ escape (encode_lower (concat (slices_left pieces.entry)))) }
+    ensures kept { OnErr result (BeginsWith text.new.items text.old.items) }
 {
     for piece in pieces {
         put_lower_bytes(piece, text)?;
@@ -49,8 +52,9 @@ fn put_pieces(pieces: Pieces, text: &mut Vec<u8>) -> Result<(), AllocError>
 
 /// Puts the bytes of a value behind a text, in hexadecimal.
 pub(crate) fn put_bytes(value: Value, text: &mut Vec<u8>) -> Result<(), AllocError>
-    ensures { OnOk result (text.new.items
+    ensures put { OnOk result (text.new.items
         ≡ text.old.items ++ compact_text (hex_data (bytes_in value.entry))) }
+    ensures kept { OnErr result (BeginsWith text.new.items text.old.items) }
 {
     text.push(b'"')?;
     match value.with_bytes() {
@@ -63,8 +67,9 @@ pub(crate) fn put_bytes(value: Value, text: &mut Vec<u8>) -> Result<(), AllocErr
 
 // Puts null behind a text where a value has no byte, and else its bytes in hexadecimal.
 fn put_bytes_or_null(value: Value, text: &mut Vec<u8>) -> Result<(), AllocError>
-    ensures { OnOk result (text.new.items
+    ensures put { OnOk result (text.new.items
         ≡ text.old.items ++ compact_text (null_or_hex (bytes_in value.entry))) }
+    ensures kept { OnErr result (BeginsWith text.new.items text.old.items) }
 {
     if value.len() == 0 {
         return put_null(text);
@@ -74,8 +79,9 @@ fn put_bytes_or_null(value: Value, text: &mut Vec<u8>) -> Result<(), AllocError>
 
 // Puts a signed number of 2 bytes behind a text.
 fn put_i16(value: Value, text: &mut Vec<u8>) -> Result<(), AllocError>
-    ensures { let bytes = bytes_in value.entry in OnOk result (text.new.items
+    ensures put { let bytes = bytes_in value.entry in OnOk result (text.new.items
         ≡ text.old.items ++ compact_text (or_hex integer (exactly 2 i16_of bytes) bytes)) }
+    ensures kept { OnErr result (BeginsWith text.new.items text.old.items) }
 {
     match as_i16(value) {
         Some(number) => put_integer(i64::from(number), text),
@@ -85,8 +91,9 @@ fn put_i16(value: Value, text: &mut Vec<u8>) -> Result<(), AllocError>
 
 // Puts a signed number of 4 bytes behind a text.
 fn put_i32(value: Value, text: &mut Vec<u8>) -> Result<(), AllocError>
-    ensures { let bytes = bytes_in value.entry in OnOk result (text.new.items
+    ensures put { let bytes = bytes_in value.entry in OnOk result (text.new.items
         ≡ text.old.items ++ compact_text (or_hex integer (exactly 4 i32_of bytes) bytes)) }
+    ensures kept { OnErr result (BeginsWith text.new.items text.old.items) }
 {
     match as_i32(value) {
         Some(number) => put_integer(i64::from(number), text),
@@ -96,8 +103,9 @@ fn put_i32(value: Value, text: &mut Vec<u8>) -> Result<(), AllocError>
 
 // Puts a signed number of 8 bytes behind a text.
 fn put_i64(value: Value, text: &mut Vec<u8>) -> Result<(), AllocError>
-    ensures { let bytes = bytes_in value.entry in OnOk result (text.new.items
+    ensures put { let bytes = bytes_in value.entry in OnOk result (text.new.items
         ≡ text.old.items ++ compact_text (or_hex integer (exactly 8 i64_of bytes) bytes)) }
+    ensures kept { OnErr result (BeginsWith text.new.items text.old.items) }
 {
     match as_i64(value) {
         Some(number) => put_integer(number, text),
@@ -107,8 +115,9 @@ fn put_i64(value: Value, text: &mut Vec<u8>) -> Result<(), AllocError>
 
 // Puts a number of 4 bytes behind a text.
 fn put_u32(value: Value, text: &mut Vec<u8>) -> Result<(), AllocError>
-    ensures { let bytes = bytes_in value.entry in OnOk result (text.new.items
+    ensures put { let bytes = bytes_in value.entry in OnOk result (text.new.items
         ≡ text.old.items ++ compact_text (or_hex natural (exactly 4 u32_of bytes) bytes)) }
+    ensures kept { OnErr result (BeginsWith text.new.items text.old.items) }
 {
     match as_u32(value) {
         Some(number) => put_natural(u64::from(number), text),
@@ -118,8 +127,9 @@ fn put_u32(value: Value, text: &mut Vec<u8>) -> Result<(), AllocError>
 
 // Puts a number of 8 bytes behind a text.
 fn put_u64(value: Value, text: &mut Vec<u8>) -> Result<(), AllocError>
-    ensures { let bytes = bytes_in value.entry in OnOk result (text.new.items
+    ensures put { let bytes = bytes_in value.entry in OnOk result (text.new.items
         ≡ text.old.items ++ compact_text (or_hex natural (exactly 8 u64_of bytes) bytes)) }
+    ensures kept { OnErr result (BeginsWith text.new.items text.old.items) }
 {
     match as_u64(value) {
         Some(number) => put_natural(number, text),
@@ -129,8 +139,9 @@ fn put_u64(value: Value, text: &mut Vec<u8>) -> Result<(), AllocError>
 
 // Puts a truth value behind a text.
 fn put_bool(value: Value, text: &mut Vec<u8>) -> Result<(), AllocError>
-    ensures { let bytes = bytes_in value.entry in OnOk result (text.new.items
+    ensures put { let bytes = bytes_in value.entry in OnOk result (text.new.items
         ≡ text.old.items ++ compact_text (or_hex boolean (exactly 1 bool_of bytes) bytes)) }
+    ensures kept { OnErr result (BeginsWith text.new.items text.old.items) }
 {
     match as_bool(value) {
         Some(truth) => put_truth(truth, text),
@@ -141,7 +152,8 @@ fn put_bool(value: Value, text: &mut Vec<u8>) -> Result<(), AllocError>
 /// Puts a GUID behind a text.
 #[tactic(auto, using(crate::proofs::GuidLemmas::guid_is_plain))]
 pub(crate) fn put_guid(guid: Uuid, text: &mut Vec<u8>) -> Result<(), AllocError>
-    ensures { OnOk result (text.new.items ≡ text.old.items ++ compact_text (guid_data guid)) }
+    ensures put { OnOk result (text.new.items ≡ text.old.items ++ compact_text (guid_data guid)) }
+    ensures kept { OnErr result (BeginsWith text.new.items text.old.items) }
 {
     let mut buffer = Uuid::encode_buffer();
     put_plain(guid.hyphenated().encode_lower(&mut buffer).as_bytes(), text)
@@ -149,8 +161,9 @@ pub(crate) fn put_guid(guid: Uuid, text: &mut Vec<u8>) -> Result<(), AllocError>
 
 // Puts a GUID of 16 bytes behind a text.
 fn put_guid_value(value: Value, text: &mut Vec<u8>) -> Result<(), AllocError>
-    ensures { let bytes = bytes_in value.entry in OnOk result (text.new.items
+    ensures put { let bytes = bytes_in value.entry in OnOk result (text.new.items
         ≡ text.old.items ++ compact_text (or_hex guid_data (exactly 16 guid_of bytes) bytes)) }
+    ensures kept { OnErr result (BeginsWith text.new.items text.old.items) }
 {
     match as_guid(value) {
         Some(guid) => put_guid(guid, text),
@@ -160,8 +173,9 @@ fn put_guid_value(value: Value, text: &mut Vec<u8>) -> Result<(), AllocError>
 
 // Puts the subnode and the size of an object behind a text.
 fn put_nid_and_size(nid: u32, size: u32, text: &mut Vec<u8>) -> Result<(), AllocError>
-    ensures { OnOk result (text.new.items
+    ensures put { OnOk result (text.new.items
         ≡ text.old.items ++ compact_text (object_data (nid, size))) }
+    ensures kept { OnErr result (BeginsWith text.new.items text.old.items) }
 {
     text.extend_from_slice(b"{\"nid\":")?;
     put_nid(nid, text)?;
@@ -173,8 +187,9 @@ fn put_nid_and_size(nid: u32, size: u32, text: &mut Vec<u8>) -> Result<(), Alloc
 
 // Puts an object behind a text.
 fn put_object_value(value: Value, text: &mut Vec<u8>) -> Result<(), AllocError>
-    ensures { let bytes = bytes_in value.entry in OnOk result (text.new.items
+    ensures put { let bytes = bytes_in value.entry in OnOk result (text.new.items
         ≡ text.old.items ++ compact_text (or_hex object_data (object_of bytes) bytes)) }
+    ensures kept { OnErr result (BeginsWith text.new.items text.old.items) }
 {
     match as_object(value) {
         Some((nid, size)) => put_nid_and_size(nid, size, text),
@@ -189,8 +204,9 @@ fn put_single(
     value: Value,
     text: &mut Vec<u8>,
 ) -> Result<(), AllocError>
-    ensures { OnOk result (text.new.items
+    ensures put { OnOk result (text.new.items
         ≡ text.old.items ++ compact_text (single_data kind.0 (bytes_in value.entry))) }
+    ensures kept { OnErr result (BeginsWith text.new.items text.old.items) }
 {
     match form_of_type(kind) {
         Form::Int16 => put_i16(value, text),
@@ -215,8 +231,9 @@ pub(crate) fn put_value(
     value: Value,
     text: &mut Vec<u8>,
 ) -> Result<(), AllocError>
-    ensures { OnOk result (text.new.items
+    ensures put { OnOk result (text.new.items
         ≡ text.old.items ++ compact_text (value_data kind.0 (bytes_in value.entry))) }
+    ensures kept { OnErr result (BeginsWith text.new.items text.old.items) }
 {
     match elements_from(value, kind) {
         Some(values) => {

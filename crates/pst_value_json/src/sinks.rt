@@ -1,12 +1,13 @@
 //! What a document becomes: a tree, or a line.
 
-ghost use Rattle.std.specs.Prelude.{◌≡◌, ◌++◌, IfOk, OnOk};
+ghost use Rattle.std.specs.Prelude.{◌≡◌, ◌++◌, IfOk, OnErr, OnOk};
 ghost use Rattle.serde_json.specs.Data.{Data};
 ghost use Rattle.serde_json.specs.View.{view, members_view};
 ghost use Rattle.serde_json.specs.Written.{compact_text};
 ghost use Rattle.pst_value_json.specs.Line.{line_of, row_text};
 ghost use Rattle.pst_value_json.specs.Made.{made_data};
 ghost use Rattle.pst_value_json.specs.Object.{put_part, parts_data, KeysRise, part_text};
+ghost use Rattle.pst_value_json.specs.Kept.{BeginsWith};
 
 use crate::compact::put_comma;
 use crate::digits::{put_hex, put_nid_or_null};
@@ -67,7 +68,8 @@ impl Sink for Tree {
 
 // Puts a value that is made at once behind a text.
 fn put_made(made: Made, text: &mut Vec<u8>) -> Result<(), AllocError>
-    ensures { OnOk result (text.new.items ≡ text.old.items ++ compact_text (made_data made)) }
+    ensures put { OnOk result (text.new.items ≡ text.old.items ++ compact_text (made_data made)) }
+    ensures kept { OnErr result (BeginsWith text.new.items text.old.items) }
 {
     match made {
         Made::Natural(number) => put_natural(number, text),
@@ -85,7 +87,8 @@ fn put_part_text<R: Rows>(
     later: bool,
     text: &mut Vec<u8>,
 ) -> Result<(), AllocError>
-    ensures { OnOk result (text.new.items ≡ text.old.items ++ part_text R.left later part) }
+    ensures put { OnOk result (text.new.items ≡ text.old.items ++ part_text R.left later part) }
+    ensures kept { OnErr result (BeginsWith text.new.items text.old.items) }
 {
     match part {
         Part::Value(key, made) => {
@@ -106,8 +109,9 @@ fn put_parts<R: Rows>(
     parts: Vec<Part<R>>,
     text: &mut Vec<u8>,
 ) -> Result<(), AllocError>
-    ensures { OnOk result (text.new.items
+    ensures put { OnOk result (text.new.items
         ≡ text.old.items ++ compact_text (parts_data R.left parts.items)) }
+    ensures kept { OnErr result (BeginsWith text.new.items text.old.items) }
 {
     text.push(b'{')?;
     let mut later = false;
@@ -127,8 +131,9 @@ pub fn put_object<R: Rows>(
     later: bool,
     text: &mut Vec<u8>,
 ) -> Result<(), AllocError>
-    ensures { OnOk result (text.new.items
+    ensures put { OnOk result (text.new.items
         ≡ text.old.items ++ row_text (parts_data R.left parts.items) later) }
+    ensures kept { OnErr result (BeginsWith text.new.items text.old.items) }
 {
     put_comma(later, text)?;
     put_parts(alloc, parts, text)

@@ -1,12 +1,13 @@
 //! Texts of 16-bit units, put behind a text as they stand between quotes.
 
-ghost use Rattle.std.specs.Prelude.{◌≡◌, ◌++◌, ◌+◌, ◌-◌, ◌*◌, ◌%◌, ◌≤◌, ◌<◌, IsTrue, IfOk, OnOk, true, length, drop, slice_index, vec_len, vec_capacity, encode_utf8};
+ghost use Rattle.std.specs.Prelude.{◌≡◌, ◌++◌, ◌+◌, ◌-◌, ◌*◌, ◌%◌, ◌≤◌, ◌<◌, IsTrue, IfOk, OnErr, OnOk, true, length, drop, slice_index, vec_len, vec_capacity, encode_utf8};
 ghost use Rattle.std.specs.List.{concat};
 ghost use Rattle.json.specs.Print.{escape};
 ghost use Rattle.json.specs.Run.{is_plain};
 ghost use Rattle.pst_datatree.specs.Left.{slices_left};
 ghost use Rattle.pst_datatree.specs.Shown.{bytes_in};
 ghost use Rattle.pst_value_json.specs.Value.{utf8_of};
+ghost use Rattle.pst_value_json.specs.Kept.{BeginsWith};
 
 use crate::escape::put_escape_reserved;
 use pst_datatree::{Pieces, Value};
@@ -46,6 +47,7 @@ fn put_plain_units(bytes: &[u8], from: usize, text: &mut Vec<u8>) -> Result<usiz
     ensures within { IfOk result (λ end. (from ≤ end) × (end ≤ length bytes.now)) }
     ensures put { IfOk result (λ end. text.new.items ++ escape (utf8_of (drop end bytes.now))
         ≡ text.old.items ++ escape (utf8_of (drop from bytes.now))) }
+    ensures kept { BeginsWith text.new.items text.old.items }
 {
     text.reserve((bytes.len() - from) / 2)?;
     let mut at = from;
@@ -120,6 +122,7 @@ fn put_surrogate(bytes: &[u8], at: usize, text: &mut Vec<u8>) -> usize
     ensures within { (at + 2 ≤ result) × (result ≤ length bytes.now) }
     ensures put { text.new.items ++ escape (utf8_of (drop result bytes.now))
         ≡ text.old.items ++ escape (utf8_of (drop at bytes.now)) }
+    ensures kept { BeginsWith text.new.items text.old.items }
     ensures long { vec_len text.new ≤ vec_len text.old + 6 }
     ensures room { vec_capacity text.new ≡ vec_capacity text.old }
 {
@@ -142,6 +145,7 @@ fn put_at(bytes: &[u8], at: usize, text: &mut Vec<u8>) -> usize
     ensures within { (at + 2 ≤ result) × (result ≤ length bytes.now) }
     ensures put { text.new.items ++ escape (utf8_of (drop result bytes.now))
         ≡ text.old.items ++ escape (utf8_of (drop at bytes.now)) }
+    ensures kept { BeginsWith text.new.items text.old.items }
     ensures long { vec_len text.new ≤ vec_len text.old + 6 }
     ensures room { vec_capacity text.new ≡ vec_capacity text.old }
 {
@@ -167,6 +171,7 @@ fn put_run(bytes: &[u8], from: usize, count: usize, text: &mut Vec<u8>) -> usize
     ensures within { (from < result) × (result ≤ length bytes.now) }
     ensures put { text.new.items ++ escape (utf8_of (drop result bytes.now))
         ≡ text.old.items ++ escape (utf8_of (drop from bytes.now)) }
+    ensures kept { BeginsWith text.new.items text.old.items }
 {
     let mut at = from;
     let mut left = count;
@@ -179,7 +184,8 @@ fn put_run(bytes: &[u8], from: usize, count: usize, text: &mut Vec<u8>) -> usize
 
 // Puts the text of units in one slice behind a text: those at the front that stand for themselves, and then run by run.
 fn put_slice(bytes: &[u8], text: &mut Vec<u8>) -> Result<(), AllocError>
-    ensures { OnOk result (text.new.items ≡ text.old.items ++ escape (utf8_of bytes.now)) }
+    ensures put { OnOk result (text.new.items ≡ text.old.items ++ escape (utf8_of bytes.now)) }
+    ensures kept { OnErr result (BeginsWith text.new.items text.old.items) }
 {
     let mut at = put_plain_units(bytes, 0, text)?;
     while bytes.len() - at >= 2 {
@@ -203,8 +209,9 @@ fn joined(alloc: Global, pieces: Pieces) -> Result<Vec<u8>, AllocError>
 
 /// Puts the text of 16-bit units behind a text, without quotes. Pieces are joined first, since a unit may lie in two of them.
 pub(crate) fn put_units(alloc: Global, value: Value, text: &mut Vec<u8>) -> Result<(), AllocError>
-    ensures { OnOk result (text.new.items
+    ensures put { OnOk result (text.new.items
         ≡ text.old.items ++ escape (utf8_of (bytes_in value.entry))) }
+    ensures kept { OnErr result (BeginsWith text.new.items text.old.items) }
 {
     match value.with_bytes() {
         Value::Whole(_, bytes) => put_slice(bytes, text),

@@ -32,6 +32,18 @@ step kind xs rest x n total is so_far =
     let here : n + count_of kind (x ∷ rest) ≡ total = (rw is at so_far) in
     omega (arith, here, step_by kind rest x (kind x.top) refl)
 
+-- the same, where it was asked by the identifier
+pub step_told : (kind : ℕ → Bool) (xs rest : List Roots) (x : Roots) (n total nid one : ℕ) (b : Bool) → xs ≡ x ∷ rest → nid ≡ x.top → b ≡ kind nid → one ≡ one_if b → n + count_of kind xs ≡ total → n + one + count_of kind rest ≡ total
+step_told kind xs rest x n total nid one b is top of so_far_is so_far = rw (so_far_is, of, top) (step kind xs rest x n total is so_far)
+
+most_one : (b : Bool) → one_if b ≤ 1
+most_one true = omega arith
+most_one false = omega arith
+
+-- no more of a kind than in all
+pub few_told : (n total one : ℕ) (b : Bool) → one ≡ one_if b → n ≤ total → n + one ≤ total + 1
+few_told n total one b is few = rw is (omega (arith, few, most_one b))
+
 pub counted : (xs rest : List Roots) (x : Roots) (n total : ℕ) → xs ≡ x ∷ rest → n + length xs ≡ total → n + 1 + length rest ≡ total
 counted xs rest x n total is so_far = let here : n + length (x ∷ rest) ≡ total = (rw is at so_far) in omega (arith, here)
 

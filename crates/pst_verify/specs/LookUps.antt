@@ -1,6 +1,8 @@
 -- What each later look-up answers of bytes for which the check of a whole file said yes: the store's value, lent from the very
 -- memory of these bytes, as one slice wherever it is contiguous. A look-up is known by its clauses (`GivesNode` has those of
--- `Store::node`, and so on): whatever it gives, no answer is a fault.
+-- `Store::node`, and so on): whatever it gives, no answer is a fault. Not gone through here, but by clauses at the calls: how a part
+-- is named (`nid`, `Row::id`, `Row::at`), each column (`Columns::next`), the blocks and the list of a node (`spans`, `parts`, `leaf`,
+-- `leaves`, `leaf_count`, `subs`, `sub_entry`, `child`), the same part with an index (`indexed`), and what a `Value` is asked.
 use Rattle.std.specs.Prelude.{◌≡◌, ℕ, List, Option, Some, IfSome, option_map}
 use Rattle.std.specs.Borrow.{Bor}
 use Rattle.std.specs.Iterator.{YieldsFirstBy}
@@ -59,9 +61,10 @@ pub record StoreLookUps (bytes : Bor (List ℕ)) (t : Table) (nodes : List NodeE
   pub names : (found : Option NameMap) → GivesNames store found →
       (option_map names_roots found ≡ node_in nodes NAME_MAP)
       × IfSome found (λ m. NameMapLookUps (image_of_store store) t (names_roots m) m)
-  -- `name`: what the property with an identifier is called, a string lent from the file; None exactly where no entry names it
+  -- `name`: what the property with an identifier is called, a string lent from where its entry says that it stands; None exactly
+  -- where no entry names it
   pub name : (id : ℕ) (found : Option Name) → GivesName store id found →
-      (option_map name_parts found ≡ store_name t nodes id) × IfSome found (IsLentIn (image_of_store store) t nodes)
+      (option_map name_parts found ≡ store_name t nodes id) × IfSome found (IsLentIn (image_of_store store) t nodes id)
   -- `root`: the root folder
   pub root : (f : Folder) → GivesRoot store f →
       (Some (folder_roots f) ≡ node_in nodes ROOT) × IsFolderIn t nodes store f

@@ -1,6 +1,6 @@
 //! How many nodes there are of each kind.
 
-ghost use Rattle.std.specs.Prelude.{◌≡◌, length};
+ghost use Rattle.std.specs.Prelude.{◌≡◌, if◌then◌else◌, length};
 ghost use Rattle.pst_ndb.specs.Roots.{all_roots};
 ghost use Rattle.pst_ndb.specs.Views.{nodes_of};
 ghost use Rattle.pst_reach.specs.pst_store.pst_msg.Values.{is_folder as folder_kind, is_message as message_kind};
@@ -17,8 +17,15 @@ pub(crate) struct Counts {
     pub(crate) messages: u64,
 }
 
+// One, of what is counted; else none.
+fn one_if(is: bool) -> u64
+    ensures { result ≡ if is then 1 else 0 }
+{
+    u64::from(is)
+}
+
 /// Counts the nodes of a node database.
-#[tactic(auto, using(crate::proofs::CountLemmas::room, crate::proofs::CountLemmas::step, crate::proofs::CountLemmas::counted, crate::proofs::CountLemmas::rises_on, crate::proofs::CountLemmas::none_left, crate::proofs::CountLemmas::all_counted))]
+#[tactic(auto, using(crate::proofs::CountLemmas::room, crate::proofs::CountLemmas::none_left, crate::proofs::CountLemmas::all_counted))]
 pub(crate) fn count_nodes(ndb: &Ndb) -> Counts
     ensures nodes { result.nodes ≡ length (nodes_of ndb.now) }
     ensures folders { result.folders ≡ count_of folder_kind (all_roots (nodes_of ndb.now)) }
@@ -32,8 +39,8 @@ pub(crate) fn count_nodes(ndb: &Ndb) -> Counts
     while let Some(node) = rest.next() {
         let nid = node.top();
         nodes += 1;
-        folders += u64::from(is_folder(nid));
-        messages += u64::from(is_message(nid));
+        folders += one_if(is_folder(nid));
+        messages += one_if(is_message(nid));
     }
     Counts {
         nodes,

@@ -26,9 +26,9 @@ one line on standard error says why. FILE is the name of a file, or - for standa
 input; the program only reads it.
 
 Exit status:
-  0    The answer is printed; of check: the file is a store
+  0    The answer is printed; of check and damage: the file is a store
   1    The file breaks a rule of the format, or has no such folder, node or property;
-       or, with check --strict, space is lost
+       or, with check --strict, space is lost. Of damage the answer is printed here, too
   2    The words are refused
   3    The file cannot be read or is too long, or the output cannot be written
   4    Memory was refused
@@ -42,6 +42,16 @@ the file as it is stored, before anything is decoded.",
     "The file is a store",
     "It breaks a rule of the format: standard error tells the first fault; or, with
      --strict, there are lost runs"
+);
+
+const DAMAGE: &str = ending!(
+    "Checks the whole file, goes on behind each fault, and prints all faults: of the header,
+the pages of both B-trees, the blocks, the allocation maps and the nodes, and how many
+nodes, folders and messages are whole. It repairs nothing. With --digest it also prints
+the SHA-256 of the file as it is stored, before anything is decoded.",
+    "Nothing is broken: the file is a store",
+    "Something is broken, and the answer is printed; or the file is too short, no .pst, of
+     another version or encoded: then standard error tells which"
 );
 
 const HEAD: &str = ending!(
@@ -120,6 +130,7 @@ Exit status:
 pub(super) fn ending_of<'a>(verb: Verb) -> &'a str {
     match verb {
         Verb::Check => CHECK,
+        Verb::Damage => DAMAGE,
         Verb::Head => HEAD,
         Verb::Nodes => NODES,
         Verb::Folders => FOLDERS,

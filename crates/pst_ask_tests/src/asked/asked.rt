@@ -26,6 +26,10 @@ const BOTH: Ask = Ask::Check {
     digest: true,
 };
 
+const DAMAGE: Ask = Ask::Damage { digest: false };
+
+const DAMAGE_DIGEST: Ask = Ask::Damage { digest: true };
+
 // Compares what words ask for, of a file as it is.
 fn is_asked<R: Abort + AllocGlobal>(
     rt: &R,
@@ -206,6 +210,9 @@ fn each_command_takes_a_file_that_is_decoded_first(rt: HostRuntime) -> Result<()
         (&["check", "a.pst", "--decode", "--strict"], STRICT),
         (&["check", "--strict", "--decode", "a.pst"], STRICT),
         (&["check", "--decode", "--digest", "a.pst"], DIGEST),
+        (&["damage", "--decode", "a.pst"], DAMAGE),
+        (&["damage", "a.pst", "--digest", "--decode"], DAMAGE_DIGEST),
+        (&["damage", "--decode", "--digest", "a.pst"], DAMAGE_DIGEST),
         (&["head", "--decode", "a.pst"], Ask::Head),
         (&["nodes", "a.pst", "--decode"], Ask::Nodes),
         (&["folders", "--decode", "--", "a.pst"], Ask::Folders),
@@ -237,6 +244,14 @@ fn each_command_is_asked_for(rt: HostRuntime) -> Result<(), Fail> {
     ] {
         is_asked(&rt, words, STRICT, "a.pst")?;
     }
+    is_asked(&rt, &["damage", "a.pst"], DAMAGE, "a.pst")?;
+    is_asked(&rt, &["damage", "--digest", "-"], DAMAGE_DIGEST, "-")?;
+    is_asked(
+        &rt,
+        &["damage", "a.pst", "--digest"],
+        DAMAGE_DIGEST,
+        "a.pst",
+    )?;
     is_asked(&rt, &["head", "-"], Ask::Head, "-")?;
     is_asked(&rt, &["nodes", ""], Ask::Nodes, "")?;
     is_asked(&rt, &["folders", "--", "-h"], Ask::Folders, "-h")?;

@@ -10,7 +10,7 @@ const NO_COMMAND: [Refused; 5] = [
     (
         &[],
         "error: 'pst_show' requires a subcommand but one was not provided
-  [subcommands: check, head, nodes, folders, contents, messages, props, value, explain, help]
+  [subcommands: check, damage, head, nodes, folders, contents, messages, props, value, explain, help]
 
 Usage: pst_show <COMMAND>
 ",
@@ -109,7 +109,7 @@ Usage: pst_show value --text <FILE> <PATH> <ID>
     ),
 ];
 
-const TOO_MANY: [Refused; 12] = [
+const TOO_MANY: [Refused; 13] = [
     (
         &["nodes", "a.pst", "b.pst"],
         "error: unexpected argument 'b.pst' found
@@ -138,6 +138,15 @@ Usage: pst_show contents [OPTIONS] <FILE> <NID>
   tip: to pass '--strict' as a value, use '-- --strict'
 
 Usage: pst_show head [OPTIONS] <FILE>
+",
+    ),
+    (
+        &["damage", "--strict", "a.pst"],
+        "error: unexpected argument '--strict' found
+
+  tip: to pass '--strict' as a value, use '-- --strict'
+
+Usage: pst_show damage [OPTIONS] <FILE>
 ",
     ),
     (

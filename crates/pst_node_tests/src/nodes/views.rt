@@ -2,10 +2,12 @@
 
 use super::*;
 use crate::told::{holds, is};
+use pst_block::Blocks;
+use pst_btree::{BlockList, NodeList};
 use pst_bytes::Span;
 use pst_datatree::Value;
 use pst_header::{Header, read_header};
-use pst_ndb::Nodes;
+use pst_ndb::{NodeTable, Nodes};
 
 #[test]
 fn nodes_are_found(rt: HostRuntime) -> Result<(), Fail> {
@@ -75,5 +77,48 @@ fn bytes_outlive_the_database(rt: HostRuntime) -> Result<(), Fail> {
         panic!(rt; "in pieces");
     };
     is(&rt, Some(slice), bytes.get(0x4c00..0x4c2c));
+    Ok(())
+}
+
+// A node in a table.
+fn listed_in(table: &NodeTable, nid: u32) -> Option<Identifiers> {
+    let node = table.node(nid)?;
+    Some(identifiers(&node))
+}
+
+// Of a whole file the same nodes are found, in the same order.
+#[test]
+fn a_database_is_a_table_of_nodes(rt: HostRuntime) -> Result<(), Fail> {
+    let bytes = m0(rt.alloc())?;
+    let table = table_in(&good(rt.alloc(), &bytes)?);
+    is(&rt, listed_in(&table, 0x122), Some((0x122, 0x122, 8, 0)));
+    is(&rt, listed_in(&table, 0x999), None);
+    is(&rt, table.image().len(), 271_360);
+    let mut nodes = table.nodes();
+    for (nid, bid_data) in [(0x21, 4), (0x122, 8)] {
+        is(&rt, next_in(&mut nodes), Some((nid, nid, bid_data, 0)));
+    }
+    is(&rt, next_in(&mut nodes), None);
+    Ok(())
+}
+
+fn table_in<'a>(checked: &Checked<'a>) -> NodeTable<'a> {
+    checked.ndb.table()
+}
+
+// Nodes of no entries, over no blocks.
+#[tactic(auto, unfolding(pst_block::specs::Walk::blocks_fault, pst_fault::specs::Each::first_of))]
+fn no_nodes<'a>(image: &'a [u8]) -> NodeTable<'a> {
+    let blocks = Blocks::known(Image::new(image), 0, BlockList::of(&[]));
+    NodeTable::known(blocks, NodeList::of(&[]))
+}
+
+#[test]
+fn no_nodes_were_gathered(rt: HostRuntime) -> Result<(), Fail> {
+    let bytes = m0(rt.alloc())?;
+    let table = no_nodes(&bytes);
+    is(&rt, listed_in(&table, 0x21), None);
+    is(&rt, table.image().len(), 271_360);
+    is(&rt, next_in(&mut table.nodes()), None);
     Ok(())
 }

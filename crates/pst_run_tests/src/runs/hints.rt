@@ -56,7 +56,12 @@ fn what_helps_is_said(rt: HostRuntime) {
         (
             Kind::BlockTrailer,
             false,
-            "  what that says and what to do: pst_show explain 14\n",
+            "  what that says and what to do: pst_show explain 14; all that is broken: pst_show damage\n",
+        ),
+        (
+            Kind::MapsInvalid,
+            true,
+            "  what that says and what to do: pst_show explain 7; all that is broken: pst_show damage --decode\n",
         ),
         (
             Kind::Version(15),

@@ -2,6 +2,7 @@
 
 use super::*;
 use crate::told::is;
+use pst_page::{Page, open_page};
 
 // Without bit 0, the keys 4 and 5 are the same.
 #[test]
@@ -89,5 +90,49 @@ fn the_first_wrong_page_is_named(rt: HostRuntime) -> Result<(), Fail> {
         let fault = leaf_with(rt.alloc(), offset, bytes)?;
         is(&rt, fault, Some(Fault::within(kind, leaf.ib, leaf.bid)));
     }
+    Ok(())
+}
+
+// A page of the block B-tree.
+fn opened<'a>(image: &'a [u8], bref: Bref) -> Result<Page<'a>, Fail> {
+    let image = Image::new(image);
+    if bref.ib > 0x10000 || image.len() < bref.ib + 512 {
+        return Err(Fail::from("no page"));
+    }
+    match open_page(image, bref, PageKind::Bbt) {
+        Ok(page) => Ok(page),
+        Err(_) => Err(Fail::from("no good page")),
+    }
+}
+
+// The bound below an entry of a page that has none itself, or that has this one.
+fn bound(page: &Page, entry: u8, high: Option<u64>) -> Result<Option<u64>, Fail> {
+    if entry >= page.count() {
+        return Err(Fail::from("no entry"));
+    }
+    Ok(bound_of(page, entry, high))
+}
+
+// The keys of the leaf are 20 and 36, and those of the branch above it 4, 20 and 40.
+#[test]
+fn the_keys_of_one_page(rt: HostRuntime) -> Result<(), Fail> {
+    let image = three_leaves(rt.alloc(), 36)?;
+    let leaf = opened(&image, page_at(2))?;
+    let Bref { bid, ib } = page_at(2);
+    let fault = |at: u64| Some(Fault::within(Kind::KeyOrder, at, bid));
+    for (low, high, wanted) in [
+        (0, None, None),
+        (20, Some(37), None),
+        (21, None, fault(ib)),
+        (0, Some(36), fault(ib.saturating_add(24))),
+        (0, Some(20), fault(ib)),
+    ] {
+        is(&rt, check_order(&leaf, low, high).err(), wanted);
+    }
+    let root = opened(&image, page_at(0))?;
+    is(&rt, bound(&root, 0, None)?, Some(20));
+    is(&rt, bound(&root, 1, None)?, Some(40));
+    is(&rt, bound(&root, 2, None)?, None);
+    is(&rt, bound(&root, 2, Some(50))?, Some(50));
     Ok(())
 }

@@ -41,7 +41,8 @@ pub loop-i-init : goal.loop-i-init
 loop-i-init t c = record {
   gives = grind (arith, c.in_ok-page.ensures.gives, c.in_ok-page.ensures.bref, entries_from_start, walk_branch);
   same = c.in_ok-page.ensures.same;
-  counted = omega (arith, c.in_ok-page.ensures.marked, c.requires.counted);
+  counted = omega (arith, c.in_ok-page.ensures.marked, c.in_ok-page.ensures.counted, c.requires.counted);
+  decoded = c.in_ok-page.ensures.decoded;
   some = rw c.in_ok-page.ensures.bref (left_start c.args.kind (bytes_of c.args.image) c.args.level (c.args.level - 1) c.args.bref _ _ (omega arith) c.in_ok-page.ensures.claimed);
 }
 
@@ -58,5 +59,6 @@ loop-i-preserved t c =
       gives = child_goes_on c.args.kind I _ c.args.high _ _ ib c.loop-i.i _ _ _ _ lt child key bound c.in_ok-walk_page.ensures.gives c.loop-i.invariant.gives;
       same = c.in_ok-walk_page.ensures.same ∙ c.loop-i.invariant.same;
       counted = c.in_ok-walk_page.ensures.counted;
+      decoded = omega (arith, c.in_ok-walk_page.ensures.decoded, c.loop-i.invariant.decoded);
       some = left_next c.args.kind I (c.args.level - 1) ib c.loop-i.i _ _ _ _ lt c.loop-i.invariant.some (rw child at (walk_spans _ _ _ _ _ _ _ _ _ _ _ _ _ c.in_ok-walk_page.ensures.gives));
     }

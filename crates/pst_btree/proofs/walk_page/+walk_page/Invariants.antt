@@ -1,4 +1,4 @@
-use Rattle.std.proofs.Common.{◌≡◌, ◌≤◌, ◌*◌, ◌-◌, length}
+use Rattle.std.proofs.Common.{◌≡◌, ◌≤◌, ◌+◌, ◌*◌, ◌-◌, length}
 use Rattle.pst_bytes.specs.Image.{bytes_of}
 use Rattle.pst_header.specs.Header.{end_of}
 use Rattle.pst_page.specs.Page.{entries_from}
@@ -18,5 +18,6 @@ invariant-loop-i l = record {
       ≡ walk_of l.kind (bytes_of l.image) (end_of l.header) l.level (found_so_far l.fn.claims l.fn.tally.places.items l.fn.tally.pages) l.fn.bref l.low l.high;
   same : length l.claims ≡ length l.fn.claims;
   counted : 8 * l.tally.pages ≤ marked l.claims;
+  decoded : marked l.claims + 8 * l.fn.tally.pages ≡ marked l.fn.claims + 8 * l.tally.pages;
   some : IsSomeLeft l.kind (bytes_of l.image) (l.level - 1) l.page.bref.ib l.i l.claims l.fn.claims (page_spans_at l.kind (bytes_of l.image) l.level l.fn.bref);
 }

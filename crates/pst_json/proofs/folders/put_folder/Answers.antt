@@ -13,11 +13,12 @@ use Rattle.pst_verify.specs.pst_msg.View.{tc_roots, ndb_of_folder, node_of_folde
 use Rattle.pst_verify.specs.pst_reach.Path.{path_in}
 use Rattle.pst_json.specs.declared.texts.TheConstants.{NAME}
 use Rattle.pst_json.specs.Folders.{row_nid, row_total, path_data, text_property, folder_data}
+use Rattle.pst_value_json.proofs.KeptLemmas.{kept_here, kept_more, kept_still, kept_through, kept_so}
 use Rattle.pst_json.proofs.folders.put_folder.Goals as goal
 
-pub returns : goal.returns
+pub returns-clause-put : goal.returns-clause-put
 unfolding folder_data
-returns c =
+returns-clause-put c =
     let ndb = ndb_of_folder c.args.folder in
     let t = table_of_ndb ndb in
     let top = top_of (node_of_folder c.args.folder) in
@@ -32,10 +33,46 @@ returns c =
     let associated : Members = member (codes "associated") (natural c.count_of.result) messages in
     let put : c.push.new.self.items ≡ c.args.text.now.items ++ compact_text (object associated) =
     closed _ _ _ c.in_ok-push.ensures.items
-    (next_marked (codes "subfolders") (list_data row_nid (rows_there t (option_map tc_roots c.hierarchy.result))) no_members _ _ _ _ refl c.in_ok-extend_from_slice-6.ensures.items (c.in_ok-put_nids_of.ensures t c.hierarchy.ensures.table)
-    (next_marked (codes "path") (path_data (path_in c.args.reached.now c.nid-2.result)) subfolders _ _ _ _ refl c.in_ok-extend_from_slice-5.ensures.items c.in_ok-put_path.ensures
-    (next_marked (codes "nid") (nid_data c.nid.result) path _ _ _ _ refl c.in_ok-extend_from_slice-4.ensures.items c.in_ok-put_nid.ensures
-    (next_marked (codes "name") (text_property (table_of_node node) (roots_of node) NAME) nid _ _ _ _ refl c.in_ok-extend_from_slice-3.ensures.items c.in_ok-put_text_property.ensures
-    (next_marked (codes "messages") (natural c.count_of-2.result) name _ _ _ _ refl c.in_ok-extend_from_slice-2.ensures.items c.in_ok-put_natural-2.ensures
-    (first_marked (codes "associated") (natural c.count_of.result) messages _ _ _ refl c.in_ok-extend_from_slice.ensures.items c.in_ok-put_natural.ensures)))))) in
+    (next_marked (codes "subfolders") (list_data row_nid (rows_there t (option_map tc_roots c.hierarchy.result))) no_members _ _ _ _ refl c.in_ok-extend_from_slice-6.ensures.items (c.in_ok-put_nids_of.ensures.put t c.hierarchy.ensures.table)
+    (next_marked (codes "path") (path_data (path_in c.args.reached.now c.nid-2.result)) subfolders _ _ _ _ refl c.in_ok-extend_from_slice-5.ensures.items c.in_ok-put_path.ensures.put
+    (next_marked (codes "nid") (nid_data c.nid.result) path _ _ _ _ refl c.in_ok-extend_from_slice-4.ensures.items c.in_ok-put_nid.ensures.put
+    (next_marked (codes "name") (text_property (table_of_node node) (roots_of node) NAME) nid _ _ _ _ refl c.in_ok-extend_from_slice-3.ensures.items c.in_ok-put_text_property.ensures.put
+    (next_marked (codes "messages") (natural c.count_of-2.result) name _ _ _ _ refl c.in_ok-extend_from_slice-2.ensures.items c.in_ok-put_natural-2.ensures.put
+    (first_marked (codes "associated") (natural c.count_of.result) messages _ _ _ refl c.in_ok-extend_from_slice.ensures.items c.in_ok-put_natural.ensures.put)))))) in
     rw (own, in_it, c.pc.ensures, c.is_sound.ensures.table, c.nid.ensures.top, c.nid-2.ensures.top, c.hierarchy.ensures.roots) at put
+
+pub returns-in_err-put_natural-clause-kept : goal.returns-in_err-put_natural-clause-kept
+returns-in_err-put_natural-clause-kept c = kept_so c.from_residual-in_err-put_natural.result _ _ (kept_through _ _ _ (kept_here _ _ _ c.in_ok-extend_from_slice.ensures.items) c.in_err-put_natural.ensures.kept)
+
+pub returns-in_err-extend_from_slice-2-clause-kept : goal.returns-in_err-extend_from_slice-2-clause-kept
+returns-in_err-extend_from_slice-2-clause-kept c = kept_so c.from_residual-in_err-extend_from_slice-2.result _ _ (kept_still _ _ _ (kept_more _ _ _ _ (kept_here _ _ _ c.in_ok-extend_from_slice.ensures.items) c.in_ok-put_natural.ensures.put) c.in_err-extend_from_slice-2.ensures.items)
+
+pub returns-in_err-put_natural-2-clause-kept : goal.returns-in_err-put_natural-2-clause-kept
+returns-in_err-put_natural-2-clause-kept c = kept_so c.from_residual-in_err-put_natural-2.result _ _ (kept_through _ _ _ (kept_more _ _ _ _ (kept_more _ _ _ _ (kept_here _ _ _ c.in_ok-extend_from_slice.ensures.items) c.in_ok-put_natural.ensures.put) c.in_ok-extend_from_slice-2.ensures.items) c.in_err-put_natural-2.ensures.kept)
+
+pub returns-in_err-extend_from_slice-3-clause-kept : goal.returns-in_err-extend_from_slice-3-clause-kept
+returns-in_err-extend_from_slice-3-clause-kept c = kept_so c.from_residual-in_err-extend_from_slice-3.result _ _ (kept_still _ _ _ (kept_more _ _ _ _ (kept_more _ _ _ _ (kept_more _ _ _ _ (kept_here _ _ _ c.in_ok-extend_from_slice.ensures.items) c.in_ok-put_natural.ensures.put) c.in_ok-extend_from_slice-2.ensures.items) c.in_ok-put_natural-2.ensures.put) c.in_err-extend_from_slice-3.ensures.items)
+
+pub returns-in_err-put_text_property-clause-kept : goal.returns-in_err-put_text_property-clause-kept
+returns-in_err-put_text_property-clause-kept c = kept_so c.from_residual-in_err-put_text_property.result _ _ (kept_through _ _ _ (kept_more _ _ _ _ (kept_more _ _ _ _ (kept_more _ _ _ _ (kept_more _ _ _ _ (kept_here _ _ _ c.in_ok-extend_from_slice.ensures.items) c.in_ok-put_natural.ensures.put) c.in_ok-extend_from_slice-2.ensures.items) c.in_ok-put_natural-2.ensures.put) c.in_ok-extend_from_slice-3.ensures.items) c.in_err-put_text_property.ensures.kept)
+
+pub returns-in_err-extend_from_slice-4-clause-kept : goal.returns-in_err-extend_from_slice-4-clause-kept
+returns-in_err-extend_from_slice-4-clause-kept c = kept_so c.from_residual-in_err-extend_from_slice-4.result _ _ (kept_still _ _ _ (kept_more _ _ _ _ (kept_more _ _ _ _ (kept_more _ _ _ _ (kept_more _ _ _ _ (kept_more _ _ _ _ (kept_here _ _ _ c.in_ok-extend_from_slice.ensures.items) c.in_ok-put_natural.ensures.put) c.in_ok-extend_from_slice-2.ensures.items) c.in_ok-put_natural-2.ensures.put) c.in_ok-extend_from_slice-3.ensures.items) c.in_ok-put_text_property.ensures.put) c.in_err-extend_from_slice-4.ensures.items)
+
+pub returns-in_err-put_nid-clause-kept : goal.returns-in_err-put_nid-clause-kept
+returns-in_err-put_nid-clause-kept c = kept_so c.from_residual-in_err-put_nid.result _ _ (kept_through _ _ _ (kept_more _ _ _ _ (kept_more _ _ _ _ (kept_more _ _ _ _ (kept_more _ _ _ _ (kept_more _ _ _ _ (kept_more _ _ _ _ (kept_here _ _ _ c.in_ok-extend_from_slice.ensures.items) c.in_ok-put_natural.ensures.put) c.in_ok-extend_from_slice-2.ensures.items) c.in_ok-put_natural-2.ensures.put) c.in_ok-extend_from_slice-3.ensures.items) c.in_ok-put_text_property.ensures.put) c.in_ok-extend_from_slice-4.ensures.items) c.in_err-put_nid.ensures.kept)
+
+pub returns-in_err-extend_from_slice-5-clause-kept : goal.returns-in_err-extend_from_slice-5-clause-kept
+returns-in_err-extend_from_slice-5-clause-kept c = kept_so c.from_residual-in_err-extend_from_slice-5.result _ _ (kept_still _ _ _ (kept_more _ _ _ _ (kept_more _ _ _ _ (kept_more _ _ _ _ (kept_more _ _ _ _ (kept_more _ _ _ _ (kept_more _ _ _ _ (kept_more _ _ _ _ (kept_here _ _ _ c.in_ok-extend_from_slice.ensures.items) c.in_ok-put_natural.ensures.put) c.in_ok-extend_from_slice-2.ensures.items) c.in_ok-put_natural-2.ensures.put) c.in_ok-extend_from_slice-3.ensures.items) c.in_ok-put_text_property.ensures.put) c.in_ok-extend_from_slice-4.ensures.items) c.in_ok-put_nid.ensures.put) c.in_err-extend_from_slice-5.ensures.items)
+
+pub returns-in_err-put_path-clause-kept : goal.returns-in_err-put_path-clause-kept
+returns-in_err-put_path-clause-kept c = kept_so c.from_residual-in_err-put_path.result _ _ (kept_through _ _ _ (kept_more _ _ _ _ (kept_more _ _ _ _ (kept_more _ _ _ _ (kept_more _ _ _ _ (kept_more _ _ _ _ (kept_more _ _ _ _ (kept_more _ _ _ _ (kept_more _ _ _ _ (kept_here _ _ _ c.in_ok-extend_from_slice.ensures.items) c.in_ok-put_natural.ensures.put) c.in_ok-extend_from_slice-2.ensures.items) c.in_ok-put_natural-2.ensures.put) c.in_ok-extend_from_slice-3.ensures.items) c.in_ok-put_text_property.ensures.put) c.in_ok-extend_from_slice-4.ensures.items) c.in_ok-put_nid.ensures.put) c.in_ok-extend_from_slice-5.ensures.items) c.in_err-put_path.ensures.kept)
+
+pub returns-in_err-extend_from_slice-6-clause-kept : goal.returns-in_err-extend_from_slice-6-clause-kept
+returns-in_err-extend_from_slice-6-clause-kept c = kept_so c.from_residual-in_err-extend_from_slice-6.result _ _ (kept_still _ _ _ (kept_more _ _ _ _ (kept_more _ _ _ _ (kept_more _ _ _ _ (kept_more _ _ _ _ (kept_more _ _ _ _ (kept_more _ _ _ _ (kept_more _ _ _ _ (kept_more _ _ _ _ (kept_more _ _ _ _ (kept_here _ _ _ c.in_ok-extend_from_slice.ensures.items) c.in_ok-put_natural.ensures.put) c.in_ok-extend_from_slice-2.ensures.items) c.in_ok-put_natural-2.ensures.put) c.in_ok-extend_from_slice-3.ensures.items) c.in_ok-put_text_property.ensures.put) c.in_ok-extend_from_slice-4.ensures.items) c.in_ok-put_nid.ensures.put) c.in_ok-extend_from_slice-5.ensures.items) c.in_ok-put_path.ensures.put) c.in_err-extend_from_slice-6.ensures.items)
+
+pub returns-in_err-put_nids_of-clause-kept : goal.returns-in_err-put_nids_of-clause-kept
+returns-in_err-put_nids_of-clause-kept c = kept_so c.from_residual-in_err-put_nids_of.result _ _ (kept_through _ _ _ (kept_more _ _ _ _ (kept_more _ _ _ _ (kept_more _ _ _ _ (kept_more _ _ _ _ (kept_more _ _ _ _ (kept_more _ _ _ _ (kept_more _ _ _ _ (kept_more _ _ _ _ (kept_more _ _ _ _ (kept_more _ _ _ _ (kept_here _ _ _ c.in_ok-extend_from_slice.ensures.items) c.in_ok-put_natural.ensures.put) c.in_ok-extend_from_slice-2.ensures.items) c.in_ok-put_natural-2.ensures.put) c.in_ok-extend_from_slice-3.ensures.items) c.in_ok-put_text_property.ensures.put) c.in_ok-extend_from_slice-4.ensures.items) c.in_ok-put_nid.ensures.put) c.in_ok-extend_from_slice-5.ensures.items) c.in_ok-put_path.ensures.put) c.in_ok-extend_from_slice-6.ensures.items) c.in_err-put_nids_of.ensures.kept)
+
+pub returns-in_err-push-clause-kept : goal.returns-in_err-push-clause-kept
+returns-in_err-push-clause-kept c = kept_so c.from_residual-in_err-push.result _ _ (kept_still _ _ _ (kept_more _ _ _ _ (kept_more _ _ _ _ (kept_more _ _ _ _ (kept_more _ _ _ _ (kept_more _ _ _ _ (kept_more _ _ _ _ (kept_more _ _ _ _ (kept_more _ _ _ _ (kept_more _ _ _ _ (kept_more _ _ _ _ (kept_more _ _ _ _ (kept_here _ _ _ c.in_ok-extend_from_slice.ensures.items) c.in_ok-put_natural.ensures.put) c.in_ok-extend_from_slice-2.ensures.items) c.in_ok-put_natural-2.ensures.put) c.in_ok-extend_from_slice-3.ensures.items) c.in_ok-put_text_property.ensures.put) c.in_ok-extend_from_slice-4.ensures.items) c.in_ok-put_nid.ensures.put) c.in_ok-extend_from_slice-5.ensures.items) c.in_ok-put_path.ensures.put) c.in_ok-extend_from_slice-6.ensures.items) (c.in_ok-put_nids_of.ensures.put (table_of_ndb (ndb_of_folder c.args.folder)) c.hierarchy.ensures.table)) c.in_err-push.ensures.items)

@@ -11,10 +11,10 @@ pub check_all-answer-requires-clause-listings : goal.check_all-answer-requires-c
 check_all-answer-requires-clause-listings c = none_listed (table_of_ndb c.args.ndb.now) (nodes_of c.args.ndb.now) c.new-listings.result c.new-listings.ensures.none
 
 pub returns-clause-found : goal.returns-clause-found
-returns-clause-found c = found_contents c.args.ndb.now c.check_all-answer.result c.check_all-answer.ensures.exact
+returns-clause-found c = found_contents c.args.ndb.now c.check_all-answer.result c.is_sound.ensures.trees c.check_all-answer.ensures.exact
 
 pub returns-clause-only : goal.returns-clause-only
-returns-clause-only c is = not_refused c.args.ndb.now c.check_all-answer.result is c.check_all-answer.ensures.exact
+returns-clause-only c is = not_refused c.args.ndb.now c.check_all-answer.result c.is_sound.ensures.trees is c.check_all-answer.ensures.exact
 
 pub returns-clause-raised : goal.returns-clause-raised
 returns-clause-raised c = raised_ok (table_of_ndb c.args.ndb.now) (nodes_of c.args.ndb.now) c.new-known.result c.check_all-answer.new.known c.args.work.now.contexts c.check_all-answer.result (c.new-known.ensures.named (table_of_ndb c.args.ndb.now) (nodes_of c.args.ndb.now)) c.new-known.ensures.counted c.check_all-answer.ensures.known c.check_all-answer.ensures.grows c.check_all-answer.ensures.there c.are_sorted.ensures

@@ -3,7 +3,7 @@ use Rattle.std.proofs.lemmas.List.{nil_from_length}
 use Rattle.std.proofs.lemmas.Result.{err_from_is_err_and}
 use Rattle.pst_ndb.specs.Views.{table_of_node, roots_of}
 use Rattle.pst_msg.specs.Counts.{HasMessage}
-use Rattle.pst_msg.specs.Frames.{IsStack, IsWentOn}
+use Rattle.pst_msg.specs.Frames.{IsWentOn}
 use Rattle.pst_msg.specs.Growth.{Grows}
 use Rattle.pst_msg.specs.Known.{IsTrueOf, WholeIn}
 use Rattle.pst_msg.proofs.FrameLemmas.{stack_begun, stack_top, stack_refused, stack_popped, one_pushed, one_popped, none_waits, fewer_pushed, turn_grows}

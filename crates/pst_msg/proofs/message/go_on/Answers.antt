@@ -1,28 +1,44 @@
-use Rattle.std.proofs.Common.{refl, ap, ◌∙◌, sym, arith}
+use Rattle.std.proofs.Common.{List, refl, ap, ◌∙◌, sym, arith}
 use Rattle.std.proofs.lemmas.Result.{err_from_is_err_and}
+use Rattle.pst_page.specs.declared.entry.NodeEntry.{NodeEntry}
+use Rattle.pst_block.specs.Table.{Table}
 use Rattle.pst_ndb.specs.Views.{table_of_node, roots_of}
 use Rattle.pst_tc.specs.View.{row_parts}
 use Rattle.pst_msg.specs.declared.frame.Frame.{Frame}
+use Rattle.pst_msg.specs.declared.known.Known.{Known}
 use Rattle.pst_msg.specs.Frames.{with_rest}
-use Rattle.pst_msg.proofs.CountLemmas.{grows_then}
+use Rattle.pst_msg.specs.Growth.{Grows}
+use Rattle.pst_msg.proofs.CountLemmas.{grows_same, grows_then}
 use Rattle.pst_msg.proofs.OpenLemmas.{grows_any}
 use Rattle.pst_msg.proofs.FrameLemmas.{row_of_message, frame_refused, frame_opened, frame_step, frame_same, frame_later, fewer_left, holder_later, row_of_frame}
 use Rattle.pst_msg.proofs.message.go_on.Goals as goal
 
-pub returns-in_err-turn_to-clause-grows : goal.returns-in_err-turn_to-clause-grows
-returns-in_err-turn_to-clause-grows c = grows_any (table_of_node c.args.frame.now.node) _ _ _ c.turn_to.ensures.grows
-
 pub loop-row-init : goal.loop-row-init
-loop-row-init c =
+loop-row-init c = record {
+  only = refl;
+  known = c.requires.known;
+  grows = grows_same (table_of_node c.args.frame.now.node) _ c.args.known.now;
+  frame = c.requires.frame;
+  holder = c.requires.holder;
+  steps = omega arith;
+}
+
+-- ---- the index is made
+
+pub turn_to-requires : goal.turn_to-requires
+turn_to-requires c = let before = c.loop-row.invariant in rw before.frame.table before.known
+
+pub returns-in_err-turn_to-clause-grows : goal.returns-in_err-turn_to-clause-grows
+returns-in_err-turn_to-clause-grows c =
     let t = table_of_node c.args.frame.now.node in
-    record {
-      only = refl;
-      known = c.turn_to.ensures.known;
-      grows = grows_any t _ _ _ c.turn_to.ensures.grows;
-      frame = frame_later t _ c.args.known.now c.turn_to.new.known _ _ c.args.frame.now c.turn_to.ensures.grows c.requires.frame;
-      holder = holder_later t _ c.args.known.now c.turn_to.new.known c.args.frame.now c.turn_to.ensures.grows c.requires.holder;
-      steps = omega arith;
-    }
+    let before = c.loop-row.invariant in
+    grows_then t _ _ _ _ before.grows (grows_any t _ _ _ (rw before.frame.table at c.turn_to.ensures.grows))
+
+-- ---- a row
+
+-- what is known, once the index is made
+grown : (t : Table) (H : List NodeEntry → Type 0) (a b c : Known) → Grows t H a b → Grows t (λ nodes. Unit {0}) b c → Grows t H a c
+grown t H a b c g h = grows_then t H a b c g (grows_any t H b c h)
 
 pub returns-in_err-above-clause-grows : goal.returns-in_err-above-clause-grows
 returns-in_err-above-clause-grows c =
@@ -31,7 +47,8 @@ returns-in_err-above-clause-grows c =
     let before = c.loop-row.invariant in
     let same = ap (λ (x : Frame). x.node) before.only in
     let row = row_of_frame t c.loop-row.known f c.next.new.self (row_parts c.in-Some.row) c.in-Some.ensures.steps.0 before.frame in
-    row_of_message t (roots_of c.args.frame.now.node) (row_parts c.in-Some.row) _ _ _ (rw same at row) before.grows (rw same at c.open_row.ensures.grows)
+    let turned = grown t _ _ _ _ before.grows (rw before.frame.table at c.turn_to.ensures.grows) in
+    row_of_message t (roots_of c.args.frame.now.node) (row_parts c.in-Some.row) _ _ _ (rw same at row) turned (rw same at c.open_row.ensures.grows)
 
 pub returns-in_err-above-clause-refused : goal.returns-in_err-above-clause-refused
 returns-in_err-above-clause-refused c =
@@ -51,7 +68,8 @@ returns-in-Some-2-clause-grows c =
     let before = c.loop-row.invariant in
     let same = ap (λ (x : Frame). x.node) before.only in
     let row = row_of_frame t c.loop-row.known f c.next.new.self (row_parts c.in-Some.row) c.in-Some.ensures.steps.0 before.frame in
-    row_of_message t (roots_of c.args.frame.now.node) (row_parts c.in-Some.row) _ _ _ (rw same at row) before.grows (rw same at c.open_row.ensures.grows)
+    let turned = grown t _ _ _ _ before.grows (rw before.frame.table at c.turn_to.ensures.grows) in
+    row_of_message t (roots_of c.args.frame.now.node) (row_parts c.in-Some.row) _ _ _ (rw same at row) turned (rw same at c.open_row.ensures.grows)
 
 pub returns-in-Some-2-clause-open : goal.returns-in-Some-2-clause-open
 returns-in-Some-2-clause-open c =
@@ -62,7 +80,8 @@ returns-in-Some-2-clause-open c =
     let limit = ap (λ (x : Frame). x.limit) before.only in
     let holder = ap (λ (x : Frame). x.holder) before.only in
     let opened = rw c.in-Some-2.is at c.in_ok-above.ensures.open in
-    frame_opened t _ c.loop-row.known c.open_row.new.known c.args.frame.now f c.next.new.self (row_parts c.in-Some.row) c.in-Some-2.above (rw before.frame.table at c.open_row.ensures.grows) before.frame c.in-Some.ensures.steps.0 (rw before.frame.table at opened) roots limit holder before.steps
+    let turned = frame_later t _ c.loop-row.known c.turn_to.new.known _ _ f (rw before.frame.table at c.turn_to.ensures.grows) before.frame in
+    frame_opened t _ c.turn_to.new.known c.open_row.new.known c.args.frame.now f c.next.new.self (row_parts c.in-Some.row) c.in-Some-2.above (rw before.frame.table at c.open_row.ensures.grows) turned c.in-Some.ensures.steps.0 (rw before.frame.table at opened) roots limit holder before.steps
 
 pub loop-row-preserved : goal.loop-row-preserved
 loop-row-preserved c =
@@ -73,15 +92,19 @@ loop-row-preserved c =
     let same = ap (λ (x : Frame). x.node) before.only in
     let row = row_of_frame t c.loop-row.known f c.next.new.self (row_parts c.in-Some.row) rows before.frame in
     let done = rw c.in_default-2.is at c.in_ok-above.ensures.done in
+    let made = rw before.frame.table at c.turn_to.ensures.grows in
+    let turned = frame_later t _ c.loop-row.known c.turn_to.new.known _ _ f made before.frame in
     let grows = rw before.frame.table at c.open_row.ensures.grows in
     record {
       only = ap (λ (x : Frame). with_rest x c.next.new.self) before.only;
       known = rw same at c.open_row.ensures.known;
-      grows = row_of_message t (roots_of c.args.frame.now.node) (row_parts c.in-Some.row) _ _ _ (rw same at row) before.grows (rw same at c.open_row.ensures.grows);
-      frame = frame_step t _ c.loop-row.known c.open_row.new.known f c.next.new.self (row_parts c.in-Some.row) grows before.frame rows (rw before.frame.table at done);
-      holder = holder_later t _ c.loop-row.known c.open_row.new.known f grows before.holder;
+      grows = row_of_message t (roots_of c.args.frame.now.node) (row_parts c.in-Some.row) _ _ _ (rw same at row) (grown t _ _ _ _ before.grows made) (rw same at c.open_row.ensures.grows);
+      frame = frame_step t _ c.turn_to.new.known c.open_row.new.known f c.next.new.self (row_parts c.in-Some.row) grows turned rows (rw before.frame.table at done);
+      holder = holder_later t _ c.turn_to.new.known c.open_row.new.known f grows (holder_later t _ c.loop-row.known c.turn_to.new.known f made before.holder);
       steps = fewer_left t f c.next.new.self (row_parts c.in-Some.row) _ rows before.steps;
     }
+
+-- ---- no row is left
 
 pub finish-requires-clause-frame : goal.finish-requires-clause-frame
 finish-requires-clause-frame c =

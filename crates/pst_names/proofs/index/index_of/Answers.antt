@@ -1,4 +1,4 @@
-use Rattle.std.proofs.Common.{◌≡◌, ◌+◌, ◌-◌, ◌*◌, ◌/◌, ◌<◌, ◌≤◌, List, ℕ, [], length, take, refl, sym, ap, subst, ◌∙◌, arith}
+use Rattle.std.proofs.Common.{◌≡◌, ◌+◌, ◌*◌, ◌/◌, ◌≤◌, List, ℕ, length, take, refl, sym, ap, subst, ◌∙◌, arith}
 use Rattle.std.specs.Prelude.{option_map}
 use Rattle.pst_bytes.specs.Image.{bytes_of, bytes_at}
 use Rattle.pst_datatree.specs.Spans.{joined_bytes}
@@ -8,7 +8,7 @@ use Rattle.pst_names.specs.declared.streams.TheConstants.{ENTRIES}
 use Rattle.pst_names.specs.Streams.{stream_spans, byte_place}
 use Rattle.pst_names.specs.Entry.{entry_in, entry_with}
 use Rattle.pst_names.specs.Behind.{IsBehind, behind_spans}
-use Rattle.pst_names.specs.Index.{fields_in, naming_fields, is_noted, HasNoted}
+use Rattle.pst_names.specs.Index.{fields_in, naming_fields, is_noted}
 use Rattle.pst_names.specs.Known.{AreRunsTrue}
 use Rattle.pst_names.specs.Rest.{rest_file, rest_spans, front_span}
 use Rattle.pst_names.proofs.EntryLemmas.{entry_left}

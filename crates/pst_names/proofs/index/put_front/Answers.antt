@@ -1,5 +1,4 @@
-use Rattle.std.proofs.Common.{◌≡◌, ℕ, ◌/◌, ◌*◌, ◌+◌, ◌<◌, ◌≤◌, List, length, ap, sym, subst, arith}
-use Rattle.pst_names.specs.Entry.{entry_bytes}
+use Rattle.std.proofs.Common.{◌≡◌, ℕ, ◌/◌, List, length, ap, arith}
 use Rattle.pst_names.specs.Index.{is_noted, HasNoted}
 use Rattle.pst_names.specs.Known.{AreAll, IsRun, AreRunsTrue}
 use Rattle.pst_names.specs.Rest.{rest_file}

@@ -111,3 +111,10 @@ returns-clause-next c = λ a up.
 
 pub returns-clause-falls : goal.returns-clause-falls
 returns-clause-falls c = rw c.loop-sub.invariant.same (omega (arith, frame_least c.args.frame))
+
+pub loop-sub-init : goal.loop-sub-init
+loop-sub-init c = record {
+  same = refl;
+  goes = λ a up. rw (← c.requires.below) up;
+  light = rw (← c.requires.below) (omega arith);
+}

@@ -13,8 +13,8 @@ loop-left-preserved c =
     let place : c.loop-left.first - 1 + 1 ≡ c.loop-left.first = omega (arith, kept.0) in
     (room.0, omega (arith, kept.1), search rules, room.1, rw c.digit.ensures (digit_spelt c.args.number c.loop-left.left (c.loop-left.first - 1) digits (search rules) (search rules) (omega (arith, kept.0, kept.1, kept.2)) (rw place kept.4)))
 
-pub returns : goal.returns
-returns c =
+pub returns-clause-put : goal.returns-clause-put
+returns-clause-put c =
     let kept = c.loop-left.invariant in
     let digits = c.loop-left.digits in
     let place : c.loop-left.first - 1 + 1 ≡ c.loop-left.first = omega (arith, kept.0) in

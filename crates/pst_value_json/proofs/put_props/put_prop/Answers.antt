@@ -8,11 +8,12 @@ use Rattle.pst_value_json.specs.Props.{called_data, set_of_data, prop_data}
 use Rattle.pst_value_json.specs.Value.{value_data}
 use Rattle.pst_pc.specs.View.{property_of}
 use Rattle.pst_value_json.proofs.MemberLemmas.{first_marked, next_marked, if_member_put, closed}
+use Rattle.pst_value_json.proofs.KeptLemmas.{kept_here, kept_more, kept_still, kept_through, kept_so}
 use Rattle.pst_value_json.proofs.put_props.put_prop.Goals as goal
 
-pub returns : goal.returns
+pub returns-clause-put : goal.returns-clause-put
 unfolding prop_data
-returns c =
+returns-clause-put c =
     let name = option_map name_parts c.args.name.now in
     let p = property_of c.args.prop in
     let places = option_map places_data (if_asked c.args.places (places_in c.args.prop.value)) in
@@ -22,9 +23,36 @@ returns c =
     let placed : Members = member_if (codes "places") places set in
     let called : Members = member_if (codes "name") (option_map called_data name) placed in
     closed _ _ _ c.in_ok-push.ensures.items
-    (next_marked (codes "value") (value_data p.kind p.bytes) no_members _ _ _ _ refl c.in_ok-extend_from_slice-3.ensures.items c.in_ok-put_value.ensures
-    (next_marked (codes "type") (string (id_text p.kind)) value _ _ _ _ refl c.in_ok-extend_from_slice-2.ensures.items c.in_ok-put_id-2.ensures
-    (if_member_put (codes "set") (option_map set_of_data name) kind _ _ _ c.in_ok-put_set_member.ensures
-    (if_member_put (codes "places") places set _ _ _ c.in_ok-put_places_member.ensures
-    (if_member_put (codes "name") (option_map called_data name) placed _ _ _ c.in_ok-put_name_member.ensures
-    (first_marked (codes "id") (string (id_text p.id)) called _ _ _ refl c.in_ok-extend_from_slice.ensures.items c.in_ok-put_id.ensures))))))
+    (next_marked (codes "value") (value_data p.kind p.bytes) no_members _ _ _ _ refl c.in_ok-extend_from_slice-3.ensures.items c.in_ok-put_value.ensures.put
+    (next_marked (codes "type") (string (id_text p.kind)) value _ _ _ _ refl c.in_ok-extend_from_slice-2.ensures.items c.in_ok-put_id-2.ensures.put
+    (if_member_put (codes "set") (option_map set_of_data name) kind _ _ _ c.in_ok-put_set_member.ensures.put
+    (if_member_put (codes "places") places set _ _ _ c.in_ok-put_places_member.ensures.put
+    (if_member_put (codes "name") (option_map called_data name) placed _ _ _ c.in_ok-put_name_member.ensures.put
+    (first_marked (codes "id") (string (id_text p.id)) called _ _ _ refl c.in_ok-extend_from_slice.ensures.items c.in_ok-put_id.ensures.put))))))
+
+pub returns-in_err-put_id-clause-kept : goal.returns-in_err-put_id-clause-kept
+returns-in_err-put_id-clause-kept c = kept_so c.from_residual-in_err-put_id.result _ _ (kept_through _ _ _ (kept_here _ _ _ c.in_ok-extend_from_slice.ensures.items) c.in_err-put_id.ensures.kept)
+
+pub returns-in_err-put_name_member-clause-kept : goal.returns-in_err-put_name_member-clause-kept
+returns-in_err-put_name_member-clause-kept c = kept_so c.from_residual-in_err-put_name_member.result _ _ (kept_through _ _ _ (kept_more _ _ _ _ (kept_here _ _ _ c.in_ok-extend_from_slice.ensures.items) c.in_ok-put_id.ensures.put) c.in_err-put_name_member.ensures.kept)
+
+pub returns-in_err-put_places_member-clause-kept : goal.returns-in_err-put_places_member-clause-kept
+returns-in_err-put_places_member-clause-kept c = kept_so c.from_residual-in_err-put_places_member.result _ _ (kept_through _ _ _ (kept_more _ _ _ _ (kept_more _ _ _ _ (kept_here _ _ _ c.in_ok-extend_from_slice.ensures.items) c.in_ok-put_id.ensures.put) c.in_ok-put_name_member.ensures.put) c.in_err-put_places_member.ensures.kept)
+
+pub returns-in_err-put_set_member-clause-kept : goal.returns-in_err-put_set_member-clause-kept
+returns-in_err-put_set_member-clause-kept c = kept_so c.from_residual-in_err-put_set_member.result _ _ (kept_through _ _ _ (kept_more _ _ _ _ (kept_more _ _ _ _ (kept_more _ _ _ _ (kept_here _ _ _ c.in_ok-extend_from_slice.ensures.items) c.in_ok-put_id.ensures.put) c.in_ok-put_name_member.ensures.put) c.in_ok-put_places_member.ensures.put) c.in_err-put_set_member.ensures.kept)
+
+pub returns-in_err-extend_from_slice-2-clause-kept : goal.returns-in_err-extend_from_slice-2-clause-kept
+returns-in_err-extend_from_slice-2-clause-kept c = kept_so c.from_residual-in_err-extend_from_slice-2.result _ _ (kept_still _ _ _ (kept_more _ _ _ _ (kept_more _ _ _ _ (kept_more _ _ _ _ (kept_more _ _ _ _ (kept_here _ _ _ c.in_ok-extend_from_slice.ensures.items) c.in_ok-put_id.ensures.put) c.in_ok-put_name_member.ensures.put) c.in_ok-put_places_member.ensures.put) c.in_ok-put_set_member.ensures.put) c.in_err-extend_from_slice-2.ensures.items)
+
+pub returns-in_err-put_id-2-clause-kept : goal.returns-in_err-put_id-2-clause-kept
+returns-in_err-put_id-2-clause-kept c = kept_so c.from_residual-in_err-put_id-2.result _ _ (kept_through _ _ _ (kept_more _ _ _ _ (kept_more _ _ _ _ (kept_more _ _ _ _ (kept_more _ _ _ _ (kept_more _ _ _ _ (kept_here _ _ _ c.in_ok-extend_from_slice.ensures.items) c.in_ok-put_id.ensures.put) c.in_ok-put_name_member.ensures.put) c.in_ok-put_places_member.ensures.put) c.in_ok-put_set_member.ensures.put) c.in_ok-extend_from_slice-2.ensures.items) c.in_err-put_id-2.ensures.kept)
+
+pub returns-in_err-extend_from_slice-3-clause-kept : goal.returns-in_err-extend_from_slice-3-clause-kept
+returns-in_err-extend_from_slice-3-clause-kept c = kept_so c.from_residual-in_err-extend_from_slice-3.result _ _ (kept_still _ _ _ (kept_more _ _ _ _ (kept_more _ _ _ _ (kept_more _ _ _ _ (kept_more _ _ _ _ (kept_more _ _ _ _ (kept_more _ _ _ _ (kept_here _ _ _ c.in_ok-extend_from_slice.ensures.items) c.in_ok-put_id.ensures.put) c.in_ok-put_name_member.ensures.put) c.in_ok-put_places_member.ensures.put) c.in_ok-put_set_member.ensures.put) c.in_ok-extend_from_slice-2.ensures.items) c.in_ok-put_id-2.ensures.put) c.in_err-extend_from_slice-3.ensures.items)
+
+pub returns-in_err-put_value-clause-kept : goal.returns-in_err-put_value-clause-kept
+returns-in_err-put_value-clause-kept c = kept_so c.from_residual-in_err-put_value.result _ _ (kept_through _ _ _ (kept_more _ _ _ _ (kept_more _ _ _ _ (kept_more _ _ _ _ (kept_more _ _ _ _ (kept_more _ _ _ _ (kept_more _ _ _ _ (kept_more _ _ _ _ (kept_here _ _ _ c.in_ok-extend_from_slice.ensures.items) c.in_ok-put_id.ensures.put) c.in_ok-put_name_member.ensures.put) c.in_ok-put_places_member.ensures.put) c.in_ok-put_set_member.ensures.put) c.in_ok-extend_from_slice-2.ensures.items) c.in_ok-put_id-2.ensures.put) c.in_ok-extend_from_slice-3.ensures.items) c.in_err-put_value.ensures.kept)
+
+pub returns-in_err-push-clause-kept : goal.returns-in_err-push-clause-kept
+returns-in_err-push-clause-kept c = kept_so c.from_residual-in_err-push.result _ _ (kept_still _ _ _ (kept_more _ _ _ _ (kept_more _ _ _ _ (kept_more _ _ _ _ (kept_more _ _ _ _ (kept_more _ _ _ _ (kept_more _ _ _ _ (kept_more _ _ _ _ (kept_more _ _ _ _ (kept_here _ _ _ c.in_ok-extend_from_slice.ensures.items) c.in_ok-put_id.ensures.put) c.in_ok-put_name_member.ensures.put) c.in_ok-put_places_member.ensures.put) c.in_ok-put_set_member.ensures.put) c.in_ok-extend_from_slice-2.ensures.items) c.in_ok-put_id-2.ensures.put) c.in_ok-extend_from_slice-3.ensures.items) c.in_ok-put_value.ensures.put) c.in_err-push.ensures.items)

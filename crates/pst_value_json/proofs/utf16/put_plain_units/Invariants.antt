@@ -2,6 +2,7 @@ use Rattle.std.proofs.Common.{◌≡◌, ◌++◌, ◌+◌, ◌-◌, ◌/◌, �
 use Rattle.std.specs.Prelude.{vec_len, vec_capacity}
 use Rattle.json.specs.Print.{escape}
 use Rattle.pst_value_json.specs.Value.{utf8_of}
+use Rattle.pst_value_json.specs.Kept.{BeginsWith}
 use Rattle.pst_value_json.proofs.utf16.put_plain_units.Given as goal
 
 -- what stands there, with what is left, is all, and there is room for what is left
@@ -10,6 +11,7 @@ invariant-loop-at l = record {
   within : (l.from ≤ l.at) × (l.at ≤ length l.bytes);
   room : vec_len l.text + (length l.bytes - l.at) / 2 ≤ vec_capacity l.text;
   all : l.text.items ++ escape (utf8_of (drop l.at l.bytes)) ≡ l.fn.text.items ++ escape (utf8_of (drop l.from l.bytes));
+  kept : BeginsWith l.text.items l.fn.text.items;
 }
 
 abbrev pub decreases-loop-at : goal.decreases-loop-at

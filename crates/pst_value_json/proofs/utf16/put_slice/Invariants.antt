@@ -1,6 +1,7 @@
 use Rattle.std.proofs.Common.{◌≡◌, ◌++◌, ◌-◌, ◌≤◌, length, drop}
 use Rattle.json.specs.Print.{escape}
 use Rattle.pst_value_json.specs.Value.{utf8_of}
+use Rattle.pst_value_json.specs.Kept.{BeginsWith}
 use Rattle.pst_value_json.proofs.utf16.put_slice.Given as goal
 
 -- what stands there, with what is left, is all
@@ -8,6 +9,7 @@ abbrev pub invariant-loop-at : goal.invariant-loop-at
 invariant-loop-at l = record {
   within : l.at ≤ length l.bytes;
   all : l.text.items ++ escape (utf8_of (drop l.at l.bytes)) ≡ l.fn.text.items ++ escape (utf8_of l.bytes);
+  kept : BeginsWith l.text.items l.fn.text.items;
 }
 
 abbrev pub decreases-loop-at : goal.decreases-loop-at

@@ -2,7 +2,6 @@ use Rattle.std.proofs.Common.{◌≡◌, rules}
 use Rattle.pst_block.specs.Block.{bid_key}
 use Rattle.pst_ndb.specs.Views.{table_of_node, roots_of}
 use Rattle.pst_msg.specs.declared.asked.Asked.{Asked}
-use Rattle.pst_msg.specs.Asked.{AreAskedTrue}
 use Rattle.pst_msg.specs.Roles.{role_number}
 use Rattle.pst_msg.proofs.AskedLemmas.{asks_put, asks_same}
 use Rattle.pst_msg.proofs.asked.Asked.put.Goals as goal

@@ -3,16 +3,16 @@ use Rattle.pst_pc.specs.View.{property_of}
 use Rattle.pst_value_json.specs.Places.{places_in, if_asked}
 use Rattle.pst_value_json.specs.Props.{names_told, prop_data, prop_rows_left}
 use Rattle.pst_value_json.proofs.PropLemmas.{record_next}
-use Rattle.pst_value_json.proofs.RowLemmas.{row_put, put_whole}
+use Rattle.pst_value_json.proofs.RowLemmas.{row_put}
 use Rattle.pst_value_json.proofs.props.PropRowsRows.put_next.Goals as goal
 
-pub returns : goal.returns
+pub returns-clause-put : goal.returns-clause-put
 unfolding prop_rows_left
-returns c =
+returns-clause-put c =
     let rows = c.args.self.now in
     let prop = c.in-Some.prop in
     let taken = c.in-Some.ensures.steps in
     let shown = prop_data (names_told rows.names prop.id) (if_asked rows.places (places_in prop.value)) (property_of prop) in
-    let row = rw c.name_in-name.ensures at c.put_prop-put.ensures in
+    let row = rw c.name_in-name.ensures at c.in_ok-put_prop.ensures.put in
     row_put c.args.later shown _ _ _ _ _ (record_next (names_told rows.names) rows.places rows.props c.next.new.self prop taken.1 taken.2)
-    c.in_ok-put_comma.ensures (c.in_ok-or_cut.ensures.whole ∙ put_whole _ _ _ c.in_ok-or_cut.ensures.put row)
+    c.in_ok-put_comma.ensures.put row

@@ -1,0 +1,14 @@
+pub mod Apart
+pub mod BrokenPages
+pub mod Damage
+pub mod Folder
+pub mod Judged
+pub mod Known
+pub mod Laws
+pub mod Left
+pub mod Listings
+pub mod Nodes
+pub mod Order
+pub mod Trees
+pub mod View
+pub mod Whole

@@ -1,0 +1,120 @@
+//! What messaging asks of a folder of a damaged file.
+
+ghost use Rattle.std.specs.Prelude.{◌≡◌, None};
+ghost use Rattle.pst_fault.specs.Each.{first_of};
+ghost use Rattle.pst_fault.specs.First.{Tells};
+ghost use Rattle.pst_ndb.specs.Views.{table_of_node, roots_of};
+ghost use Rattle.pst_tc.specs.Fault.{tc_fault};
+ghost use Rattle.pst_tc.specs.Tc.{node_of_tc};
+ghost use Rattle.pst_tc.specs.Values.{tc_rows};
+ghost use Rattle.pst_tc.specs.View.{row_parts};
+ghost use Rattle.pst_damage.specs.Folder.{row_damage, table_damage, folder_damage};
+ghost use Rattle.pst_damage.specs.Known.{IsKnownOf};
+ghost use Rattle.pst_damage.specs.Left.{table_in, nodes_in, broken_in};
+ghost use Rattle.pst_damage.specs.Listings.{AreListingsTrue};
+
+use crate::known::Known;
+use crate::left::Left;
+use crate::listings::Listings;
+use pst_fault::{Fault, Kind};
+use pst_msg::{Items, Tc, listing_nid, may_list, named};
+use pst_ndb::Node;
+use pst_tc::{Row, known_tc};
+
+// A row of a folder's table: what lies behind a broken page is passed over.
+#[tactic(auto, unfolding(crate::specs::Folder::row_damage, pst_msg::specs::Fault::listed_item_fault, pst_ndb::specs::Roots::node_in))]
+fn check_row(left: &Left, items: Items, bid: u64, row: Row) -> Result<(), Fault>
+    ensures exact { let x = row_parts row.entry in
+        Tells result (row_damage (nodes_in left.now) (broken_in left.now) items bid x) tt }
+{
+    let id = row.id();
+    match left.nodes.find(id) {
+        Some(_) => {
+            if !may_list(items, id) {
+                return Err(named(Kind::NodeKind, row.at(), bid, id));
+            }
+            Ok(())
+        }
+        None => match left.pages.before(id) {
+            Some(_) => Ok(()),
+            None => Err(named(Kind::NodeMissing, row.at(), bid, id)),
+        },
+    }
+}
+
+// All its rows.
+fn check_each(left: &Left, items: Items, bid: u64, table: Tc) -> Result<(), Fault>
+    ensures exact { let node = node_of_tc table.entry in
+        let rows = tc_rows (table_of_node node) (roots_of node) in
+        Tells result (first_of (row_damage (nodes_in left.now) (broken_in left.now) items bid)
+        rows) tt }
+{
+    for row in table.rows() {
+        check_row(left, items, bid, row)?;
+    }
+    Ok(())
+}
+
+// A table of at most so many rows is looked at wherever it is named; only a longer one is remembered.
+const FEW: u64 = 16;
+
+// All rows of a table, unless they are remembered.
+fn check_rows(left: &Left, items: Items, table: Node, listings: &mut Listings) -> Result<(), Fault>
+    requires table { table_of_node table ≡ table_in left.now }
+    requires sound { tc_fault (table_of_node table) (roots_of table) ≡ None }
+    requires listings { let nodes = nodes_in left.now in
+        AreListingsTrue (table_in left.now) nodes (broken_in left.now) listings.old }
+    ensures listings { let nodes = nodes_in left.now in
+        AreListingsTrue (table_in left.now) nodes (broken_in left.now) listings.new }
+    ensures exact { let r = roots_of table.entry in
+        let rows = tc_rows (table_of_node table.entry) r in
+        Tells result (first_of (row_damage (nodes_in left.now) (broken_in left.now) items
+        r.bid_data) rows) tt }
+{
+    if listings.has(items, table) {
+        return Ok(());
+    }
+    let rows = known_tc(table);
+    check_each(left, items, table.bid_data(), rows)?;
+    if rows.row_count() > FEW {
+        listings.put(items, table)?;
+    }
+    Ok(())
+}
+
+// A table of a folder, where its node is sound.
+#[tactic(auto, unfolding(crate::specs::Folder::table_damage, crate::specs::Folder::items_damage))]
+fn check_table(left: &Left, items: Items, nid: u32, known: &mut Known) -> Result<(), Fault>
+    requires known { let nodes = nodes_in left.now in
+        IsKnownOf (table_in left.now) nodes (broken_in left.now) known.old }
+    ensures known { let nodes = nodes_in left.now in
+        IsKnownOf (table_in left.now) nodes (broken_in left.now) known.new }
+    ensures exact { let nodes = nodes_in left.now in
+        Tells result (table_damage (table_in left.now) nodes (broken_in left.now) items nid) tt }
+{
+    match left.sound.node(listing_nid(nid, items)) {
+        Some(table) => {
+            known.checker.check_listing(items, table)?;
+            check_rows(left, items, table, &mut known.listings)
+        }
+        None => Ok(()),
+    }
+}
+
+/// A folder: its properties, then its three tables, each with its rows.
+#[tactic(auto, unfolding(crate::specs::Folder::folder_damage))]
+pub(crate) fn check_folder(left: &Left, node: Node, known: &mut Known) -> Result<(), Fault>
+    requires table { table_of_node node ≡ table_in left.now }
+    requires known { let nodes = nodes_in left.now in
+        IsKnownOf (table_in left.now) nodes (broken_in left.now) known.old }
+    ensures known { let nodes = nodes_in left.now in
+        IsKnownOf (table_in left.now) nodes (broken_in left.now) known.new }
+    ensures exact { let t = table_in left.now in
+        Tells result (folder_damage t (nodes_in left.now) (broken_in left.now)
+        (roots_of node.entry)) tt }
+{
+    known.checker.check_properties(node)?;
+    check_table(left, Items::Subfolders, node.top(), known)?;
+    check_table(left, Items::Messages, node.top(), known)?;
+    check_table(left, Items::Associated, node.top(), known)
+}

@@ -1,0 +1,33 @@
+//! What is known of the parts of messaging that were looked at.
+
+use crate::listings::Listings;
+use pst_msg::Checker;
+use std::alloc::Global;
+
+/// What was found without fault, and is passed over where it is met again.
+#[derive(Drop)]
+pub(crate) struct Known {
+    /// The contexts and messages.
+    pub(crate) checker: Checker,
+    /// The rows of long tables of folders.
+    pub(crate) listings: Listings,
+}
+
+impl Known {
+    ghost use Rattle.std.specs.Prelude.{List};
+    ghost use Rattle.pst_page.specs.declared.entry.NodeEntry.{NodeEntry};
+    ghost use Rattle.pst_block.specs.Table.{Table};
+    ghost use Rattle.pst_remains.specs.declared.pages.Broken.{Broken};
+    ghost use Rattle.pst_damage.specs.Known.{IsKnownOf};
+
+    /// Nothing yet. No memory is taken.
+    pub(crate) fn new(alloc: Global) -> Known
+        ensures { (t : Table) (nodes : List NodeEntry) (broken : List Broken) →
+            IsKnownOf t nodes broken result }
+    {
+        Known {
+            checker: Checker::new(alloc),
+            listings: Listings::new(alloc),
+        }
+    }
+}

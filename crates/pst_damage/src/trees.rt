@@ -1,0 +1,133 @@
+//! The trees of the blocks of each node that is left, over the blocks without fault.
+
+ghost use Rattle.std.specs.Prelude.{◌≡◌, IfOk, IfErr, option_map};
+ghost use Rattle.pst_fault.specs.Fault.{no_memory};
+ghost use Rattle.pst_fault.specs.First.{Tells};
+ghost use Rattle.pst_block.specs.Blocks.{table_of};
+ghost use Rattle.pst_subnode.specs.declared.check.TheConstants.{LISTS};
+ghost use Rattle.pst_subnode.specs.Tree.{sub_fault, at_top};
+ghost use Rattle.pst_ndb.specs.Fault.{node_fault};
+ghost use Rattle.pst_damage.specs.Judged.{sound_nodes, told_by};
+ghost use Rattle.pst_damage.specs.Trees.{IsKnownTrue};
+
+use crate::broken::{BrokenNode, found, push_told};
+use pst_block::Blocks;
+use pst_datatree::{Seen, check_data};
+use pst_fault::Fault;
+use pst_page::NodeEntry;
+use pst_subnode::{Heights, check_sub};
+use std::alloc::{AllocError, Global};
+
+/// The nodes by their own trees.
+#[derive(Drop)]
+pub(crate) struct Trees {
+    /// Those whose data and subnodes have no fault.
+    pub(crate) sound: Vec<NodeEntry>,
+    /// The others, each with the first fault of its data and of its subnodes.
+    pub(crate) broken: Vec<BrokenNode>,
+}
+
+// What is known of the trees that were looked at. What has no fault is passed over where it is met again.
+#[derive(Drop)]
+struct Known {
+    seen: Seen,
+    heights: Heights,
+}
+
+impl Known {
+    ghost use Rattle.pst_block.specs.Table.{Table};
+    ghost use Rattle.pst_damage.specs.Trees.{IsKnownTrue};
+
+    // Nothing yet.
+    fn new(alloc: Global) -> Known
+        ensures { (t : Table) → IsKnownTrue t result }
+    {
+        Known {
+            seen: Seen::new(alloc),
+            heights: Heights::new(alloc),
+        }
+    }
+}
+
+// The subnodes of a node.
+fn check_subs(
+    alloc: Global,
+    blocks: &Blocks,
+    entry: NodeEntry,
+    known: &mut Known,
+) -> Result<(), Fault>
+    requires { IsKnownTrue (table_of blocks.now) known.old }
+    ensures known { IsKnownTrue (table_of blocks.now) known.new }
+    ensures exact { Tells result (option_map (at_top entry.bid_sub entry.nid)
+        (sub_fault (table_of blocks.now) LISTS entry.bid_sub)) tt }
+{
+    check_sub(
+        alloc,
+        blocks,
+        entry.bid_sub,
+        entry.nid,
+        &mut known.seen,
+        &mut known.heights,
+    )?;
+    Ok(())
+}
+
+// One node: its data, then its subnodes.
+#[tactic(auto, unfolding(pst_ndb::specs::Fault::node_fault))]
+fn check_trees(
+    alloc: Global,
+    blocks: &Blocks,
+    entry: NodeEntry,
+    known: &mut Known,
+) -> Result<(), Fault>
+    requires { IsKnownTrue (table_of blocks.now) known.old }
+    ensures known { IsKnownTrue (table_of blocks.now) known.new }
+    ensures exact { Tells result (node_fault (table_of blocks.now) entry) tt }
+{
+    check_data(alloc, blocks, entry.bid_data, entry.nid, &mut known.seen)?;
+    check_subs(alloc, blocks, entry, known)
+}
+
+impl Trees {
+    ghost use Rattle.std.specs.Prelude.{◌≡◌, ◌++◌, [], OnOk};
+    ghost use Rattle.pst_damage.specs.Judged.{kept_node, told_node};
+
+    // One more node, with what was found of it.
+    fn put(&mut self, entry: NodeEntry, fault: Option<Fault>) -> Result<(), AllocError>
+        ensures sound { OnOk result
+            (self.new.sound.items ≡ self.old.sound.items ++ kept_node fault entry []) }
+        ensures broken { OnOk result
+            (self.new.broken.items ≡ self.old.broken.items ++ told_node fault entry []) }
+    {
+        match fault {
+            None => self.sound.push(entry)?,
+            Some(_) => push_told(&mut self.broken, entry, fault)?,
+        }
+        Ok(())
+    }
+}
+
+/// Each node that is left, by its own trees: its data, then its subnodes. NoMemory where memory is refused; nothing else is
+/// refused.
+pub(crate) fn judge_trees(
+    alloc: Global,
+    blocks: &Blocks,
+    nodes: &[NodeEntry],
+) -> Result<Trees, Fault>
+    ensures sound { IfOk result (λ s.
+        s.sound.items ≡ sound_nodes (table_of blocks.now) nodes.now) }
+    ensures broken { IfOk result (λ s.
+        s.broken.items ≡ told_by (node_fault (table_of blocks.now)) nodes.now) }
+    ensures err { IfErr result (λ f. f ≡ no_memory) }
+{
+    let mut known = Known::new(alloc);
+    let mut trees = Trees {
+        sound: Vec::new(alloc),
+        broken: Vec::new(alloc),
+    };
+    for entry in nodes {
+        let fault = found(check_trees(alloc, blocks, *entry, &mut known))?;
+        trees.put(*entry, fault)?;
+    }
+    Ok(trees)
+}

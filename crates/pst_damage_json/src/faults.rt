@@ -1,0 +1,58 @@
+//! Faults put straight behind a text, as JSON.
+
+ghost use Rattle.std.specs.Prelude.{◌≡◌, ◌++◌, OnOk};
+ghost use Rattle.serde_json.specs.Data.{string};
+ghost use Rattle.serde_json.specs.Written.{compact_text};
+ghost use Rattle.pst_fault.specs.Kind.{kind_text};
+ghost use Rattle.pst_damage_json.specs.Faults.{fault_data, fault_or_null};
+
+use pst_fault::{Fault, Kind};
+use pst_value_json::{put_natural, put_nid, put_null};
+use std::alloc::{AllocError, Global};
+
+// Puts the name of a kind behind a text, in quotes.
+#[tactic(auto, using(crate::proofs::KindLemmas::kind_put))]
+fn put_kind(alloc: Global, kind: Kind, text: &mut Vec<u8>) -> Result<(), AllocError>
+    ensures { OnOk result (text.new.items
+        ≡ text.old.items ++ compact_text (string (kind_text kind))) }
+{
+    let name = format!(in alloc; "{kind}")?;
+    text.push(b'"')?;
+    text.extend_from_slice(name.as_bytes())?;
+    text.push(b'"')?;
+    Ok(())
+}
+
+/// Puts a fault behind a text, as an object: where it is, and what it is by its name and its number.
+#[tactic(auto, unfolding(crate::specs::Faults::fault_data))]
+pub(crate) fn put_fault(alloc: Global, fault: &Fault, text: &mut Vec<u8>) -> Result<(), AllocError>
+    ensures { OnOk result (text.new.items ≡ text.old.items ++ compact_text (fault_data fault.now)) }
+{
+    text.extend_from_slice(b"{\"at\":")?;
+    put_natural(fault.place.at, text)?;
+    text.extend_from_slice(b",\"bid\":")?;
+    put_natural(fault.place.bid, text)?;
+    text.extend_from_slice(b",\"kind\":")?;
+    put_kind(alloc, fault.kind, text)?;
+    text.extend_from_slice(b",\"nid\":")?;
+    put_nid(fault.place.nid, text)?;
+    text.extend_from_slice(b",\"number\":")?;
+    put_natural(u64::from(fault.kind.number()), text)?;
+    text.push(b'}')?;
+    Ok(())
+}
+
+/// Puts a fault behind a text, or null where there is none.
+pub(crate) fn put_fault_or_null(
+    alloc: Global,
+    fault: &Option<Fault>,
+    text: &mut Vec<u8>,
+) -> Result<(), AllocError>
+    ensures { OnOk result (text.new.items
+        ≡ text.old.items ++ compact_text (fault_or_null fault.now)) }
+{
+    match fault {
+        Some(fault) => put_fault(alloc, fault, text),
+        None => put_null(text),
+    }
+}

@@ -1,0 +1,28 @@
+//! What a test asks. The values stand in calls, and not in the test's own code, so that its proof passes them over.
+
+ghost use Rattle.std.specs.Prelude.{IsTrue};
+
+use std::fmt::Debug;
+use std::process::Abort;
+
+/// Stops the test where what is told is not what is wanted.
+pub(crate) fn is<R: Abort, T: PartialEq + Debug + Copy>(rt: &R, told: T, wanted: T) {
+    assert_eq!(rt; told, wanted);
+}
+
+/// The same of a case, which is named where it differs.
+pub(crate) fn is_at<R: Abort, C: Debug + Copy, T: PartialEq + Debug + Copy>(
+    rt: &R,
+    case: C,
+    told: T,
+    wanted: T,
+) {
+    assert_eq!(rt; told, wanted, "{case:?}");
+}
+
+/// Stops the test where something does not hold.
+pub(crate) fn holds<R: Abort>(rt: &R, told: bool)
+    ensures { IsTrue told }
+{
+    assert!(rt; told);
+}

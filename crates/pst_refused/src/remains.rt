@@ -1,0 +1,52 @@
+//! What remains of a damaged file.
+
+use crate::refused::{Refused, holds};
+use pst_bytes::Image;
+use pst_header::read_header;
+use pst_make::flip;
+use pst_remains::{Remains, find_remains};
+use std::alloc::Global;
+
+// What remains of a file.
+fn remains_of<'a>(alloc: Global, bytes: &'a [u8]) -> Result<Remains<'a>, Refused> {
+    let image = Image::new(bytes);
+    if image.len() < 564 {
+        return Err(Refused::Otherwise);
+    }
+    Ok(find_remains(alloc, image)?)
+}
+
+// How many faults are told of a file's header and maps, of its pages, and of its blocks.
+fn told(remains: &Remains) -> (bool, usize, usize) {
+    let is_told = remains.header.is_some() || remains.maps.is_some();
+    (is_told, remains.pages.len(), remains.blocks.len())
+}
+
+// Flips a bit of the byte at an offset.
+fn flip_at(bytes: &mut [u8], at: u64) -> Result<(), Refused> {
+    match usize::try_from(at) {
+        Ok(at) => holds(flip(bytes, at).is_ok()),
+        Err(_) => Err(Refused::Otherwise),
+    }
+}
+
+// The file with a byte changed of the check value of its node B-tree's root, and one of the first block's body.
+fn damaged(alloc: Global, bytes: &[u8]) -> Result<Vec<u8>, Refused> {
+    let root = read_header(Image::new(bytes))?.nbt;
+    let remains = remains_of(alloc, bytes)?;
+    holds(told(&remains) == (false, 0, 0))?;
+    let Some(block) = remains.good.first() else {
+        return Err(Refused::Otherwise);
+    };
+    let mut damaged = Vec::from_slice(alloc, bytes)?;
+    flip_at(&mut damaged, root.ib.saturating_add(500))?;
+    flip_at(&mut damaged, block.ib)?;
+    Ok(damaged)
+}
+
+/// `find_remains` of a store, of which nothing is told, and of the same with two bytes changed, of which a page and a block are.
+pub(crate) fn remains(alloc: Global, bytes: &[u8]) -> Result<(), Refused> {
+    let damaged = damaged(alloc, bytes)?;
+    let remains = remains_of(alloc, &damaged)?;
+    holds(told(&remains) == (false, 1, 1))
+}

@@ -1,0 +1,14 @@
+pub mod ApartLemmas
+pub mod BehindLemmas
+pub mod BlockLemmas
+pub mod DecodedLemmas
+pub mod HeaderLemmas
+pub mod JudgedLemmas
+pub mod LawLemmas
+pub mod LeafLemmas
+pub mod NodeLemmas
+pub mod OnceLemmas
+pub mod RemainsLemmas
+pub mod SameLemmas
+pub mod TwinLemmas
+pub mod WalkLemmas
