@@ -35,8 +35,9 @@ enum pst_status {
     /* The answer is there. Of check: the bytes are a store. */
     PST_YES = 0,
     /* The bytes break a rule of the format, or have no such folder, node or property: the line says which. Of check with
-     * --strict also, with an empty line: it is a store, and space in it is lost. Of props and value a line "no: .." of kind 17 or
-     * 21 to 24 may be of a node alone, that has no properties, and the bytes be a store: check says whether they are. */
+     * --strict also, with an empty line: it is a store, and space in it is lost. Of damage also, with an empty line: something
+     * is broken, and the text says what. Of props and value a line "no: .." of kind 17 or 21 to 24 may be of a node alone, that
+     * has no properties, and the bytes be a store: check says whether they are. */
     PST_NO = 1,
     /* The words are refused: the line says why. */
     PST_WORDS = 2,

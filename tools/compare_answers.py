@@ -3,9 +3,9 @@
 
 An answer has the sample's name, the words (F stands for the sample), the status, the output (as text, or, where that may be
 none, its bytes in hexadecimal) and the line on standard error, null where only the status and the output are compared; and
-some have changes, bytes in hexadecimal that are set at places in the sample first, which the program then gets on standard
-input. With words, only the commands that are named are compared; --program names the program in place of
-./pst_show. The status is 0 where all are the same.
+some have changes, bytes in hexadecimal that are set at places in the sample first, or a length, to which it is cut then: such a
+sample the program gets on standard input. With words, only the commands that are named are compared; --program names the
+program in place of ./pst_show. The status is 0 where all are the same.
 """
 import argparse
 import json
@@ -17,13 +17,13 @@ ROOT = os.path.dirname(os.path.dirname(os.path.abspath(__file__)))
 
 
 def changed(answer):
-    """The bytes of the sample with the changes of the answer."""
+    """The bytes of the sample with the changes of the answer, cut to its length."""
     with open(f"{ROOT}/samples/{answer['file']}", "rb") as file:
         held = bytearray(file.read())
-    for place, new in answer["changes"]:
+    for place, new in answer.get("changes", []):
         new = bytes.fromhex(new)
         held[place:place + len(new)] = new
-    return bytes(held)
+    return bytes(held[:answer.get("length")])
 
 
 def wanted_output(answer):
@@ -33,14 +33,14 @@ def wanted_output(answer):
 
 def is_same(program, answer):
     """Whether the program answers so; where it doesn't, what it says is printed."""
-    held = changed(answer) if "changes" in answer else None
+    held = changed(answer) if "changes" in answer or "length" in answer else None
     name = f"samples/{answer['file']}" if held is None else "-"
     words = [name if word == "F" else word for word in answer["words"]]
     ran = subprocess.run([program, *words], cwd=ROOT, input=held, capture_output=True, check=False)
     given = (ran.returncode, ran.stdout, ran.stderr)
     wanted = (answer["status"], wanted_output(answer), ran.stderr if answer["stderr"] is None else answer["stderr"].encode())
     if given != wanted:
-        print(f"{answer['file']} {' '.join(words)} {answer.get('changes', '')}: {given}")
+        print(f"{answer['file']} {' '.join(words)} {answer.get('changes', '')} {answer.get('length', '')}: {given}")
     return given == wanted
 
 

@@ -1,13 +1,13 @@
 #!/usr/bin/env python3
-"""Runs the gate, and then tries the program that it built; with --quick it tries the kept program and proves nothing.
+"""Runs the gate, and then tries the program and the library that it built; with --quick it tries the kept ones and proves nothing.
 
     tools/gate.py [--quick [-v]]
 
 `rt ci` proves every crate and its tests from nothing, tries the must-fail edits and runs the tests, and leaves the program
-in crates/pst_show/out. That must have the bytes of the one that is kept in built/. Each command of TRIED is then run over
-it, and counts as one that passed or failed; they need a minute. Where something failed before, they are not run. With
---quick the lines of tools/refuse/refuse, one for each command line, are shown where it fails, and with -v. The last line is
-'N passed, M failed'.
+in crates/pst_show/out; the library is then made of crates/pst_c. Both must have the bytes of those that are kept in built/.
+Each command of TRIED is then run over the program, and LIBRARY over the library, and counts as one that passed or failed; they
+need two minutes. Where something failed before, they are not run. With --quick the lines of tools/refuse/refuse, one for each
+command line, are shown where it fails, and with -v. The last line is 'N passed, M failed'.
 """
 import os
 import re
@@ -30,6 +30,7 @@ TRIED = [
     REFUSE,
 ]
 LAUNCHER = "tools/try_launcher"
+LIBRARY = "examples/try"
 
 
 def printed(*words):
@@ -66,14 +67,16 @@ def is_good(words, is_shown=True):
     return ran.returncode == 0
 
 
-def try_program(program, calls, is_shown=True):
-    """How many of the commands that try a program find nothing wrong, and how many do. `calls` names the built program that
-    makes each call which takes memory, for the one that refuses it, whose lines are shown or not."""
+def try_all(program, calls, library, is_shown=True):
+    """How many of the commands that try a program and a library find nothing wrong, and how many do. `calls` names the built
+    program that makes each call which takes memory, for the one that refuses it, whose lines are shown or not; `library` are the
+    words for the one that tries the library, None where there is none."""
     good = []
     for words in TRIED:
         more = calls if words is REFUSE else []
         good.append(is_good([sys.executable, *words, "--program", program, *more], is_shown or words is not REFUSE))
     good.append(is_good([sys.executable, LAUNCHER]))
+    good.append(library is not None and is_good([sys.executable, LIBRARY, "--program", program, *library]))
     return sum(good), len(good) - sum(good)
 
 
@@ -82,17 +85,19 @@ def gate():
     if failed:
         print("the built program was not tried")
         return passed, failed
-    if not is_good([KEEP, "--compare"]):
-        print("the kept program is not the one that was built: the others were not tried")
+    if not (is_good([KEEP, "--make"]) and is_good([KEEP, "--compare"])):
+        print("what is kept is not what was built: it was not tried")
         return passed, 1
-    tried = try_program(PROGRAM, CALLS)
+    tried = try_all(PROGRAM, CALLS, [])
     return passed + 1 + tried[0], tried[1]
 
 
 def quick(is_shown):
     start = time.monotonic()
     program = printed("--program")
-    passed, failed = (0, 1) if program is None else try_program(program, [], is_shown)
+    library = printed("--library")
+    words = None if library is None else ["--quick", "--library", library]
+    passed, failed = (0, 1) if program is None else try_all(program, [], words, is_shown)
     seconds = time.monotonic() - start
     print(f"{passed} passed, {failed} failed in {seconds:.0f} s; nothing was proved here, ./check proves all")
     return failed

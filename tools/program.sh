@@ -22,9 +22,9 @@ fail() {
     exit "${failure:-125}"
 }
 
-# The crates that the program stands on and itself, one a line, those below first, by crates.txt.
+# The crates that a crate stands on and itself, one a line, those below first, by crates.txt.
 names() {
-    awk '
+    awk -v top="$1" '
         function visit(name, parts, i, n) {
             if (!(name in below) || name in seen) return
             seen[name] = 1
@@ -34,22 +34,22 @@ names() {
         }
         { sub(/#.*/, ""); colon = index($0, ":") }
         colon { split(substr($0, 1, colon - 1), words, " "); below[words[1]] = substr($0, colon + 1) }
-        END { visit("pst_show") }
+        END { visit(top) }
     ' "$root/crates.txt"
 }
 
 # The lines of crates.txt that say of these crates what they stand on, without comments, one blank between words.
 lines() {
-    names | awk '
+    names "$1" | awk '
         NR == FNR { wanted[$1] = 1; next }
         { sub(/#.*/, ""); $1 = $1; name = $1; sub(/:.*/, "", name) }
         name in wanted
     ' - "$root/crates.txt" | LC_ALL=C sort
 }
 
-# The folders of the program's sources, one a line, from the top of the repository.
+# The folders of the sources of these crates, one a line, from the top of the repository.
 folders() {
-    names | while IFS= read -r name; do
+    names "$1" | while IFS= read -r name; do
         for part in src specs proofs; do
             [ ! -d "$crates/$name/$part" ] || echo "crates/$name/$part"
         done
@@ -58,12 +58,14 @@ folders() {
 
 digest() { sha256sum | sed 's/ .*//'; }
 
-# One number for all that the program is made from: the sources and proofs of its crates, their lines of crates.txt, HANDLES.
+# One number for all that a crate is made from: the sources and proofs of it and of the crates that it stands on, their lines of
+# crates.txt, HANDLES, and the files that are named behind it. Of pst_show it is the number of the program.
 sources() {
     {
-        lines
+        lines "$1"
         cat "$root/HANDLES"
-        (cd "$root" && folders | xargs sh -c 'find "$@" -type f' sh | LC_ALL=C sort | xargs sha256sum)
+        (cd "$root" && { folders "$1" | xargs sh -c 'find "$@" -type f' sh; shift; [ $# -eq 0 ] || printf '%s\n' "$@"; } |
+            LC_ALL=C sort | xargs sha256sum)
     } | digest
 }
 
@@ -72,7 +74,7 @@ sources() {
 is_changed_since() {
     note=$1
     shift
-    [ -n "$({ folders | sed "s|^|$root/|"; printf '%s\n' "$root/crates.txt" "$root/HANDLES" "$@"; } | tr '\n' '\0' |
+    [ -n "$({ folders pst_show | sed "s|^|$root/|"; printf '%s\n' "$root/crates.txt" "$root/HANDLES" "$@"; } | tr '\n' '\0' |
         xargs -0 sh -c 'note=$1; shift; find "$@" -cnewer "$note" 2>&1' sh "$note" | head -n 1)" ]
 }
 
@@ -92,7 +94,7 @@ is_proved() {
     [ -x "$proved" ] && [ -f "$proved_note" ] || return 1
     is_changed_since "$proved_note" "$proved" || return 0
     begin_note "$proved_note" <"$proved_note"
-    if [ "$(told sources "$proved_note")" = "$(sources)" ] && [ "$(told program "$proved_note")" = "$(digest <"$proved")" ]; then
+    if [ "$(told sources "$proved_note")" = "$(sources pst_show)" ] && [ "$(told program "$proved_note")" = "$(digest <"$proved")" ]; then
         keep_note "$proved_note"
     else
         drop_note "$proved_note"
@@ -105,7 +107,7 @@ is_kept_anew() {
     why='built/pst_show is not the program of which built/pst_show.txt tells'
     [ "$(digest <"$kept")" = "$(told program "$kept_text")" ] || return 1
     why='the program in built/ is of other sources than those that are here'
-    [ "$(sources)" = "$(told sources "$kept_text")" ] || return 1
+    [ "$(sources pst_show)" = "$(told sources "$kept_text")" ] || return 1
     why="the program in built/ does not run here; it wants $(told system "$kept_text")"
     [ "$("$kept" --version 2>/dev/null)" = "$(told version "$kept_text")" ]
 }
@@ -165,7 +167,7 @@ count_proved() {
 
 # Says how far the build is: on a terminal in one line that changes, elsewhere once in half a minute.
 watch() {
-    count=$(names | grep -c .)
+    count=$(names "$2" | grep -c .)
     seconds=0
     while kill -0 "$1" 2>/dev/null; do
         done_now=$(count_proved)
@@ -183,16 +185,18 @@ watch() {
 
 # Proves the crates, those below first, each with all processors, and then builds the program: only a proved program is
 # built. Most crates stand on the one before, so one with all processors is sooner done than several with one each.
-prove_and_build() {
-    names | while IFS= read -r name; do
+make_program() {
+    names pst_show | while IFS= read -r name; do
         (cd "$crates/$name" && rt check --jobs "$(processors)" </dev/null) || exit 1
     done && (cd "$crates/pst_show" && rt run -- --version </dev/null)
 }
 
+changed_meanwhile='a source was changed while it was proved: try again'
+
 # Notes that the program in out/ was proved and built from the sources of this number, if these have it still.
 note_proved() {
     printf 'sources: %s\nprogram: %s\n' "$1" "$(digest <"$proved")" | begin_note "$proved_note"
-    if [ "$(sources)" = "$1" ]; then
+    if [ "$(sources pst_show)" = "$1" ]; then
         keep_note "$proved_note"
     else
         drop_note "$proved_note"
@@ -200,27 +204,30 @@ note_proved() {
     fi
 }
 
+# Proves a crate and makes what is wanted of it, by a command, and says how far that is. `$1` names what is wanted in what is said.
 build() {
     command -v rt >/dev/null 2>&1 ||
-        fail 'it has to be proved and built, and the command rt of the Rattle kit is not on the PATH (README.md, "What it needs")'
-    say "it is proved and built first, which takes from 25 minutes to an hour; $log tells of it"
-    of_now=$(sources)
+        fail "$1 has to be proved and built, and the command rt of the Rattle kit is not on the PATH (README.md, \"What it needs\")"
+    say "$1 is proved and built first, which takes from 25 minutes to an hour; $log tells of it"
     : >"$log"
-    prove_and_build >"$log" 2>&1 &
+    "$3" >"$log" 2>&1 &
     builder=$!
-    watch $builder
+    watch $builder "$2"
     wait $builder || {
         tail -n 5 "$log" >&2
-        fail "it was not built; $log says why"
+        fail "$1 was not built; $log says why"
     }
-    note_proved "$of_now" || fail 'a source was changed while it was proved: try again'
 }
 
 # Proves and builds the program where it is not yet, or where its sources have changed.
 need_proved() {
     is_proved && return
     take_lock
-    is_proved || build
+    is_proved || {
+        of_now=$(sources pst_show)
+        build it pst_show make_program
+        note_proved "$of_now" || fail "$changed_meanwhile"
+    }
     leave_lock
 }
 
@@ -243,7 +250,7 @@ tell_whether_kept() {
         return 0
     fi
     say "the program that was proved and built here, $proved, has other bytes than the one in built/"
-    [ "$(told sources "$kept_text")" = "$(sources)" ] || say 'that one is of other sources'
+    [ "$(told sources "$kept_text")" = "$(sources pst_show)" ] || say 'that one is of other sources'
     [ "$(told kit "$kept_text")" = "$(rt version 2>/dev/null)" ] ||
         say "that one was built with another kit, $(told kit "$kept_text"); here is $(rt version 2>/dev/null)"
     return 1

@@ -1,4 +1,5 @@
-//! Finds libpst.a: in the folder that PST_LIB_DIR names, else in built/ of this repository.
+//! Finds libpst.a: in the folder that PST_LIB_DIR names, else in built/ of the repository, else in lib/ below the PREFIX of its
+//! ./install.
 
 use std::env;
 use std::path::PathBuf;
@@ -8,7 +9,8 @@ fn main() {
     let own = PathBuf::from(env::var_os("CARGO_MANIFEST_DIR").expect("cargo sets it"));
     let folder = match env::var_os("PST_LIB_DIR") {
         Some(folder) => PathBuf::from(folder),
-        None => own.join("../../built"),
+        None if own.ends_with("bindings/rust") => own.join("../../built"),
+        None => own.join("../../../lib"),
     };
     let library = folder.join("libpst.a");
     println!("cargo:rerun-if-changed={}", library.display());

@@ -124,7 +124,8 @@ def message_of(node, nodes):
 
 def nodes_of(store, nids):
     """All messages by their paths, those that are embedded in others too: one check for each depth."""
-    nodes, paths = {}, list(nids)
+    nodes: dict[str, pst.Node] = {}
+    paths = list(nids)
     while paths:
         found = store.all_props(paths)
         nodes.update((node.path, node) for node in found)

@@ -102,9 +102,11 @@ class Store:
     # ---- answers
 
     def answer(self, *words: str) -> bytes:
-        """What the program writes for these words, with "-" in FILE's place. Raises what it says instead."""
+        """What the program writes for these words, with "-" in FILE's place. Raises what it says instead. What `damage` tells
+        is given where something is broken, too."""
         status, text, line = _library.answer(words, self._all)
-        if status:
+        is_told = status == 1 and words[:1] == ("damage",) and not line
+        if status and not is_told:
             raise_for(words, status, line)
         return text
 
