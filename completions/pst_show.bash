@@ -2,7 +2,7 @@
 
 _pst_show() {
     local word=${COMP_WORDS[COMP_CWORD]} command='' index files=0
-    local commands='check head nodes folders contents messages props value explain help'
+    local commands='check damage head nodes folders contents messages props value explain help'
     COMPREPLY=()
     for ((index = 1; index < COMP_CWORD; index++)); do
         case ${COMP_WORDS[index]} in
@@ -25,6 +25,7 @@ _pst_show() {
         local options='--help'
         case $command in
             check) options='--help --strict --digest --decode' ;;
+            damage) options='--help --digest --decode' ;;
             head) options='--help --decode' ;;
             nodes) options='--help --decode' ;;
             folders) options='--help --decode' ;;
@@ -39,7 +40,7 @@ _pst_show() {
     ((files == 0)) || return
     case $command in
         help) mapfile -t COMPREPLY < <(compgen -W "$commands" -- "$word") ;;
-        check | head | nodes | folders | contents | messages | props | value)
+        check | damage | head | nodes | folders | contents | messages | props | value)
             compopt -o filenames 2>/dev/null
             mapfile -t COMPREPLY < <(compgen -d -- "$word"; compgen -f -X '!*.[pP][sS][tT]' -- "$word")
             ;;

@@ -1,11 +1,12 @@
 # Completion of pst_show for fish.
 
-set -l commands check head nodes folders contents messages props value explain help
+set -l commands check damage head nodes folders contents messages props value explain help
 
 complete -c pst_show -f
 complete -c pst_show -n "not __fish_seen_subcommand_from $commands" -s h -l help -d 'Show help'
 complete -c pst_show -n "not __fish_seen_subcommand_from $commands" -s V -l version -d 'Show the version'
 complete -c pst_show -n "not __fish_seen_subcommand_from $commands" -a check -d 'Checks whether it is a store'
+complete -c pst_show -n "not __fish_seen_subcommand_from $commands" -a damage -d 'Lists all that is broken'
 complete -c pst_show -n "not __fish_seen_subcommand_from $commands" -a head -d 'Shows the fields of the header'
 complete -c pst_show -n "not __fish_seen_subcommand_from $commands" -a nodes -d 'Lists the nodes'
 complete -c pst_show -n "not __fish_seen_subcommand_from $commands" -a folders -d 'Lists the folders'
@@ -18,6 +19,8 @@ complete -c pst_show -n "not __fish_seen_subcommand_from $commands" -a help -d '
 complete -c pst_show -n "__fish_seen_subcommand_from check" -l strict -d 'Ends with status 1 where space is lost, too'
 complete -c pst_show -n "__fish_seen_subcommand_from check" -l digest -d 'Adds the SHA-256 of the file as it is stored'
 complete -c pst_show -n "__fish_seen_subcommand_from check" -l decode -d 'Decodes an encoded file first, in memory'
+complete -c pst_show -n "__fish_seen_subcommand_from damage" -l digest -d 'Adds the SHA-256 of the file as it is stored'
+complete -c pst_show -n "__fish_seen_subcommand_from damage" -l decode -d 'Decodes an encoded file first, in memory'
 complete -c pst_show -n "__fish_seen_subcommand_from head" -l decode -d 'Decodes an encoded file first, in memory'
 complete -c pst_show -n "__fish_seen_subcommand_from nodes" -l decode -d 'Decodes an encoded file first, in memory'
 complete -c pst_show -n "__fish_seen_subcommand_from folders" -l decode -d 'Decodes an encoded file first, in memory'
@@ -27,7 +30,7 @@ complete -c pst_show -n "__fish_seen_subcommand_from props" -l places -d 'Adds w
 complete -c pst_show -n "__fish_seen_subcommand_from props" -l decode -d 'Decodes an encoded file first, in memory'
 complete -c pst_show -n "__fish_seen_subcommand_from value" -l text -d 'Writes a text as UTF-8'
 complete -c pst_show -n "__fish_seen_subcommand_from value" -l decode -d 'Decodes an encoded file first, in memory'
-complete -c pst_show -n "__fish_seen_subcommand_from check head nodes folders contents messages props value explain" -s h -l help -d 'Show help'
-complete -c pst_show -n "__fish_seen_subcommand_from check head nodes folders contents messages props value" \
+complete -c pst_show -n "__fish_seen_subcommand_from check damage head nodes folders contents messages props value explain" -s h -l help -d 'Show help'
+complete -c pst_show -n "__fish_seen_subcommand_from check damage head nodes folders contents messages props value" \
     -k -a "(__fish_complete_suffix .pst)"
 complete -c pst_show -n "__fish_seen_subcommand_from help" -a "$commands"
