@@ -1,7 +1,9 @@
-//! What remains of a damaged file.
+//! What remains of a damaged file, and all that is broken of it.
 
 use crate::refused::{Refused, holds};
 use pst_bytes::Image;
+use pst_damage::damage_beside;
+use pst_damage_json::damage_line;
 use pst_header::read_header;
 use pst_make::flip;
 use pst_remains::{Remains, find_remains};
@@ -44,9 +46,13 @@ fn damaged(alloc: Global, bytes: &[u8]) -> Result<Vec<u8>, Refused> {
     Ok(damaged)
 }
 
-/// `find_remains` of a store, of which nothing is told, and of the same with two bytes changed, of which a page and a block are.
+/// `find_remains` of a store, of which nothing is told, and of the same with two bytes changed, of which a page and a block are;
+/// and all that is broken of the latter, as a line.
 pub(crate) fn remains(alloc: Global, bytes: &[u8]) -> Result<(), Refused> {
     let damaged = damaged(alloc, bytes)?;
     let remains = remains_of(alloc, &damaged)?;
-    holds(told(&remains) == (false, 1, 1))
+    holds(told(&remains) == (false, 1, 1))?;
+    let found = damage_beside(alloc, remains)?;
+    let _line = damage_line(alloc, &found, None)?;
+    holds(found.pages.len() == 1 && found.blocks.len() == 1)
 }
