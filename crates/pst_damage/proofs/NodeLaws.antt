@@ -31,7 +31,7 @@ use Rattle.pst_msg.specs.Values.{is_message, listing_of}
 use Rattle.pst_damage.specs.declared.broken.BrokenNode.{BrokenNode}
 use Rattle.pst_damage.specs.Folder.{row_damage, items_damage, table_damage, folder_damage, asked_damage}
 use Rattle.pst_damage.specs.Judged.{Judged, told_node, sound_by, told_by}
-use Rattle.pst_damage.specs.Laws.{told_of, has_own, first_own, told_of_root, first_of_all, first_of_nodes}
+use Rattle.pst_damage.specs.Laws.{fault_told, has_own, first_own, told_of_root, first_of_all, first_of_nodes}
 use Rattle.pst_damage.specs.Nodes.{node_damage, missing, with_required, nodes_damage}
 use Rattle.pst_damage.specs.Order.{put_in}
 
@@ -150,21 +150,21 @@ first_own_is t nodes r =
 
 -- ---- what is told of a node
 
-told_by_test : (nid : ℕ) (b : BrokenNode) (rest : List BrokenNode) (v : Bool) → nat_eq b.nid nid ≡ v → told_of nid (b ∷ rest) ≡ cond v (Some b.fault) (told_of nid rest)
+told_by_test : (nid : ℕ) (b : BrokenNode) (rest : List BrokenNode) (v : Bool) → nat_eq b.nid nid ≡ v → fault_told nid (b ∷ rest) ≡ cond v (Some b.fault) (fault_told nid rest)
 unfolding first_with
 told_by_test nid b rest true e = rw e refl
 told_by_test nid b rest false e = rw e refl
 
-pub none_told : (nid : ℕ) → told_of nid [] ≡ None
+pub none_told : (nid : ℕ) → fault_told nid [] ≡ None
 unfolding first_with
 none_told nid = refl
 
-told_behind : (part : Judged) (nid low : ℕ) (nodes : List NodeEntry) → nid < low → Rises low None (map node_key nodes) → told_of nid (told_by part nodes) ≡ None
+told_behind : (part : Judged) (nid low : ℕ) (nodes : List NodeEntry) → nid < low → Rises low None (map node_key nodes) → fault_told nid (told_by part nodes) ≡ None
 unfolding told_by
 told_behind part nid low [] lt r = none_told nid
 told_behind part nid low (e ∷ rest) lt r = by_fault (part e) (told_behind part nid (e.nid + 1) rest (omega (arith, lt, r.0)) r.2)
   where
-    by_fault : (o : Option Fault) → told_of nid (told_by part rest) ≡ None → told_of nid (told_node o e (told_by part rest)) ≡ None
+    by_fault : (o : Option Fault) → fault_told nid (told_by part rest) ≡ None → fault_told nid (told_node o e (told_by part rest)) ≡ None
     by_fault None more = more
     by_fault (Some f) more =
         told_by_test nid (record { nid = e.nid; fault = f }) (told_by part rest) false (other e.nid nid (omega (arith, lt, r.0))) ∙ more
@@ -181,13 +181,13 @@ none_with : (nid : ℕ) → node_with nid [] ≡ None
 unfolding first_with
 none_with nid = refl
 
-told_among : (part : Judged) (nid low : ℕ) (nodes : List NodeEntry) → Rises low None (map node_key nodes) → told_of nid (told_by part nodes) ≡ if_there part (node_with nid nodes)
+told_among : (part : Judged) (nid low : ℕ) (nodes : List NodeEntry) → Rises low None (map node_key nodes) → fault_told nid (told_by part nodes) ≡ if_there part (node_with nid nodes)
 unfolding told_by
 told_among part nid low [] r = none_told nid ∙ ap (if_there part) (sym (none_with nid))
 told_among part nid low (e ∷ rest) r = by_test (nat_eq e.nid nid) refl (part e) refl (told_among part nid (e.nid + 1) rest r.2)
   where
-    by_test : (v : Bool) → nat_eq e.nid nid ≡ v → (o : Option Fault) → part e ≡ o → told_of nid (told_by part rest) ≡ if_there part (node_with nid rest)
-        → told_of nid (told_node o e (told_by part rest)) ≡ if_there part (node_with nid (e ∷ rest))
+    by_test : (v : Bool) → nat_eq e.nid nid ≡ v → (o : Option Fault) → part e ≡ o → fault_told nid (told_by part rest) ≡ if_there part (node_with nid rest)
+        → fault_told nid (told_node o e (told_by part rest)) ≡ if_there part (node_with nid (e ∷ rest))
     by_test true h None is more =
         let same : e.nid ≡ nid = grind (arith, nat_tests, h) in
         told_behind part nid (e.nid + 1) rest (omega (arith, same)) r.2 ∙ sym is ∙ ap (if_there part) (sym (with_by_test nid e rest true h))
@@ -195,23 +195,23 @@ told_among part nid low (e ∷ rest) r = by_test (nat_eq e.nid nid) refl (part e
     by_test false h None is more = more ∙ ap (if_there part) (sym (with_by_test nid e rest false h))
     by_test false h (Some f) is more = told_by_test nid (record { nid = e.nid; fault = f }) (told_by part rest) false h ∙ more ∙ ap (if_there part) (sym (with_by_test nid e rest false h))
 
-told_of_other : (nid : ℕ) (b : BrokenNode) (xs : List BrokenNode) → nat_eq b.nid nid ≡ false → told_of nid (put_in b xs) ≡ told_of nid xs
+told_of_other : (nid : ℕ) (b : BrokenNode) (xs : List BrokenNode) → nat_eq b.nid nid ≡ false → fault_told nid (put_in b xs) ≡ fault_told nid xs
 told_of_other nid b [] other = told_by_test nid b [] false other
 told_of_other nid b (x ∷ xs) other = by_place (nat_lt b.nid x.nid) (told_of_other nid b xs other)
   where
-    by_place : (v : Bool) → told_of nid (put_in b xs) ≡ told_of nid xs → told_of nid (cond v (b ∷ x ∷ xs) (x ∷ put_in b xs)) ≡ told_of nid (x ∷ xs)
+    by_place : (v : Bool) → fault_told nid (put_in b xs) ≡ fault_told nid xs → fault_told nid (cond v (b ∷ x ∷ xs) (x ∷ put_in b xs)) ≡ fault_told nid (x ∷ xs)
     by_place true more = told_by_test nid b (x ∷ xs) false other
     by_place false more = told_by_test nid x (put_in b xs) (nat_eq x.nid nid) refl ∙ ap (λ (o : Option Fault). cond (nat_eq x.nid nid) (Some x.fault) o) more ∙ sym (told_by_test nid x xs (nat_eq x.nid nid) refl)
 
-told_of_put : (nid : ℕ) (b : BrokenNode) (xs : List BrokenNode) → nat_eq b.nid nid ≡ true → told_of nid xs ≡ None → told_of nid (put_in b xs) ≡ Some b.fault
+told_of_put : (nid : ℕ) (b : BrokenNode) (xs : List BrokenNode) → nat_eq b.nid nid ≡ true → fault_told nid xs ≡ None → fault_told nid (put_in b xs) ≡ Some b.fault
 told_of_put nid b [] same none = told_by_test nid b [] true same
 told_of_put nid b (x ∷ xs) same none = by_test (nat_eq x.nid nid) refl (sym (told_by_test nid x xs (nat_eq x.nid nid) refl) ∙ none) (told_of_put nid b xs same)
   where
-    by_test : (w : Bool) → nat_eq x.nid nid ≡ w → cond w (Some x.fault) (told_of nid xs) ≡ None → (told_of nid xs ≡ None → told_of nid (put_in b xs) ≡ Some b.fault) → told_of nid (put_in b (x ∷ xs)) ≡ Some b.fault
+    by_test : (w : Bool) → nat_eq x.nid nid ≡ w → cond w (Some x.fault) (fault_told nid xs) ≡ None → (fault_told nid xs ≡ None → fault_told nid (put_in b xs) ≡ Some b.fault) → fault_told nid (put_in b (x ∷ xs)) ≡ Some b.fault
     by_test true h e more = absurd cc
     by_test false h e more = by_place (nat_lt b.nid x.nid) (more e)
       where
-        by_place : (v : Bool) → told_of nid (put_in b xs) ≡ Some b.fault → told_of nid (cond v (b ∷ x ∷ xs) (x ∷ put_in b xs)) ≡ Some b.fault
+        by_place : (v : Bool) → fault_told nid (put_in b xs) ≡ Some b.fault → fault_told nid (cond v (b ∷ x ∷ xs) (x ∷ put_in b xs)) ≡ Some b.fault
         by_place true later = told_by_test nid b (x ∷ xs) true same
         by_place false later = told_by_test nid x (put_in b xs) false h ∙ later
 
@@ -223,24 +223,24 @@ required_there nodes nid told e found = required_by nodes nid told (Some e) foun
 required_lacks : (nodes : List NodeEntry) (nid : ℕ) (told : List BrokenNode) → node_with nid nodes ≡ None → with_required nodes [] nid told ≡ put_in (missing nid) told
 required_lacks nodes nid told lacks = required_by nodes nid told None lacks
 
-passes_required : (nodes : List NodeEntry) (nid other : ℕ) (told : List BrokenNode) → nat_eq other nid ≡ false → told_of nid (with_required nodes [] other told) ≡ told_of nid told
+passes_required : (nodes : List NodeEntry) (nid other : ℕ) (told : List BrokenNode) → nat_eq other nid ≡ false → fault_told nid (with_required nodes [] other told) ≡ fault_told nid told
 passes_required nodes nid other told differ = by_found (node_with other nodes) refl
   where
-    by_found : (o : Option NodeEntry) → node_with other nodes ≡ o → told_of nid (with_required nodes [] other told) ≡ told_of nid told
-    by_found None e = ap (told_of nid) (required_lacks nodes other told e) ∙ told_of_other nid (missing other) told differ
-    by_found (Some x) e = ap (told_of nid) (required_there nodes other told x e)
+    by_found : (o : Option NodeEntry) → node_with other nodes ≡ o → fault_told nid (with_required nodes [] other told) ≡ fault_told nid told
+    by_found None e = ap (fault_told nid) (required_lacks nodes other told e) ∙ told_of_other nid (missing other) told differ
+    by_found (Some x) e = ap (fault_told nid) (required_there nodes other told x e)
 
 same_nid : (nid : ℕ) → nat_eq nid nid ≡ true
 same_nid nid = grind (arith, nat_tests)
 
 -- what is told of a node that has to be there
-told_required : (part : Judged) (nodes : List NodeEntry) (nid : ℕ) (told : List BrokenNode) → told_of nid told ≡ if_there part (node_with nid nodes)
-    → told_of nid (with_required nodes [] nid told) ≡ there_or (named NodeMissing 0 0 nid) part (node_with nid nodes)
+told_required : (part : Judged) (nodes : List NodeEntry) (nid : ℕ) (told : List BrokenNode) → fault_told nid told ≡ if_there part (node_with nid nodes)
+    → fault_told nid (with_required nodes [] nid told) ≡ there_or (named NodeMissing 0 0 nid) part (node_with nid nodes)
 told_required part nodes nid told is = by_found (node_with nid nodes) refl
   where
-    by_found : (o : Option NodeEntry) → node_with nid nodes ≡ o → told_of nid (with_required nodes [] nid told) ≡ there_or (named NodeMissing 0 0 nid) part o
-    by_found None e = ap (told_of nid) (required_lacks nodes nid told e) ∙ told_of_put nid (missing nid) told (same_nid nid) (is ∙ ap (if_there part) e)
-    by_found (Some x) e = ap (told_of nid) (required_there nodes nid told x e) ∙ is ∙ ap (if_there part) e
+    by_found : (o : Option NodeEntry) → node_with nid nodes ≡ o → fault_told nid (with_required nodes [] nid told) ≡ there_or (named NodeMissing 0 0 nid) part o
+    by_found None e = ap (fault_told nid) (required_lacks nodes nid told e) ∙ told_of_put nid (missing nid) told (same_nid nid) (is ∙ ap (if_there part) e)
+    by_found (Some x) e = ap (fault_told nid) (required_there nodes nid told x e) ∙ is ∙ ap (if_there part) e
 
 -- ---- what is asked of a node whose own trees have no fault
 
@@ -301,10 +301,10 @@ unfolding node_in
 found_in nodes nid o e = rw e refl
 
 module _ (t : Table) (nodes : List NodeEntry) (rises : Rises 0 None (map node_key nodes)) (own : nodes_fault t nodes ≡ None) where
-  told_in_order : (nid : ℕ) → told_of nid (told_by (node_damage t nodes []) nodes) ≡ if_there (node_damage t nodes []) (node_with nid nodes)
+  told_in_order : (nid : ℕ) → fault_told nid (told_by (node_damage t nodes []) nodes) ≡ if_there (node_damage t nodes []) (node_with nid nodes)
   told_in_order nid = told_among (node_damage t nodes []) nid 0 nodes rises
 
-  of_store : told_of STORE (nodes_damage t nodes []) ≡ required_fault t nodes STORE
+  of_store : fault_told STORE (nodes_damage t nodes []) ≡ required_fault t nodes STORE
   unfolding nodes_damage required_fault
   of_store =
       let told = told_by (node_damage t nodes []) nodes in
@@ -328,13 +328,13 @@ module _ (t : Table) (nodes : List NodeEntry) (rises : Rises 0 None (map node_ke
       root_by x (Some f) pc e o is = is ∙ asked_only t nodes x (none_of_found (node_fault t) ROOT nodes x own e) ∙ root_asked t nodes (entry_roots x) f (found_nid ROOT nodes x e) pc
 
       by_found : (o : Option NodeEntry) → node_with ROOT nodes ≡ o
-          → told_of ROOT (with_required nodes [] ROOT (with_required nodes [] STORE (told_by (node_damage t nodes []) nodes))) ≡ there_or (named NodeMissing 0 0 ROOT) (node_damage t nodes []) o
-          → cond (is_some (there_or (named NodeMissing 0 0 ROOT) (pc_fault t) (node_in nodes ROOT))) (told_of ROOT (with_required nodes [] ROOT (with_required nodes [] STORE (told_by (node_damage t nodes []) nodes)))) None
+          → fault_told ROOT (with_required nodes [] ROOT (with_required nodes [] STORE (told_by (node_damage t nodes []) nodes))) ≡ there_or (named NodeMissing 0 0 ROOT) (node_damage t nodes []) o
+          → cond (is_some (there_or (named NodeMissing 0 0 ROOT) (pc_fault t) (node_in nodes ROOT))) (fault_told ROOT (with_required nodes [] ROOT (with_required nodes [] STORE (told_by (node_damage t nodes []) nodes)))) None
           ≡ there_or (named NodeMissing 0 0 ROOT) (pc_fault t) (node_in nodes ROOT)
       by_found None e is = rw (found_in nodes ROOT None e) is
       by_found (Some x) e is = rw (found_in nodes ROOT (Some x) e) (root_by x (pc_fault t (entry_roots x)) refl e _ is)
 
-  of_names : told_of NAME_MAP (nodes_damage t nodes []) ≡ if_there (name_map_fault t) (node_in nodes NAME_MAP)
+  of_names : fault_told NAME_MAP (nodes_damage t nodes []) ≡ if_there (name_map_fault t) (node_in nodes NAME_MAP)
   unfolding nodes_damage
   of_names =
       let told = told_by (node_damage t nodes []) nodes in
@@ -403,7 +403,7 @@ module _ (t : Table) (nodes : List NodeEntry) (rises : Rises 0 None (map node_ke
               lacks e = cc
           by_found (Some x) e none = required_there nodes nid told x e
 
-  after_own : (told_of STORE (nodes_damage t nodes []) then told_of_root t nodes (nodes_damage t nodes []) then told_of NAME_MAP (nodes_damage t nodes []) then first_of_all (nodes_damage t nodes [])) ≡ messaging_fault t nodes
+  after_own : (fault_told STORE (nodes_damage t nodes []) then told_of_root t nodes (nodes_damage t nodes []) then fault_told NAME_MAP (nodes_damage t nodes []) then first_of_all (nodes_damage t nodes [])) ≡ messaging_fault t nodes
   unfolding messaging_fault
   after_own = rw (of_store, of_root, of_names) (by_store (required_fault t nodes STORE) refl)
     where
@@ -429,7 +429,7 @@ pub first_of_nodes_is : (t : Table) (nodes : List NodeEntry) → Rises 0 None (m
 first_of_nodes_is t nodes rises = rw (first_own_is t nodes rises) (by_own (nodes_fault t nodes) refl)
   where
     by_own : (o : Option Fault) → nodes_fault t nodes ≡ o
-        → (o then told_of STORE (nodes_damage t nodes []) then told_of_root t nodes (nodes_damage t nodes []) then told_of NAME_MAP (nodes_damage t nodes []) then first_of_all (nodes_damage t nodes []))
+        → (o then fault_told STORE (nodes_damage t nodes []) then told_of_root t nodes (nodes_damage t nodes []) then fault_told NAME_MAP (nodes_damage t nodes []) then first_of_all (nodes_damage t nodes []))
         ≡ (o then messaging_fault t nodes)
     by_own (Some f) e = refl
     by_own None e = after_own t nodes rises e

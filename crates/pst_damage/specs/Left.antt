@@ -8,11 +8,11 @@ use Rattle.pst_remains.specs.declared.pages.Broken.{Broken}
 use Rattle.pst_damage.specs.declared.left.Left.{Left}
 use Rattle.pst_damage.specs.BrokenPages.{pages_in}
 
-abbrev pub table_in : Left → Table
-table_in l = table_of_nodes l.sound
+abbrev pub left_table : Left → Table
+left_table l = table_of_nodes l.sound
 
-abbrev pub nodes_in : Left → List NodeEntry
-nodes_in l = listed_nodes l.nodes
+abbrev pub left_nodes : Left → List NodeEntry
+left_nodes l = listed_nodes l.nodes
 
-abbrev pub broken_in : Left → List Broken
-broken_in l = pages_in l.pages.now
+abbrev pub left_pages : Left → List Broken
+left_pages l = pages_in l.pages.now

@@ -3,5 +3,5 @@ use Rattle.pst_block.specs.Table.{Table}
 use Rattle.pst_subnode.specs.Known.{AreBothTrue}
 use Rattle.pst_damage.specs.declared.trees.Known.{Known}
 
-abbrev pub IsKnownTrue : Table → Known → Type 0
-IsKnownTrue t k = AreBothTrue t k.seen k.heights
+abbrev pub AreTreesKnown : Table → Known → Type 0
+AreTreesKnown t k = AreBothTrue t k.seen k.heights

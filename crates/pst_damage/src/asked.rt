@@ -8,7 +8,7 @@ ghost use Rattle.pst_ndb.specs.Fault.{node_fault};
 ghost use Rattle.pst_ndb.specs.Views.{table_of_node, roots_of};
 ghost use Rattle.pst_damage.specs.Folder.{asked_damage};
 ghost use Rattle.pst_damage.specs.Known.{IsKnownOf};
-ghost use Rattle.pst_damage.specs.Left.{table_in, nodes_in, broken_in};
+ghost use Rattle.pst_damage.specs.Left.{left_table, left_nodes, left_pages};
 ghost use Rattle.pst_damage.specs.Nodes.{node_damage};
 
 use crate::broken::found;
@@ -23,13 +23,13 @@ use pst_ndb::Node;
 // What is asked of a sound node, by its identifier.
 #[tactic(auto, unfolding(crate::specs::Folder::asked_damage))]
 fn check_asked(left: &Left, node: Node, known: &mut Known) -> Result<(), Fault>
-    requires table { table_of_node node ≡ table_in left.now }
-    requires known { let nodes = nodes_in left.now in
-        IsKnownOf (table_in left.now) nodes (broken_in left.now) known.old }
-    ensures known { let nodes = nodes_in left.now in
-        IsKnownOf (table_in left.now) nodes (broken_in left.now) known.new }
-    ensures exact { let t = table_in left.now in
-        Tells result (asked_damage t (nodes_in left.now) (broken_in left.now)
+    requires table { table_of_node node ≡ left_table left.now }
+    requires known { let nodes = left_nodes left.now in
+        IsKnownOf (left_table left.now) nodes (left_pages left.now) known.old }
+    ensures known { let nodes = left_nodes left.now in
+        IsKnownOf (left_table left.now) nodes (left_pages left.now) known.new }
+    ensures exact { let t = left_table left.now in
+        Tells result (asked_damage t (left_nodes left.now) (left_pages left.now)
         (roots_of node.entry)) tt }
 {
     let nid = node.top();
@@ -60,14 +60,14 @@ pub(crate) fn fault_of(
     own: Option<Fault>,
     known: &mut Known,
 ) -> Result<Option<Fault>, Fault>
-    requires listed { Contains (nodes_in left.now) entry }
-    requires own { own ≡ node_fault (table_in left.now) entry }
-    requires known { let nodes = nodes_in left.now in
-        IsKnownOf (table_in left.now) nodes (broken_in left.now) known.old }
-    ensures known { let nodes = nodes_in left.now in
-        IsKnownOf (table_in left.now) nodes (broken_in left.now) known.new }
-    ensures exact { let t = table_in left.now in
-        IfOk result (λ o. o ≡ node_damage t (nodes_in left.now) (broken_in left.now) entry) }
+    requires listed { Contains (left_nodes left.now) entry }
+    requires own { own ≡ node_fault (left_table left.now) entry }
+    requires known { let nodes = left_nodes left.now in
+        IsKnownOf (left_table left.now) nodes (left_pages left.now) known.old }
+    ensures known { let nodes = left_nodes left.now in
+        IsKnownOf (left_table left.now) nodes (left_pages left.now) known.new }
+    ensures exact { let t = left_table left.now in
+        IfOk result (λ o. o ≡ node_damage t (left_nodes left.now) (left_pages left.now) entry) }
     ensures err { IfErr result (λ f. f ≡ no_memory) }
 {
     if let Some(fault) = own {

@@ -10,7 +10,7 @@ ghost use Rattle.pst_tc.specs.Values.{tc_rows};
 ghost use Rattle.pst_tc.specs.View.{row_parts};
 ghost use Rattle.pst_damage.specs.Folder.{row_damage, table_damage, folder_damage};
 ghost use Rattle.pst_damage.specs.Known.{IsKnownOf};
-ghost use Rattle.pst_damage.specs.Left.{table_in, nodes_in, broken_in};
+ghost use Rattle.pst_damage.specs.Left.{left_table, left_nodes, left_pages};
 ghost use Rattle.pst_damage.specs.Listings.{AreListingsTrue};
 
 use crate::known::Known;
@@ -25,7 +25,7 @@ use pst_tc::{Row, known_tc};
 #[tactic(auto, unfolding(crate::specs::Folder::row_damage, pst_msg::specs::Fault::listed_item_fault, pst_ndb::specs::Roots::node_in))]
 fn check_row(left: &Left, items: Items, bid: u64, row: Row) -> Result<(), Fault>
     ensures exact { let x = row_parts row.entry in
-        Tells result (row_damage (nodes_in left.now) (broken_in left.now) items bid x) tt }
+        Tells result (row_damage (left_nodes left.now) (left_pages left.now) items bid x) tt }
 {
     let id = row.id();
     match left.nodes.find(id) {
@@ -46,7 +46,7 @@ fn check_row(left: &Left, items: Items, bid: u64, row: Row) -> Result<(), Fault>
 fn check_each(left: &Left, items: Items, bid: u64, table: Tc) -> Result<(), Fault>
     ensures exact { let node = node_of_tc table.entry in
         let rows = tc_rows (table_of_node node) (roots_of node) in
-        Tells result (first_of (row_damage (nodes_in left.now) (broken_in left.now) items bid)
+        Tells result (first_of (row_damage (left_nodes left.now) (left_pages left.now) items bid)
         rows) tt }
 {
     for row in table.rows() {
@@ -60,15 +60,15 @@ const FEW: u64 = 16;
 
 // All rows of a table, unless they are remembered.
 fn check_rows(left: &Left, items: Items, table: Node, listings: &mut Listings) -> Result<(), Fault>
-    requires table { table_of_node table ≡ table_in left.now }
+    requires table { table_of_node table ≡ left_table left.now }
     requires sound { tc_fault (table_of_node table) (roots_of table) ≡ None }
-    requires listings { let nodes = nodes_in left.now in
-        AreListingsTrue (table_in left.now) nodes (broken_in left.now) listings.old }
-    ensures listings { let nodes = nodes_in left.now in
-        AreListingsTrue (table_in left.now) nodes (broken_in left.now) listings.new }
+    requires listings { let nodes = left_nodes left.now in
+        AreListingsTrue (left_table left.now) nodes (left_pages left.now) listings.old }
+    ensures listings { let nodes = left_nodes left.now in
+        AreListingsTrue (left_table left.now) nodes (left_pages left.now) listings.new }
     ensures exact { let r = roots_of table.entry in
         let rows = tc_rows (table_of_node table.entry) r in
-        Tells result (first_of (row_damage (nodes_in left.now) (broken_in left.now) items
+        Tells result (first_of (row_damage (left_nodes left.now) (left_pages left.now) items
         r.bid_data) rows) tt }
 {
     if listings.has(items, table) {
@@ -85,12 +85,12 @@ fn check_rows(left: &Left, items: Items, table: Node, listings: &mut Listings) -
 // A table of a folder, where its node is sound.
 #[tactic(auto, unfolding(crate::specs::Folder::table_damage, crate::specs::Folder::items_damage))]
 fn check_table(left: &Left, items: Items, nid: u32, known: &mut Known) -> Result<(), Fault>
-    requires known { let nodes = nodes_in left.now in
-        IsKnownOf (table_in left.now) nodes (broken_in left.now) known.old }
-    ensures known { let nodes = nodes_in left.now in
-        IsKnownOf (table_in left.now) nodes (broken_in left.now) known.new }
-    ensures exact { let nodes = nodes_in left.now in
-        Tells result (table_damage (table_in left.now) nodes (broken_in left.now) items nid) tt }
+    requires known { let nodes = left_nodes left.now in
+        IsKnownOf (left_table left.now) nodes (left_pages left.now) known.old }
+    ensures known { let nodes = left_nodes left.now in
+        IsKnownOf (left_table left.now) nodes (left_pages left.now) known.new }
+    ensures exact { let nodes = left_nodes left.now in
+        Tells result (table_damage (left_table left.now) nodes (left_pages left.now) items nid) tt }
 {
     match left.sound.node(listing_nid(nid, items)) {
         Some(table) => {
@@ -104,13 +104,13 @@ fn check_table(left: &Left, items: Items, nid: u32, known: &mut Known) -> Result
 /// A folder: its properties, then its three tables, each with its rows.
 #[tactic(auto, unfolding(crate::specs::Folder::folder_damage))]
 pub(crate) fn check_folder(left: &Left, node: Node, known: &mut Known) -> Result<(), Fault>
-    requires table { table_of_node node ≡ table_in left.now }
-    requires known { let nodes = nodes_in left.now in
-        IsKnownOf (table_in left.now) nodes (broken_in left.now) known.old }
-    ensures known { let nodes = nodes_in left.now in
-        IsKnownOf (table_in left.now) nodes (broken_in left.now) known.new }
-    ensures exact { let t = table_in left.now in
-        Tells result (folder_damage t (nodes_in left.now) (broken_in left.now)
+    requires table { table_of_node node ≡ left_table left.now }
+    requires known { let nodes = left_nodes left.now in
+        IsKnownOf (left_table left.now) nodes (left_pages left.now) known.old }
+    ensures known { let nodes = left_nodes left.now in
+        IsKnownOf (left_table left.now) nodes (left_pages left.now) known.new }
+    ensures exact { let t = left_table left.now in
+        Tells result (folder_damage t (left_nodes left.now) (left_pages left.now)
         (roots_of node.entry)) tt }
 {
     known.checker.check_properties(node)?;

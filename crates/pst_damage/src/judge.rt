@@ -6,7 +6,7 @@ ghost use Rattle.pst_btree.specs.Lists.{listed_nodes};
 ghost use Rattle.pst_block.specs.Blocks.{table_of};
 ghost use Rattle.pst_ndb.specs.Fault.{node_fault};
 ghost use Rattle.pst_damage.specs.Judged.{told_by};
-ghost use Rattle.pst_damage.specs.Left.{table_in, nodes_in, broken_in};
+ghost use Rattle.pst_damage.specs.Left.{left_table, left_nodes, left_pages};
 ghost use Rattle.pst_damage.specs.Nodes.{node_damage, with_required as with_missing, nodes_damage, whole_left};
 
 use crate::asked::fault_of;
@@ -36,9 +36,9 @@ pub struct JudgedNodes {
 
 // Each node that is left, in order; those whose own trees have a fault are told already.
 fn judge_each(alloc: Global, left: &Left, own: &[BrokenNode]) -> Result<Vec<BrokenNode>, Fault>
-    requires { own.now ≡ told_by (node_fault (table_in left.now)) (nodes_in left.now) }
-    ensures told { let t = table_in left.now in let nodes = nodes_in left.now in
-        IfOk result (λ v. v.items ≡ told_by (node_damage t nodes (broken_in left.now)) nodes) }
+    requires { own.now ≡ told_by (node_fault (left_table left.now)) (left_nodes left.now) }
+    ensures told { let t = left_table left.now in let nodes = left_nodes left.now in
+        IfOk result (λ v. v.items ≡ told_by (node_damage t nodes (left_pages left.now)) nodes) }
     ensures err { IfErr result (λ f. f ≡ no_memory) }
 {
     let mut known = Known::new(alloc);
@@ -56,7 +56,7 @@ fn judge_each(alloc: Global, left: &Left, own: &[BrokenNode]) -> Result<Vec<Brok
 // A node that every store has, told where it is missing. AllocError where memory is refused.
 fn add_missing(left: &Left, nid: u32, told: &mut Vec<BrokenNode>) -> Result<(), AllocError>
     ensures { OnOk result (told.new.items ≡
-        with_missing (nodes_in left.now) (broken_in left.now) nid told.old.items) }
+        with_missing (left_nodes left.now) (left_pages left.now) nid told.old.items) }
 {
     if left.nodes.find(nid).is_some() || left.pages.before(nid).is_some() {
         return Ok(());
@@ -68,12 +68,12 @@ fn add_missing(left: &Left, nid: u32, told: &mut Vec<BrokenNode>) -> Result<(), 
 // All of them, and what is whole.
 #[tactic(auto, unfolding(crate::specs::Nodes::nodes_damage, crate::specs::Nodes::whole_left))]
 fn judge_left(alloc: Global, left: &Left, own: &[BrokenNode]) -> Result<JudgedNodes, Fault>
-    requires { own.now ≡ told_by (node_fault (table_in left.now)) (nodes_in left.now) }
-    ensures broken { let t = table_in left.now in
+    requires { own.now ≡ told_by (node_fault (left_table left.now)) (left_nodes left.now) }
+    ensures broken { let t = left_table left.now in
         IfOk result (λ j. j.broken.items ≡
-        nodes_damage t (nodes_in left.now) (broken_in left.now)) }
-    ensures whole { let t = table_in left.now in
-        IfOk result (λ j. j.whole ≡ whole_left t (nodes_in left.now) (broken_in left.now)) }
+        nodes_damage t (left_nodes left.now) (left_pages left.now)) }
+    ensures whole { let t = left_table left.now in
+        IfOk result (λ j. j.whole ≡ whole_left t (left_nodes left.now) (left_pages left.now)) }
     ensures err { IfErr result (λ f. f ≡ no_memory) }
 {
     let mut broken = judge_each(alloc, left, own)?;

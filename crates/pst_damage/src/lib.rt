@@ -33,5 +33,7 @@ pub use broken_pages::BrokenPages;
 pub use damage::Damage;
 pub use find::{damage_beside, find_damage};
 pub use judge::{JudgedNodes, judge_nodes};
-pub use laws::{first_damage_decides, nothing_broken_decides};
+pub use laws::{
+    decoded_damage_decides, decoded_nothing_decides, first_damage_decides, nothing_broken_decides,
+};
 pub use whole::Whole;

@@ -8,7 +8,7 @@ ghost use Rattle.pst_subnode.specs.declared.check.TheConstants.{LISTS};
 ghost use Rattle.pst_subnode.specs.Tree.{sub_fault, at_top};
 ghost use Rattle.pst_ndb.specs.Fault.{node_fault};
 ghost use Rattle.pst_damage.specs.Judged.{sound_nodes, told_by};
-ghost use Rattle.pst_damage.specs.Trees.{IsKnownTrue};
+ghost use Rattle.pst_damage.specs.Trees.{AreTreesKnown};
 
 use crate::broken::{BrokenNode, found, push_told};
 use pst_block::Blocks;
@@ -36,11 +36,11 @@ struct Known {
 
 impl Known {
     ghost use Rattle.pst_block.specs.Table.{Table};
-    ghost use Rattle.pst_damage.specs.Trees.{IsKnownTrue};
+    ghost use Rattle.pst_damage.specs.Trees.{AreTreesKnown};
 
     // Nothing yet.
     fn new(alloc: Global) -> Known
-        ensures { (t : Table) → IsKnownTrue t result }
+        ensures { (t : Table) → AreTreesKnown t result }
     {
         Known {
             seen: Seen::new(alloc),
@@ -56,8 +56,8 @@ fn check_subs(
     entry: NodeEntry,
     known: &mut Known,
 ) -> Result<(), Fault>
-    requires { IsKnownTrue (table_of blocks.now) known.old }
-    ensures known { IsKnownTrue (table_of blocks.now) known.new }
+    requires { AreTreesKnown (table_of blocks.now) known.old }
+    ensures known { AreTreesKnown (table_of blocks.now) known.new }
     ensures exact { Tells result (option_map (at_top entry.bid_sub entry.nid)
         (sub_fault (table_of blocks.now) LISTS entry.bid_sub)) tt }
 {
@@ -80,8 +80,8 @@ fn check_trees(
     entry: NodeEntry,
     known: &mut Known,
 ) -> Result<(), Fault>
-    requires { IsKnownTrue (table_of blocks.now) known.old }
-    ensures known { IsKnownTrue (table_of blocks.now) known.new }
+    requires { AreTreesKnown (table_of blocks.now) known.old }
+    ensures known { AreTreesKnown (table_of blocks.now) known.new }
     ensures exact { Tells result (node_fault (table_of blocks.now) entry) tt }
 {
     check_data(alloc, blocks, entry.bid_data, entry.nid, &mut known.seen)?;
