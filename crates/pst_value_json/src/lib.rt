@@ -15,7 +15,7 @@
 //! ) -> Result<S::Out, AllocError> {
 //!     let parts = vec![in alloc;
 //!         Part::Value("nid", Made::Nid(Some(nid))),
-//!         Part::Rows("props", prop_rows(pc, names, places)),
+//!         Part::Rows("props", prop_rows(pc, names, Filed::Nothing, places)),
 //!     ]?;
 //!     S::object(alloc, parts)
 //! }
@@ -28,6 +28,7 @@ mod cells;
 mod compact;
 mod digits;
 mod escape;
+mod filed;
 mod form;
 mod laws;
 mod listing;
@@ -49,6 +50,9 @@ pub use cells::{TableRows, table_doc, table_rows};
 pub use compact::{line_text, put_comma, text};
 pub use digits::put_nid;
 pub use laws::{cell_places_hold, prop_places_hold};
+pub use filed::{
+    BODY, CONTENT, Filed, HEADERS, HTML, RTF, attachment_file, message_file,
+};
 pub use listing::Rows;
 pub use names::nid_text;
 pub use parts::{Made, Part};

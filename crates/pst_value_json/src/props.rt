@@ -1,20 +1,24 @@
 //! Properties as documents.
 
-ghost use Rattle.std.specs.Prelude.{◌≡◌, IfOk, map, option_map};
+ghost use Rattle.std.specs.Prelude.{◌≡◌, ◌++◌, IfOk, OnErr, OnOk, map, option_map, string_bytes};
 ghost use Rattle.serde_json.specs.View.{view};
+ghost use Rattle.serde_json.specs.Written.{compact_text};
 ghost use Rattle.pst_names.specs.View.{kind_parts, name_parts};
 ghost use Rattle.pst_ndb.specs.Views.{table_of_node, roots_of};
 ghost use Rattle.pst_pc.specs.Values.{pc_records};
 ghost use Rattle.pst_pc.specs.View.{node_of_pc, property_of};
+ghost use Rattle.pst_value_json.specs.declared.filed.Filed.TheVariants.{Nothing};
+ghost use Rattle.pst_value_json.specs.Kept.{BeginsWith};
 ghost use Rattle.pst_value_json.specs.Parts.{list_data};
 ghost use Rattle.pst_value_json.specs.Places.{places_in, if_asked};
-ghost use Rattle.pst_value_json.specs.Props.{kind_data, set_data, prop_data, record_data, names_told, prop_rows_left};
+ghost use Rattle.pst_value_json.specs.Props.{kind_data, set_data, prop_data, filed_data, filed_prop_data, record_data, names_told, prop_rows_left};
 
 use crate::compact::put_comma;
+use crate::filed::{Filed, file_told};
 use crate::listing::{Rows, list_doc};
 use crate::names::id_text;
 use crate::places::places_doc;
-use crate::put_props::put_prop;
+use crate::put_props::{put_filed_prop, put_prop};
 use crate::scalar::text_doc;
 use crate::value::value_doc;
 use pst_names::{Name, NameKind, NameMap};
@@ -81,25 +85,103 @@ fn prop_doc(
     Ok(Doc::from(map))
 }
 
-/// The properties that are left of a context, the names that they are shown with, and whether with their places.
+// A property whose value has a file of its own, as an object.
+#[tactic(auto, unfolding(crate::specs::Props::filed_data))]
+fn filed_doc(
+    alloc: Global,
+    file: String,
+    names: Option<NameMap>,
+    places: bool,
+    prop: Prop,
+) -> Result<Doc, AllocError>
+    ensures { let name = names_told names.entry prop.entry.id in
+        let places = if_asked places (places_in prop.entry.value) in
+        IfOk result (λ d.
+        view d ≡ filed_data (string_bytes file) name places (property_of prop.entry)) }
+{
+    let mut map = Map::new(alloc);
+    put(&mut map, alloc, "file", Doc::from(file))?;
+    put(&mut map, alloc, "id", Doc::from(id_text(alloc, prop.id)?))?;
+    if let Some(name) = name_in(names, prop.id) {
+        put(&mut map, alloc, "name", kind_doc(alloc, name.kind)?)?;
+        put(&mut map, alloc, "set", set_doc(alloc, name.set)?)?;
+    }
+    if places {
+        put(&mut map, alloc, "places", places_doc(alloc, prop.value)?)?;
+    }
+    let kind = id_text(alloc, prop.kind.0)?;
+    put(&mut map, alloc, "type", Doc::from(kind))?;
+    Ok(Doc::from(map))
+}
+
+// A property as an object, where the values of these have files.
+fn shown_doc(
+    alloc: Global,
+    names: Option<NameMap>,
+    filed: Filed,
+    places: bool,
+    prop: Prop,
+) -> Result<Doc, AllocError>
+    ensures { let name = names_told names.entry prop.entry.id in
+        let places = if_asked places (places_in prop.entry.value) in
+        IfOk result (λ d.
+        view d ≡ filed_prop_data filed name places (property_of prop.entry)) }
+{
+    match file_told(alloc, filed, prop.id, prop.kind)? {
+        Some(file) => filed_doc(alloc, file, names, places, prop),
+        None => prop_doc(alloc, names, places, prop),
+    }
+}
+
+// Puts a property behind a text, as an object, where the values of these have files.
+fn put_shown(
+    alloc: Global,
+    names: Option<NameMap>,
+    filed: Filed,
+    places: bool,
+    prop: Prop,
+    text: &mut Vec<u8>,
+) -> Result<(), AllocError>
+    ensures put { let name = names_told names.entry prop.entry.id in
+        let places = if_asked places (places_in prop.entry.value) in OnOk result (text.new.items
+        ≡ text.old.items
+        ++ compact_text (filed_prop_data filed name places (property_of prop.entry))) }
+    ensures kept { OnErr result (BeginsWith text.new.items text.old.items) }
+{
+    let name = name_in(names, prop.id);
+    match file_told(alloc, filed, prop.id, prop.kind)? {
+        Some(file) => put_filed_prop(alloc, &file, &name, places, prop, text),
+        None => put_prop(alloc, &name, places, prop, text),
+    }
+}
+
+/// The properties that are left of a context, the names that they are shown with, of which files are told, and whether with their
+/// places.
 #[derive(Drop)]
 pub struct PropRows<'a> {
     props: Props<'a>,
     names: Option<NameMap<'a>>,
+    filed: Filed,
     places: bool,
 }
 
-/// All properties of a context, called as a name map says, without names where there is no name map; with their places where these
-/// are asked for.
+/// All properties of a context, called as a name map says, without names where there is no name map; with files in place of these
+/// values; and with their places where these are asked for.
 #[tactic(auto, unfolding(crate::specs::Props::prop_rows_left))]
-pub fn prop_rows<'a>(pc: &Pc<'a>, names: Option<NameMap<'a>>, places: bool) -> PropRows<'a>
+pub fn prop_rows<'a>(
+    pc: &Pc<'a>,
+    names: Option<NameMap<'a>>,
+    filed: Filed,
+    places: bool,
+) -> PropRows<'a>
     ensures { let node = node_of_pc pc.now in let t = table_of_node node in let r = roots_of node in
         prop_rows_left result
-        ≡ map (record_data (names_told names.entry) places t r) (pc_records t r) }
+        ≡ map (record_data (names_told names.entry) filed places t r) (pc_records t r) }
 {
     PropRows {
         props: pc.props(),
         names,
+        filed,
         places,
     }
 }
@@ -110,7 +192,13 @@ impl Rows for PropRows<'_> {
 
     fn next_doc(&mut self, alloc: Global) -> Result<Option<Doc>, AllocError> {
         match self.props.next() {
-            Some(prop) => Ok(Some(prop_doc(alloc, self.names, self.places, prop)?)),
+            Some(prop) => Ok(Some(shown_doc(
+                alloc,
+                self.names,
+                self.filed,
+                self.places,
+                prop,
+            )?)),
             None => Ok(None),
         }
     }
@@ -125,9 +213,8 @@ impl Rows for PropRows<'_> {
         let Some(prop) = self.props.next() else {
             return Ok(false);
         };
-        let name = name_in(self.names, prop.id);
         put_comma(later, text)?;
-        put_prop(alloc, &name, self.places, prop, text)?;
+        put_shown(alloc, self.names, self.filed, self.places, prop, text)?;
         Ok(true)
     }
 }
@@ -143,8 +230,8 @@ pub fn pc_doc(
     places: bool,
 ) -> Result<Doc, AllocError>
     ensures { let node = node_of_pc pc.now in let t = table_of_node node in let r = roots_of node in
-        let shown = record_data (names_told names.entry) places t r in
+        let shown = record_data (names_told names.entry) Nothing places t r in
         IfOk result (λ d. view d ≡ list_data shown (pc_records t r)) }
 {
-    list_doc(alloc, prop_rows(pc, names, places))
+    list_doc(alloc, prop_rows(pc, names, Filed::Nothing, places))
 }
