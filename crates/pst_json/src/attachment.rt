@@ -8,7 +8,9 @@ ghost use Rattle.pst_value_json.specs.Props.{names_told, prop_rows_left};
 ghost use Rattle.pst_json.specs.Node.{embedded_there, attachment_data, filed_in_list as filed_below};
 ghost use Rattle.pst_json.specs.Lists.{attachment_rows_left};
 
-use pst_value_json::{Filed, Made, NameMap, Part, PropRows, Rows, Sink, Tree, prop_rows, put_object};
+use pst_value_json::{
+    Filed, Made, NameMap, Part, PropRows, Rows, Sink, Tree, prop_rows, put_object,
+};
 use pst_verify::{Attachment, Attachments};
 use serde_json::Value as Doc;
 use std::alloc::{AllocError, Global};

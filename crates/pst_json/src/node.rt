@@ -21,7 +21,9 @@ use crate::found::{Found, found_in};
 use crate::index::index_of;
 use crate::lists::MessageRows;
 use crate::names::names_in;
-use pst_value_json::{Filed, Line, Made, NameIndex, NameMap, Part, Pc, Sink, Tree, prop_rows, table_rows};
+use pst_value_json::{
+    Filed, Line, Made, NameIndex, NameMap, Part, Pc, Sink, Tree, prop_rows, table_rows,
+};
 use pst_verify::{Attachment, Message, Store};
 use serde_json::Value as Doc;
 use std::alloc::{AllocError, Global};
@@ -182,7 +184,10 @@ pub(crate) fn shown_attachment<S: Sink>(
         let shown = attachment_shown attachment.entry in let told = names_told names.entry in
         IfOk result (λ out. S.Shows out (attachment_data told filed places t shown)) }
 {
-    S::object(alloc, attachment_parts(alloc, attachment, names, filed, places)?)
+    S::object(
+        alloc,
+        attachment_parts(alloc, attachment, names, filed, places)?,
+    )
 }
 
 // The document of what has one.
@@ -196,9 +201,7 @@ fn shown_found<'a, S: Sink>(
         IfOk result (λ out. S.Shows out (place_data told places t (place_of_found found.entry))) }
 {
     match found {
-        Found::Message(message) => {
-            indexed_message::<S>(alloc, message, names, false, places)
-        }
+        Found::Message(message) => { indexed_message::<S>(alloc, message, names, false, places) }
         Found::Attachment(attachment) => {
             shown_attachment::<S>(alloc, attachment, names, Filed::Nothing, places)
         }

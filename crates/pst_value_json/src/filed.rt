@@ -1,8 +1,9 @@
 //! Which values of properties have files of their own.
 
-ghost use Rattle.std.specs.Prelude.{◌≡◌, IfOk, List, ℕ, option_map, string_bytes};
+ghost use Rattle.std.specs.Prelude.{◌≡◌, IfOk, option_map, string_bytes};
 ghost use Rattle.pst_value_json.specs.Filed.{attachment_file as file_of_attachment, file_told as told, in_folder, message_file as file_of_message};
 
+use crate::names::nid_text;
 use pst_value::PropType;
 use std::alloc::{AllocError, Global};
 
@@ -74,7 +75,12 @@ fn folder_name(alloc: Global, folder: Option<u32>, name: &str) -> Result<String,
     ensures { IfOk result (λ s. string_bytes s ≡ in_folder folder name.now) }
 {
     match folder {
-        Some(nid) => format!(in alloc; "0x{nid:x}/{name}"),
+        Some(nid) => {
+            let mut path = nid_text(alloc, nid)?;
+            path.push_str("/")?;
+            path.push_str(name)?;
+            Ok(path)
+        }
         None => String::from_str(alloc, name),
     }
 }

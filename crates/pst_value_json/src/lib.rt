@@ -41,6 +41,7 @@ mod put_cells;
 mod put_props;
 mod put_values;
 mod scalar;
+mod shown;
 mod sinks;
 mod time;
 mod utf16;
@@ -49,10 +50,8 @@ mod value;
 pub use cells::{TableRows, table_doc, table_rows};
 pub use compact::{line_text, put_comma, text};
 pub use digits::put_nid;
+pub use filed::{BODY, CONTENT, Filed, HEADERS, HTML, RTF, attachment_file, message_file};
 pub use laws::{cell_places_hold, prop_places_hold};
-pub use filed::{
-    BODY, CONTENT, Filed, HEADERS, HTML, RTF, attachment_file, message_file,
-};
 pub use listing::Rows;
 pub use names::nid_text;
 pub use parts::{Made, Part};

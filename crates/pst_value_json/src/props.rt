@@ -1,25 +1,23 @@
 //! Properties as documents.
 
-ghost use Rattle.std.specs.Prelude.{◌≡◌, ◌++◌, IfOk, OnErr, OnOk, map, option_map, string_bytes};
+ghost use Rattle.std.specs.Prelude.{◌≡◌, IfOk, map, option_map};
 ghost use Rattle.serde_json.specs.View.{view};
-ghost use Rattle.serde_json.specs.Written.{compact_text};
 ghost use Rattle.pst_names.specs.View.{kind_parts, name_parts};
 ghost use Rattle.pst_ndb.specs.Views.{table_of_node, roots_of};
 ghost use Rattle.pst_pc.specs.Values.{pc_records};
 ghost use Rattle.pst_pc.specs.View.{node_of_pc, property_of};
 ghost use Rattle.pst_value_json.specs.declared.filed.Filed.TheVariants.{Nothing};
-ghost use Rattle.pst_value_json.specs.Kept.{BeginsWith};
 ghost use Rattle.pst_value_json.specs.Parts.{list_data};
 ghost use Rattle.pst_value_json.specs.Places.{places_in, if_asked};
-ghost use Rattle.pst_value_json.specs.Props.{kind_data, set_data, prop_data, filed_data, filed_prop_data, record_data, names_told, prop_rows_left};
+ghost use Rattle.pst_value_json.specs.Props.{kind_data, set_data, prop_data, record_data, names_told, prop_rows_left};
 
 use crate::compact::put_comma;
-use crate::filed::{Filed, file_told};
+use crate::filed::Filed;
 use crate::listing::{Rows, list_doc};
 use crate::names::id_text;
 use crate::places::places_doc;
-use crate::put_props::{put_filed_prop, put_prop};
 use crate::scalar::text_doc;
+use crate::shown::{put_shown, shown_doc};
 use crate::value::value_doc;
 use pst_names::{Name, NameKind, NameMap};
 use pst_pc::{Pc, Prop, Props};
@@ -27,8 +25,8 @@ use serde_json::{Map, Value as Doc, put};
 use std::alloc::{AllocError, Global};
 use uuid::Uuid;
 
-// A name within its set.
-fn kind_doc(alloc: Global, kind: NameKind) -> Result<Doc, AllocError>
+/// A name within its set.
+pub(crate) fn kind_doc(alloc: Global, kind: NameKind) -> Result<Doc, AllocError>
     ensures { IfOk result (λ d. view d ≡ kind_data (kind_parts kind.entry)) }
 {
     match kind {
@@ -37,8 +35,8 @@ fn kind_doc(alloc: Global, kind: NameKind) -> Result<Doc, AllocError>
     }
 }
 
-// The set that a name is of, or null.
-fn set_doc(alloc: Global, set: Option<Uuid>) -> Result<Doc, AllocError>
+/// The set that a name is of, or null.
+pub(crate) fn set_doc(alloc: Global, set: Option<Uuid>) -> Result<Doc, AllocError>
     ensures { IfOk result (λ d. view d ≡ set_data set) }
 {
     match set {
@@ -47,8 +45,8 @@ fn set_doc(alloc: Global, set: Option<Uuid>) -> Result<Doc, AllocError>
     }
 }
 
-// What a property is called; None where it has no name, or where there is no name map.
-fn name_in<'a>(names: Option<NameMap<'a>>, id: u16) -> Option<Name<'a>>
+/// What a property is called; None where it has no name, or where there is no name map.
+pub(crate) fn name_in<'a>(names: Option<NameMap<'a>>, id: u16) -> Option<Name<'a>>
     ensures { option_map name_parts result ≡ names_told names.entry id }
 {
     match names {
@@ -57,9 +55,9 @@ fn name_in<'a>(names: Option<NameMap<'a>>, id: u16) -> Option<Name<'a>>
     }
 }
 
-// A property as an object.
+/// A property as an object.
 #[tactic(auto, unfolding(crate::specs::Props::prop_data))]
-fn prop_doc(
+pub(crate) fn prop_doc(
     alloc: Global,
     names: Option<NameMap>,
     places: bool,
@@ -83,76 +81,6 @@ fn prop_doc(
     let value = value_doc(alloc, prop.kind, prop.value)?;
     put(&mut map, alloc, "value", value)?;
     Ok(Doc::from(map))
-}
-
-// A property whose value has a file of its own, as an object.
-#[tactic(auto, unfolding(crate::specs::Props::filed_data))]
-fn filed_doc(
-    alloc: Global,
-    file: String,
-    names: Option<NameMap>,
-    places: bool,
-    prop: Prop,
-) -> Result<Doc, AllocError>
-    ensures { let name = names_told names.entry prop.entry.id in
-        let places = if_asked places (places_in prop.entry.value) in
-        IfOk result (λ d.
-        view d ≡ filed_data (string_bytes file) name places (property_of prop.entry)) }
-{
-    let mut map = Map::new(alloc);
-    put(&mut map, alloc, "file", Doc::from(file))?;
-    put(&mut map, alloc, "id", Doc::from(id_text(alloc, prop.id)?))?;
-    if let Some(name) = name_in(names, prop.id) {
-        put(&mut map, alloc, "name", kind_doc(alloc, name.kind)?)?;
-        put(&mut map, alloc, "set", set_doc(alloc, name.set)?)?;
-    }
-    if places {
-        put(&mut map, alloc, "places", places_doc(alloc, prop.value)?)?;
-    }
-    let kind = id_text(alloc, prop.kind.0)?;
-    put(&mut map, alloc, "type", Doc::from(kind))?;
-    Ok(Doc::from(map))
-}
-
-// A property as an object, where the values of these have files.
-fn shown_doc(
-    alloc: Global,
-    names: Option<NameMap>,
-    filed: Filed,
-    places: bool,
-    prop: Prop,
-) -> Result<Doc, AllocError>
-    ensures { let name = names_told names.entry prop.entry.id in
-        let places = if_asked places (places_in prop.entry.value) in
-        IfOk result (λ d.
-        view d ≡ filed_prop_data filed name places (property_of prop.entry)) }
-{
-    match file_told(alloc, filed, prop.id, prop.kind)? {
-        Some(file) => filed_doc(alloc, file, names, places, prop),
-        None => prop_doc(alloc, names, places, prop),
-    }
-}
-
-// Puts a property behind a text, as an object, where the values of these have files.
-fn put_shown(
-    alloc: Global,
-    names: Option<NameMap>,
-    filed: Filed,
-    places: bool,
-    prop: Prop,
-    text: &mut Vec<u8>,
-) -> Result<(), AllocError>
-    ensures put { let name = names_told names.entry prop.entry.id in
-        let places = if_asked places (places_in prop.entry.value) in OnOk result (text.new.items
-        ≡ text.old.items
-        ++ compact_text (filed_prop_data filed name places (property_of prop.entry))) }
-    ensures kept { OnErr result (BeginsWith text.new.items text.old.items) }
-{
-    let name = name_in(names, prop.id);
-    match file_told(alloc, filed, prop.id, prop.kind)? {
-        Some(file) => put_filed_prop(alloc, &file, &name, places, prop, text),
-        None => put_prop(alloc, &name, places, prop, text),
-    }
 }
 
 /// The properties that are left of a context, the names that they are shown with, of which files are told, and whether with their
@@ -186,19 +114,13 @@ pub fn prop_rows<'a>(
     }
 }
 
-#[tactic(auto, unfolding(crate::specs::Props::prop_rows_left), using(crate::proofs::PropLemmas::prop_has_none))]
+#[tactic(auto, unfolding(crate::specs::Props::prop_rows_left), using(crate::proofs::PropLemmas::filed_has_none))]
 impl Rows for PropRows<'_> {
     ghost left = { prop_rows_left };
 
     fn next_doc(&mut self, alloc: Global) -> Result<Option<Doc>, AllocError> {
         match self.props.next() {
-            Some(prop) => Ok(Some(shown_doc(
-                alloc,
-                self.names,
-                self.filed,
-                self.places,
-                prop,
-            )?)),
+            Some(prop) => Ok(Some(shown_doc(alloc, self.names, self.filed, self.places, prop)?)),
             None => Ok(None),
         }
     }

@@ -1,0 +1,1 @@
+-- What a contract sees of an archive.
