@@ -90,7 +90,7 @@ pub gathered_more : (old now new : Option (List ℕ)) (whole before gathered kep
 gathered_more old now new whole before gathered kept left us c next more so_far moves =
     let text = encode_utf8_all us in
     let same = ap (λ l. before ++ l) (utf8_next left us c next) ∙ sym (append_assoc before (encode_utf8 c) text) ∙ ap (λ l. l ++ text) (sym more ∙ sym moves.2)
-        ∙ append_assoc moves.0 kept text in
+    ∙ append_assoc moves.0 kept text in
     written_more old now new whole moves.0 (kept ++ text) (subst (Written old now whole) same so_far) moves.1
 
 -- a front of what was gathered is a front of the text
