@@ -1,7 +1,7 @@
 -- The messages of a type among all messages; and what is counted of them.
 use Rattle.std.proofs.Common.{◌≡◌, ◌<◌, ◌+◌, ℕ, Bool, true, false, cond, List, [], ◌∷◌, ◌++◌, length, map, refl, sym, ap, ◌∙◌, arith}
 use Rattle.std.specs.Prelude.{◌||◌, Option, Some, None}
-use Rattle.std.specs.List.{concat}
+use Rattle.std.specs.Prelude.{flat_map}
 use Rattle.std.proofs.lemmas.Bool.{false≢true}
 use Rattle.pst_ndb.specs.Roots.{Roots}
 use Rattle.pst_verify.specs.pst_msg.declared.nid.TheConstants.{MESSAGE, ASSOCIATED}

@@ -1,6 +1,6 @@
 -- The files of a message and of an attachment.
 use Rattle.std.specs.Prelude.{ℕ, true, false, Option, Some, None, List, [], ◌∷◌, ◌++◌, map, codes}
-use Rattle.std.specs.List.{concat}
+use Rattle.std.specs.Prelude.{flat_map}
 use Rattle.pst_block.specs.Table.{Table}
 use Rattle.pst_btree.specs.Entries.{first_with}
 use Rattle.pst_ndb.specs.Roots.{Roots}
@@ -38,7 +38,7 @@ file_at file t r folder time id = value_file file folder time (first_with id_of 
 
 -- of properties with identifiers, in this order
 abbrev pub files_at : (ℕ → ℕ → Option (List ℕ)) → Table → Roots → List ℕ → ℕ → List ℕ → List Member
-files_at file t r folder time ids = concat (map (file_at file t r folder time) ids)
+files_at file t r folder time ids = flat_map (file_at file t r folder time) ids
 
 -- the document, and what it has in files: of a message its headers and bodies, of an attachment its content
 unfoldable pub place_files : (ℕ → Option NameParts) → Table → ℕ → List ℕ → Place → List Member

@@ -1,7 +1,7 @@
 -- What has a folder of its own in an archive: a message, its attachments, and the messages that these embed, each once for each path
 -- that leads to it ([MS-PST] 2.4.5, 2.4.6).
 use Rattle.std.specs.Prelude.{ℕ, zero, suc, Option, Some, None, option_map, List, [], ◌∷◌, ◌++◌, map, codes}
-use Rattle.std.specs.List.{concat}
+use Rattle.std.specs.Prelude.{flat_map}
 use Rattle.pst_block.specs.Table.{Table}
 use Rattle.pst_ndb.specs.Roots.{Roots}
 use Rattle.pst_value_json.specs.Names.{nid_text}
@@ -43,7 +43,7 @@ row_held t inner folder s = if_there (attachment_held t inner (folder_in folder 
 
 -- of rows, in their order
 abbrev pub rows_held : Table → (List ℕ → Shown → List Held) → List ℕ → List Shown → List Held
-rows_held t inner folder rows = concat (map (row_held t inner folder) rows)
+rows_held t inner folder rows = flat_map (row_held t inner folder) rows
 
 -- a message, and what it holds
 unfoldable pub message_held : Table → (List ℕ → Shown → List Held) → List ℕ → ℕ → Roots → List Held

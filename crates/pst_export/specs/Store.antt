@@ -1,6 +1,6 @@
 -- All files of a store, and the archive of them.
 use Rattle.std.specs.Prelude.{ℕ, ◌+◌, ◌/◌, Bool, nat_lt, false, Option, Some, None, List, [], ◌∷◌, ◌++◌, length, map, codes}
-use Rattle.std.specs.List.{concat, filter}
+use Rattle.std.specs.Prelude.{flat_map}
 use Rattle.pst_page.specs.declared.entry.NodeEntry.{NodeEntry}
 use Rattle.pst_block.specs.Table.{Table}
 use Rattle.pst_ndb.specs.Roots.{Roots, node_in, all_roots}
@@ -42,10 +42,10 @@ folder_files names t rs = map (folder_file names t) rs
 -- ---- of messages of one type, in a folder of that name: each with all that it holds
 
 unfoldable pub message_files : (ℕ → Option NameParts) → Table → List ℕ → Roots → List Member
-message_files names t name r = concat (map (held_files names t (time_of t r)) (held_of t name r))
+message_files names t name r = flat_map (held_files names t (time_of t r)) (held_of t name r)
 
 abbrev pub messages_files : (ℕ → Option NameParts) → Table → List ℕ → List Roots → List Member
-messages_files names t name rs = concat (map (message_files names t name) rs)
+messages_files names t name rs = flat_map (message_files names t name) rs
 
 -- ---- all of them
 
@@ -74,7 +74,7 @@ archive_text t nodes = archive_of (store_files t nodes)
 -- ---- how many messages and attachments there are, each counted once for each path that leads to it
 
 abbrev pub all_held : Table → List ℕ → List Roots → List Held
-all_held t name rs = concat (map (held_of t name) rs)
+all_held t name rs = flat_map (held_of t name) rs
 
 unfoldable pub path_count : Table → List NodeEntry → ℕ
 path_count t nodes =

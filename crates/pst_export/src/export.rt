@@ -84,7 +84,8 @@ fn write_files<W: Write>(
     write_front(alloc, number, names, verified, out)?;
     write_folders(alloc, number, names, verified, out)?;
     write_messages(alloc, number, names, &store, MESSAGE, "messages", out)?;
-    write_messages(alloc, number, names, &store, ASSOCIATED, "associated", out)
+    write_messages(alloc, number, names, &store, ASSOCIATED, "associated", out)?;
+    Ok(())
 }
 
 /// Writes the archive. Memory is taken for one document at a time, and none for values. After a fault the writer holds a front of it.

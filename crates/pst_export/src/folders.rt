@@ -41,7 +41,8 @@ fn write_store<W: Write>(
         AddsFront (W.contents out.old) (W.contents out.new) number.old files }
 {
     let line = node_line(alloc, verified.store.props(), names)?;
-    write_bytes(alloc, number, b"store.json", 0, &line, out)
+    write_bytes(alloc, number, b"store.json", 0, &line, out)?;
+    Ok(())
 }
 
 // Writes the folders of the store as a document.
@@ -61,7 +62,8 @@ fn write_list<W: Write>(
         AddsFront (W.contents out.old) (W.contents out.new) number.old files }
 {
     let line = folders_line(alloc, verified)?;
-    write_bytes(alloc, number, b"folders.json", 0, &line, out)
+    write_bytes(alloc, number, b"folders.json", 0, &line, out)?;
+    Ok(())
 }
 
 // Writes the messages of the store in short.
@@ -81,7 +83,8 @@ fn write_summaries<W: Write>(
         AddsFront (W.contents out.old) (W.contents out.new) number.old files }
 {
     let text = messages_text(alloc, &verified.store)?;
-    write_bytes(alloc, number, b"messages.jsonl", 0, &text, out)
+    write_bytes(alloc, number, b"messages.jsonl", 0, &text, out)?;
+    Ok(())
 }
 
 /// Writes the files of a store itself: its properties, its folders, and its messages in short.
@@ -101,7 +104,8 @@ pub(crate) fn write_front<W: Write>(
 {
     write_store(alloc, number, names, verified, out)?;
     write_list(alloc, number, verified, out)?;
-    write_summaries(alloc, number, verified, out)
+    write_summaries(alloc, number, verified, out)?;
+    Ok(())
 }
 
 // The name of the file of a folder.
@@ -135,7 +139,8 @@ fn write_folder<W: Write>(
     folder.is_sound();
     let line = node_line(alloc, folder.pc(), names)?;
     let path = folder_path(alloc, folder.nid())?;
-    write_bytes(alloc, number, path.as_bytes(), 0, &line, out)
+    write_bytes(alloc, number, path.as_bytes(), 0, &line, out)?;
+    Ok(())
 }
 
 /// Writes the files of all folders and search folders.

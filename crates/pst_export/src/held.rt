@@ -30,6 +30,7 @@ fn path_of(alloc: Global, folder: &str, name: &str) -> Result<String, AllocError
 }
 
 // Writes the file of a message that has the value of the property with an identifier, where it has one.
+#[tactic(auto, unfolding(crate::specs::Files::file_at), using(crate::proofs::WriteLemmas::adds_none, crate::proofs::WriteLemmas::front_none))]
 fn write_body<W: Write>(
     alloc: Global,
     number: &mut u64,
@@ -59,6 +60,7 @@ fn write_body<W: Write>(
 }
 
 // Writes the file of an attachment that has its content, where it has one.
+#[tactic(auto, unfolding(crate::specs::Files::file_at), using(crate::proofs::WriteLemmas::adds_none, crate::proofs::WriteLemmas::front_none))]
 fn write_content<W: Write>(
     alloc: Global,
     number: &mut u64,
@@ -87,6 +89,7 @@ fn write_content<W: Write>(
 }
 
 // Writes a document.
+#[tactic(auto, using(crate::proofs::WriteLemmas::front_none))]
 fn write_document<W: Write>(
     alloc: Global,
     number: &mut u64,
@@ -101,7 +104,8 @@ fn write_document<W: Write>(
         (member_in folder.now time (codes "props.json") line.now ∷ []) }
 {
     let path = path_of(alloc, folder, "props.json")?;
-    write_bytes(alloc, number, path.as_bytes(), time, line, out)
+    write_bytes(alloc, number, path.as_bytes(), time, line, out)?;
+    Ok(())
 }
 
 // Writes the headers and the bodies of a message.
@@ -125,11 +129,12 @@ fn write_bodies<W: Write>(
     write_body(alloc, number, folder, time, pc, HEADERS, out)?;
     write_body(alloc, number, folder, time, pc, BODY, out)?;
     write_body(alloc, number, folder, time, pc, HTML, out)?;
-    write_body(alloc, number, folder, time, pc, RTF, out)
+    write_body(alloc, number, folder, time, pc, RTF, out)?;
+    Ok(())
 }
 
 // Writes the files of a message in this folder, of which properties are called so.
-#[tactic(auto, unfolding(crate::specs::Files::place_files))]
+#[tactic(auto, unfolding(crate::specs::Files::place_files), using(crate::proofs::WriteLemmas::adds_two, crate::proofs::WriteLemmas::front_first, crate::proofs::WriteLemmas::front_second, crate::proofs::WriteLemmas::front_none, crate::proofs::WriteLemmas::front_whole, crate::proofs::WriteLemmas::adds_none))]
 fn write_message<W: Write>(
     alloc: Global,
     number: &mut u64,
@@ -148,11 +153,12 @@ fn write_message<W: Write>(
 {
     let line = message_line(alloc, message, names)?;
     write_document(alloc, number, folder, time, &line, out)?;
-    write_bodies(alloc, number, folder, time, &message.pc(), out)
+    write_bodies(alloc, number, folder, time, &message.pc(), out)?;
+    Ok(())
 }
 
 // Writes the files of an attachment in this folder, of which properties are called so.
-#[tactic(auto, unfolding(crate::specs::Files::place_files))]
+#[tactic(auto, unfolding(crate::specs::Files::place_files), using(crate::proofs::WriteLemmas::adds_two, crate::proofs::WriteLemmas::front_first, crate::proofs::WriteLemmas::front_second, crate::proofs::WriteLemmas::front_none, crate::proofs::WriteLemmas::front_whole, crate::proofs::WriteLemmas::adds_none))]
 fn write_attachment<W: Write>(
     alloc: Global,
     number: &mut u64,
@@ -171,7 +177,8 @@ fn write_attachment<W: Write>(
 {
     let line = attachment_line(alloc, attachment, names)?;
     write_document(alloc, number, folder, time, &line, out)?;
-    write_content(alloc, number, folder, time, &attachment.pc(), out)
+    write_content(alloc, number, folder, time, &attachment.pc(), out)?;
+    Ok(())
 }
 
 /// Writes the files of a message or an attachment, of which properties are called so.

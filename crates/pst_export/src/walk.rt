@@ -66,7 +66,7 @@ impl<'a> Walk<'a> {
     ghost use Rattle.pst_export.specs.Walk.{Begins, IsItemOver, IsWalkOver, StaysOver, TakesHeld, item_held, task_left, task_node, walk_left};
 
     /// A message of a store, in a folder of this name.
-    #[tactic(auto, using(crate::proofs::WalkLemmas::one_left, crate::proofs::WalkLemmas::one_over))]
+    #[tactic(auto, using(crate::proofs::WalkLemmas::one_over))]
     pub(crate) fn of(
         alloc: Global,
         name: &str,
@@ -170,14 +170,16 @@ impl<'a> Walk<'a> {
     }
 
     /// The next message or attachment, if one is left.
+    #[tactic(auto, using(crate::proofs::WalkLemmas::nothing_left))]
     pub(crate) fn next(&mut self) -> Result<Option<Item<'a>>, AllocError>
         ensures left { IfOk result (λ i. TakesHeld i (walk_left self.old) (walk_left self.new)) }
         ensures over { (t : Table) → IsWalkOver t self.old →
             IfOk result (λ i. StaysOver i t self.new) }
     {
         while let Some(task) = self.tasks.pop() {
-            if let Some(item) = self.begin(task)? {
-                return Ok(Some(item));
+            let item = self.begin(task)?;
+            if item.is_some() {
+                return Ok(item);
             }
         }
         Ok(None)

@@ -5,7 +5,7 @@ ghost use Rattle.pst_ndb.specs.Views.{table_of_node, roots_of};
 ghost use Rattle.pst_verify.specs.pst_msg.View.{node_of_attachment, attachment_shown};
 ghost use Rattle.pst_value_json.specs.Object.{parts_data, KeysRise};
 ghost use Rattle.pst_value_json.specs.Props.{names_told, prop_rows_left};
-ghost use Rattle.pst_json.specs.Node.{embedded_there, attachment_data, filed_in_list as filed_below};
+ghost use Rattle.pst_json.specs.Node.{embedded_there, attachment_data, filed_in_list as filed_below, listed_data};
 ghost use Rattle.pst_json.specs.Lists.{attachment_rows_left};
 
 use pst_value_json::{
@@ -61,6 +61,24 @@ fn filed_in_list(files: bool, nid: u32) -> Filed
     }
 }
 
+// What the object of an attachment in the list of a message is made of.
+fn listed_parts<'a>(
+    alloc: Global,
+    attachment: Attachment<'a>,
+    names: Option<NameMap<'a>>,
+    files: bool,
+    places: bool,
+) -> Result<Vec<Part<PropRows<'a>>>, AllocError>
+    ensures shown { let t = table_of_node (node_of_attachment attachment.entry) in
+        let shown = attachment_shown attachment.entry in let told = names_told names.entry in
+        IfOk result (λ parts.
+        parts_data prop_rows_left parts.items ≡ listed_data told files places t shown) }
+    ensures keys { IfOk result (λ parts. KeysRise prop_rows_left parts.items) }
+{
+    let filed = filed_in_list(files, attachment.nid());
+    attachment_parts(alloc, attachment, names, filed, places)
+}
+
 /// The attachments that are left, the names that their properties are shown with, whether files are told in place of their contents,
 /// and whether with their places.
 #[derive(Drop)]
@@ -78,8 +96,7 @@ impl Rows for AttachmentRows<'_> {
     fn next_doc(&mut self, alloc: Global) -> Result<Option<Doc>, AllocError> {
         match self.attachments.next() {
             Some(attachment) => {
-                let filed = filed_in_list(self.files, attachment.nid());
-                let parts = attachment_parts(alloc, attachment, self.names, filed, self.places)?;
+                let parts = listed_parts(alloc, attachment, self.names, self.files, self.places)?;
                 Ok(Some(Tree::object(alloc, parts)?))
             }
             None => Ok(None),
@@ -96,8 +113,7 @@ impl Rows for AttachmentRows<'_> {
         let Some(attachment) = self.attachments.next() else {
             return Ok(false);
         };
-        let filed = filed_in_list(self.files, attachment.nid());
-        let parts = attachment_parts(alloc, attachment, self.names, filed, self.places)?;
+        let parts = listed_parts(alloc, attachment, self.names, self.files, self.places)?;
         put_object(alloc, parts, later, text)?;
         Ok(true)
     }

@@ -5,6 +5,7 @@ ghost use Rattle.pst_value_json.specs.Rows.{PutsNext};
 
 use crate::refused::{Refused, holds};
 use pst_bytes::Image;
+use pst_export::{emit_export, export_of};
 use pst_header::read_header;
 use pst_json::{
     check_doc, check_line, contents_doc, contents_line, folders_doc, folders_line, head_doc,
@@ -88,6 +89,16 @@ pub(crate) fn nodes(alloc: Global, bytes: &[u8]) -> Result<(), Refused> {
         &doc,
         &props_line(alloc, &store, &index, &[0x21], false)?,
     )
+}
+
+/// The archive of the store, in memory: of whole blocks.
+pub(crate) fn archive(alloc: Global, bytes: &[u8]) -> Result<(), Refused> {
+    let export = export_of(alloc, verify(alloc, bytes)?)?;
+    let mut out = Vec::new(alloc);
+    match emit_export(alloc, &export, &mut out) {
+        Ok(()) => holds(out.len() > 1024 && out.len() % 512 == 0),
+        Err(_) => Err(Refused::Memory),
+    }
 }
 
 // Puts the next row behind a text; where memory is refused within the row, no byte of the text is lost.

@@ -33,12 +33,13 @@ enum Calls {
     Lists,
     Nodes,
     Values,
+    Archive,
     Images,
     Load,
     Run,
 }
 
-const ALL: [Calls; 11] = [
+const ALL: [Calls; 12] = [
     Calls::Layers,
     Calls::Database,
     Calls::Remains,
@@ -47,6 +48,7 @@ const ALL: [Calls; 11] = [
     Calls::Lists,
     Calls::Nodes,
     Calls::Values,
+    Calls::Archive,
     Calls::Images,
     Calls::Load,
     Calls::Run,
@@ -62,6 +64,7 @@ fn made(alloc: Global, calls: Calls, bytes: &[u8]) -> Result<(), Refused> {
         Calls::Lists => documents::lists(alloc, bytes),
         Calls::Nodes => documents::nodes(alloc, bytes),
         Calls::Values => documents::values(alloc, bytes),
+        Calls::Archive => documents::archive(alloc, bytes),
         Calls::Images => whole::images(alloc),
         Calls::Load => whole::loads(alloc, bytes),
         Calls::Run => whole::run_of(alloc, bytes),

@@ -1,7 +1,7 @@
 //! What each command answers to the bytes of a file.
 
 ghost use Rattle.std.specs.Prelude.{◌≡◌, ◌++◌, ℕ, Bool, List, map, Option, IfOk};
-ghost use Rattle.pst_ask.specs.Ask.{report, head, nodes, folders, contents, messages, props, value, nids_of, wanted_of};
+ghost use Rattle.pst_ask.specs.Ask.{report, head, nodes, folders, contents, messages, props, value, export, nids_of, wanted_of};
 ghost use Rattle.pst_json.specs.NamesIndex.{IsNamesIndex};
 ghost use Rattle.pst_json.specs.Node.{props_line as line_of_props};
 ghost use Rattle.pst_json.specs.pst_ndb.Views.{table_of_ndb, nodes_of};
@@ -15,6 +15,7 @@ use crate::refusal::Refusal;
 use crate::shown::{Shown, Text};
 use pst_ask::{Ask, Path};
 use pst_bytes::Image;
+use pst_export::export_of;
 use pst_header::read_header;
 use pst_json::{
     NameIndex, Prop, Store, TEXT, check_line, contents_line, folders_line, head_line,
@@ -187,6 +188,22 @@ fn value_answer<'p, 'a>(
     }
 }
 
+// `export`: all files of a store, in an archive.
+#[tactic(auto, unfolding(crate::specs::Answer::answer_with))]
+fn export_answer<'a>(alloc: Global, bytes: &'a [u8]) -> Result<Shown<'a>, Refusal<'static>>
+    ensures { (digest : Option (List ℕ)) → Gives result (answer_with export digest bytes.now) }
+{
+    let verified = verify(alloc, bytes)?;
+    verified.store.is_sound();
+    match export_of(alloc, verified) {
+        Ok(export) => Ok(Shown {
+            text: Text::Archive(export),
+            fails: false,
+        }),
+        Err(fault) => Err(Refusal::of_document(&[], fault)),
+    }
+}
+
 /// What a command shows of a file with these bytes, and with this digest where it shows one; or why it refuses them. The fault
 /// NoMemory comes as want of memory, and not as a refusal of the file.
 pub fn answer<'p, 'a>(
@@ -207,5 +224,6 @@ pub fn answer<'p, 'a>(
         Ask::Messages => messages_answer(alloc, bytes),
         Ask::Props { places, paths } => props_answer(alloc, *places, paths, bytes),
         Ask::Value { text, path, id } => value_answer(alloc, *text, path, *id, bytes),
+        Ask::Export => export_answer(alloc, bytes),
     }
 }
