@@ -24,7 +24,7 @@ pub fn names_index(alloc: Global, store: &Store) -> Result<NameIndex, AllocError
 }
 
 /// The store's name map, which is lent such an index; None where there is no name map.
-pub(crate) fn names_in<'a>(store: &Store<'a>, index: &'a NameIndex) -> Option<NameMap<'a>>
+pub fn names_in<'a>(store: &Store<'a>, index: &'a NameIndex) -> Option<NameMap<'a>>
     requires { let ndb = ndb_of_store store.now in
         IsNamesIndex (table_of_ndb ndb) (nodes_of ndb) index.now }
     ensures { let ndb = ndb_of_store store.now in
