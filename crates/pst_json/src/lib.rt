@@ -21,6 +21,7 @@ mod head;
 mod index;
 mod listings;
 mod lists;
+mod lost;
 mod messages;
 mod names;
 mod nid_lists;
@@ -36,6 +37,7 @@ pub use contents::{contents_doc, contents_line};
 pub use fault::DocFault;
 pub use folders::{folders_doc, folders_line};
 pub use head::{head_doc, head_line};
+pub use lost::lost_at;
 pub use messages::messages_text;
 pub use names::names_index;
 pub use node::{props_doc, props_line};
@@ -46,5 +48,6 @@ pub use pst_ndb::read_nodes;
 pub use pst_value_json::{
     NameIndex, Prop, PropType, Value, hex_doc, pc_doc, table_doc, text, text_of, value_doc,
 };
-pub use pst_verify::{Store, verify};
+pub use pst_verify::{Reach, Store, Verified, reach_among, verify};
+pub use pst_whole::{Intact, Lost, WholeNodes, find_whole};
 pub use texts::TEXT;
