@@ -26,6 +26,7 @@ TRIED = [
     ["tools/compare_kinds.py"],
     ["tools/write_words.py", "--compare"],
     ["tools/check_examples.py", "--some"],
+    ["tools/check_schemas.py"],
     ["tools/try_terminal"],
     REFUSE,
 ]
