@@ -2,7 +2,7 @@
 
 _pst_show() {
     local word=${COMP_WORDS[COMP_CWORD]} command='' index files=0
-    local commands='check damage head nodes folders contents messages props value explain help'
+    local commands='check damage head nodes folders contents messages props value export explain help'
     COMPREPLY=()
     for ((index = 1; index < COMP_CWORD; index++)); do
         case ${COMP_WORDS[index]} in
@@ -33,6 +33,7 @@ _pst_show() {
             messages) options='--help --decode' ;;
             props) options='--help --places --decode' ;;
             value) options='--help --text --decode' ;;
+            export) options='--help --decode' ;;
         esac
         mapfile -t COMPREPLY < <(compgen -W "$options" -- "$word")
         return
@@ -40,7 +41,7 @@ _pst_show() {
     ((files == 0)) || return
     case $command in
         help) mapfile -t COMPREPLY < <(compgen -W "$commands" -- "$word") ;;
-        check | damage | head | nodes | folders | contents | messages | props | value)
+        check | damage | head | nodes | folders | contents | messages | props | value | export)
             compopt -o filenames 2>/dev/null
             mapfile -t COMPREPLY < <(compgen -d -- "$word"; compgen -f -X '!*.[pP][sS][tT]' -- "$word")
             ;;

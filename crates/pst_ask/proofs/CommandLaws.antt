@@ -10,8 +10,8 @@ use Rattle.pst_ask.specs.declared.verb.Takes.{Takes}
 use Rattle.pst_ask.specs.declared.verb.Takes.TheVariants.{File, Report, Digest, Node}
 use Rattle.pst_ask.specs.declared.verb.Takes.TheVariants as takes
 use Rattle.pst_ask.specs.declared.verb.Verb.{Verb}
-use Rattle.pst_ask.specs.declared.verb.Verb.TheVariants.{Check, Damage, Head, Nodes, Folders, Contents, Messages, Props, Value, Explain}
-use Rattle.pst_ask.specs.Ask.{Flags, Ordered, Wanted, asked_by, asked_of, asking, both_named, both_of, contents, damage, explain, folders, head, is_used, kind_named, messages, node_named, nodes, of_file, of_named, only_kind, only_node, only_property, or_lack, path_named, paths_named, property_named, props, report, show, shows, some_paths, value}
+use Rattle.pst_ask.specs.declared.verb.Verb.TheVariants.{Check, Damage, Head, Nodes, Folders, Contents, Messages, Props, Value, Export, Explain}
+use Rattle.pst_ask.specs.Ask.{Flags, Ordered, Wanted, asked_by, asked_of, asking, both_named, both_of, contents, damage, explain, export, folders, head, is_used, kind_named, messages, node_named, nodes, of_file, of_named, only_kind, only_node, only_property, or_lack, path_named, paths_named, property_named, props, report, show, shows, some_paths, value}
 use Rattle.pst_ask.specs.Nid.{path_of_word}
 use Rattle.pst_ask.specs.Property.{property_of_word}
 use Rattle.pst_ask.specs.Verbs.{name_of, takes_of}
@@ -169,4 +169,6 @@ words_law Props flags file words order no_option is =
 words_law Value flags file words order no_option is =
     gives Value flags file (to_file takes.Property flags file ++ words) (λ p. value flags.text p.0 p.1) (only_property words)
     (λ both. by_property Value value refl (λ rows. refl) flags file words both no_option) order is
+words_law Export flags file words order no_option is =
+    exactly (name_of Export ∷ (to_file File flags file ++ [])) _ order is (by_file Export export refl (λ rows. refl) flags file no_option)
 words_law Explain flags file words order no_option is = asked_so (name_of Explain ∷ words) explain (only_kind words) order (by_kind words) is

@@ -14,7 +14,7 @@ use Rattle.pst_ask.specs.declared.ask.Order.{Order}
 use Rattle.pst_ask.specs.declared.ask.Order.TheVariants as order
 use Rattle.pst_ask.specs.declared.ask.Request.{Request}
 use Rattle.pst_ask.specs.declared.verb.Verb.{Verb}
-use Rattle.pst_ask.specs.declared.verb.Verb.TheVariants.{Check, Damage, Head, Nodes, Folders, Contents, Messages, Props, Value, Explain}
+use Rattle.pst_ask.specs.declared.verb.Verb.TheVariants.{Check, Damage, Head, Nodes, Folders, Contents, Messages, Props, Value, Export, Explain}
 use Rattle.pst_ask.specs.declared.words.NoOrder.{NoOrder}
 use Rattle.pst_ask.specs.declared.words.NoOrder.TheVariants.{Words, Lacks}
 use Rattle.pst_ask.specs.declared.path.Path.{Path}
@@ -40,6 +40,8 @@ pub data Wanted : Type 0 where
   props : Bool → List (List ℕ) → Wanted
   -- the value of a property of what a path leads to, and whether a text is written as UTF-8
   value : Bool → List ℕ → ℕ → Wanted
+  -- all that a store has, as an archive
+  export : Wanted
 
 -- the identifiers of a path
 abbrev pub nids_of : Path → List ℕ
@@ -55,6 +57,7 @@ wanted_of (ask.Contents nid) = contents nid
 wanted_of ask.Messages = messages
 wanted_of (ask.Props places paths) = props places (map nids_of paths.items)
 wanted_of (ask.Value text path id) = value text (nids_of path) id
+wanted_of ask.Export = export
 
 -- what is to be shown, of which file, and whether that is decoded first
 pub record Asked : Type 0 where
@@ -162,6 +165,7 @@ asked_by Messages rows = of_file rows (Ok messages)
 asked_by Props rows = of_file rows (asking (props (is_used (codes "places") rows)) (paths_named (all_of (codes "PATH") rows)))
 asked_by Value rows =
     of_file rows (both_of (value (is_used (codes "text") rows)) (path_named (first_of (codes "PATH") rows)) (property_named (first_of (codes "ID") rows)))
+asked_by Export rows = of_file rows (Ok export)
 asked_by Explain rows = asking explain (kind_named (first_of (codes "KIND") rows))
 
 abbrev pub asked_with : Option Verb → List Row → Result Ordered Lack
@@ -227,4 +231,5 @@ asks Contents flags file words = shows flags file (option_map contents (only_nod
 asks Messages flags file words = shows flags file (Some messages)
 asks Props flags file words = shows flags file (option_map (props flags.places) (some_paths words))
 asks Value flags file words = shows flags file (option_map (λ p. value flags.text p.0 p.1) (only_property words))
+asks Export flags file words = shows flags file (Some export)
 asks Explain flags file words = option_map explain (only_kind words)

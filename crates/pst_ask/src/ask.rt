@@ -56,6 +56,8 @@ pub enum Ask {
         /// The identifier of the property.
         id: u16,
     },
+    /// All that a store has, as an archive.
+    Export,
 }
 
 /// What is asked for of a file.
@@ -227,6 +229,7 @@ fn order_by<'a>(alloc: Global, verb: Verb, found: &ArgMatches<'a>) -> Result<Ord
             of_file(found, Ask::Props { places, paths })
         }
         Verb::Value => of_file(found, value_in(alloc, found)?),
+        Verb::Export => of_file(found, Ask::Export),
         Verb::Explain => Ok(Order::Explain(kind_in(found)?)),
     }
 }

@@ -43,13 +43,15 @@ pub enum Verb {
     Props,
     /// The value of one property.
     Value,
+    /// All that a store has.
+    Export,
     /// What a kind of fault says.
     Explain,
 }
 
 impl Verb {
     /// All commands, in the order in which help shows them.
-    pub const ALL: [Verb; 10] = [
+    pub const ALL: [Verb; 11] = [
         Verb::Check,
         Verb::Damage,
         Verb::Head,
@@ -59,6 +61,7 @@ impl Verb {
         Verb::Messages,
         Verb::Props,
         Verb::Value,
+        Verb::Export,
         Verb::Explain,
     ];
 
@@ -81,6 +84,7 @@ impl Verb {
             ),
             Verb::Props => ("props", "Shows the properties of nodes", Takes::Paths),
             Verb::Value => ("value", "Writes the value of a property", Takes::Property),
+            Verb::Export => ("export", "Writes all of it as a tar archive", Takes::File),
             Verb::Explain => ("explain", "Explains the kinds of fault", Takes::Kind),
         }
     }

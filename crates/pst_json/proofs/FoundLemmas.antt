@@ -6,7 +6,7 @@ use Rattle.pst_block.specs.Table.{Table}
 use Rattle.pst_value_json.specs.pst_names.Name.{NameParts}
 use Rattle.pst_value_json.specs.Line.{line_of}
 use Rattle.pst_json.specs.declared.fault.DocFault.{DocFault}
-use Rattle.pst_json.specs.declared.fault.DocFault.TheVariants.{NoFolder, NoNode, Bad, NoProperty, Memory}
+use Rattle.pst_json.specs.declared.fault.DocFault.TheVariants.{NoFolder, NoNode, Bad, NoProperty, TooManyPaths, Memory}
 use Rattle.pst_json.specs.Node.{place_data}
 use Rattle.pst_json.specs.Path.{Place}
 use Rattle.pst_json.specs.Told.{TellsDoc, lined, told_of}
@@ -28,6 +28,7 @@ tells_fault shown NoFolder answer is = is
 tells_fault shown NoNode answer is = is
 tells_fault shown (Bad f) answer is = is
 tells_fault shown (NoProperty id) answer is = is
+tells_fault shown TooManyPaths answer is = is
 tells_fault shown Memory answer is = tt
 
 pub told_refused : {X Z W : Type 0} (shown : W → Z) (tell : X → Z) (f : DocFault) (told : Result X DocFault) → Err f ≡ told → TellsDoc {X = Z} {Y = W} shown (Err f) (told_of tell told)

@@ -3,6 +3,7 @@ pub use Rattle.pst_value_json.specs.Parts
 pub use Rattle.pst_value_json.specs.Names
 pub use Rattle.pst_value_json.specs.Value
 pub use Rattle.pst_value_json.specs.Places
+pub use Rattle.pst_value_json.specs.Filed
 pub use Rattle.pst_value_json.specs.Props
 pub use Rattle.pst_value_json.specs.Cells
 pub mod Head

@@ -23,7 +23,7 @@ pub fn names_index(alloc: Global, intact: &Intact) -> Result<NameIndex, AllocErr
 }
 
 /// The store's name map, which is lent such an index; None where there is no name map.
-pub(crate) fn names_in<'a>(intact: &Intact<'a>, index: &'a NameIndex) -> Option<NameMap<'a>>
+pub fn names_in<'a>(intact: &Intact<'a>, index: &'a NameIndex) -> Option<NameMap<'a>>
     requires { let i = intact.now in
         IsNamesIndex (table_of_intact i) (nodes_of_intact i) index.now }
     ensures { let i = intact.now in

@@ -11,7 +11,7 @@ use pst_json::{
     head_line, hex_doc, messages_text, names_index, nodes_doc, nodes_line, pc_doc, props_doc,
     props_line, read_nodes, table_doc, text, text_of, value_doc, verify,
 };
-use pst_value_json::{Rows, prop_rows, table_rows};
+use pst_value_json::{Filed, Rows, prop_rows, table_rows};
 use pst_verify::Verified;
 use serde_json::Value as Doc;
 use std::alloc::Global;
@@ -122,7 +122,7 @@ pub(crate) fn values(alloc: Global, bytes: &[u8]) -> Result<(), Refused> {
     let store = verify(alloc, bytes)?.store;
     let pc = store.props();
     let _all = pc_doc(alloc, &pc, store.names(), false)?;
-    put_all(alloc, prop_rows(&pc, store.names(), true))?;
+    put_all(alloc, prop_rows(&pc, store.names(), Filed::Nothing, true))?;
     for prop in pc.props() {
         let _shown = value_doc(alloc, prop.kind, prop.value)?;
         let _bytes = hex_doc(alloc, prop.value)?;

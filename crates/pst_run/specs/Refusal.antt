@@ -48,6 +48,7 @@ abbrev pub refusal_for : List ℕ → DocFault → Refused
 refusal_for path (doc.Bad f) = refusal_of f
 refusal_for path doc.Memory = memory
 refusal_for path (doc.NoProperty id) = document [] (doc.NoProperty id)
+refusal_for path doc.TooManyPaths = document [] doc.TooManyPaths
 refusal_for path f = document path f
 
 -- what may come from reading

@@ -52,7 +52,7 @@ impl<'a> Refusal<'a> {
         match fault {
             DocFault::Bad(fault) => Refusal::from(fault),
             DocFault::Memory => Refusal::Memory,
-            DocFault::NoProperty(_) => Refusal::Document(&[], fault),
+            DocFault::NoProperty(_) | DocFault::TooManyPaths => Refusal::Document(&[], fault),
             _ => Refusal::Document(path, fault),
         }
     }

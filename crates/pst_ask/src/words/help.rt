@@ -21,9 +21,9 @@ macro_rules! ending {
 /// The end of the help of the program.
 pub(super) const PROGRAM: &str =
     "The answer is one line of JSON on standard output, of messages and props one for each;
-of value it is the bytes of the value, and of explain plain words. Where there is none,
-one line on standard error says why. FILE is the name of a file, or - for standard
-input; the program only reads it.
+of value it is the bytes of the value, of export an archive, and of explain plain words.
+Where there is none, one line on standard error says why. FILE is the name of a file, or
+- for standard input; the program only reads it.
 
 Exit status:
   0    The answer is printed; of check and damage: the file is a store
@@ -114,6 +114,18 @@ written as UTF-8; values of other types are written as they are.",
      error tells which"
 );
 
+const EXPORT: &str = ending!(
+    "Checks the whole file, and writes all that is in it as one tar archive: what folders,
+messages and props print of the store, its folders and its messages, and of each message
+its headers, its texts, its attachments and the messages that they embed as files, whose
+bytes are the values. Their names are words of the program and identifiers of the file:
+messages/0x200024/body.txt. `pst_show export FILE | tar x` makes them below the folder
+where it runs.",
+    "The archive is written",
+    "The file breaks a rule of the format, or more paths lead to its messages than it has
+     space for: standard error tells which"
+);
+
 // It reads no file, so it has no answer of one.
 const EXPLAIN: &str =
     "Prints in plain words what a kind of fault says of a file, what at, bid and nid are in
@@ -138,6 +150,7 @@ pub(super) fn ending_of<'a>(verb: Verb) -> &'a str {
         Verb::Messages => MESSAGES,
         Verb::Props => PROPS,
         Verb::Value => VALUE,
+        Verb::Export => EXPORT,
         Verb::Explain => EXPLAIN,
     }
 }

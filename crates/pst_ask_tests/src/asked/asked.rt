@@ -217,6 +217,7 @@ fn each_command_takes_a_file_that_is_decoded_first(rt: HostRuntime) -> Result<()
         (&["nodes", "a.pst", "--decode"], Ask::Nodes),
         (&["folders", "--decode", "--", "a.pst"], Ask::Folders),
         (&["messages", "a.pst", "--decode"], Ask::Messages),
+        (&["export", "--decode", "a.pst"], Ask::Export),
         (
             &["contents", "--decode", "a.pst", "0x8082"],
             Ask::Contents(0x8082),
@@ -256,6 +257,7 @@ fn each_command_is_asked_for(rt: HostRuntime) -> Result<(), Fail> {
     is_asked(&rt, &["nodes", ""], Ask::Nodes, "")?;
     is_asked(&rt, &["folders", "--", "-h"], Ask::Folders, "-h")?;
     is_asked(&rt, &["messages", "a.pst"], Ask::Messages, "a.pst")?;
+    is_asked(&rt, &["export", "-"], Ask::Export, "-")?;
     let contents = Ask::Contents(0x8082);
     is_asked(&rt, &["contents", "a b", "0x8082"], contents, "a b")
 }

@@ -10,7 +10,7 @@ const NO_COMMAND: [Refused; 5] = [
     (
         &[],
         "error: 'pst_show' requires a subcommand but one was not provided
-  [subcommands: check, damage, head, nodes, folders, contents, messages, props, value, explain, help]
+  [subcommands: check, damage, head, nodes, folders, contents, messages, props, value, export, explain, help]
 
 Usage: pst_show <COMMAND>
 ",

@@ -1,7 +1,7 @@
 //! The help of each command, word for word.
 
 // The name of each command, and its help.
-pub(super) const HELP_OF: [(&str, &str); 10] = [
+pub(super) const HELP_OF: [(&str, &str); 11] = [
     (
         "check",
         "Checks whether it is a store
@@ -239,6 +239,35 @@ Exit status:
   0  The value is written
   1  The file breaks a rule of the format, or has no such node or property: standard
      error tells which
+  2  The words are refused
+  3  The file cannot be read or is too long, or the output cannot be written
+  4  Memory was refused
+",
+    ),
+    (
+        "export",
+        "Writes all of it as a tar archive
+
+Usage: pst_show export [OPTIONS] <FILE>
+
+Arguments:
+  <FILE>  The file to read, or - for standard input
+
+Options:
+      --decode  Decodes an encoded file first, in memory
+  -h, --help    Print help
+
+Checks the whole file, and writes all that is in it as one tar archive: what folders,
+messages and props print of the store, its folders and its messages, and of each message
+its headers, its texts, its attachments and the messages that they embed as files, whose
+bytes are the values. Their names are words of the program and identifiers of the file:
+messages/0x200024/body.txt. `pst_show export FILE | tar x` makes them below the folder
+where it runs.
+
+Exit status:
+  0  The archive is written
+  1  The file breaks a rule of the format, or more paths lead to its messages than it has
+     space for: standard error tells which
   2  The words are refused
   3  The file cannot be read or is too long, or the output cannot be written
   4  Memory was refused
