@@ -1,6 +1,6 @@
 -- What is told of broken nodes, and of what lies behind broken pages.
-use Rattle.std.proofs.Common.{◌≡◌, ℕ, zero, suc, ◌+◌, ◌<◌, ◌≤◌, Bool, true, false, cond, List, [], ◌∷◌, map, Option, Some, None, refl, sym, ap, ◌∙◌, arith}
-use Rattle.std.specs.Prelude.{◌&&◌, nat_eq, nat_lt, is_none, is_some, option_map, IfSome}
+use Rattle.std.proofs.Common.{◌≡◌, ℕ, ◌+◌, ◌<◌, ◌≤◌, Bool, true, false, cond, List, [], ◌∷◌, map, Option, Some, None, refl, sym, ap, ◌∙◌, arith}
+use Rattle.std.specs.Prelude.{◌&&◌, nat_eq, nat_lt, is_none, is_some, option_map}
 use Rattle.std.specs.List.{filter}
 use Rattle.std.proofs.lemmas.Bool.Decides.{nat_tests}
 use Rattle.pst_fault.specs.declared.fault.Fault.{Fault}
@@ -13,7 +13,7 @@ use Rattle.pst_remains.specs.declared.pages.Broken.{Broken}
 use Rattle.pst_remains.specs.Pages.{page_before}
 use Rattle.pst_msg.specs.declared.nid.TheConstants.{STORE, ROOT}
 use Rattle.pst_damage.specs.declared.broken.BrokenNode.{BrokenNode}
-use Rattle.pst_damage.specs.Judged.{Judged, told_node, told_by}
+use Rattle.pst_damage.specs.Judged.{Judged, told_node, told_by, sound_by}
 use Rattle.pst_damage.specs.Laws.{told_nid, fault_told}
 use Rattle.pst_damage.specs.Nodes.{node_damage, missing, with_required, nodes_damage}
 use Rattle.pst_damage.specs.Order.{put_in}
@@ -147,3 +147,7 @@ told_there_is t nodes broken all told r is kept =
     ∙ there_required nodes broken ROOT (with_required nodes broken STORE list)
     ∙ there_required nodes broken STORE list
     ∙ all_there (node_damage t nodes broken) nodes nodes (λ e f is. is) 0 r
+
+pub untold_is : (t : Table) (nodes : List NodeEntry) (broken : List Broken) (told : List BrokenNode) (entries : List NodeEntry) → told ≡ broken_nodes t nodes broken → ((part : Judged) → told ≡ told_by part nodes → entries ≡ sound_by part nodes) → entries ≡ whole_nodes t nodes broken
+unfolding broken_nodes whole_nodes
+untold_is t nodes broken told entries is others = others (node_damage t nodes broken) is

@@ -1,12 +1,11 @@
 -- The whole nodes of a damaged file are intact.
-use Rattle.std.proofs.Common.{◌≡◌, ℕ, zero, suc, ◌+◌, ◌<◌, ◌≤◌, Bool, true, false, cond, List, [], ◌∷◌, map, Option, Some, None, refl, sym, ap, ◌∙◌, arith}
+use Rattle.std.proofs.Common.{◌≡◌, ℕ, ◌+◌, ◌<◌, ◌≤◌, Bool, true, false, cond, List, [], ◌∷◌, map, Option, Some, None, refl, sym, ap, ◌∙◌, arith}
 use Rattle.std.specs.Prelude.{nat_eq, option_map}
-use Rattle.std.specs.List.{Contains}
 use Rattle.std.proofs.lemmas.Bool.Decides.{nat_tests}
 use Rattle.pst_fault.specs.declared.fault.Fault.{Fault}
 use Rattle.pst_fault.specs.Each.{first_of, if_there}
 use Rattle.pst_fault.specs.First.{◌then◌}
-use Rattle.pst_fault.proofs.FirstLemmas.{none_then, both_none, then_none}
+use Rattle.pst_fault.proofs.FirstLemmas.{none_then, both_none}
 use Rattle.pst_page.specs.declared.entry.NodeEntry.{NodeEntry}
 use Rattle.pst_btree.specs.Entries.{first_with, node_key, node_with}
 use Rattle.pst_btree.specs.Order.{Rises}
@@ -21,7 +20,7 @@ use Rattle.pst_msg.specs.declared.items.Items.{Items}
 use Rattle.pst_msg.specs.declared.items.Items.TheVariants.{Subfolders, Messages, Associated}
 use Rattle.pst_msg.specs.declared.nid.TheConstants.{STORE, FOLDER, SEARCH_FOLDER}
 use Rattle.pst_msg.specs.Fault.{message_fault, name_map_fault}
-use Rattle.pst_msg.specs.Nid.{is_type, type_of, with_type}
+use Rattle.pst_msg.specs.Nid.{is_type, with_type}
 use Rattle.pst_msg.specs.Values.{is_message, listing_of, type_of_items}
 use Rattle.pst_damage.specs.Folder.{items_damage, table_damage, folder_damage, asked_damage}
 use Rattle.pst_damage.specs.Judged.{Judged, kept_node, sound_by, sound_nodes}
@@ -136,7 +135,7 @@ listing_whole t nodes broken items nid rises none = by_table (listing_of (sound_
     by_table None is = refl
     by_table (Some r) is =
         let there : listing_of (sound_nodes t nodes) items nid ≡ Some r =
-            found_in (node_damage t nodes broken) (node_fault t) (with_type nid (type_of_items items)) nodes r (λ e h. (own_none t nodes broken e h).0) rises is in
+        found_in (node_damage t nodes broken) (node_fault t) (with_type nid (type_of_items items)) nodes r (λ e h. (own_none t nodes broken e h).0) rises is in
         let here : items_damage t nodes broken items r ≡ None = ap (if_there (items_damage t nodes broken items)) (sym there) ∙ none in
         (none_then (tc_fault t r) _ here).0
 
@@ -158,9 +157,6 @@ tables_whole t nodes broken r rises none =
 
 of_type : (a b : ℕ) → nat_eq a b ≡ true → a ≡ b
 of_type a b e = grind (arith, nat_tests, e)
-
-not_folder : (nid given : ℕ) → nid ≡ given → is_type FOLDER given ≡ false → is_type FOLDER nid ≡ true → ⊥
-not_folder nid given is no yes = let bad : true ≡ false = sym yes ∙ ap (is_type FOLDER) is ∙ no in cc
 
 node_whole : (t : Table) (nodes : List NodeEntry) (broken : List Broken) (r : Roots) → Rises 0 None (map node_key nodes) → asked_damage t nodes broken r ≡ None → intact_node_fault t (whole_nodes t nodes broken) r ≡ None
 unfolding asked_damage intact_node_fault
@@ -251,16 +247,16 @@ names_whole t nodes broken = by_entry (node_with NAME_MAP (sound_by (node_damage
         let sound = found_is_sound (node_damage t nodes broken) NAME_MAP nodes x is in
         sym (names_asked t nodes broken (entry_roots x) sound.1) ∙ (own_none t nodes broken x sound.0).1
 
+is_list : (t : Table) (nodes xs : List NodeEntry) (broken : List Broken) → whole_nodes t nodes broken ≡ xs → xs ≡ sound_by (node_damage t nodes broken) nodes
+unfolding whole_nodes
+is_list t nodes xs broken e = sym e
+
 each_whole : (t : Table) (nodes : List NodeEntry) (broken : List Broken) → Rises 0 None (map node_key nodes) → first_of (intact_node_fault t (whole_nodes t nodes broken)) (all_roots (whole_nodes t nodes broken)) ≡ None
 each_whole t nodes broken rises = by_list (whole_nodes t nodes broken) refl
   where
-    is_list : (xs : List NodeEntry) → whole_nodes t nodes broken ≡ xs → xs ≡ sound_by (node_damage t nodes broken) nodes
-    unfolding whole_nodes
-    is_list xs e = sym e
-
     by_list : (xs : List NodeEntry) → whole_nodes t nodes broken ≡ xs → first_of (intact_node_fault t (whole_nodes t nodes broken)) (all_roots xs) ≡ None
     by_list xs e =
-        rw (is_list xs e) (roots_of_sound (node_damage t nodes broken) (intact_node_fault t (whole_nodes t nodes broken)) nodes (λ x none. node_whole t nodes broken (entry_roots x) rises (own_none t nodes broken x none).1))
+        rw (is_list t nodes xs broken e) (roots_of_sound (node_damage t nodes broken) (intact_node_fault t (whole_nodes t nodes broken)) nodes (λ x none. node_whole t nodes broken (entry_roots x) rises (own_none t nodes broken x none).1))
 
 pub whole_intact : (t : Table) (nodes entries : List NodeEntry) (broken : List Broken) → Rises 0 None (map node_key nodes) → entries ≡ whole_nodes t nodes broken → intact_fault t entries ≡ None
 unfolding intact_fault

@@ -1,5 +1,5 @@
 -- The nodes of a damaged file that are whole: those that are left and have no fault.
-use Rattle.std.specs.Prelude.{ℕ, Bool, is_some, List}
+use Rattle.std.specs.Prelude.{Bool, is_some, List}
 use Rattle.pst_page.specs.declared.entry.NodeEntry.{NodeEntry}
 use Rattle.pst_btree.specs.Entries.{node_with}
 use Rattle.pst_block.specs.Table.{Table}

@@ -1,6 +1,4 @@
 -- What a contract sees of what is whole of a damaged file, and of what is told of the rest.
-use Rattle.std.specs.Prelude.{List}
-use Rattle.pst_page.specs.declared.entry.NodeEntry.{NodeEntry}
 use Rattle.pst_btree.specs.Lists.{listed_nodes}
 use Rattle.pst_block.specs.Blocks.{table_of}
 use Rattle.pst_remains.specs.Remains.{RemainsParts}

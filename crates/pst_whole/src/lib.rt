@@ -10,11 +10,13 @@
 //! ```
 #![tactic(auto)]
 
+mod find;
 mod lost;
 mod told;
 mod whole;
 
+pub use find::find_whole;
 pub use lost::{LeftNodes, Lost};
 pub use pst_damage::BrokenPages;
 pub use pst_intact::{Intact, IntactFolder, IntactFolders, IntactMessages};
-pub use whole::{WholeNodes, find_whole};
+pub use whole::WholeNodes;

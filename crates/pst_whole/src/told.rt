@@ -1,10 +1,10 @@
 //! Broken nodes among those that are left of a file.
 
-ghost use Rattle.std.specs.Prelude.{◌≡◌, ◌<◌, IfOk, IfSome, IsSome, length, map, None, slice_get};
+ghost use Rattle.std.specs.Prelude.{◌≡◌, ◌<◌, ◌++◌, [], IfOk, OnOk, IsSome, length, map, None, slice_get};
 ghost use Rattle.std.specs.List.{filter};
 ghost use Rattle.pst_btree.specs.Lists.{listed_nodes};
 ghost use Rattle.pst_btree.specs.Order.{Rises};
-ghost use Rattle.pst_damage.specs.Judged.{Judged, own_of, place_after, sound_by, told_by};
+ghost use Rattle.pst_damage.specs.Judged.{Judged, kept_node, own_of, place_after, sound_by, told_by};
 ghost use Rattle.pst_damage.specs.Laws.{told_nid, fault_told};
 ghost use Rattle.pst_whole.specs.Nodes.{is_there};
 
@@ -34,6 +34,32 @@ fn told_at(told: &[BrokenNode], place: usize, nid: u32) -> Option<Fault>
     }
 }
 
+// The same; and then the place is that of the next.
+fn take_told(told: &[BrokenNode], place: &mut usize, nid: u32) -> Option<Fault>
+    ensures value { result ≡ own_of nid (slice_get told.now place.old) }
+    ensures next { place.new ≡ place_after result place.old }
+{
+    let fault = told_at(told, *place, nid);
+    if fault.is_some() {
+        *place += 1;
+    }
+    fault
+}
+
+// Adds a node to the others, where it has no fault.
+fn push_untold(
+    whole: &mut Vec<NodeEntry>,
+    entry: NodeEntry,
+    fault: Option<Fault>,
+) -> Result<(), AllocError>
+    ensures { OnOk result (whole.new.items ≡ whole.old.items ++ kept_node fault entry []) }
+{
+    if fault.is_none() {
+        whole.push(entry)?;
+    }
+    Ok(())
+}
+
 /// The nodes of which nothing is told, where all others are told in their order.
 pub(crate) fn untold(
     alloc: Global,
@@ -47,10 +73,8 @@ pub(crate) fn untold(
     let mut next = 0;
     nodes.nids_rise();
     for entry in nodes.entries() {
-        match told_at(told, next, entry.nid) {
-            Some(_) => next += 1,
-            None => whole.push(*entry)?,
-        }
+        let fault = take_told(told, &mut next, entry.nid);
+        push_untold(&mut whole, *entry, fault)?;
     }
     Ok(whole)
 }

@@ -1,16 +1,12 @@
 //! What is whole of a damaged file.
 
-ghost use Rattle.std.specs.Prelude.{◌≡◌, IfOk, IfErr};
-ghost use Rattle.pst_fault.specs.Fault.{no_memory};
-ghost use Rattle.pst_remains.specs.View.{table_in, parts_in};
+ghost use Rattle.std.specs.Prelude.{◌≡◌};
+ghost use Rattle.pst_remains.specs.View.{table_in};
 ghost use Rattle.pst_whole.specs.Nodes.{broken_nodes, whole_nodes};
-ghost use Rattle.pst_whole.specs.View.{remains_whole};
 
 use crate::lost::{LeftNodes, Lost};
-use crate::told::{told_there, untold};
 use pst_btree::NodeList;
-use pst_damage::{BrokenNode, BrokenPages, judge_nodes};
-use pst_fault::Fault;
+use pst_damage::{BrokenNode, BrokenPages};
 use pst_intact::Intact;
 use pst_ndb::NodeTable;
 use pst_page::NodeEntry;
@@ -29,33 +25,33 @@ pub struct WholeNodes<'a> {
         ≡ whole_nodes (table_in remains) remains.nodes.items remains.broken.items },
 }
 
-/// What is whole of a file of which this remains: each node is judged by the rules of `damage`. NoMemory where memory is refused;
-/// nothing else is refused.
-#[tactic(auto, using(crate::proofs::LostLemmas::told_there_is))]
-pub fn find_whole(alloc: Global, remains: Remains) -> Result<WholeNodes, Fault>
-    ensures parts { IfOk result (λ w. remains_whole w ≡ parts_in remains.entry) }
-    ensures err { IfErr result (λ f. f ≡ no_memory) }
-{
-    let nodes = remains.node_list();
-    let judged = judge_nodes(alloc, remains.good_blocks(), nodes, &remains.broken)?;
-    nodes.nids_rise();
-    let told = told_there(nodes, judged.broken);
-    let entries = untold(alloc, nodes, &told)?;
-    Ok(WholeNodes {
-        remains,
-        told,
-        entries,
-    })
-}
-
 impl<'a> WholeNodes<'a> {
     ghost use Rattle.std.specs.Prelude.{◌≡◌, IfOk};
     ghost use Rattle.pst_damage.specs.BrokenPages.{pages_in};
-    ghost use Rattle.pst_remains.specs.View.{image_in};
-    ghost use Rattle.pst_intact.specs.View.{image_of_intact, table_of_intact, nodes_of_intact};
+    ghost use Rattle.pst_remains.specs.View.{table_in, parts_in};
+    ghost use Rattle.pst_intact.specs.View.{table_of_intact, nodes_of_intact};
     ghost use Rattle.pst_whole.specs.Lost.{lost_of};
-    ghost use Rattle.pst_whole.specs.Nodes.{whole_nodes};
+    ghost use Rattle.pst_whole.specs.Nodes.{broken_nodes, whole_nodes};
     ghost use Rattle.pst_whole.specs.View.{remains_whole, lost_in};
+
+    // What remains of a file, with its broken nodes and the others.
+    pub(crate) fn of(
+        remains: Remains<'a>,
+        told: Vec<BrokenNode>,
+        entries: Vec<NodeEntry>,
+    ) -> WholeNodes<'a>
+        requires told { told.items
+            ≡ broken_nodes (table_in remains) remains.nodes.items remains.broken.items }
+        requires whole { entries.items
+            ≡ whole_nodes (table_in remains) remains.nodes.items remains.broken.items }
+        ensures { remains_whole result ≡ parts_in remains.entry }
+    {
+        WholeNodes {
+            remains,
+            told,
+            entries,
+        }
+    }
 
     /// The pages of the node B-tree with a fault, for `lost`. AllocError where memory is refused.
     pub fn pages(&self, alloc: Global) -> Result<BrokenPages<'_>, AllocError>

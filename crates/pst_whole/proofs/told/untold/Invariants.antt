@@ -6,7 +6,7 @@ use Rattle.pst_whole.proofs.told.untold.Given as goal
 -- the nodes of which nothing is told so far, and what is left of both
 abbrev pub invariant-loop-entry : goal.invariant-loop-entry
 invariant-loop-entry l = record {
-  items : l.entry-items ≡ listed_nodes l.nodes;
-  told : (part : Judged) → l.told ≡ told_by part (listed_nodes l.nodes) → drop l.next l.told ≡ told_by part (drop l.entry-index l.entry-items);
-  kept : (part : Judged) → l.told ≡ told_by part (listed_nodes l.nodes) → l.whole.items ++ sound_by part (drop l.entry-index l.entry-items) ≡ sound_by part (listed_nodes l.nodes);
+  items : l.entry-items ≡ listed_nodes l.fn.nodes;
+  told : (part : Judged) → l.told ≡ told_by part (listed_nodes l.fn.nodes) → drop l.next l.told ≡ told_by part (drop l.entry-index l.entry-items);
+  kept : (part : Judged) → l.told ≡ told_by part (listed_nodes l.fn.nodes) → l.whole.items ++ sound_by part (drop l.entry-index l.entry-items) ≡ sound_by part (listed_nodes l.fn.nodes);
 }
