@@ -30,7 +30,7 @@
     const name = figure.dataset.picture;
     const canvas = d3.select(figure).select(".canvas");
     canvas.selectAll("*").remove();
-    const svg = canvas.append("svg").attr("viewBox", `0 0 ${width} ${height}`).attr("width", width).attr("height", height)
+    const svg = canvas.append("svg").attr("class", name).attr("viewBox", `0 0 ${width} ${height}`).attr("width", width).attr("height", height)
       .attr("role", "group").attr("aria-labelledby", `${name}-name ${name}-about`);
     svg.append("title").attr("id", `${name}-name`).text(figure.dataset.title);
     svg.append("desc").attr("id", `${name}-about`).text(about);
@@ -64,6 +64,11 @@
     });
   }
 
+  // Names at both ends of an axis stay inside of the picture.
+  function inside(axis, x, width) {
+    axis.selectAll(".tick text").attr("text-anchor", (value) => (x(value) < 24 ? "start" : x(value) > width - 28 ? "end" : "middle"));
+  }
+
   function drawStrip(figure, rows, width) {
     const svg = frame(figure, width, 150, `${rows.lost.length} places of lost bytes, ${rows.broken.length} places of what is broken.`);
     const x = d3.scaleLinear().domain([0, Math.max(rows.length, 1)]).range([1, width - 1]);
@@ -81,7 +86,7 @@
       .attr("height", (row) => (row.bytes === undefined ? (row.kind === "broken" ? 38 : 24) : 30));
     svg.append("g").attr("class", "axis").attr("transform", "translate(0,122)").attr("aria-hidden", "true")
       .call(d3.axisBottom(x).ticks(Math.max(2, Math.floor(width / 130))).tickFormat(bytes))
-      .call((axis) => axis.selectAll(".tick text").attr("text-anchor", (value) => (x(value) < 24 ? "start" : x(value) > width - 24 ? "end" : "middle")));
+      .call(inside, x, width);
     return marks;
   }
 
@@ -90,15 +95,23 @@
       .sum((row) => row.bytes).sort((one, other) => other.value - one.value);
   }
 
+  // The colours of the largest parts: those below the last folder that holds nearly all.
+  function branches(root) {
+    let top = root;
+    while (top.children && top.children[0].children && top.children[0].value > 0.9 * top.value) {
+      top = top.children[0];
+    }
+    return new Map((top.children || [top]).map((child, index) => [child.id, index % 5]));
+  }
+
   function drawTiles(figure, rows, width) {
     const height = Math.max(220, Math.min(440, Math.round(width * 0.6)));
     const svg = frame(figure, width, height, `${rows.length} areas; the tables of this page have the same numbers.`);
     const root = d3.treemap().size([width, height]).paddingInner(2).paddingOuter(3).paddingTop((at) => (at.children ? 22 : 0)).round(true)(tree(rows));
-    const branch = new Map((root.children || []).map((child, index) => [child.id, index % 6]));
+    const branch = branches(root);
     const colour = (at) => {
-      const top = at.ancestors().reverse()[1];
-      const kind = at.children ? "above" : at.data.verdict ? `is-${at.data.verdict}` : `tile${top ? branch.get(top.id) : 0}`;
-      return `shape tile ${kind}`;
+      const top = at.ancestors().find((above) => branch.has(above.id));
+      return `shape tile ${at.children ? "above" : at.data.verdict ? `is-${at.data.verdict}` : `tile${top ? branch.get(top.id) : 5}`}`;
     };
     const marks = svg.selectAll(".mark").data(root.descendants().map((at) => Object.assign(at, { what: at.data.what }))).enter().append("g")
       .attr("transform", (at) => `translate(${at.x0},${at.y0})`);
@@ -124,23 +137,28 @@
     const from = (row) => (rows.sparse ? band(row.when) : x(start(row.when)));
     const wide = (row) => (rows.sparse ? band.bandwidth() : Math.max(x(end(row.when)) - x(start(row.when)), 1));
     svg.append("g").attr("class", "axis").attr("transform", `translate(${left},0)`).attr("aria-hidden", "true")
-      .call(d3.axisLeft(y).ticks(4).tickSize(left - width).tickFormat((value) => (Number.isInteger(value) ? d3.format(",")(value) : "")))
+      .call(d3.axisLeft(y).tickValues(y.ticks(4).filter((value) => value > 0 && Number.isInteger(value))).tickSize(left - width).tickFormat(d3.format(",")))
       .call((axis) => axis.selectAll(".tick line").attr("class", "rule")).call((axis) => axis.select(".domain").remove());
     const marks = svg.selectAll(".mark").data(rows.bars).enter().append("g");
-    marks.append("rect").attr("class", "shape bar").attr("x", (row) => from(row) + (wide(row) > 4 ? 0.5 : 0))
-      .attr("width", (row) => Math.max(Math.min(wide(row), 80) - (wide(row) > 4 ? 1 : 0), 0.5))
+    const thick = (row) => Math.max(wide(row) > 4 ? Math.min(wide(row) - 1, 80) : wide(row), 0.5);
+    marks.append("rect").attr("class", "shape bar").attr("x", (row) => from(row) + (wide(row) - thick(row)) / 2).attr("width", thick)
       .attr("y", (row) => Math.min(y(row.count), height - below - 1)).attr("height", (row) => Math.max(height - below - y(row.count), 1));
     svg.append("g").attr("class", "axis").attr("transform", `translate(0,${height - below})`).attr("aria-hidden", "true")
-      .call(rows.sparse ? sparseAxis(band, rows.bars, width) : timeAxis(x, start(first), end(last), width));
+      .call(rows.sparse ? sparseAxis(band, rows.bars, width) : timeAxis(x, start(first), end(last), width))
+      .call(inside, rows.sparse ? band : x, width);
     return marks;
   }
 
+  // Names of months stand below the middle of their bars, years where they begin.
   function timeAxis(x, first, last, width) {
     const months = d3.utcMonth.count(first, last), most = Math.max(2, Math.floor(width / 90));
-    if (months <= 36) {
-      return d3.axisBottom(x).ticks(d3.utcMonth.every(Math.max(1, Math.ceil(months / most)))).tickFormat(d3.utcFormat("%b %Y"));
+    if (months <= 60) {
+      const step = Math.ceil(months / most);
+      const middles = d3.utcMonth.range(first, last).filter((month, index) => index % step === 0).map((month) => d3.utcDay.offset(month, 15));
+      return d3.axisBottom(x).tickValues(middles).tickFormat(d3.utcFormat("%b %Y"));
     }
-    return d3.axisBottom(x).ticks(d3.utcYear.every(Math.max(1, Math.ceil(months / 12 / most)))).tickFormat(d3.utcFormat("%Y"));
+    const years = x.ticks(d3.utcYear.every(Math.max(1, Math.ceil(months / 12 / most)))).filter((year) => x(year) < width - 20);
+    return d3.axisBottom(x).tickValues(years).tickFormat(d3.utcFormat("%Y"));
   }
 
   function sparseAxis(band, bars, width) {
@@ -165,8 +183,9 @@
 
   const drawers = { strip: drawStrip, folders: drawTiles, sizes: drawTiles, times: drawTimes, kinds: drawKinds };
 
-  function draw(figure) {
-    const width = Math.max(280, Math.round(figure.querySelector(".canvas").clientWidth));
+  // Draws a picture where its width has changed; on paper the width is that of a page.
+  function draw(figure, given) {
+    const width = Math.max(280, given || Math.round(figure.querySelector(".canvas").clientWidth));
     const rows = data[figure.dataset.picture];
     if (figure.dataset.width !== String(width)) {
       figure.dataset.width = width;
@@ -216,6 +235,8 @@
     draw(figure);
     observer.observe(figure.querySelector(".canvas"));
   });
+  window.addEventListener("beforeprint", () => figures.forEach((figure) => draw(figure, 690)));
+  window.addEventListener("afterprint", () => figures.forEach((figure) => draw(figure)));
   document.querySelectorAll("table").forEach(letSort);
   document.documentElement.dataset.ready = "yes";
 })();

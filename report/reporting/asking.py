@@ -43,13 +43,14 @@ def seal_of(path):
 
 
 class Answer(NamedTuple):
-    """What a command answered. `words` are as they may be typed again; the document is None where there is none, or where its
-    lines went to somebody else; `line` is what it said on standard error."""
+    """What a command answered. `words` are as they may be typed again; the document is None, and the text of it empty, where there
+    is none, or where its lines went to somebody else; `line` is what it said on standard error."""
     words: list
     status: int
     length: int
     sha256: str
     document: object
+    text: str
     line: str
 
 
@@ -84,8 +85,8 @@ class Program:
         status, last, length, sha256, said = self.run(words, each or (lambda line: None))
         if status not in may_be:
             raise Stopped(status if status in (UNREAD, NO_MEMORY) else NO_PROGRAM, said or self.ended(words, status))
-        document = json.loads(last) if each is None and length else None
-        self.answers.append(Answer(list(words), status, length, sha256, document, said))
+        text = last.decode() if each is None else ""
+        self.answers.append(Answer(list(words), status, length, sha256, json.loads(text) if text else None, text, said))
         return self.answers[-1]
 
     def explained(self, kind):

@@ -36,7 +36,7 @@ def nodes(damage, parents):
 def places(name, caption, word, faults):
     """Blocks or pages."""
     rows = [[numeral(fault.bid), place(fault.at), fault_cell(fault)] for fault in map(Fault.of_document, faults[:ROWS])]
-    return table(name, caption, [(word, True), ("At", True), ("Fault", False)], rows, len(faults))
+    return table(name, caption, [(word, True), ("At", True), ("Fault", False)], rows, len(faults), kind="narrow")
 
 
 def kinds(store):

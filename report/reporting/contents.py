@@ -8,6 +8,8 @@ from reporting.sums import ROWS, folders_of, tiles
 
 DEEPEST = 8
 MOST_MONTHS = 480
+INSIDE = {"own": "in the folder itself", "rest": "smaller folders"}
+GROUPS = {"all": "All folders", "lost": "Not reached by the root folder", "lost rest": "smaller folders that are not reached"}
 
 
 def title_of(folder):
@@ -24,36 +26,38 @@ def cell_of(folder, order, depth):
 def tile(row):
     """A row of the tree of folders as it is drawn."""
     folder = row["of"]
-    name = {"folder": title_of(folder), "own": "in the folder itself", "rest": "smaller folders"}[row["kind"]]
-    held = row["bytes"] if row["kind"] != "folder" else folder.all
-    what = f"{title_of(folder)}{'' if row['kind'] == 'folder' else ', ' + name}: {texts.counted(held, 'byte')}"
-    if row["kind"] == "folder":
-        what += f", {texts.counted(folder.listed, 'message')} of its own" if folder.listed is not None else ", its messages are not known"
-    return {"id": row["id"], "in": row["in"], "name": name, "bytes": row["bytes"], "size": texts.size(held), "what": what}
+    drawn = {"id": row["id"], "in": row["in"], "bytes": row["bytes"], "size": texts.size(row["held"])}
+    if folder is None:
+        return drawn | {"name": GROUPS[row["kind"]], "what": f"{GROUPS[row['kind']]}: {texts.counted(row['held'], 'byte')}"}
+    if row["kind"] in INSIDE:
+        name = INSIDE[row["kind"]]
+        return drawn | {"name": name, "what": f"{title_of(folder)}, {name}: {texts.counted(row['held'], 'byte')}"}
+    listed = "its messages are not known" if folder.listed is None else f"{texts.counted(folder.listed, 'message')} of its own"
+    return drawn | {"name": title_of(folder), "what": f"{title_of(folder)}: {texts.counted(row['held'], 'byte')}, {listed}"}
 
 
 def folders(store):
     """The folders: what is drawn, and the section."""
     reached, lost = folders_of(store.folders, store.messages)
-    drawn = [tile(it) for it in tiles(reached)]
+    drawn = [tile(it) for it in tiles(reached, lost)]
     about = ("Each area is as large as the messages of a folder, by the sizes that stand in them (property 0E08), which Outlook wrote and "
              "nobody checks. A message that several folders list counts in each.")
     if store.messages.sizeless:
         about += f" {texts.counted(store.messages.sizeless, 'message')} without a size {'counts' if store.messages.sizeless == 1 else 'count'} as 0."
-    columns = [("Folder", False), ("Messages", True), ("Bytes", True), ("With those below", True), ("Identifier", True)]
+    columns = [("Folder", False), ("Messages", True), ("Its own", True), ("In all", True), ("Identifier", True)]
     rows = [[cell_of(it, order, len(it.path) - 1), numeral(it.listed), size(it.own), size(it.all), node(it.nid)]
             for order, it in enumerate(reached[:ROWS])]
     seen = picture("folders", "Folders by the bytes of their messages", about) if drawn else paragraph(
         "No folder has a message with a size, so there is nothing to draw.", "none")
-    tree = table("folders", "The tree of folders from the root", columns, rows, len(reached))
-    return drawn, seen + tree + lost_folders(lost)
+    tree = table("folders", "The tree of folders from the root", columns, rows, len(reached), ("Folder", "ascending"))
+    return drawn, f'<div class="pair">{seen}<div>{tree}</div></div>{lost_folders(lost)}'
 
 
 def lost_folders(lost):
     """The folders to which nothing leads from the root."""
     if not lost:
         return "<h3>Folders that the root folder does not reach</h3>" + paragraph("There are none.", "none")
-    columns = [("Folder", False), ("Messages", True), ("Bytes", True), ("Identifier", True)]
+    columns = [("Folder", False), ("Messages", True), ("Its own", True), ("Identifier", True)]
     rows = [[cell_of(it, order, 0), numeral(it.listed), size(it.own), node(it.nid)] for order, it in enumerate(lost[:ROWS])]
     about = "They are there and whole, with their messages, but a program that begins at the root folder does not show them."
     return ("<h3>Folders that the root folder does not reach</h3>" + paragraph(about, "note")
@@ -84,7 +88,7 @@ def times(store):
     if store.messages.timeless:
         about += f" {texts.counted(store.messages.timeless, 'message')} without such a time {'is' if store.messages.timeless == 1 else 'are'} in no bar."
     rows = [[Cell(month(name), order), numeral(count)] for order, (name, count) in enumerate(bars[:ROWS])]
-    listed = table("times", f"Messages by {unit}", [(unit.capitalize(), False), ("Messages", True)], rows, len(bars))
+    listed = table("times", f"Messages by {unit}", [(unit.capitalize(), False), ("Messages", True)], rows, len(bars), (unit.capitalize(), "ascending"), "narrow")
     return drawn, picture("times", "Messages over time", about) + listed
 
 
@@ -98,15 +102,15 @@ def message(row, names):
     """A row of a table of messages."""
     subject = None if row["subject"] is None else texts.subject(row["subject"])
     received = Cell("\u2014", "", "time") if row["received"] is None else Cell(texts.time(row["received"]), kind="time")
-    return [text(subject), text(row["sender"]), received, size(row["size"]), names_of(row, names), numeral(row["attachments"]), node(row["nid"])]
+    return [text(subject), text(row["sender"]), received, numeral(row["size"]), names_of(row, names), numeral(row["attachments"]), node(row["nid"])]
 
 
-def messages(store, name, caption, rows, total):
+def messages(store, name, caption, rows, total, order=None):
     """A table of messages."""
-    columns = [("Subject", False), ("Sender", False), ("Received", False), ("Bytes", True), ("Folders", False), ("Attachments", True),
+    columns = [("Subject", False), ("Sender", False), ("Received", False), ("Size", True), ("Folders", False), ("Attachments", True),
                ("Identifier", True)]
     names = {it["nid"]: it["name"] for it in store.folders}
-    return table(name, caption, columns, [message(it, names) for it in rows], total)
+    return table(name, caption, columns, [message(it, names) for it in rows], total, order)
 
 
 def largest(store):
@@ -114,7 +118,7 @@ def largest(store):
     rows = store.messages.largest_rows()
     if not rows:
         return paragraph("The store has no message.", "none")
-    return messages(store, "largest", "The largest messages", rows, store.messages.count)
+    return messages(store, "largest", "The largest messages", rows, store.messages.count, ("Size", "descending"))
 
 
 def unlisted(store):

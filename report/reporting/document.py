@@ -10,6 +10,7 @@ from reporting import texts
 FOLDER = os.path.dirname(os.path.dirname(os.path.abspath(__file__)))
 LIBRARY = ("array", "collection", "color", "interpolate", "format", "time", "time-format", "scale", "hierarchy", "selection", "axis")
 PRINTED = 50
+CLASSED = ' class="number"'
 
 
 def read(*names):
@@ -40,7 +41,7 @@ def policy(style, *scripts):
 def document(kind, heading, title, sections, data, footer):
     """A page: sections are triples of an identifier, a title and what is below it; the first is the verdict."""
     style, script = read("page.css"), read("page.js")
-    library = "\n".join(read("d3", f"d3-{name}.js") for name in LIBRARY)
+    library = "\n".join([f"/*\n{read('d3', 'LICENSE')}*/", *(read("d3", f"d3-{name}.js") for name in LIBRARY)])
     links = "".join(f'<li><a href="#{name}">{texts.escaped(below)}</a></li>' for name, below, _ in sections)
     parts = {
         "policy": texts.escaped(policy(style, library, script)), "title": title, "style": style, "kind": kind, "heading": heading,
@@ -100,13 +101,13 @@ def numeral(value, none="\u2014"):
 
 
 def size(value):
-    """A cell with a number of bytes."""
-    return numeral(None) if value is None else Cell(texts.number(value), value, "number")
+    """A cell with a number of bytes as people say it."""
+    return Cell(texts.size(value), value, "number")
 
 
 def place(value):
-    """A cell with a place or an identifier of a block, in hexadecimal."""
-    return Cell(f"<code>{value:#x}</code>", value, "number")
+    """A cell with a place or an identifier of a block, in hexadecimal; 0 is none."""
+    return Cell(f"<code>{value:#x}</code>", value, "number") if value else numeral(None)
 
 
 def node(nid):
@@ -119,14 +120,16 @@ def text(value, none="\u2014"):
     return Cell(none, kind="none") if value is None else Cell(texts.foreign(value) if value else "<i>empty</i>", kind="text")
 
 
-def table(name, caption, columns, rows, total=None):
+def table(name, caption, columns, rows, total=None, order=None, kind=""):
     """A table that the script lets a reader sort: columns are pairs of a title and whether it has numbers. `total` is how many
-    rows there would be where only the first are here."""
+    rows there would be where only the first are here; `order` is the column by which they stand, and which way."""
     count = len(rows) if total is None else total
     told = texts.counted(count, "row") if count <= len(rows) else f"the first {len(rows):,} of {count:,}"
-    heads = "".join(f'<th scope="col"{" class=number" if is_number else ""}>{texts.escaped(title)}</th>' for title, is_number in columns)
+    heads = "".join(
+        f'<th scope="col"{CLASSED if is_number else ""}{f""" aria-sort="{order[1]}" """.rstrip() if order and order[0] == title else ""}>'
+        f"{texts.escaped(title)}</th>" for title, is_number in columns)
     body = "\n".join("<tr>" + "".join(cell.html() for cell in row) + "</tr>" for row in rows)
     paper = f'<p class="paper">On paper: the first {PRINTED} rows, as they were sorted.</p>' if len(rows) > PRINTED else ""
-    return (f'<div class="scroll" tabindex="0" role="region" aria-labelledby="{name}-caption"><table id="{name}-table" data-rows="{len(rows)}">'
+    return (f'<div class="scroll{kind and " " + kind}" tabindex="0" role="region" aria-labelledby="{name}-caption"><table id="{name}-table" data-rows="{len(rows)}">'
             f'<caption id="{name}-caption">{texts.escaped(caption)} <span>({told})</span></caption>'
             f"<thead><tr>{heads}</tr></thead>\n<tbody>\n{body}\n</tbody></table></div>{paper}")

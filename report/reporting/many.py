@@ -8,7 +8,7 @@ from typing import NamedTuple
 
 from reporting import texts
 from reporting.asking import UNREAD, Stopped
-from reporting.document import Cell, code, document, facts, numeral, own_digest, paragraph, picture, size, table
+from reporting.document import Cell, code, document, facts, numeral, own_digest, paragraph, picture, table
 from reporting.store import Fault
 from reporting.sums import ROWS
 from reporting.verdict import OUTSIDE
@@ -126,8 +126,8 @@ def stores(lines):
     for it in lines[:ROWS]:
         told = it.document or {}
         lost = sum(run["len"] for run in told["lost"]) if it.document else None
-        rows.append([Cell(texts.foreign(it.path, 1000), kind="text"), Cell(f"<bdi>{texts.escaped(said(it))}</bdi>", kind="text"), size(it.length),
-                     numeral(told.get("folders")), numeral(told.get("messages")), size(lost)])
+        rows.append([Cell(texts.foreign(it.path, 1000), kind="text"), Cell(f"<bdi>{texts.escaped(said(it))}</bdi>", kind="text"), numeral(it.length),
+                     numeral(told.get("folders")), numeral(told.get("messages")), numeral(lost)])
     return table("stores", "The files", columns, rows, len(lines))
 
 

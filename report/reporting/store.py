@@ -45,6 +45,16 @@ class Store:
     def __init__(self, program, path):
         self.path, self.name = path, path if path[:1] != "-" else f"./{path}"
         self.program, self.seal = program, seal_of(path)
+        try:
+            self.answered()
+        except Stopped:
+            self.is_unchanged([])
+            raise
+        self.is_unchanged([it["sha256"] for it in (self.check, self.damage) if it])
+
+    def answered(self):
+        """Asks all that a page shows."""
+        program = self.program
         self.encoding, self.head = self.headed()
         self.check, self.fault = self.checked()
         self.damage = self.damaged() if self.fault else None
@@ -55,7 +65,6 @@ class Store:
             self.messages = Messages()
             self.ask("messages", *["--whole"] * self.is_part, each=self.messages.add)
         self.parents = self.listed() if self.damage and self.damage["nodes"] else {}
-        self.is_unchanged()
 
     def ask(self, command, *options, **how):
         """The answer to a command over the file, decoded where it is encoded."""
@@ -94,8 +103,7 @@ class Store:
         answer = self.ask("nodes", may_be=(0, 1))
         return {it["nid"]: it["parent"] for it in answer.document["nodes"]} if answer.document else {}
 
-    def is_unchanged(self):
-        """That each answer is of the same bytes, as far as a file tells: its seal, first and last, and in the answers."""
-        told = [it["sha256"] for it in (self.check, self.damage) if it]
+    def is_unchanged(self, told):
+        """That all was asked of the same bytes, as far as a file tells: by its seal, first and last, and those that were told."""
         if seal_of(self.path) != self.seal or any(it != self.seal.sha256 for it in told):
             raise Stopped(UNREAD, f"cannot read the file\n  {self.name}: it was changed while it was read")

@@ -52,13 +52,12 @@ def strip(store):
     runs = [(it["at"], it["len"], f"lost, {texts.counted(it['len'], 'byte')}") for it in (store.check or {"lost": []})["lost"]]
     lost = sum(size for _, size, _ in runs)
     broken = broken_places(store.damage) if store.damage else []
-    parts = amounts(store, lost)
+    parts = [it for it in amounts(store, lost) if it[0] != "lost" or store.check]
     drawn = {"length": length, "lost": marks(runs, length), "broken": marks(broken, length),
              "parts": [{"kind": kind, "bytes": size, "what": f"{kind}: {texts.counted(size, 'byte')}"} for kind, size in parts if size]}
     entries = [(kind, kind, texts.size(size)) for kind, size in parts]
     if store.damage:
-        placed = f" ({len(broken):,} of them at a place in the file)"
-        entries.append(("broken", "broken", texts.counted(parts_broken(store.damage), "part") + placed))
+        entries.append(("broken", "broken", f"{parts_broken(store.damage)}; {texts.counted(len(broken), 'place')} of it told"))
     about = ("Above: how much of the file is used and free, by the header\u2019s own number, which " if parts else
              "The header does not tell how much of the file is free, so only places are drawn. ")
     about += "no command checks. " if parts else ""

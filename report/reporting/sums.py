@@ -99,21 +99,44 @@ def walked(tops):
     return made
 
 
-def tiles(folders, most=ROWS):
-    """The tree of folders that have bytes, as rows with the identifier of the one above: at most so many folders, the largest. What
-    a folder above others has itself is a row of its own in it, as is what lies in those that have no row."""
+def row(nid, above, kind, size, of, held=None):
+    """A row of the tree that is drawn: its own bytes, which those below it have not, the folder it is of, and all that it holds."""
+    return {"id": nid, "in": above, "kind": kind, "bytes": size, "of": of, "held": size if held is None else held}
+
+
+def tiles(reached, lost):
+    """The folders that have bytes as one tree, each row with the identifier of the one above; those that are lost are apart."""
+    rows, more = reached_tiles(reached), lost_tiles(lost)
+    if not rows or not more:
+        return rows or more
+    rows[0]["in"] = more[0]["in"] = "all"
+    return [row("all", None, "all", 0, None, rows[0]["held"] + more[0]["held"]), *rows, *more]
+
+
+def reached_tiles(folders, most=ROWS):
+    """At most so many folders, the largest. What a folder above others has itself is a row of its own in it, as is what lies in
+    those that have no row."""
     kept = {it.nid for it in sorted((it for it in folders if it.all), key=lambda it: (-it.all, len(it.path)))[:most]}
-    rest = Counter()
+    rest, above = Counter(), {it.parent for it in folders if it.nid in kept}
     for it in folders:
         if it.nid not in kept and it.own:
             rest[next(nid for nid in reversed(it.path) if nid in kept)] += it.own
     rows = []
-    for it in folders:
-        if it.nid in kept:
-            is_above = rest[it.nid] > 0 or any(below.nid in kept for below in it.below)
-            rows.append({"id": it.nid, "in": it.parent, "kind": "folder", "bytes": 0 if is_above else it.own, "of": it})
-            if is_above and it.own:
-                rows.append({"id": f"{it.nid} own", "in": it.nid, "kind": "own", "bytes": it.own, "of": it})
-            if rest[it.nid]:
-                rows.append({"id": f"{it.nid} rest", "in": it.nid, "kind": "rest", "bytes": rest[it.nid], "of": it})
+    for it in (it for it in folders if it.nid in kept):
+        is_above = it.nid in above or rest[it.nid] > 0
+        rows.append(row(it.nid, it.parent, "folder", 0 if is_above else it.own, it, it.all))
+        if is_above and it.own:
+            rows.append(row(f"{it.nid} own", it.nid, "own", it.own, it))
+        if rest[it.nid]:
+            rows.append(row(f"{it.nid} rest", it.nid, "rest", rest[it.nid], it))
     return rows
+
+
+def lost_tiles(folders, most=ROWS):
+    """The lost folders beside one another, below a row of their own."""
+    ordered = sorted((it for it in folders if it.own), key=lambda it: -it.own)
+    if not ordered:
+        return []
+    rest, held = sum(it.own for it in ordered[most:]), sum(it.own for it in ordered)
+    rows = [row("lost", None, "lost", 0, None, held), *(row(it.nid, "lost", "folder", it.own, it) for it in ordered[:most])]
+    return rows + [row("lost rest", "lost", "lost rest", rest, None)] * (rest > 0)

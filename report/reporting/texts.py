@@ -6,6 +6,7 @@ import unicodedata
 
 LONGEST = 200
 JOINERS = "\u200c\u200d"  # they make words of Persian, and one picture of several
+MOST_MARKS = 4  # of those that stand on one character
 HIDDEN = {"Cc", "Cf", "Cs", "Co", "Cn", "Zl", "Zp"}
 
 
@@ -18,11 +19,27 @@ def is_hidden(character):
     return character not in JOINERS and unicodedata.category(character) in HIDDEN
 
 
+def unpiled(text):
+    """A text in which no character bears so many marks that they would cover what stands above and below; how many more there
+    were is told."""
+    made, marks = [], 0
+    for character in [*text, ""]:
+        if character and unicodedata.combining(character):
+            marks += 1
+            if marks > MOST_MARKS:
+                continue
+        else:
+            made.append(f"[{marks - MOST_MARKS} more marks]" if marks > MOST_MARKS else "")
+            marks = 0
+        made.append(character)
+    return "".join(made)
+
+
 def shown(text, longest=LONGEST):
     """A text in which each character can be seen, and cut where it is long."""
     text, rest = text[:longest], text[longest:]
     if not text.isascii() or not text.isprintable():
-        text = "".join(named(it) if is_hidden(it) else it for it in text)
+        text = "".join(named(it) if is_hidden(it) else it for it in unpiled(text))
     return text + ("\u2026" if rest else "")
 
 

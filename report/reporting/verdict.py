@@ -4,6 +4,7 @@ from reporting import texts
 from reporting.document import code, facts, paragraph
 from reporting.store import ENCODINGS
 
+LONGEST_LINE = 2000
 OUTSIDE = {"Short", "Magic", "Version", "Encoded"}
 
 
@@ -23,29 +24,32 @@ def words(store):
         return ("No: this file is none of the stores that pst_show checks.", "Nothing more of it was looked at, so nothing is said of damage.")
     if store.damage is None:
         return ("No: this file breaks a rule of the format.", "What else may be broken is not told." + encoded)
-    broken = parts_broken(store.damage)
-    return ("No: this file is damaged.", f"The first rule that it breaks is told below; in all {texts.counted(broken, 'part')} of it "
-            f"{'is' if broken == 1 else 'are'} broken." + encoded + hidden(store.damage))
+    return ("No: this file is damaged.", f"The first rule that it breaks is told below. Broken: {parts_broken(store.damage)}."
+            + encoded + hidden(store.damage))
 
 
 def hidden(damage):
     """Where an index page is broken there may be more than is told."""
     pages = len(damage["pages"])
-    return f" {texts.counted(pages, 'index page')} among them: what only {'it names' if pages == 1 else 'they name'} is not known." if pages else ""
+    return f" What only {'that index page names' if pages == 1 else 'those index pages name'} is not known." if pages else ""
 
 
 def parts_broken(damage):
-    return sum(damage[it] is not None for it in ("header", "maps")) + sum(len(damage[it]) for it in ("pages", "blocks", "nodes"))
+    """As `the header, 1 index page and 3 blocks`."""
+    parts = [word for key, word in (("header", "the header"), ("maps", "the allocation maps")) if damage[key]]
+    parts += [texts.counted(len(damage[key]), word) for key, word in (("pages", "index page"), ("blocks", "block"), ("nodes", "node")) if damage[key]]
+    return " and ".join(filter(None, (", ".join(parts[:-1]), parts[-1])))
 
 
 def verdict(store):
     """The verdict, the fault explained, and the line of check itself."""
     first, then = words(store)
     answer = next(it for it in store.program.answers if it.words[0] == "check")
-    line = texts.escaped(answer.line or texts.data(answer.document).replace('","', '", "'))
+    line = answer.line or answer.text.rstrip("\n")
+    cut = paragraph(f"Its first {LONGEST_LINE:,} of {len(line):,} characters.", "note") if len(line) > LONGEST_LINE else ""
     told = "" if store.check else explained(store.fault)
     return (f'<div class="verdict {classed(store)}"><p class="word">{first}</p>{paragraph(then)}</div>{told}'
-            f'<h3>The line of {code("check")}</h3><pre>{line}</pre>')
+            f'<h3>The line of {code("check")}</h3><pre>{texts.escaped(line[:LONGEST_LINE])}</pre>{cut}')
 
 
 def explained(fault):
@@ -53,7 +57,7 @@ def explained(fault):
     told = fault.told
     rows = [("The first fault", f"<b>{fault.name}</b>: {texts.escaped(told.get('says', ''))}")]
     for key, word, value in (("at", "at", fault.at), ("bid", "bid", fault.bid), ("nid", "nid", fault.nid)):
-        rows.append((word, f"{code(f'{value:#x}')} {texts.escaped(told.get(key, ''))}"))
+        rows.append((word, f"{code(f'{value:#x}')}: {texts.escaped(told.get(key, '').removeprefix('0x0, '))}"))
     rows.append(("What to do", texts.escaped(told.get("to do", ""))))
     rows.append(("The rule comes from", texts.escaped(f"[MS-PST] {told.get('[MS-PST]', '')}")))
     return facts(rows)

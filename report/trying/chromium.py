@@ -88,17 +88,24 @@ class Page:
 
     def __init__(self, browser, path, width=1280, scheme="light", has_scripts=True):
         self.browser = browser
-        target = browser.call("Target.createTarget", url="about:blank")["targetId"]
-        self.session = browser.call("Target.attachToTarget", targetId=target, flatten=True)["sessionId"]
-        for name in ("Page", "Runtime", "Log", "Network", "Accessibility"):
+        self.target = browser.call("Target.createTarget", url="about:blank")["targetId"]
+        self.session = browser.call("Target.attachToTarget", targetId=self.target, flatten=True)["sessionId"]
+        for name in ("Page", "Runtime", "Log", "Network"):
             self.call(f"{name}.enable")
+        self.call("Performance.enable", timeDomain="threadTicks")
         self.call("Emulation.setDeviceMetricsOverride", width=width, height=900, deviceScaleFactor=1, mobile=False)
         self.call("Emulation.setEmulatedMedia", features=[{"name": "prefers-color-scheme", "value": scheme}])
         self.call("Emulation.setScriptExecutionDisabled", value=not has_scripts)
-        start = time.monotonic()
         self.call("Page.navigate", url=f"file://{path}")
         browser.wait("Page.loadEventFired", self.session)
-        self.seconds = time.monotonic() - start
+
+    def seconds(self):
+        """How many processor seconds the page has taken."""
+        return {it["name"]: it["value"] for it in self.call("Performance.getMetrics")["metrics"]}["TaskDuration"]
+
+    def leave(self):
+        """Closes the page."""
+        self.browser.call("Target.closeTarget", targetId=self.target)
 
     def call(self, method, **parameters):
         return self.browser.call(method, self.session, **parameters)
@@ -126,10 +133,13 @@ class Page:
             text = {"text": "\r"} if key == "Enter" and kind == "keyDown" else {}
             self.call("Input.dispatchKeyEvent", type=kind, key=key, code=key, windowsVirtualKeyCode=codes[key], **text)
 
-    def shot(self, path, height=None):
-        """A picture of the whole page, or of its first pixels."""
-        box = self.call("Page.getLayoutMetrics")["cssContentSize"]
-        clip = {"x": 0, "y": 0, "width": box["width"], "height": min(box["height"], height or 16000), "scale": 1}
+    def shot(self, path, first="body", last="body"):
+        """A picture of the page from the top of one element, by its selector, to the end of another."""
+        box = self.value(f"""(() => {{
+            const one = document.querySelector({json.dumps(first)}).getBoundingClientRect();
+            const other = document.querySelector({json.dumps(last)}).getBoundingClientRect();
+            return {{ y: one.top + scrollY, height: other.bottom - one.top, width: document.documentElement.clientWidth }}; }})()""")
+        clip = {"x": 0, "y": max(0, box["y"] - 16), "width": box["width"], "height": min(box["height"] + 32, 16000), "scale": 1}
         made = self.call("Page.captureScreenshot", format="png", captureBeyondViewport=True, clip=clip)
         with open(path, "wb") as file:
             file.write(base64.b64decode(made["data"]))
