@@ -28,12 +28,12 @@ _pst_show() {
             damage) options='--help --digest --decode' ;;
             head) options='--help --decode' ;;
             nodes) options='--help --decode' ;;
-            folders) options='--help --decode' ;;
-            contents) options='--help --decode' ;;
-            messages) options='--help --decode' ;;
-            props) options='--help --places --decode' ;;
-            value) options='--help --text --decode' ;;
-            export) options='--help --decode' ;;
+            folders) options='--help --whole --decode' ;;
+            contents) options='--help --whole --decode' ;;
+            messages) options='--help --whole --decode' ;;
+            props) options='--help --places --whole --decode' ;;
+            value) options='--help --text --whole --decode' ;;
+            export) options='--help --whole --decode' ;;
         esac
         mapfile -t COMPREPLY < <(compgen -W "$options" -- "$word")
         return

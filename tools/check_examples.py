@@ -3,11 +3,11 @@
 
     tools/check_examples.py [--some] [--program PROGRAM] [FILE ..]
 
-With no FILE: README.md, man/pst_show.1, and of docs/ JSON.md, MANY.md, LIBRARY.md, EVIDENCE.md and OUTLOOK.md. An example is a
-line that begins with `$ `, in a block that opens with ```sh, or of the manual page below EXAMPLES; lines that begin with `> ` go
-on with it, and the lines behind it, up to the next example or the end of the block, are what it has to print, on standard output
-and standard error together. Of the manual page an example may show nothing of that: then it has to end with status 0, to say
-nothing on standard error, and to write something. A block that opens with ```c or ```python is a program where a block that
+With no FILE: README.md, man/pst_show.1, and of docs/ ANSWERS.md, JSON.md, MANY.md, LIBRARY.md, EVIDENCE.md and OUTLOOK.md. An
+example is a line that begins with `$ `, in a block that opens with ```sh, or of the manual page below EXAMPLES; lines that begin
+with `> ` go on with it, and the lines behind it, up to the next example or the end of the block, are what it has to print, on
+standard output and standard error together. Of the manual page an example may show nothing of that: then it has to end with status
+0, to say nothing on standard error, and to write something. A block that opens with ```c or ```python is a program where a block that
 opens with ```text stands below it, which is what it has to print, of samples/mail.pst on standard input.
 
 The examples of a file run one after another in one empty folder, in which samples and examples name those of the repository, and
@@ -30,7 +30,7 @@ import tempfile
 from typing import NamedTuple
 
 ROOT = os.path.dirname(os.path.dirname(os.path.abspath(__file__)))
-DOCUMENTS = ["README.md", "man/pst_show.1", *(f"docs/{name}.md" for name in ("JSON", "MANY", "LIBRARY", "EVIDENCE", "OUTLOOK"))]
+DOCUMENTS = ["README.md", "man/pst_show.1", *(f"docs/{name}.md" for name in ("ANSWERS", "JSON", "MANY", "LIBRARY", "EVIDENCE", "OUTLOOK"))]
 TOOLS = ["jq", "parallel", "xargs", "find", "flock", "python3"]
 OPTIONAL = ["parallel is not installed", "the library is not there"]
 SHOWN = ["sh", "c", "python", "text"]

@@ -67,6 +67,8 @@ pub struct Request<'a> {
     pub ask: Ask,
     /// Whether an encoded file is decoded first, in memory.
     pub decode: bool,
+    /// Whether what is whole of a damaged store is shown.
+    pub whole: bool,
     /// The name of the file.
     pub file: &'a str,
 }
@@ -192,14 +194,20 @@ fn value_in(alloc: Global, found: &ArgMatches) -> Result<Ask, NoOrder>
     Ok(Ask::Value { text, path, id })
 }
 
-// What is shown of a file: of which, and whether that is decoded first.
+// What is shown of a file: of which, whether that is decoded first, and whether of what is whole.
 fn of_file<'a>(found: &ArgMatches<'a>, ask: Ask) -> Result<Order<'a>, NoOrder>
     ensures { Reads order_of result
         (asked_of_file (rows_of (found_of found.now)) (Okay (wanted_of ask))) }
 {
     let decode = is_given(found, "decode");
+    let whole = is_given(found, "whole");
     match text_in(found, "FILE") {
-        Some(file) => Ok(Order::Show(Request { ask, decode, file })),
+        Some(file) => Ok(Order::Show(Request {
+            ask,
+            decode,
+            whole,
+            file,
+        })),
         None => Err(NoOrder::Lacks(Lack::Nothing)),
     }
 }

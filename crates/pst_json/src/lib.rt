@@ -22,6 +22,7 @@ mod index;
 mod lines;
 mod listings;
 mod lists;
+mod lost;
 mod messages;
 mod names;
 mod nid_lists;
@@ -38,6 +39,7 @@ pub use fault::DocFault;
 pub use folders::{folders_doc, folders_line};
 pub use head::{head_doc, head_line};
 pub use lines::{attachment_line, message_line, node_line};
+pub use lost::lost_at;
 pub use messages::messages_text;
 pub use names::{names_in, names_index};
 pub use node::{props_doc, props_line};
@@ -48,5 +50,6 @@ pub use pst_ndb::read_nodes;
 pub use pst_value_json::{
     NameIndex, Prop, PropType, Value, hex_doc, pc_doc, table_doc, text, text_of, value_doc,
 };
-pub use pst_verify::{Store, verify};
+pub use pst_verify::{Reach, Store, Verified, reach_among, verify};
+pub use pst_whole::{Intact, Lost, WholeNodes, find_whole};
 pub use texts::TEXT;

@@ -4,11 +4,11 @@ ghost use Rattle.std.specs.Prelude.{◌≡◌, IfOk};
 ghost use Rattle.serde_json.specs.Data.{array};
 ghost use Rattle.serde_json.specs.View.{view, items_of};
 ghost use Rattle.pst_ndb.specs.Roots.{subnode_of};
-ghost use Rattle.pst_ndb.specs.Views.{table_of_ndb, nodes_of, table_of_node, nid_of, roots_of};
+ghost use Rattle.pst_ndb.specs.Views.{table_of_node, nid_of, roots_of};
+ghost use Rattle.pst_intact.specs.View.{table_of_intact, nodes_of_intact};
 ghost use Rattle.pst_value_json.specs.Props.{names_told};
 ghost use Rattle.pst_value_json.specs.pst_pc.View.{node_of_pc};
 ghost use Rattle.pst_verify.specs.pst_msg.View.{node_of_attachment, attachment_shown, node_of_message};
-ghost use Rattle.pst_verify.specs.pst_store.View.{ndb_of_store};
 ghost use Rattle.pst_json.specs.Found.{node_of_found, place_of_found};
 ghost use Rattle.pst_json.specs.Lists.{list_left};
 ghost use Rattle.pst_json.specs.NamesIndex.{IsNamesIndex};
@@ -21,10 +21,11 @@ use crate::found::{Found, found_in};
 use crate::index::index_of;
 use crate::lists::MessageRows;
 use crate::names::names_in;
+use pst_intact::Intact;
 use pst_value_json::{
     Filed, Line, Made, NameIndex, NameMap, Part, Pc, Sink, Tree, prop_rows, table_rows,
 };
-use pst_verify::{Attachment, Message, Store};
+use pst_verify::{Attachment, Message};
 use serde_json::Value as Doc;
 use std::alloc::{AllocError, Global};
 
@@ -219,18 +220,18 @@ fn shown_found<'a, S: Sink>(
 #[tactic(auto, using(crate::proofs::FoundLemmas::told_found, crate::proofs::FoundLemmas::told_refused), unfolding(crate::specs::Node::props_told))]
 pub fn props_doc<'a>(
     alloc: Global,
-    store: &Store<'a>,
+    intact: &Intact<'a>,
     index: &'a NameIndex,
     path: &[u32],
     places: bool,
 ) -> Result<Doc, DocFault>
-    requires { let ndb = ndb_of_store store.now in
-        IsNamesIndex (table_of_ndb ndb) (nodes_of ndb) index.now }
-    ensures { let ndb = ndb_of_store store.now in
-        TellsDoc view result (props_told places (table_of_ndb ndb) (nodes_of ndb) path.now) }
+    requires { let i = intact.now in
+        IsNamesIndex (table_of_intact i) (nodes_of_intact i) index.now }
+    ensures { let i = intact.now in
+        TellsDoc view result (props_told places (table_of_intact i) (nodes_of_intact i) path.now) }
 {
-    let found = found_in(store, path)?;
-    Ok(shown_found::<Tree>(alloc, found, names_in(store, index), places)?)
+    let found = found_in(intact, path)?;
+    Ok(shown_found::<Tree>(alloc, found, names_in(intact, index), places)?)
 }
 
 /// The line that shows the properties of what a path leads to: the compact text of their document, and a line feed; or why there is
@@ -238,17 +239,17 @@ pub fn props_doc<'a>(
 #[tactic(auto, using(crate::proofs::FoundLemmas::line_found, crate::proofs::FoundLemmas::line_refused), unfolding(crate::specs::Node::props_line, crate::specs::Node::props_told))]
 pub fn props_line<'a>(
     alloc: Global,
-    store: &Store<'a>,
+    intact: &Intact<'a>,
     index: &'a NameIndex,
     path: &[u32],
     places: bool,
 ) -> Result<Vec<u8>, DocFault>
-    requires { let ndb = ndb_of_store store.now in
-        IsNamesIndex (table_of_ndb ndb) (nodes_of ndb) index.now }
-    ensures { let ndb = ndb_of_store store.now in
-        let line = line_of_props places (table_of_ndb ndb) (nodes_of ndb) path.now in
+    requires { let i = intact.now in
+        IsNamesIndex (table_of_intact i) (nodes_of_intact i) index.now }
+    ensures { let i = intact.now in
+        let line = line_of_props places (table_of_intact i) (nodes_of_intact i) path.now in
         TellsDoc (λ t. t.items) result line }
 {
-    let found = found_in(store, path)?;
-    Ok(shown_found::<Line>(alloc, found, names_in(store, index), places)?)
+    let found = found_in(intact, path)?;
+    Ok(shown_found::<Line>(alloc, found, names_in(intact, index), places)?)
 }

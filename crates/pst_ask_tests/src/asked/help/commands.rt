@@ -116,13 +116,15 @@ Arguments:
   <FILE>  The file to read, or - for standard input
 
 Options:
+      --whole   Reads what is whole of a damaged store
       --decode  Decodes an encoded file first, in memory
   -h, --help    Print help
 
 Checks the whole file, and prints of each folder its identifier and its name, the
 identifiers from the root folder down to it and of its subfolders, how many messages are
 in it, and how many belong to the folder itself. Those that the root folder does not
-reach come last, without a path.
+reach come last, without a path. With --whole those of a damaged store in which nothing
+is broken, as damage tells it.
 
 Exit status:
   0  The folders are printed
@@ -143,11 +145,13 @@ Arguments:
   <NID>   The identifier of a node, as 0x122
 
 Options:
+      --whole   Reads what is whole of a damaged store
       --decode  Decodes an encoded file first, in memory
   -h, --help    Print help
 
 Checks the whole file, and prints of each message in the folder NID its identifier,
-its class, its sender and its subject.
+its class, its sender and its subject. With --whole the store may be damaged: of a
+message that is broken it prints the fault.
 
 Exit status:
   0  The messages are printed
@@ -167,13 +171,15 @@ Arguments:
   <FILE>  The file to read, or - for standard input
 
 Options:
+      --whole   Reads what is whole of a damaged store
       --decode  Decodes an encoded file first, in memory
   -h, --help    Print help
 
 Checks the whole file, and prints of each message, a line for each, its identifier,
 its class, its sender and its subject, when it was sent and received, its size, how
 many recipients and attachments it has, and the folders that list it. A message that
-no folder lists is there, too.
+no folder lists is there, too. With --whole those of a damaged store in which nothing is
+broken.
 
 Exit status:
   0  The messages are printed
@@ -195,6 +201,7 @@ Arguments:
 
 Options:
       --places  Adds where in the file each value lies
+      --whole   Reads what is whole of a damaged store
       --decode  Decodes an encoded file first, in memory
   -h, --help    Print help
 
@@ -204,6 +211,7 @@ node; and, with a slash between each and the next, from a message an attachment 
 from an attachment the message that it embeds, and so on. Of several paths it prints a
 line for each, in their order; and none where one of them leads nowhere. With --places
 it also prints of each value the pieces of the file in which it lies: place and length.
+With --whole the store may be damaged, if nothing is broken in what the path begins with.
 
 Exit status:
   0  The properties are printed
@@ -227,13 +235,15 @@ Arguments:
 
 Options:
       --text    Writes a text as UTF-8
+      --whole   Reads what is whole of a damaged store
       --decode  Decodes an encoded file first, in memory
   -h, --help    Print help
 
 Checks the whole file, and writes the bytes of the value of one property of what PATH
 leads to, as the file has them, and nothing else. ID is four hexadecimal digits, as
 props prints them. With --text a text (type 001F), which the file has as UTF-16, is
-written as UTF-8; values of other types are written as they are.
+written as UTF-8; values of other types are written as they are. With --whole the store
+may be damaged, if nothing is broken in what the path begins with.
 
 Exit status:
   0  The value is written
@@ -254,6 +264,7 @@ Arguments:
   <FILE>  The file to read, or - for standard input
 
 Options:
+      --whole   Reads what is whole of a damaged store
       --decode  Decodes an encoded file first, in memory
   -h, --help    Print help
 
@@ -262,7 +273,8 @@ messages and props print of the store, its folders and its messages, and of each
 its headers, its texts, its attachments and the messages that they embed as files, whose
 bytes are the values. Their names are words of the program and identifiers of the file:
 messages/0x200024/body.txt. `pst_show export FILE | tar x` makes them below the folder
-where it runs.
+where it runs. With --whole it writes what is whole of a damaged store, and before that,
+as damage.json, what damage prints.
 
 Exit status:
   0  The archive is written
