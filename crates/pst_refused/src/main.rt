@@ -28,6 +28,7 @@ enum Calls {
     Layers,
     Database,
     Remains,
+    Decoded,
     Contexts,
     Report,
     Lists,
@@ -38,10 +39,11 @@ enum Calls {
     Run,
 }
 
-const ALL: [Calls; 11] = [
+const ALL: [Calls; 12] = [
     Calls::Layers,
     Calls::Database,
     Calls::Remains,
+    Calls::Decoded,
     Calls::Contexts,
     Calls::Report,
     Calls::Lists,
@@ -57,6 +59,7 @@ fn made(alloc: Global, calls: Calls, bytes: &[u8]) -> Result<(), Refused> {
         Calls::Layers => layers::answer(alloc, bytes),
         Calls::Database => layers::database(alloc, bytes),
         Calls::Remains => remains::remains(alloc, bytes),
+        Calls::Decoded => remains::decoded_remains(alloc, bytes),
         Calls::Contexts => contexts::contexts(alloc, bytes),
         Calls::Report => documents::report(alloc, bytes),
         Calls::Lists => documents::lists(alloc, bytes),
