@@ -50,7 +50,8 @@ def folders(store):
     seen = picture("folders", "Folders by the bytes of their messages", about) if drawn else paragraph(
         "No folder has a message with a size, so there is nothing to draw.", "none")
     tree = table("folders", "The tree of folders from the root", columns, rows, len(reached), ("Folder", "ascending"))
-    return drawn, f'<div class="pair">{seen}<div>{tree}</div></div>{lost_folders(lost)}'
+    made = f'<div class="pair">{seen}<div>{tree}</div></div>' if drawn else seen + tree
+    return drawn, made + lost_folders(lost)
 
 
 def lost_folders(lost):

@@ -4,6 +4,7 @@ import base64
 import hashlib
 import os
 import re
+import sys
 
 from reporting import texts
 
@@ -20,10 +21,11 @@ def read(*names):
 
 
 def own_digest():
-    """One SHA-256 for all files that the report is made by: of the lines that sha256sum would have of them."""
+    """One SHA-256 for all files that the report is made by: of the lines that sha256sum would have of them, the program first."""
     names = [os.path.relpath(os.path.join(place, it), FOLDER) for place, _, files in os.walk(FOLDER) for it in files
              if it.endswith((".py", ".js", ".css", ".html")) and os.path.basename(place) in (os.path.basename(FOLDER), "reporting", "d3")]
-    lines = "".join(f"{hashlib.sha256(read(it).encode()).hexdigest()}  {it}\n" for it in sorted(names))
+    files = [("pst_report", os.path.realpath(sys.argv[0])), *((it, it) for it in sorted(names))]
+    lines = "".join(f"{hashlib.sha256(read(path).encode()).hexdigest()}  {name}\n" for name, path in files)
     return hashlib.sha256(lines.encode()).hexdigest()
 
 
