@@ -29,6 +29,7 @@ TRIED = [
     ["tools/check_examples.py", "--some"],
     ["tools/check_schemas.py"],
     ["tools/try_terminal"],
+    ["tools/try_package"],
     REFUSE,
 ]
 LAUNCHER = "tools/try_launcher"
