@@ -6,6 +6,7 @@ use Rattle.pst_block.specs.Table.{Table}
 use Rattle.pst_ndb.specs.Roots.{Roots, node_in, all_roots}
 use Rattle.pst_value_json.specs.Line.{line_of}
 use Rattle.pst_value_json.specs.pst_names.Name.{NameParts, store_name}
+use Rattle.pst_json.specs.pst_whole.Lost.{LostParts, nothing_lost}
 use Rattle.pst_json.specs.Folders.{folders_line}
 use Rattle.pst_json.specs.Messages.{messages_text}
 use Rattle.pst_json.specs.Node.{node_props_data}
@@ -52,20 +53,20 @@ messages_files names t name rs = flat_map (message_files names t name) rs
 abbrev pub of_type : ℕ → List NodeEntry → List Roots
 of_type kind nodes = of_kind (is_type kind) (all_roots nodes)
 
-abbrev pub front_files : (ℕ → Option NameParts) → Table → List NodeEntry → List Member
-front_files names t nodes =
+abbrev pub front_files : (ℕ → Option NameParts) → Table → List NodeEntry → LostParts → List Member
+front_files names t nodes lost =
     store_file names t (node_in nodes STORE)
-    ++ (file_of (codes "folders.json") (folders_line t nodes) ∷ file_of (codes "messages.jsonl") (messages_text t nodes) ∷ [])
+    ++ (file_of (codes "folders.json") (folders_line t nodes lost) ∷ file_of (codes "messages.jsonl") (messages_text t nodes) ∷ [])
 
-abbrev pub files_with : (ℕ → Option NameParts) → Table → List NodeEntry → List Member
-files_with names t nodes =
-    ((front_files names t nodes ++ folder_files names t (of_kind is_folder (all_roots nodes)))
+abbrev pub files_with : (ℕ → Option NameParts) → Table → List NodeEntry → LostParts → List Member
+files_with names t nodes lost =
+    ((front_files names t nodes lost ++ folder_files names t (of_kind is_folder (all_roots nodes)))
     ++ messages_files names t (codes "messages") (of_type MESSAGE nodes))
     ++ messages_files names t (codes "associated") (of_type ASSOCIATED nodes)
 
 -- The files of a store, in order.
 unfoldable pub store_files : Table → List NodeEntry → List Member
-store_files t nodes = files_with (store_name t nodes) t nodes
+store_files t nodes = files_with (store_name t nodes) t nodes nothing_lost
 
 -- The archive of them.
 abbrev pub archive_text : Table → List NodeEntry → List ℕ

@@ -5,6 +5,7 @@ ghost use Rattle.std.specs.Io.KnownBytes.{Appends};
 ghost use Rattle.pst_ndb.specs.Views.{table_of_ndb, nodes_of};
 ghost use Rattle.pst_value_json.specs.Props.{names_told};
 ghost use Rattle.pst_verify.specs.pst_store.View.{ndb_of_store, table_of_store, nodes_of_store};
+ghost use Rattle.pst_json.specs.pst_whole.Lost.{nothing_lost};
 ghost use Rattle.pst_json.specs.NamesIndex.{IsNamesIndex};
 ghost use Rattle.pst_json.specs.Output.{AppendsFront};
 ghost use Rattle.pst_export.specs.Export.{TellsExport, archive_in};
@@ -15,7 +16,7 @@ use crate::count::count_down;
 use crate::fault::ExportFault;
 use crate::folders::{write_folders, write_front};
 use crate::messages::write_messages;
-use pst_json::{DocFault, emit, names_in, names_index};
+use pst_json::{DocFault, Intact, emit, names_in, names_index};
 use pst_msg::{ASSOCIATED, MESSAGE, NameMap};
 use pst_tar::end;
 use pst_value_json::NameIndex;
@@ -60,7 +61,7 @@ pub fn export_of<'a>(alloc: Global, verified: Verified<'a>) -> Result<Export<'a>
     if !are_few(alloc, &store, size / BLOCK)? {
         return Err(DocFault::TooManyPaths);
     }
-    let index = names_index(alloc, &store)?;
+    let index = names_index(alloc, &Intact::of(&store))?;
     Ok(Export { verified, index })
 }
 
@@ -74,10 +75,10 @@ fn write_files<W: Write>(
     out: &mut W,
 ) -> Result<(), ExportFault>
     ensures all { let told = names_told names.entry in let ndb = ndb_of_store verified.now.store in
-        let files = files_with told (table_of_ndb ndb) (nodes_of ndb) in
+        let files = files_with told (table_of_ndb ndb) (nodes_of ndb) nothing_lost in
         OnOk result (Adds (W.contents out.old) (W.contents out.new) number.old number.new files) }
     ensures front { let told = names_told names.entry in let ndb = ndb_of_store verified.now.store in
-        let files = files_with told (table_of_ndb ndb) (nodes_of ndb) in
+        let files = files_with told (table_of_ndb ndb) (nodes_of ndb) nothing_lost in
         AddsFront (W.contents out.old) (W.contents out.new) number.old files }
 {
     let store = verified.store;
@@ -94,7 +95,8 @@ pub fn emit_export<W: Write>(alloc: Global, export: &Export, out: &mut W) -> Res
         (archive_in export.now)) }
     ensures front { AppendsFront (W.contents out.old) (W.contents out.new) (archive_in export.now) }
 {
-    let names = names_in(&export.verified.store, &export.index);
+    let intact = Intact::of(&export.verified.store);
+    let names = names_in(&intact, &export.index);
     let mut number = 0;
     write_files(alloc, &mut number, names, &export.verified, out)?;
     emit(end(), out)?;

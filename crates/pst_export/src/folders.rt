@@ -4,6 +4,7 @@ ghost use Rattle.std.specs.Prelude.{◌≡◌, IfOk, OnOk, [], ◌∷◌, codes,
 ghost use Rattle.pst_ndb.specs.Roots.{all_roots, node_in};
 ghost use Rattle.pst_ndb.specs.Views.{table_of_ndb, nodes_of};
 ghost use Rattle.pst_value_json.specs.Props.{names_told};
+ghost use Rattle.pst_json.specs.pst_whole.Lost.{nothing_lost};
 ghost use Rattle.pst_json.specs.Folders.{folders_line as line_of_folders};
 ghost use Rattle.pst_json.specs.Messages.{messages_text as text_of_messages};
 ghost use Rattle.pst_verify.specs.pst_msg.declared.nid.TheConstants.{STORE};
@@ -19,7 +20,7 @@ ghost use Rattle.pst_export.specs.Written.{Adds, AddsFront};
 use crate::fault::ExportFault;
 use crate::files::write_bytes;
 use crate::walk::folder_in;
-use pst_json::{folders_line, messages_text, node_line};
+use pst_json::{Intact, Lost, folders_line, messages_text, node_line};
 use pst_msg::NameMap;
 use pst_verify::{Folder, Verified};
 use std::alloc::{AllocError, Global};
@@ -53,15 +54,17 @@ fn write_list<W: Write>(
     out: &mut W,
 ) -> Result<(), ExportFault>
     ensures all { let ndb = ndb_of_store verified.now.store in
-        let text = line_of_folders (table_of_ndb ndb) (nodes_of ndb) in
+        let text = line_of_folders (table_of_ndb ndb) (nodes_of ndb) nothing_lost in
         let files = file_of (codes "folders.json") text ∷ [] in
         OnOk result (Adds (W.contents out.old) (W.contents out.new) number.old number.new files) }
     ensures front { let ndb = ndb_of_store verified.now.store in
-        let text = line_of_folders (table_of_ndb ndb) (nodes_of ndb) in
+        let text = line_of_folders (table_of_ndb ndb) (nodes_of ndb) nothing_lost in
         let files = file_of (codes "folders.json") text ∷ [] in
         AddsFront (W.contents out.old) (W.contents out.new) number.old files }
 {
-    let line = folders_line(alloc, verified)?;
+    verified.is_sound();
+    let intact = Intact::of(&verified.store);
+    let line = folders_line(alloc, &intact, &Lost::Nothing, &verified.report.reached)?;
     write_bytes(alloc, number, b"folders.json", 0, &line, out)?;
     Ok(())
 }
@@ -82,7 +85,7 @@ fn write_summaries<W: Write>(
         let files = file_of (codes "messages.jsonl") text ∷ [] in
         AddsFront (W.contents out.old) (W.contents out.new) number.old files }
 {
-    let text = messages_text(alloc, &verified.store)?;
+    let text = messages_text(alloc, &Intact::of(&verified.store))?;
     write_bytes(alloc, number, b"messages.jsonl", 0, &text, out)?;
     Ok(())
 }
@@ -96,10 +99,10 @@ pub(crate) fn write_front<W: Write>(
     out: &mut W,
 ) -> Result<(), ExportFault>
     ensures all { let told = names_told names.entry in let ndb = ndb_of_store verified.now.store in
-        let files = front_files told (table_of_ndb ndb) (nodes_of ndb) in
+        let files = front_files told (table_of_ndb ndb) (nodes_of ndb) nothing_lost in
         OnOk result (Adds (W.contents out.old) (W.contents out.new) number.old number.new files) }
     ensures front { let told = names_told names.entry in let ndb = ndb_of_store verified.now.store in
-        let files = front_files told (table_of_ndb ndb) (nodes_of ndb) in
+        let files = front_files told (table_of_ndb ndb) (nodes_of ndb) nothing_lost in
         AddsFront (W.contents out.old) (W.contents out.new) number.old files }
 {
     write_store(alloc, number, names, verified, out)?;
