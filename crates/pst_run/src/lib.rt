@@ -42,3 +42,4 @@ pub use running::{
 pub use said::refuse;
 pub use shown::{Shown, Text};
 pub use source::{Source, Watched, say_cause};
+pub use whole::{is_of_whole, write_decoded_whole, write_whole};
