@@ -3,7 +3,7 @@
 
     tools/check_examples.py [--some] [--program PROGRAM] [FILE ..]
 
-With no FILE: README.md, man/pst_show.1, and of docs/ JSON.md, MANY.md, LIBRARY.md, EVIDENCE.md and OUTLOOK.md. An example is a
+With no FILE: README.md, both manual pages, and of docs/ JSON.md, MANY.md, REPORT.md, LIBRARY.md, EVIDENCE.md and OUTLOOK.md. An example is a
 line that begins with `$ `, in a block that opens with ```sh, or of the manual page below EXAMPLES; lines that begin with `> ` go
 on with it, and the lines behind it, up to the next example or the end of the block, are what it has to print, on standard output
 and standard error together. Of the manual page an example may show nothing of that: then it has to end with status 0, to say
@@ -30,7 +30,8 @@ import tempfile
 from typing import NamedTuple
 
 ROOT = os.path.dirname(os.path.dirname(os.path.abspath(__file__)))
-DOCUMENTS = ["README.md", "man/pst_show.1", *(f"docs/{name}.md" for name in ("JSON", "MANY", "LIBRARY", "EVIDENCE", "OUTLOOK"))]
+MANUALS = ["man/pst_show.1", "man/pst_report.1"]
+DOCUMENTS = ["README.md", *MANUALS, *(f"docs/{name}.md" for name in ("JSON", "MANY", "REPORT", "LIBRARY", "EVIDENCE", "OUTLOOK"))]
 TOOLS = ["jq", "parallel", "xargs", "find", "flock", "python3"]
 OPTIONAL = ["parallel is not installed", "the library is not there"]
 SHOWN = ["sh", "c", "python", "text"]
@@ -128,6 +129,7 @@ class Room:
         self.link(f"{ROOT}/samples", "samples")
         self.link(f"{ROOT}/examples", "examples")
         self.link(f"{ROOT}/report", "report")
+        self.link(f"{ROOT}/report/pst_report", "pst_report")
 
     def link(self, path, name):
         os.makedirs(os.path.dirname(f"{self.folder}/{name}"), exist_ok=True)
@@ -172,7 +174,7 @@ class Room:
         printed = ran.stdout.decode("utf-8", "backslashreplace")
         if example.wanted is not None:
             return printed
-        into = re.search(r">(\w+)$", example.text)
+        into = re.search(r">([\w.]+)$", example.text)
         size = os.path.getsize(f"{self.folder}/{into[1]}") if into else len(printed)
         is_good = ran.returncode == 0 and not ran.stderr and size
         return None if is_good else f"status {ran.returncode}, {size} bytes\n{ran.stderr.decode()}"

@@ -6,8 +6,9 @@
 `rt ci` proves every crate and its tests from nothing, tries the must-fail edits and runs the tests, and leaves the program
 in crates/pst_show/out; the library is then made of crates/pst_c. Both must have the bytes of those that are kept in built/.
 Each command of TRIED is then run over the program, LIBRARY over the library, and REPORT over the program where there is a Chromium;
-each counts as one that passed or failed. They need two to four minutes. Where something failed before, they are not run. With --quick the lines of tools/refuse/refuse, one for each
-command line, are shown where it fails, and with -v. The last line is 'N passed, M failed'.
+each counts as one that passed or failed. They need two to four minutes. Where something failed before, they are not run. With
+--quick the lines of tools/refuse/refuse, one for each command line, are shown where it fails, and with -v. The last line is
+'N passed, M failed'.
 """
 import os
 import re
