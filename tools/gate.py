@@ -12,12 +12,16 @@ each counts as one that passed or failed. They need two to four minutes. Where s
 """
 import os
 import re
-import shutil
 import subprocess
 import sys
 import time
 
 ROOT = os.path.dirname(os.path.dirname(os.path.abspath(__file__)))
+sys.dont_write_bytecode = True
+sys.path.insert(0, os.path.join(ROOT, "report"))
+
+from trying import chromium  # noqa: E402
+
 KEEP = os.path.join(ROOT, "tools", "keep")
 PROGRAM = os.path.join(ROOT, "crates", "pst_show", "out", "pst_show")
 CALLS = ["--calls", os.path.join(ROOT, "crates", "pst_refused", "out", "pst_refused")]
@@ -28,6 +32,7 @@ TRIED = [
     ["tools/compare_kinds.py"],
     ["tools/write_words.py", "--compare"],
     ["tools/check_examples.py", "--some"],
+    ["tools/check_schemas.py"],
     ["tools/try_terminal"],
     REFUSE,
 ]
@@ -72,7 +77,7 @@ def is_good(words, is_shown=True):
 
 def report_tried(words):
     """Whether the report is found good, where there is a browser to open it in; else nothing, and that is told."""
-    if not any(map(shutil.which, ("chromium", "chromium-browser", "google-chrome"))):
+    if chromium.found() is None:
         print(f"== {REPORT}: not run, there is no Chromium here (apt-get install chromium)", flush=True)
         return []
     return [is_good([sys.executable, REPORT, *words])]

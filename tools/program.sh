@@ -207,7 +207,7 @@ note_proved() {
 # Proves a crate and makes what is wanted of it, by a command, and says how far that is. `$1` names what is wanted in what is said.
 build() {
     command -v rt >/dev/null 2>&1 ||
-        fail "$1 has to be proved and built, and the command rt of the Rattle kit is not on the PATH (README.md, \"What it needs\")"
+        fail "$1 has to be proved and built, and the command rt of the Rattle kit is not on the PATH (docs/INSTALL.md)"
     say "$1 is proved and built first, which takes from 25 minutes to an hour; $log tells of it"
     : >"$log"
     "$3" >"$log" 2>&1 &

@@ -11,7 +11,7 @@ from reporting.asking import UNREAD, Stopped
 from reporting.document import Cell, code, document, facts, numeral, own_digest, paragraph, picture, table
 from reporting.store import Fault
 from reporting.sums import ROWS
-from reporting.verdict import OUTSIDE
+from reporting.verdict import OUTSIDE, UNCLOSED
 
 MOST_KINDS = 30
 
@@ -31,7 +31,7 @@ class Line(NamedTuple):
         """Which of four it is: yes, no, outside of what is checked, or without a verdict."""
         if self.document:
             return "yes"
-        return "left" if self.fault is None else "other" if self.fault.kind in OUTSIDE else "no"
+        return "left" if self.fault is None else "other" if self.fault.kind in OUTSIDE | {UNCLOSED} else "no"
 
 
 def length_of(path):
@@ -70,7 +70,7 @@ class Table:
         return Line(path, int(status), document, fault, said, length_of(path))
 
 
-VERDICTS = {"yes": "yes", "no": "no, damaged", "other": "no, none of the stores that are checked", "left": "no verdict"}
+VERDICTS = {"yes": "yes", "no": "no, damaged", "other": "no, outside of what is checked", "left": "no verdict"}
 
 
 def verdicts(lines):

@@ -6,11 +6,19 @@ from reporting.store import ENCODINGS
 
 LONGEST_LINE = 2000
 OUTSIDE = {"Short", "Magic", "Version", "Encoded"}
+UNCLOSED = "MapsInvalid"
 
 
 def classed(store):
     """Which of the three verdicts it is: yes, no, or that the file is none of which pst_show says more."""
-    return "yes" if store.check else "other" if store.fault.kind in OUTSIDE else "no"
+    if store.check:
+        return "yes"
+    return "other" if store.fault.kind in OUTSIDE or is_unclosed_alone(store) else "no"
+
+
+def is_unclosed_alone(store):
+    """Whether all that is told of the file is that its maps are marked as invalid."""
+    return store.fault.kind == UNCLOSED and store.damage is not None and parts_broken(store.damage) == "the header"
 
 
 def words(store):
@@ -25,6 +33,9 @@ def words(store):
                 "Nothing more of it was looked at, so nothing is said of damage.")
     if store.damage is None:
         return ("No: this file breaks a rule of the format.", "What else may be broken is not told." + encoded)
+    if is_unclosed_alone(store):
+        return ("No: this store was not closed in order.", "Its header marks the allocation maps as invalid, as Outlook leaves them where it "
+                "is cut off; it makes them anew when it next opens the store. Nothing else is broken." + encoded)
     return ("No: this file is damaged.", f"The first rule that it breaks is told below. Broken: {parts_broken(store.damage)}."
             + encoded + hidden(store.damage))
 

@@ -47,6 +47,13 @@ def broken(room):
     return path
 
 
+def unclosed(room):
+    """A sample whose maps are marked as invalid."""
+    path = os.path.join(room, "unclosed.pst")
+    stores.unclosed(sample("mail")(room), path)
+    return path
+
+
 def cut(room):
     """A store of which only the header is left, and not all of that."""
     path = os.path.join(room, "cut.pst")
@@ -59,7 +66,7 @@ def verdicts(room, program):
     """A table of verdicts over the samples and some that are none."""
     table = os.path.join(room, "verdicts.tsv")
     names = sorted(it for it in os.listdir(os.path.join(ROOT, "samples")) if it.endswith(".pst"))
-    paths = [os.path.join(ROOT, "samples", it) for it in names] + [cut(room), broken(room), os.path.join(room, "gone.pst")]
+    paths = [os.path.join(ROOT, "samples", it) for it in names] + [cut(room), broken(room), unclosed(room), os.path.join(room, "gone.pst")]
     with open(table, "w", encoding="utf-8") as file:
         for path in paths:
             ran = subprocess.run([program, "check", "--decode", path], capture_output=True, text=True, check=False)
@@ -73,7 +80,7 @@ TRIALS = {
     "least": (sample("m0"), 0),
     "lost-runs": (sample("growths"), 0), "lost-folders": (sample("paths1"), 0), "in-no-folder": (sample("listed"), 0),
     "mailbox": (by(stores.mailbox), 0), "hostile": (by(stores.hostile), 0), "months": (by(stores.months), 0),
-    "damaged": (broken, 1), "pages-alone": (sample("outlook_pages"), 1), "cut": (cut, 1),
+    "damaged": (broken, 1), "unclosed": (unclosed, 1), "pages-alone": (sample("outlook_pages"), 1), "cut": (cut, 1),
     "folders": (of_bench("many_folders", "3000"), 0), "lost-space": (of_bench("lost_runs", "8"), 0),
     "messages": (of_bench("mail", "20000", "60", "0"), 0),
     "large": (of_bench("mail", "80000", "60", "0"), 0), "many": (None, 0),

@@ -11,7 +11,7 @@ sys.path.insert(0, os.path.join(ROOT, "bench"))
 
 from stores import mail  # noqa: E402
 from stores.contexts import INTEGER32, STRING, TIME, text  # noqa: E402
-from stores.database import NodeDatabase  # noqa: E402
+from stores.database import NodeDatabase, check_value  # noqa: E402
 
 # What a text of a store may try: markup, the ends of what it may stand in, what turns or hides its neighbours, what is no character.
 HOSTILE = [
@@ -128,6 +128,17 @@ def months(path, count=3000):
         when = filetime(datetime(1700 + number // 12, number % 12 + 1, 5, tzinfo=timezone.utc))
         made.message(folder, f"Month {number}", "Clock", when, 100 + number)
     made.write(path)
+
+
+def unclosed(source, path):
+    """A copy whose header marks the allocation maps as invalid ([MS-PST] 2.2.2.5), with check values that fit (2.2.2.6)."""
+    with open(source, "rb") as file:
+        held = bytearray(file.read())
+    held[0xF8] = 0
+    for at, length in ((4, 471), (524, 516)):
+        held[at:at + 4] = struct.pack("<I", check_value(held[8:8 + length]))
+    with open(path, "wb") as file:
+        file.write(held)
 
 
 def damaged(source, path, count=6):
