@@ -10,7 +10,7 @@ standard output and standard error together. Of the manual page an example may s
 0, to say nothing on standard error, and to write something. A block that opens with ```c or ```python is a program where a block that
 opens with ```text stands below it, which is what it has to print, of samples/mail.pst on standard input.
 
-The examples of a file run one after another in one empty folder, in which samples and examples name those of the repository, and
+The examples of a file run one after another in one empty folder, in which samples, examples and report name those of the repository, and
 pst_show, which is on the PATH too, the repository's or the program that --program names; for the manual page there are mail.pst and
 stores/mail.pst. The library is that of PST_LIBRARY, or built/libpst.so.0, with libpst.a beside it.
 
@@ -127,6 +127,7 @@ class Room:
         self.link(program, "pst_show")
         self.link(f"{ROOT}/samples", "samples")
         self.link(f"{ROOT}/examples", "examples")
+        self.link(f"{ROOT}/report", "report")
 
     def link(self, path, name):
         os.makedirs(os.path.dirname(f"{self.folder}/{name}"), exist_ok=True)

@@ -3,6 +3,7 @@
 ghost use Rattle.std.specs.Prelude.{◌≡◌, IfOk, true};
 ghost use Rattle.pst_ask.specs.Ask.{request_of, wanted_of};
 ghost use Rattle.pst_datatree.specs.Shown.{bytes_in};
+ghost use Rattle.pst_export.specs.Export.{archive_in};
 ghost use Rattle.pst_plain.specs.Twin.{method_of as method_in};
 ghost use Rattle.pst_run.specs.Answer.{answer_to, answer_with, bytes_for, bytes_shown, decoded_damage as answer_decoded, is_decoded_damage as damage_wanted};
 ghost use Rattle.pst_c.specs.Answer.{Yields};
@@ -11,6 +12,7 @@ use crate::decoded::decoded_if;
 use pst_ask::{Ask, Request};
 use pst_bytes::Image;
 use pst_datatree::Value;
+use pst_export::{Export, emit_export};
 use pst_json::emit_value;
 use pst_plain::method_of;
 use pst_run::{Refusal, Text, answer, decoded_damage, digest_if, is_decoded_damage};
@@ -27,6 +29,17 @@ fn copied(alloc: Global, value: Value) -> Result<Vec<u8>, AllocError>
     }
 }
 
+// An archive, in memory.
+fn archived(alloc: Global, export: &Export) -> Result<Vec<u8>, AllocError>
+    ensures { IfOk result (λ v. v.items ≡ archive_in export.now) }
+{
+    let mut bytes = Vec::new(alloc);
+    match emit_export(alloc, export, &mut bytes) {
+        Ok(()) => Ok(bytes),
+        Err(_) => Err(AllocError),
+    }
+}
+
 // A text that outlives the bytes that it is of.
 fn text_of(alloc: Global, text: Text) -> Result<Vec<u8>, AllocError>
     ensures { IfOk result (λ v. v.items ≡ bytes_shown text.entry) }
@@ -34,6 +47,7 @@ fn text_of(alloc: Global, text: Text) -> Result<Vec<u8>, AllocError>
     match text {
         Text::Made(text) => Ok(text),
         Text::Lent(value) => copied(alloc, value),
+        Text::Archive(export) => archived(alloc, &export),
     }
 }
 

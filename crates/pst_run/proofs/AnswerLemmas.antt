@@ -16,7 +16,7 @@ use Rattle.pst_ask.specs.Ask.{Asked, damage, nids_of, report}
 use Rattle.pst_encoding.specs.declared.method.Method.{Method}
 use Rattle.pst_plain.specs.Twin.{method_of}
 use Rattle.pst_json.specs.declared.fault.DocFault.{DocFault}
-use Rattle.pst_json.specs.declared.fault.DocFault.TheVariants.{NoFolder, NoNode, NoProperty, Bad, Memory}
+use Rattle.pst_json.specs.declared.fault.DocFault.TheVariants.{NoFolder, NoNode, NoProperty, TooManyPaths, Bad, Memory}
 use Rattle.pst_json.specs.Told.{TellsDoc}
 use Rattle.pst_run.specs.declared.refusal.Refusal.{Refusal}
 use Rattle.pst_run.specs.Refusal.{Refused, fault, is_memory, memory, refusal_for, refusal_of, refused_of}
@@ -91,6 +91,7 @@ gives_for : {Y : Type 0} (shown : Y → List ℕ) (path : List ℕ) (f : DocFaul
 gives_for shown path NoFolder whole line tells is = is tells
 gives_for shown path NoNode whole line tells is = is tells
 gives_for shown path (NoProperty id) whole line tells is = is tells
+gives_for shown path TooManyPaths whole line tells is = is tells
 gives_for shown path (Bad f) whole line tells is = gives_fault f (is_memory f.kind) whole (is tells)
 gives_for shown path Memory whole line tells is = tt
 

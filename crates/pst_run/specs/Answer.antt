@@ -15,6 +15,9 @@ use Rattle.pst_json.specs.pst_store.Parts.{table_in, entries_in}
 use Rattle.pst_json.specs.pst_store.Values.{store_in}
 use Rattle.pst_json.specs.pst_verify.Counts.{count_of}
 use Rattle.pst_json.specs.declared.fault.DocFault.{DocFault}
+use Rattle.pst_json.specs.declared.fault.DocFault.TheVariants.{TooManyPaths}
+use Rattle.pst_export.specs.Export.{archive_in}
+use Rattle.pst_export.specs.Store.{archive_text, has_too_many}
 use Rattle.pst_json.specs.Check.{ReportParts, check_line}
 use Rattle.pst_json.specs.Contents.{contents_line}
 use Rattle.pst_json.specs.Folders.{folders_line}
@@ -33,8 +36,8 @@ use Rattle.sha2.specs.Sha256.{sha256}
 use Rattle.pst_datatree.specs.Shown.{bytes_in}
 use Rattle.pst_run.specs.declared.shown.Shown.{Shown}
 use Rattle.pst_run.specs.declared.shown.Text.{Text}
-use Rattle.pst_run.specs.declared.shown.Text.TheVariants.{Made, Lent}
-use Rattle.pst_ask.specs.Ask.{Asked, Wanted, report, damage, head, nodes, folders, contents, messages, props, value}
+use Rattle.pst_run.specs.declared.shown.Text.TheVariants.{Made, Lent, Archive}
+use Rattle.pst_ask.specs.Ask.{Asked, Wanted, report, damage, head, nodes, folders, contents, messages, props, value, export}
 use Rattle.pst_run.specs.declared.refusal.Refusal.{Refusal}
 use Rattle.pst_run.specs.Outside.{outside_fault}
 use Rattle.pst_run.specs.Refusal.{Refused, fault, document, input, output, memory, refused_of, refusal_of, refusal_for}
@@ -56,17 +59,26 @@ digest_for ask bytes = None
 pub record Told : Type 0 where
   pub text : List ℕ
   pub fails : Bool
+  -- it is made as it is written
+  pub streamed : Bool
 
 -- the bytes that are written
 abbrev pub bytes_shown : Text → List ℕ
 bytes_shown (Made text) = text.items
 bytes_shown (Lent lent) = bytes_in lent
+bytes_shown (Archive export) = archive_in export
+
+-- it is made as it is written
+abbrev pub is_streamed : Text → Bool
+is_streamed (Made text) = false
+is_streamed (Lent lent) = false
+is_streamed (Archive export) = true
 
 abbrev pub told_in : Shown → Told
-told_in s = record { text = bytes_shown s.text; fails = s.fails }
+told_in s = record { text = bytes_shown s.text; fails = s.fails; streamed = is_streamed s.text }
 
 abbrev pub plain : List ℕ → Told
-plain text = record { text = text; fails = false }
+plain text = record { text = text; fails = false; streamed = false }
 
 -- ---- of the header, and of both trees
 
@@ -96,7 +108,7 @@ report_in I = let s = store_in I in record {
 
 -- a strict check fails where there are lost runs
 abbrev pub report_told : Bool → Option (List ℕ) → ReportParts → Told
-report_told strict digest r = record { text = check_line r digest; fails = strict && not (length r.lost == 0) }
+report_told strict digest r = record { text = check_line r digest; fails = strict && not (length r.lost == 0); streamed = false }
 
 -- its blocks, and the entries of its node B-tree
 abbrev pub table_of_file : List ℕ → Table
@@ -111,7 +123,7 @@ is_whole d = is_none d.header && is_none d.maps && length d.pages == 0 && length
 
 -- what is told of all that is broken, with the digest of the file where it is asked for; it fails where something is
 abbrev pub damage_told : Option (List ℕ) → DamageParts → Told
-damage_told digest d = record { text = damage_line d digest; fails = not (is_whole d) }
+damage_told digest d = record { text = damage_line d digest; fails = not (is_whole d); streamed = false }
 
 -- a line or a value, or that there is none of the folder or at the path with these identifiers
 abbrev pub line_at : List ℕ → Result (List ℕ) DocFault → Result Told Refused
@@ -132,6 +144,12 @@ unfoldable pub lines_of_paths : (List ℕ → Result (List ℕ) DocFault) → Li
 lines_of_paths line [] = Ok (plain [])
 lines_of_paths line (path ∷ rest) = in_front (line_at path (line path)) (lines_of_paths line rest)
 
+-- the archive of a store in a file of so many bytes, or that there are too many paths
+abbrev pub archive_told : ℕ → Table → List NodeEntry → Result Told Refused
+archive_told size t nodes =
+    if has_too_many size t nodes then Err (document [] TooManyPaths)
+    else Ok (record { text = archive_text t nodes; fails = false; streamed = true })
+
 -- ---- all of them
 
 -- The text that a command shows of these bytes, with this digest, and whether it fails; or why it refuses them. `head` shows
@@ -147,6 +165,7 @@ answer_with folders digest I = of_store (store_fault I) (Ok (plain (folders_line
 answer_with messages digest I = of_store (store_fault I) (Ok (plain (messages_text (table_of_file I) (entries_of_file I))))
 answer_with (contents nid) digest I = of_store (store_fault I) (line_at (nid ∷ []) (contents_line (table_of_file I) (entries_of_file I) nid))
 answer_with (props places paths) digest I = of_store (store_fault I) (lines_of_paths (props_line places (table_of_file I) (entries_of_file I)) paths)
+answer_with export digest I = of_store (store_fault I) (archive_told (length I) (table_of_file I) (entries_of_file I))
 answer_with (value text path id) digest I =
     of_store (store_fault I) (line_at path (told_of (written_of text) (property_at (table_of_file I) (entries_of_file I) path id)))
 

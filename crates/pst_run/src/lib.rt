@@ -20,11 +20,13 @@ mod input;
 mod line;
 mod outside;
 mod progress;
+mod read;
 mod refusal;
 mod running;
 mod said;
 mod shown;
 mod source;
+mod whole;
 
 pub use answers::answer;
 pub use damaged::decoded_damage;

@@ -55,6 +55,7 @@ pub fn is_decoded_damage(request: &Request) -> bool
 }
 
 // Writes all that is broken of a file that may be encoded, and tells whether something is.
+#[tactic(auto, using(crate::proofs::RunLemmas::ends_written))]
 fn write_decoded_damage<W: Write>(
     alloc: Global,
     digest: Option<[u8; 32]>,
@@ -65,12 +66,13 @@ fn write_decoded_damage<W: Write>(
         (W.contents out.old) (W.contents out.new) }
 {
     let shown = decoded_damage(alloc, digest, &mut bytes)?;
-    emit_text(&shown.text, out)?;
+    emit_text(alloc, &shown.text, out)?;
     Ok(shown.fails)
 }
 
 // Writes what a command answers to these bytes of a file, with this digest, or to those of its plain twin, where it is to be
 // decoded; and tells whether the run fails all the same.
+#[tactic(auto, using(crate::proofs::RunLemmas::ends_written))]
 fn write_shown<'a, W: Write>(
     alloc: Global,
     request: &'a Request,
@@ -84,7 +86,7 @@ fn write_shown<'a, W: Write>(
 {
     let bytes = decode_if(alloc, request.decode, bytes)?;
     let shown = answer(alloc, &request.ask, digest, &bytes)?;
-    emit_text(&shown.text, out)?;
+    emit_text(alloc, &shown.text, out)?;
     Ok(shown.fails)
 }
 

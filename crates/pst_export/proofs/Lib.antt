@@ -1,0 +1,4 @@
+pub mod StoreLemmas
+pub mod TextLemmas
+pub mod WalkLemmas
+pub mod WriteLemmas
