@@ -30,6 +30,7 @@ REFUSE = ["tools/refuse/refuse"]
 TRIED = [
     ["tools/compare_answers.py"],
     ["tools/compare_kinds.py"],
+    ["tools/check_pages.py"],
     ["tools/write_words.py", "--compare"],
     ["tools/check_examples.py", "--some"],
     ["tools/check_schemas.py"],
