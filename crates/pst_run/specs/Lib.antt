@@ -1,5 +1,6 @@
 pub mod Answer
 pub mod Hint
+pub mod Laws
 pub mod Loading
 pub mod Outside
 pub mod Refusal
