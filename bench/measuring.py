@@ -18,10 +18,10 @@ def program():
 
 class Cost:
     """What the runs of one command cost: processor seconds and elapsed seconds of each, the greatest memory of
-    any."""
+    any; and how it ended, where that was not with the status that it should have."""
 
-    def __init__(self):
-        self.seconds, self.elapsed, self.peak, self.ending = [], [], 0, ""
+    def __init__(self, status=0):
+        self.seconds, self.elapsed, self.peak, self.ending, self.status = [], [], 0, "", status
 
     def add(self, status, nanos, elapsed, memory, refusal):
         """One run more, as run_alone tells of it, and its line of refusal."""
@@ -30,7 +30,7 @@ class Cost:
         self.peak = max(self.peak, memory)
         if os.WIFSIGNALED(status):
             self.ending = f"ended by signal {os.WTERMSIG(status)} after {self.seconds[-1]:.0f} s"
-        elif status:
+        elif os.WEXITSTATUS(status) != self.status:
             self.ending = f"status {os.WEXITSTATUS(status)}: {refusal}"
 
     @property
@@ -74,10 +74,10 @@ class Bench:
         words = [self.program, command[0], os.devnull, *command[1:]]
         return subprocess.run(words, capture_output=True, check=False).returncode != 2
 
-    def costs(self, commands, turns=None, patience=None):
-        """What each of these commands costs; they take turns. There are fewer turns where they take longer than the
-        patience."""
-        made = [Cost() for _ in commands]
+    def costs(self, commands, turns=None, patience=None, status=0):
+        """What each of these commands costs, which should end with this status; they take turns. There are fewer turns
+        where they take longer than the patience."""
+        made = [Cost(status) for _ in commands]
         begin = time.monotonic()
         for _ in range(turns or self.turns):
             for command, cost in zip(commands, made):

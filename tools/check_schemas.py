@@ -4,7 +4,7 @@
     tools/check_schemas.py [--program PROGRAM]
 
 What is held against them: each document of samples/answers.json, and what the program prints of each sample: each command that
-prints JSON, of every node and every folder, with and without --places and --digest. Then each schema has to refuse what is no such
+prints JSON, of every node and every folder, with and without --places and --digest; and what it exports, where it has the command. Then each schema has to refuse what is no such
 document: in copies of those that it took a key is left out, another is put in, and a value is replaced by one of another kind.
 Needed is jsonschema for Python (Debian's python3-jsonschema); where that is not there it is told, nothing is tried, and the status
 is 0. Else it is 0 where each document was taken, each other thing refused, and no schema was without a document.
@@ -12,10 +12,12 @@ is 0. Else it is 0 where each document was taken, each other thing refused, and 
 import argparse
 import copy
 import glob
+import io
 import json
 import os
 import subprocess
 import sys
+import tarfile
 import warnings
 
 ROOT = os.path.dirname(os.path.dirname(os.path.abspath(__file__)))
@@ -23,7 +25,7 @@ SCHEMAS = os.path.join(ROOT, "docs", "schema")
 OF_COMMAND = {"check": "check", "contents": "contents", "damage": "damage", "folders": "folders", "head": "head",
               "messages": "message", "nodes": "nodes", "props": "props"}
 WHOLE = {"contents": "contents-whole", "folders": "folders-whole"}
-SHARED = ["values", "words"]
+OF_FILE = {"damage.json": "damage", "folders": "props", "folders.json": "folders", "messages.jsonl": "message", "store.json": "props"}
 OPTIONAL = ["places", "sha256"]
 SPOILT, LONGEST = 6, 1500
 OF_KIND = {bool: "yes", int: "7", str: 7, list: {}, dict: [], type(None): -1.5}
@@ -70,6 +72,19 @@ def of_sample(program, name):
             yield from printed(program, name, "props", *flags, behind=[node["nid"]])
     for folder in json.loads(folders[0][1])["folders"] if folders else []:
         yield from printed(program, name, "contents", behind=[folder["nid"]])
+
+
+def of_export(program, name):
+    """The same of each file of JSON that the program exports of a sample."""
+    archive = subprocess.run([program, "export", "--decode", name], cwd=ROOT, capture_output=True, check=False).stdout
+    if not archive:
+        return
+    with tarfile.open(fileobj=io.BytesIO(archive)) as tar:
+        for member in tar:
+            parts = member.name.split("/")
+            schema = OF_FILE.get(parts[0]) or ("exported-props" if parts[-1] == "props.json" else None)
+            if schema and parts[-1].endswith(("json", "jsonl")):
+                yield from ((schema, line) for line in lines_of(tar.extractfile(member).read().decode()))
 
 
 def of_answers():
@@ -134,11 +149,15 @@ def main():
         print("schemas: not tried, jsonschema for Python is not installed (Debian's python3-jsonschema)")
         return 0
     taken = validators(Draft202012Validator, RefResolver)
+    samples = sorted(os.path.relpath(path, ROOT) for path in glob.glob(f"{ROOT}/samples/*.pst"))
     documents = {pair: None for pair in of_answers()}
-    for path in sorted(glob.glob(f"{ROOT}/samples/*.pst")):
-        documents.update((pair, None) for pair in of_sample(program, os.path.relpath(path, ROOT)))
+    documents.update((pair, None) for name in samples for pair in of_sample(program, name))
+    wanted = set(OF_COMMAND.values())
+    if subprocess.run([program, "export", "--help"], capture_output=True, check=False).returncode == 0:
+        documents.update((pair, None) for name in samples for pair in of_export(program, name))
+        wanted.add("exported-props")
     held, copies, wrong = try_all(taken, documents)
-    wrong += [f"{name}: no document of it was tried" for name in sorted(set(OF_COMMAND.values()) - set(held))]
+    wrong += [f"{name}: no document of it was tried" for name in sorted(wanted - set(held))]
     for line in wrong[:50]:
         print(line)
     print(f"schemas: {sum(held.values())} documents of {len(held)} kinds and {copies} spoilt ones, {len(wrong)} differences")

@@ -52,6 +52,14 @@ def far_tree(store, bodies):
     return xxblock(store, front + [empty] * (BLOCKS_IN_A_LIST - 1 - len(behind)) + behind, sum(map(len, bodies)))
 
 
+def late_tree(store):
+    """A data tree of as many spans as there may be, which are one block of a byte but for the last, a block of its own."""
+    byte = store.block(b"\7")
+    most = xblock(store, [byte] * BLOCKS_IN_A_LIST, BLOCKS_IN_A_LIST)
+    last = xblock(store, [byte] * (BLOCKS_IN_A_LIST - 1) + [store.block(b"\7")], BLOCKS_IN_A_LIST)
+    return xxblock(store, [most] * (BLOCKS_IN_A_LIST - 1) + [last], BLOCKS_IN_A_LIST ** 2)
+
+
 def data_of(store, data):
     """The data tree over these bytes, cut into blocks of 8,176."""
     return data_tree(store, [data[first:first + LONGEST_BODY] for first in range(0, len(data), LONGEST_BODY)])

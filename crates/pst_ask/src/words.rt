@@ -111,11 +111,7 @@ fn with_flags<'a>(
         Takes::Digest => command.arg(flag(alloc, "digest", DIGEST)),
         Takes::Whole | Takes::Node => command.arg(flag(alloc, "whole", WHOLE)),
         Takes::Paths => command
-            .arg(flag(
-                alloc,
-                "places",
-                "Adds where in the file each value lies",
-            ))?
+            .arg(flag(alloc, "places", "Adds where in the file each value lies"))?
             .arg(flag(alloc, "whole", WHOLE)),
         Takes::Property => command
             .arg(flag(alloc, "text", "Writes a text as UTF-8"))?

@@ -1,6 +1,8 @@
 pub mod DamageLaws
+pub mod FaultsLemmas
 pub mod JudgedLemmas
 pub mod ListingsLemmas
+pub mod MessageLemmas
 pub mod NodeLaws
 pub mod OrderLemmas
 pub mod PagesLemmas

@@ -1,6 +1,8 @@
 pub mod Apart
 pub mod BrokenPages
+pub mod Contexts
 pub mod Damage
+pub mod Faults
 pub mod Folder
 pub mod Judged
 pub mod Known
@@ -9,6 +11,7 @@ pub mod Left
 pub mod Listings
 pub mod Nodes
 pub mod Order
+pub mod Rows
 pub mod Trees
 pub mod View
 pub mod Whole

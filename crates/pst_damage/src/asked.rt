@@ -34,19 +34,19 @@ fn check_asked(left: &Left, node: Node, known: &mut Known) -> Result<(), Fault>
 {
     let nid = node.top();
     if nid == STORE {
-        return known.checker.check_properties(node);
+        return known.contexts.check_properties(node);
     }
     if nid == NAME_MAP {
-        return known.checker.check_name_map(node);
+        return known.contexts.check_name_map(node);
     }
     if is_type(FOLDER, nid) {
         return check_folder(left, node, known);
     }
     if is_type(SEARCH_FOLDER, nid) {
-        return known.checker.check_properties(node);
+        return known.contexts.check_properties(node);
     }
     if is_message(nid) {
-        return known.checker.check_message(node);
+        return known.contexts.check_message(node);
     }
     Ok(())
 }

@@ -11,11 +11,12 @@ ghost use Rattle.pst_tc.specs.View.{row_parts};
 ghost use Rattle.pst_damage.specs.Folder.{row_damage, table_damage, folder_damage};
 ghost use Rattle.pst_damage.specs.Known.{IsKnownOf};
 ghost use Rattle.pst_damage.specs.Left.{left_table, left_nodes, left_pages};
-ghost use Rattle.pst_damage.specs.Listings.{AreListingsTrue};
+ghost use Rattle.pst_damage.specs.Listings.{AreListingsTrue, items_number};
 
+use crate::faults::Part;
 use crate::known::Known;
 use crate::left::Left;
-use crate::listings::Listings;
+use crate::listings::{Listings, number_of};
 use pst_fault::{Fault, Kind};
 use pst_msg::{Items, Tc, listing_nid, may_list, named};
 use pst_ndb::Node;
@@ -82,6 +83,36 @@ fn check_rows(left: &Left, items: Items, table: Node, listings: &mut Listings) -
     Ok(())
 }
 
+// The rows of a table that lists these, as a part.
+fn rows_of(items: Items, table: Node) -> Part
+    ensures content { result.0.0 ≡ (roots_of table.entry).bid_data }
+    ensures list { result.0.1 ≡ (roots_of table.entry).bid_sub }
+    ensures items { result.1 ≡ items_number items }
+{
+    ((table.bid_data(), table.bid_sub()), number_of(items))
+}
+
+// All rows of a table, whose fault is remembered.
+fn check_all(left: &Left, items: Items, table: Node, known: &mut Known) -> Result<(), Fault>
+    requires table { table_of_node table ≡ left_table left.now }
+    requires sound { tc_fault (table_of_node table) (roots_of table) ≡ None }
+    requires known { let nodes = left_nodes left.now in
+        IsKnownOf (left_table left.now) nodes (left_pages left.now) known.old }
+    ensures known { let nodes = left_nodes left.now in
+        IsKnownOf (left_table left.now) nodes (left_pages left.now) known.new }
+    ensures exact { let r = roots_of table.entry in
+        let rows = tc_rows (table_of_node table.entry) r in
+        Tells result (first_of (row_damage (left_nodes left.now) (left_pages left.now) items
+        r.bid_data) rows) tt }
+{
+    let part = rows_of(items, table);
+    if let Some(fault) = known.rows.get(part) {
+        return Err(fault);
+    }
+    let answer = check_rows(left, items, table, &mut known.listings);
+    known.rows.keep(part, answer)
+}
+
 // A table of a folder, where its node is sound.
 #[tactic(auto, unfolding(crate::specs::Folder::table_damage, crate::specs::Folder::items_damage))]
 fn check_table(left: &Left, items: Items, nid: u32, known: &mut Known) -> Result<(), Fault>
@@ -94,8 +125,8 @@ fn check_table(left: &Left, items: Items, nid: u32, known: &mut Known) -> Result
 {
     match left.sound.node(listing_nid(nid, items)) {
         Some(table) => {
-            known.checker.check_listing(items, table)?;
-            check_rows(left, items, table, &mut known.listings)
+            known.contexts.check_listing(items, table)?;
+            check_all(left, items, table, known)
         }
         None => Ok(()),
     }
@@ -113,7 +144,7 @@ pub(crate) fn check_folder(left: &Left, node: Node, known: &mut Known) -> Result
         Tells result (folder_damage t (left_nodes left.now) (left_pages left.now)
         (roots_of node.entry)) tt }
 {
-    known.checker.check_properties(node)?;
+    known.contexts.check_properties(node)?;
     check_table(left, Items::Subfolders, node.top(), known)?;
     check_table(left, Items::Messages, node.top(), known)?;
     check_table(left, Items::Associated, node.top(), known)

@@ -1,16 +1,19 @@
 //! What is known of the parts of messaging that were looked at.
 
+use crate::contexts::Contexts;
+use crate::faults::Faults;
 use crate::listings::Listings;
-use pst_msg::Checker;
 use std::alloc::Global;
 
-/// What was found without fault, and is passed over where it is met again.
+/// What was found without fault, and is passed over where it is met again; and the faults of what was broken.
 #[derive(Drop)]
 pub(crate) struct Known {
     /// The contexts and messages.
-    pub(crate) checker: Checker,
+    pub(crate) contexts: Contexts,
     /// The rows of long tables of folders.
     pub(crate) listings: Listings,
+    /// The faults of the rows of tables of folders.
+    pub(crate) rows: Faults,
 }
 
 impl Known {
@@ -26,8 +29,9 @@ impl Known {
             IsKnownOf t nodes broken result }
     {
         Known {
-            checker: Checker::new(alloc),
+            contexts: Contexts::new(alloc),
             listings: Listings::new(alloc),
+            rows: Faults::new(alloc),
         }
     }
 }

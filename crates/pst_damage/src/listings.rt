@@ -21,8 +21,8 @@ fn cleared(bid: u64) -> u64
     PageKind::Bbt.key_of(bid)
 }
 
-// A number for what a table lists.
-fn number_of(items: Items) -> u64
+/// A number for what a table lists.
+pub(crate) fn number_of(items: Items) -> u64
     ensures { result ≡ items_number items }
 {
     match items {

@@ -1,16 +1,19 @@
 //! The trees of the blocks of each node that is left, over the blocks without fault.
 
 ghost use Rattle.std.specs.Prelude.{◌≡◌, IfOk, IfErr, option_map};
-ghost use Rattle.pst_fault.specs.Fault.{no_memory};
+ghost use Rattle.pst_fault.specs.Fault.{at_node, no_memory};
 ghost use Rattle.pst_fault.specs.First.{Tells};
 ghost use Rattle.pst_block.specs.Blocks.{table_of};
+ghost use Rattle.pst_datatree.specs.Data.{data_fault};
 ghost use Rattle.pst_subnode.specs.declared.check.TheConstants.{LISTS};
+ghost use Rattle.pst_subnode.specs.Known.{AreBothTrue};
 ghost use Rattle.pst_subnode.specs.Tree.{sub_fault, at_top};
 ghost use Rattle.pst_ndb.specs.Fault.{node_fault};
 ghost use Rattle.pst_damage.specs.Judged.{sound_nodes, told_by};
 ghost use Rattle.pst_damage.specs.Trees.{AreTreesKnown};
 
 use crate::broken::{BrokenNode, found, push_told};
+use crate::faults::Faults;
 use pst_block::Blocks;
 use pst_datatree::{Seen, check_data};
 use pst_fault::Fault;
@@ -27,11 +30,14 @@ pub(crate) struct Trees {
     pub(crate) broken: Vec<BrokenNode>,
 }
 
-// What is known of the trees that were looked at. What has no fault is passed over where it is met again.
+// What is known of the trees that were looked at. What has no fault is passed over where it is met again; of the data and of the
+// list of subnodes of a node that have one, it is remembered.
 #[derive(Drop)]
 struct Known {
     seen: Seen,
     heights: Heights,
+    content: Faults,
+    lists: Faults,
 }
 
 impl Known {
@@ -45,8 +51,47 @@ impl Known {
         Known {
             seen: Seen::new(alloc),
             heights: Heights::new(alloc),
+            content: Faults::new(alloc),
+            lists: Faults::new(alloc),
         }
     }
+}
+
+// The data of a node.
+fn check_content(
+    alloc: Global,
+    blocks: &Blocks,
+    entry: NodeEntry,
+    known: &mut Known,
+) -> Result<(), Fault>
+    requires { AreTreesKnown (table_of blocks.now) known.old }
+    ensures known { AreTreesKnown (table_of blocks.now) known.new }
+    ensures exact { Tells result (option_map (at_node entry.nid)
+        (data_fault (table_of blocks.now) entry.bid_data)) tt }
+{
+    let part = ((entry.bid_data, 0), 0);
+    if let Some(fault) = known.content.get(part) {
+        return Err(fault.at_node(entry.nid));
+    }
+    let answer = check_data(alloc, blocks, entry.bid_data, entry.nid, &mut known.seen);
+    known.content.keep(part, answer)
+}
+
+// A list of subnodes, told of a node.
+fn check_list(
+    alloc: Global,
+    blocks: &Blocks,
+    entry: NodeEntry,
+    seen: &mut Seen,
+    heights: &mut Heights,
+) -> Result<(), Fault>
+    requires { AreBothTrue (table_of blocks.now) seen.old heights.old }
+    ensures known { AreBothTrue (table_of blocks.now) seen.new heights.new }
+    ensures exact { Tells result (option_map (at_top entry.bid_sub entry.nid)
+        (sub_fault (table_of blocks.now) LISTS entry.bid_sub)) tt }
+{
+    check_sub(alloc, blocks, entry.bid_sub, entry.nid, seen, heights)?;
+    Ok(())
 }
 
 // The subnodes of a node.
@@ -61,15 +106,12 @@ fn check_subs(
     ensures exact { Tells result (option_map (at_top entry.bid_sub entry.nid)
         (sub_fault (table_of blocks.now) LISTS entry.bid_sub)) tt }
 {
-    check_sub(
-        alloc,
-        blocks,
-        entry.bid_sub,
-        entry.nid,
-        &mut known.seen,
-        &mut known.heights,
-    )?;
-    Ok(())
+    let part = ((0, entry.bid_sub), 0);
+    if let Some(fault) = known.lists.get(part) {
+        return Err(fault.at_node(entry.nid));
+    }
+    let answer = check_list(alloc, blocks, entry, &mut known.seen, &mut known.heights);
+    known.lists.keep(part, answer)
 }
 
 // One node: its data, then its subnodes.
@@ -84,7 +126,7 @@ fn check_trees(
     ensures known { AreTreesKnown (table_of blocks.now) known.new }
     ensures exact { Tells result (node_fault (table_of blocks.now) entry) tt }
 {
-    check_data(alloc, blocks, entry.bid_data, entry.nid, &mut known.seen)?;
+    check_content(alloc, blocks, entry, known)?;
     check_subs(alloc, blocks, entry, known)
 }
 

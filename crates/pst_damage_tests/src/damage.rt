@@ -3,6 +3,7 @@
 mod behind;
 mod nodes;
 mod parts;
+mod shared;
 
 use crate::told::is_at;
 use pst_bytes::Image;

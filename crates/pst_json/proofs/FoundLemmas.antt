@@ -23,7 +23,7 @@ line_found names called places t u place told line alike same found shown =
     ap lined (told_found names called places t u place told (place_data called places u place) alike same found refl) ∙ ap Ok (sym shown)
 
 -- where nothing is found, nothing is told
-tells_fault : {Z W : Type 0} (shown : W → Z) (f : DocFault) (answer : Result Z DocFault) → answer ≡ Err f → TellsDoc {X = Z} {Y = W} shown (Err f) answer
+pub tells_fault : {Z W : Type 0} (shown : W → Z) (f : DocFault) (answer : Result Z DocFault) → answer ≡ Err f → TellsDoc {X = Z} {Y = W} shown (Err f) answer
 tells_fault shown NoFolder answer is = is
 tells_fault shown NoNode answer is = is
 tells_fault shown (Bad f) answer is = is
@@ -36,3 +36,6 @@ told_refused shown tell f told is = tells_fault shown f (told_of tell told) (ap 
 
 pub line_refused : {X W : Type 0} (shown : W → List ℕ) (tell : X → Data) (f : DocFault) (told : Result X DocFault) → Err f ≡ told → TellsDoc {X = List ℕ} {Y = W} shown (Err f) (lined (told_of tell told))
 line_refused shown tell f told is = tells_fault shown f (lined (told_of tell told)) (ap (λ x. lined (told_of tell x)) (sym is))
+
+pub lined_fault : {W : Type 0} (shown : W → List ℕ) (f : DocFault) (answer : Result Data DocFault) → answer ≡ Err f → TellsDoc {X = List ℕ} {Y = W} shown (Err f) (lined answer)
+lined_fault shown f answer is = tells_fault shown f (lined answer) (ap lined is)

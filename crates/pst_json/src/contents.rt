@@ -23,7 +23,7 @@ ghost use Rattle.pst_value_json.specs.Kept.{BeginsWith};
 
 use crate::fault::DocFault;
 use crate::texts::{CLASS, SENDER, SUBJECT, put_text_property, text_property_doc};
-use pst_damage_json::{fault_doc, put_fault};
+use pst_damage_json::fault_doc;
 use pst_fault::Fault;
 use pst_intact::Intact;
 use pst_msg::{Items, listing_nid};
@@ -142,19 +142,15 @@ fn put_listed(
     Ok(())
 }
 
-// Puts a fault behind a text, in place of the message with an identifier, as an object.
-#[tactic(auto, unfolding(crate::specs::Contents::told_data))]
+// Puts a fault behind a text, in place of the message with an identifier, as `told_doc` shows it.
+#[tactic(auto, using(crate::proofs::FolderLemmas::told_has_none))]
 fn put_told(alloc: Global, fault: &Fault, nid: u32, text: &mut Vec<u8>) -> Result<(), AllocError>
     ensures put { OnOk result (text.new.items
         ≡ text.old.items ++ compact_text (told_data fault.now nid)) }
     ensures kept { OnErr result (BeginsWith text.new.items text.old.items) }
 {
-    text.extend_from_slice(b"{\"fault\":")?;
-    put_fault(alloc, fault, text)?;
-    text.extend_from_slice(b",\"nid\":")?;
-    put_nid(nid, text)?;
-    text.push(b'}')?;
-    Ok(())
+    let shown = told_doc(alloc, fault, nid)?.to_vec(alloc)?;
+    text.extend_from_slice(&shown)
 }
 
 // Puts what a row names behind a text, as `row_doc` shows it.
@@ -178,7 +174,7 @@ fn put_row(
 }
 
 // The contents table of a folder, where it is there and nothing is told of it, or that there is no such folder.
-#[tactic(auto, unfolding(pst_store::specs::Kind::node_of_kind))]
+#[tactic(auto, unfolding(crate::specs::Contents::node_of_kind))]
 fn table_in<'a>(intact: &Intact<'a>, lost: &Lost, nid: u32) -> Result<Option<Tc<'a>>, DocFault>
     requires kind { is_type_of FOLDER_KIND nid ≡ true }
     ensures found { let t = table_of_intact intact.now in let nodes = nodes_of_intact intact.now in

@@ -6,7 +6,8 @@ use pst_damage::damage_beside;
 use pst_damage_json::damage_line;
 use pst_header::read_header;
 use pst_make::flip;
-use pst_remains::{Remains, find_remains};
+use pst_plain::{Method, method_of, set_method};
+use pst_remains::{Found, Remains, find_decoded, find_remains};
 use std::alloc::Global;
 
 // What remains of a file.
@@ -44,6 +45,42 @@ fn damaged(alloc: Global, bytes: &[u8]) -> Result<Vec<u8>, Refused> {
     flip_at(&mut damaged, root.ib.saturating_add(500))?;
     flip_at(&mut damaged, block.ib)?;
     Ok(damaged)
+}
+
+// A file that says that its blocks are encoded by permutation.
+fn encoded(alloc: Global, bytes: &[u8]) -> Result<Vec<u8>, Refused> {
+    let mut stored = Vec::from_slice(alloc, bytes)?;
+    if stored.len() < 564 {
+        return Err(Refused::Otherwise);
+    }
+    set_method(Method::Permute.number(), &mut stored);
+    Ok(stored)
+}
+
+// What is found of such a file, its blocks decoded; where that is refused memory, the bytes are looked at: they have to be as they
+// were.
+fn decoded(alloc: Global, stored: &mut [u8]) -> Result<Found, Refused> {
+    let before = Vec::from_slice(alloc, stored)?;
+    let Some(method) = method_of(Image::new(stored)) else {
+        return Err(Refused::Otherwise);
+    };
+    match find_decoded(alloc, method, stored) {
+        Ok(found) => Ok(found),
+        Err(_) => {
+            holds(*stored == *before.as_slice())?;
+            Err(Refused::Memory)
+        }
+    }
+}
+
+/// `find_decoded` of a file with two bytes changed, of which a page and a block are told; and all that is broken of it, its blocks
+/// decoded, among it contexts that are none by then.
+pub(crate) fn decoded_remains(alloc: Global, bytes: &[u8]) -> Result<(), Refused> {
+    let mut stored = encoded(alloc, &damaged(alloc, bytes)?)?;
+    let found = decoded(alloc, &mut stored)?;
+    holds(found.pages.len() == 1 && found.blocks.len() == 1)?;
+    let broken = damage_beside(alloc, found.over(Image::new(&stored)))?;
+    holds(broken.pages.len() == 1 && broken.blocks.len() == 1)
 }
 
 /// `find_remains` of a store, of which nothing is told, and of the same with two bytes changed, of which a page and a block are;
