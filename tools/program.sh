@@ -195,7 +195,7 @@ changed_meanwhile='a source was changed while it was proved: try again'
 
 # Notes that the program in out/ was proved and built from the sources of this number, if these have it still.
 note_proved() {
-    printf 'sources: %s\nprogram: %s\n' "$1" "$(digest <"$proved")" | begin_note "$proved_note"
+    printf 'sources: %s\nprogram: %s\nkit: %s\n' "$1" "$(digest <"$proved")" "$(rt version)" | begin_note "$proved_note"
     if [ "$(sources pst_show)" = "$1" ]; then
         keep_note "$proved_note"
     else
