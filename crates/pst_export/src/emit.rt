@@ -3,12 +3,10 @@
 ghost use Rattle.std.specs.Prelude.{◌≡◌, ℕ, not, IfOk, OnOk, nat_lt};
 ghost use Rattle.std.specs.Io.KnownBytes.{Appends};
 ghost use Rattle.pst_ndb.specs.Views.{table_of_ndb, nodes_of};
-ghost use Rattle.pst_value_json.specs.Props.{names_told};
 ghost use Rattle.pst_verify.specs.pst_store.View.{ndb_of_store};
-ghost use Rattle.pst_json.specs.pst_whole.Lost.{nothing_lost};
 ghost use Rattle.pst_json.specs.Output.{AppendsFront};
-ghost use Rattle.pst_export.specs.Export.{TellsExport, archive_in};
-ghost use Rattle.pst_export.specs.Store.{files_with, path_count};
+ghost use Rattle.pst_export.specs.Export.{TellsExport, archive_in, store_of};
+ghost use Rattle.pst_export.specs.Store.{path_count, store_files};
 ghost use Rattle.pst_export.specs.Written.{Adds, AddsFront};
 
 use crate::count::count_down;
@@ -17,7 +15,7 @@ use crate::fault::ExportFault;
 use crate::folders::{write_folders, write_front};
 use crate::messages::write_messages;
 use pst_json::{DocFault, Intact, emit, names_in, names_index};
-use pst_msg::{ASSOCIATED, MESSAGE, NameMap};
+use pst_msg::{ASSOCIATED, MESSAGE};
 use pst_tar::end;
 use pst_verify::{Store, Verified};
 use std::alloc::{AllocError, Global};
@@ -27,7 +25,7 @@ use std::io::Write;
 const BLOCK: u64 = 64;
 
 // Whether so many paths at most lead to messages and attachments.
-#[tactic(auto, unfolding(crate::specs::Store::path_count), using(crate::proofs::StoreLemmas::message_kind, crate::proofs::StoreLemmas::associated_kind))]
+#[tactic(auto, unfolding(crate::specs::Store::path_count), using(crate::proofs::StoreLemmas::message_kind, crate::proofs::StoreLemmas::associated_kind, crate::proofs::StoreLemmas::few_none, crate::proofs::StoreLemmas::few_counted))]
 fn are_few(alloc: Global, store: &Store, most: u64) -> Result<bool, AllocError>
     ensures { let ndb = ndb_of_store store.now in
         let count = path_count (table_of_ndb ndb) (nodes_of ndb) in
@@ -56,25 +54,26 @@ pub fn export_of<'a>(alloc: Global, verified: Verified<'a>) -> Result<Export<'a>
     Ok(Export { verified, index })
 }
 
-// Writes all files, of which properties are called so.
+// Writes all files.
 #[tactic(auto, using(crate::proofs::StoreLemmas::message_kind, crate::proofs::StoreLemmas::associated_kind))]
 fn write_files<W: Write>(
     alloc: Global,
     number: &mut u64,
-    names: Option<NameMap>,
-    verified: &Verified,
+    export: &Export,
     out: &mut W,
 ) -> Result<(), ExportFault>
-    ensures all { let told = names_told names.entry in let ndb = ndb_of_store verified.now.store in
-        let files = files_with told (table_of_ndb ndb) (nodes_of ndb) nothing_lost in
+    ensures all { let ndb = ndb_of_store (store_of export.now) in
+        let files = store_files (table_of_ndb ndb) (nodes_of ndb) in
         OnOk result (Adds (W.contents out.old) (W.contents out.new) number.old number.new files) }
-    ensures front { let told = names_told names.entry in let ndb = ndb_of_store verified.now.store in
-        let files = files_with told (table_of_ndb ndb) (nodes_of ndb) nothing_lost in
+    ensures front { let ndb = ndb_of_store (store_of export.now) in
+        let files = store_files (table_of_ndb ndb) (nodes_of ndb) in
         AddsFront (W.contents out.old) (W.contents out.new) number.old files }
 {
-    let store = verified.store;
-    write_front(alloc, number, names, verified, out)?;
-    write_folders(alloc, number, names, verified, out)?;
+    let store = export.verified.store;
+    let intact = Intact::of(&store);
+    let names = names_in(&intact, &export.index);
+    write_front(alloc, number, export, out)?;
+    write_folders(alloc, number, names, &export.verified, out)?;
     write_messages(alloc, number, names, &store, MESSAGE, "messages", out)?;
     write_messages(alloc, number, names, &store, ASSOCIATED, "associated", out)?;
     Ok(())
@@ -86,10 +85,8 @@ pub fn emit_export<W: Write>(alloc: Global, export: &Export, out: &mut W) -> Res
         (archive_in export.now)) }
     ensures front { AppendsFront (W.contents out.old) (W.contents out.new) (archive_in export.now) }
 {
-    let intact = Intact::of(&export.verified.store);
-    let names = names_in(&intact, &export.index);
     let mut number = 0;
-    write_files(alloc, &mut number, names, &export.verified, out)?;
+    write_files(alloc, &mut number, export, out)?;
     emit(end(), out)?;
     Ok(())
 }
