@@ -127,7 +127,7 @@
 
   function drawTimes(figure, rows, width) {
     const height = 240, left = 56, below = 30;
-    const svg = frame(figure, width, height, `${rows.bars.length} bars, of ${rows.bars.length ? `${rows.bars[0].what}, to ${rows.bars[rows.bars.length - 1].what}` : "nothing"}.`);
+    const svg = frame(figure, width, height, `${rows.bars.length} bars, from ${rows.bars[0].when} to ${rows.bars[rows.bars.length - 1].when}.`);
     const start = (name) => new Date(Date.UTC(+name.slice(0, 4), name.length > 4 ? +name.slice(5, 7) - 1 : 0));
     const end = (name) => (rows.unit === "month" ? d3.utcMonth : d3.utcYear).offset(start(name), 1);
     const first = rows.bars[0].when, last = rows.bars[rows.bars.length - 1].when;

@@ -6,17 +6,22 @@
 `rt ci` proves every crate and its tests from nothing, tries the must-fail edits and runs the tests, and leaves the program
 in crates/pst_show/out; the library is then made of crates/pst_c. Both must have the bytes of those that are kept in built/.
 Each command of TRIED is then run over the program, LIBRARY over the library, and REPORT over the program where there is a Chromium;
-each counts as one that passed or failed. They need two to four minutes. Where something failed before, they are not run. With --quick the lines of tools/refuse/refuse, one for each
-command line, are shown where it fails, and with -v. The last line is 'N passed, M failed'.
+each counts as one that passed or failed. They need two to four minutes. Where something failed before, they are not run. With
+--quick the lines of tools/refuse/refuse, one for each command line, are shown where it fails, and with -v. The last line is
+'N passed, M failed'.
 """
 import os
 import re
-import shutil
 import subprocess
 import sys
 import time
 
 ROOT = os.path.dirname(os.path.dirname(os.path.abspath(__file__)))
+sys.dont_write_bytecode = True
+sys.path.insert(0, os.path.join(ROOT, "report"))
+
+from trying import chromium  # noqa: E402
+
 KEEP = os.path.join(ROOT, "tools", "keep")
 PROGRAM = os.path.join(ROOT, "crates", "pst_show", "out", "pst_show")
 CALLS = ["--calls", os.path.join(ROOT, "crates", "pst_refused", "out", "pst_refused")]
@@ -74,7 +79,7 @@ def is_good(words, is_shown=True):
 
 def report_tried(words):
     """Whether the report is found good, where there is a browser to open it in; else nothing, and that is told."""
-    if not any(map(shutil.which, ("chromium", "chromium-browser", "google-chrome"))):
+    if chromium.found() is None:
         print(f"== {REPORT}: not run, there is no Chromium here (apt-get install chromium)", flush=True)
         return []
     return [is_good([sys.executable, REPORT, *words])]

@@ -6,6 +6,10 @@ import shlex
 from reporting import texts
 from reporting.document import Cell, code, facts, numeral, own_digest, paragraph, table
 
+ABOUT = ("What pst_show answers is proved of all bytes that a file may have; this page only sums up and shows it, by a program of which "
+         "nothing is proved. A yes does not say that a message is what somebody once wrote, and nothing here says when or by whom a file "
+         "was damaged.")
+
 
 def beside(program):
     """The lines of the text that is kept beside the program and says what it was made from, where it is of this program."""
@@ -29,10 +33,12 @@ def again(store):
     program, told = store.program, beside(store.program)
     check = next(it for it in program.answers if it.words[0] == "check")
     steps = [
-        f"{code('sha256sum')} of the file is {code(store.seal.sha256)}. It was taken before the first command and behind the last one, and was the same.",
+        f"{code('sha256sum')} of the file is {code(store.seal.sha256)}. It was taken before the first command and behind the last one, and "
+        "was the same.",
         f"{code('sha256sum')} of the program is {code(program.sha256)}"
         + (f", which is the program of the sources {code(told['sources'])}, proved with {texts.escaped(told['kit'])}." if told else "."),
-        f"{typed(check.words)} ends with status {check.status}, and says what stands below the verdict. The same bytes always have the same answer.",
+        f"{typed(check.words)} ends with status {check.status}, and says what stands below the verdict. The same bytes always have the "
+        "same answer.",
         f"Each other command below, with {code('| sha256sum')} behind it, has the digest that stands beside it.",
     ]
     rows = [[Cell(typed(it.words), order, "code"), numeral(it.status), numeral(it.length), Cell(code(it.sha256), kind="code"),
@@ -43,6 +49,4 @@ def again(store):
             + facts([("pst_show", f"{texts.escaped(program.version)}, SHA-256 {code(program.sha256)}"),
                      ("Sources", code(told["sources"]) if told else None), ("Proved with", texts.escaped(told["kit"]) if told else None),
                      ("pst_report", f"SHA-256 of its files together {code(own_digest())}")])
-            + paragraph("What pst_show answers is proved of all bytes that a file may have; this page only sums up and shows it, by a program "
-                        "of which nothing is proved. A yes does not say that a message is what somebody once wrote, and nothing here says "
-                        "when or by whom a file was damaged.", "note"))
+            + paragraph(ABOUT, "note"))

@@ -29,7 +29,7 @@ def nodes(damage, parents):
         within = node(f"{fault.nid:#x}") if fault.nid else Cell("\u2014", -1, "number")
         above = Cell("\u2014", -1, "number") if parent == "0x0" else node(parent)
         rows.append([node(it["node"]), Cell(sort_of(it["node"])), fault_cell(fault), place(fault.at), place(fault.bid), within, above])
-    columns = [("Node", True), ("What it is", False), ("Fault", False), ("At", True), ("Block", True), ("In node", True), ("Parent", True)]
+    columns = [("Node", True), ("What it is", False), ("Fault", False)] + [(it, True) for it in ("At", "Block", "In node", "Parent")]
     return table("nodes", "Damaged nodes", columns, rows, len(damage["nodes"]))
 
 
@@ -44,7 +44,8 @@ def kinds(store):
     damage = store.damage
     every = [damage["header"], *damage["pages"], *damage["blocks"], damage["maps"], *(it["fault"] for it in damage["nodes"])]
     found = Counter((it["number"], it["kind"]) for it in every if it)
-    rows = [[Cell(f"{number} {kind}", f"{number:02}"), numeral(count), Cell(texts.escaped(store.program.explained(number)["says"]), kind="text")]
+    says = {number: texts.escaped(store.program.explained(number)["says"]) for number, _ in found}
+    rows = [[Cell(f"{number} {kind}", f"{number:02}"), numeral(count), Cell(says[number], kind="text")]
             for (number, kind), count in sorted(found.items())]
     return table("kinds", "Kinds of fault", [("Kind", False), ("Parts", True), ("What it says", False)], rows)
 
@@ -59,7 +60,8 @@ def broken(store):
     for word in ("header", "maps"):
         fault = Fault.of_document(damage[word])
         if fault:
-            made += paragraph(f"The {'allocation maps' if word == 'maps' else word}: {texts.escaped(fault.name)} at <code>{fault.at:#x}</code>.")
+            name = "The allocation maps" if word == "maps" else "The header"
+            made += paragraph(f"{name}: {texts.escaped(fault.name)} at <code>{fault.at:#x}</code>.")
     made += nodes(damage, store.parents) if damage["nodes"] else paragraph("No node is damaged.", "none")
     if damage["blocks"]:
         made += places("blocks", "Damaged blocks", "Block", damage["blocks"])

@@ -8,6 +8,7 @@ from reporting.sums import ROWS, folders_of, tiles
 
 DEEPEST = 8
 MOST_MONTHS = 480
+MOST_NAMES = 5
 INSIDE = {"own": "in the folder itself", "rest": "smaller folders"}
 GROUPS = {"all": "All folders", "lost": "Not reached by the root folder", "lost rest": "smaller folders that are not reached"}
 
@@ -43,12 +44,14 @@ def folders(store):
     about = ("Each area is as large as the messages of a folder, by the sizes that stand in them (property 0E08), which Outlook wrote and "
              "nobody checks. A message that several folders list counts in each.")
     if store.messages.sizeless:
-        about += f" {texts.counted(store.messages.sizeless, 'message')} without a size {'counts' if store.messages.sizeless == 1 else 'count'} as 0."
+        about += f" Messages without a size count as 0: {texts.number(store.messages.sizeless)}."
     columns = [("Folder", False), ("Messages", True), ("Its own", True), ("In all", True), ("Identifier", True)]
     rows = [[cell_of(it, order, len(it.path) - 1), numeral(it.listed), size(it.own), size(it.all), node(it.nid)]
             for order, it in enumerate(reached[:ROWS])]
     seen = picture("folders", "Folders by the bytes of their messages", about) if drawn else paragraph(
         "No folder has a message with a size, so there is nothing to draw.", "none")
+    if not reached:
+        return drawn, seen + paragraph("The root folder is not among them, so it reaches none.", "none") + lost_folders(lost)
     tree = table("folders", "The tree of folders from the root", columns, rows, len(reached), ("Folder", "ascending"))
     made = f'<div class="pair">{seen}<div>{tree}</div></div>' if drawn else seen + tree
     return drawn, made + lost_folders(lost)
@@ -87,23 +90,28 @@ def times(store):
     about = f"A bar for each {unit}, as high as the messages are many that were received in it (property 0E06, in UTC)."
     about += f" Each {unit} without messages is left out." if sparse else ""
     if store.messages.timeless:
-        about += f" {texts.counted(store.messages.timeless, 'message')} without such a time {'is' if store.messages.timeless == 1 else 'are'} in no bar."
+        about += f" Messages without such a time are in no bar: {texts.number(store.messages.timeless)}."
     rows = [[Cell(month(name), order), numeral(count)] for order, (name, count) in enumerate(bars[:ROWS])]
-    listed = table("times", f"Messages by {unit}", [(unit.capitalize(), False), ("Messages", True)], rows, len(bars), (unit.capitalize(), "ascending"), "narrow")
+    columns, order = [(unit.capitalize(), False), ("Messages", True)], (unit.capitalize(), "ascending")
+    listed = table("times", f"Messages by {unit}", columns, rows, len(bars), order, "narrow")
     return drawn, picture("times", "Messages over time", about) + listed
 
 
 def names_of(row, names):
     """The folders that list a message, by their names."""
-    shown = [names.get(it) or it for it in row["folders"]]
-    return text(", ".join(shown[:5]) + (f" and {len(shown) - 5:,} more" if len(shown) > 5 else "")) if shown else Cell("none", kind="none")
+    if not row["folders"]:
+        return Cell("none", kind="none")
+    shown = [names.get(it) or it for it in row["folders"][:MOST_NAMES]]
+    more = len(row["folders"]) - MOST_NAMES
+    return text(", ".join(shown) + (f" and {more:,} more" if more > 0 else ""))
 
 
 def message(row, names):
     """A row of a table of messages."""
     subject = None if row["subject"] is None else texts.subject(row["subject"])
     received = Cell("\u2014", "", "time") if row["received"] is None else Cell(texts.time(row["received"]), kind="time")
-    return [text(subject), text(row["sender"]), received, numeral(row["size"]), names_of(row, names), numeral(row["attachments"]), node(row["nid"])]
+    numbers = numeral(row["attachments"]), node(row["nid"])
+    return [text(subject), text(row["sender"]), received, numeral(row["size"]), names_of(row, names), *numbers]
 
 
 def messages(store, name, caption, rows, total, order=None):
@@ -126,5 +134,5 @@ def unlisted(store):
     """The messages that no folder lists."""
     if not store.messages.unlisted:
         return paragraph("There are none.", "none")
-    about = paragraph("They are there and whole, but no folder\u2019s table has a row for them.", "note")
+    about = paragraph(f"They are there and whole, but no {'whole ' * store.is_part}folder\u2019s table has a row for them.", "note")
     return about + messages(store, "unlisted", "Messages in no folder", store.messages.in_no_folder, store.messages.unlisted)

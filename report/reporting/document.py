@@ -11,7 +11,6 @@ from reporting import texts
 FOLDER = os.path.dirname(os.path.dirname(os.path.abspath(__file__)))
 LIBRARY = ("array", "collection", "color", "interpolate", "format", "time", "time-format", "scale", "hierarchy", "selection", "axis")
 PRINTED = 50
-CLASSED = ' class="number"'
 
 
 def read(*names):
@@ -22,8 +21,8 @@ def read(*names):
 
 def own_digest():
     """One SHA-256 for all files that the report is made by: of the lines that sha256sum would have of them, the program first."""
-    names = [os.path.relpath(os.path.join(place, it), FOLDER) for place, _, files in os.walk(FOLDER) for it in files
-             if it.endswith((".py", ".js", ".css", ".html")) and os.path.basename(place) in (os.path.basename(FOLDER), "reporting", "d3")]
+    names = [os.path.join(place, it) for place in ("", "reporting", "d3") for it in os.listdir(os.path.join(FOLDER, place))
+             if it.endswith((".py", ".js", ".css", ".html"))]
     files = [("pst_report", os.path.realpath(sys.argv[0])), *((it, it) for it in sorted(names))]
     lines = "".join(f"{hashlib.sha256(read(path).encode()).hexdigest()}  {name}\n" for name, path in files)
     return hashlib.sha256(lines.encode()).hexdigest()
@@ -54,7 +53,8 @@ def document(kind, heading, title, sections, data, footer):
 
 
 def section(name, title, body):
-    return f'<section id="{name}" aria-labelledby="{name}-title">\n<h2 id="{name}-title">{texts.escaped(title)}</h2>\n{body}\n</section>'
+    heading = f'<h2 id="{name}-title">{texts.escaped(title)}</h2>'
+    return f'<section id="{name}" aria-labelledby="{name}-title">\n{heading}\n{body}\n</section>'
 
 
 def paragraph(text, kind=""):
@@ -122,16 +122,22 @@ def text(value, none="\u2014"):
     return Cell(none, kind="none") if value is None else Cell(texts.foreign(value) if value else "<i>empty</i>", kind="text")
 
 
+def head(title, is_number, order):
+    """The head of a column."""
+    number = ' class="number"' if is_number else ""
+    sort = f' aria-sort="{order[1]}"' if order and order[0] == title else ""
+    return f'<th scope="col"{number}{sort}>{texts.escaped(title)}</th>'
+
+
 def table(name, caption, columns, rows, total=None, order=None, kind=""):
     """A table that the script lets a reader sort: columns are pairs of a title and whether it has numbers. `total` is how many
     rows there would be where only the first are here; `order` is the column by which they stand, and which way."""
     count = len(rows) if total is None else total
     told = texts.counted(count, "row") if count <= len(rows) else f"the first {len(rows):,} of {count:,}"
-    heads = "".join(
-        f'<th scope="col"{CLASSED if is_number else ""}{f""" aria-sort="{order[1]}" """.rstrip() if order and order[0] == title else ""}>'
-        f"{texts.escaped(title)}</th>" for title, is_number in columns)
+    heads = "".join(head(title, is_number, order) for title, is_number in columns)
     body = "\n".join("<tr>" + "".join(cell.html() for cell in row) + "</tr>" for row in rows)
     paper = f'<p class="paper">On paper: the first {PRINTED} rows, as they were sorted.</p>' if len(rows) > PRINTED else ""
-    return (f'<div class="scroll{kind and " " + kind}" tabindex="0" role="region" aria-labelledby="{name}-caption"><table id="{name}-table" data-rows="{len(rows)}">'
+    return (f'<div class="scroll {kind}" tabindex="0" role="region" aria-labelledby="{name}-caption">'
+            f'<table id="{name}-table" data-rows="{len(rows)}">'
             f'<caption id="{name}-caption">{texts.escaped(caption)} <span>({told})</span></caption>'
             f"<thead><tr>{heads}</tr></thead>\n<tbody>\n{body}\n</tbody></table></div>{paper}")

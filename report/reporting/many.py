@@ -11,7 +11,9 @@ from reporting.asking import UNREAD, Stopped
 from reporting.document import Cell, code, document, facts, numeral, own_digest, paragraph, picture, table
 from reporting.store import Fault
 from reporting.sums import ROWS
-from reporting.verdict import OUTSIDE
+from reporting.verdict import OUTSIDE, UNCLOSED
+
+MOST_KINDS = 30
 
 
 class Line(NamedTuple):
@@ -29,7 +31,7 @@ class Line(NamedTuple):
         """Which of four it is: yes, no, outside of what is checked, or without a verdict."""
         if self.document:
             return "yes"
-        return "left" if self.fault is None else "other" if self.fault.kind in OUTSIDE else "no"
+        return "left" if self.fault is None else "other" if self.fault.kind in OUTSIDE | {UNCLOSED} else "no"
 
 
 def length_of(path):
@@ -48,24 +50,27 @@ class Table:
             with open(path, "rb") as file:
                 held = file.read()
         except OSError as fault:
-            raise Stopped(UNREAD, f"cannot read the file\n  {path}: {fault.strerror}") from None
+            raise self.refused(fault.strerror) from None
         self.sha256 = hashlib.sha256(held).hexdigest()
         self.lines = [self.line(number, it) for number, it in enumerate(held.decode("utf-8", "replace").split("\n"), 1) if it]
+
+    def refused(self, why):
+        return Stopped(UNREAD, f"cannot read the file\n  {self.path}: {why}")
 
     def line(self, number, text):
         """One line; what it has to be is told where it is not."""
         status, path, said = (text.split("\t") + ["", ""])[:3]
         if text.count("\t") != 2 or not status.isdecimal():
-            raise Stopped(UNREAD, f"cannot read the file\n  {self.path}: line {number} is not a status, a name and an answer with tabs between")
+            raise self.refused(f"line {number} is not a status, a name and an answer with tabs between")
         try:
             document = json.loads(said) if status in ("0", "1") and said[:1] == "{" else None
         except ValueError:
-            raise Stopped(UNREAD, f"cannot read the file\n  {self.path}: the answer in line {number} is no JSON") from None
+            raise self.refused(f"the answer in line {number} is no JSON") from None
         fault = Fault.of_line(said) if status == "1" and document is None else None
         return Line(path, int(status), document, fault, said, length_of(path))
 
 
-VERDICTS = {"yes": "yes", "no": "no, damaged", "other": "no, none of the stores that are checked", "left": "no verdict"}
+VERDICTS = {"yes": "yes", "no": "no, damaged", "other": "no, outside of what is checked", "left": "no verdict"}
 
 
 def verdicts(lines):
@@ -93,12 +98,21 @@ def kinds(lines, program):
     if not found:
         return None, paragraph("No file was refused.", "none")
     ordered = sorted(found.items(), key=lambda it: (-it[1], it[0][1:]))[:ROWS]
-    drawn = [{"kind": kind, "name": name, "count": count, "what": f"{name}: {texts.counted(count, 'file')}"} for (kind, _, name), count in ordered]
-    rows = [[Cell(texts.escaped(name), f"{number:02}"), numeral(count),
-             Cell(texts.escaped(program.explained(number)["says"] if number else "nothing is said of the file"), kind="text")]
+    drawn = [{"kind": kind, "name": name, "count": count, "what": f"{name}: {texts.counted(count, 'file')}"}
+             for (kind, _, name), count in ordered[:MOST_KINDS]]
+    says = {number: texts.escaped(program.explained(number)["says"]) for _, number, _ in found if number}
+    rows = [[Cell(texts.escaped(name), f"{number:02}"), numeral(count), Cell(says.get(number, "nothing is said of the file"), kind="text")]
             for (_, number, name), count in ordered]
+    about = "A bar for each kind of fault that was told first, as long as the files are many."
+    about += f" The {MOST_KINDS} most frequent." if len(found) > MOST_KINDS else ""
     listed = table("kinds", "First faults", [("Kind", False), ("Files", True), ("What it says", False)], rows, len(found))
-    return drawn[:30], picture("kinds", "Kinds of fault", "A bar for each kind of fault that was told first, as long as the files are many.") + listed
+    return drawn, picture("kinds", "Kinds of fault", about) + listed
+
+
+def area(nid, above, name, size, what, kind=None):
+    """A row of what is drawn of the lengths; `size` is told, and belongs to the row itself where it is a file."""
+    return {"id": nid, "in": above, "name": texts.shown(name), "bytes": size if above else 0, "size": texts.size(size),
+            "what": texts.shown(f"{name}: {what}", 1000), "verdict": kind}
 
 
 def sizes(lines):
@@ -106,15 +120,12 @@ def sizes(lines):
     known = sorted((it for it in lines if it.length), key=lambda it: -it.length)
     if not known:
         return None, paragraph("None of the files lies where the table says, so there is no length to draw.", "none")
-    kept, rest = known[:ROWS], sum(it.length for it in known[ROWS:])
-    rows = [("s", None, "", "", 0, "yes")] + [
-        (f"s{order}", "s", os.path.basename(it.path), f"{it.path}: {texts.counted(it.length, 'byte')}, {said(it)}", it.length, it.kind)
-        for order, it in enumerate(kept)]
+    every, rest = sum(it.length for it in known), sum(it.length for it in known[ROWS:])
+    drawn = [area("all", None, "All files", every, texts.counted(every, "byte"))]
+    drawn += [area(f"file {order}", "all", os.path.basename(it.path), it.length, f"{texts.counted(it.length, 'byte')}, {said(it)}", it.kind)
+              for order, it in enumerate(known[:ROWS])]
     if rest:
-        rows.append(("rest", "s", "smaller files", f"{len(known) - ROWS:,} smaller files: {texts.counted(rest, 'byte')}", rest, "left"))
-    drawn = [{"id": nid, "in": above, "name": texts.shown(name) or "All files", "bytes": held, "size": texts.size(held or sum(it.length for it in known)),
-              "what": texts.shown(what, 1000) or f"All files: {texts.counted(sum(it.length for it in known), 'byte')}",
-              "verdict": kind if above else None} for nid, above, name, what, held, kind in rows]
+        drawn.append(area("rest", "all", f"{len(known) - ROWS:,} smaller files", rest, texts.counted(rest, "byte"), "left"))
     about = "Each area is as large as a file, by its length when this page was made; its colour says the verdict."
     return drawn, picture("sizes", "Files by their length", about)
 
@@ -126,8 +137,8 @@ def stores(lines):
     for it in lines[:ROWS]:
         told = it.document or {}
         lost = sum(run["len"] for run in told["lost"]) if it.document else None
-        rows.append([Cell(texts.foreign(it.path, 1000), kind="text"), Cell(f"<bdi>{texts.escaped(said(it))}</bdi>", kind="text"), numeral(it.length),
-                     numeral(told.get("folders")), numeral(told.get("messages")), numeral(lost)])
+        words = [Cell(shown, kind="text") for shown in (texts.foreign(it.path, 1000), f"<bdi>{texts.escaped(said(it))}</bdi>")]
+        rows.append(words + [numeral(value) for value in (it.length, told.get("folders"), told.get("messages"), lost)])
     return table("stores", "The files", columns, rows, len(lines))
 
 

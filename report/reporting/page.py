@@ -16,7 +16,8 @@ LEFT = "No folders and messages are shown of a file that is not a whole store."
 def page(store, now):
     """The document: the verdict first, then what the file is and what is in it, and how to check it again."""
     name = os.path.basename(store.path)
-    data, sections = {}, [("verdict", "Verdict", verdict(store)), ("file", "The file", about_file(store, now)), ("counts", "Counts", counts(store))]
+    data, sections = {}, [("verdict", "Verdict", verdict(store)), ("file", "The file", about_file(store, now))]
+    sections.append(("counts", "Counts", counts(store)))
     data["strip"], made = strip(store)
     sections.append(("strip", "The file as a strip", made))
     if store.folders is not None:
@@ -32,10 +33,11 @@ def page(store, now):
         sections.append(("unlisted", "Messages that no folder lists", unlisted(store)))
     sections.append(("again", "How to check this again", again(store)))
     heading = f'<span class="of">Report on</span> {texts.foreign(name, 1000)}'
-    footer = f"Made by pst_report of the answers of {texts.escaped(store.program.version)}. The pictures are drawn by d3. This page needs no network."
+    version = texts.escaped(store.program.version)
+    footer = f"Made by pst_report of the answers of {version}. The pictures are drawn by d3. This page needs no network."
     return document("A mail store of Outlook (.pst)", heading, f"Report on {texts.escaped(texts.shown(name))}", sections, data, footer)
 
 
 def part(store):
     """A line where only what is whole is shown."""
-    return paragraph("Of what is whole: the store is damaged.", "note") if store.is_part else ""
+    return paragraph("Only what is whole is shown here: the file has a fault.", "note") if store.is_part else ""

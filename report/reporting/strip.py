@@ -57,7 +57,7 @@ def strip(store):
              "parts": [{"kind": kind, "bytes": size, "what": f"{kind}: {texts.counted(size, 'byte')}"} for kind, size in parts if size]}
     entries = [(kind, kind, texts.size(size)) for kind, size in parts]
     if store.damage:
-        entries.append(("broken", "broken", f"{parts_broken(store.damage)}; {texts.counted(len(broken), 'place')} of it told"))
+        entries.append(("broken", "broken", f"{parts_broken(store.damage)} ({len(broken):,} with a place in the file)"))
     about = ("Above: how much of the file is used and free, by the header\u2019s own number, which " if parts else
              "The header does not tell how much of the file is free, so only places are drawn. ")
     about += "no command checks. " if parts else ""

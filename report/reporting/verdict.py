@@ -6,11 +6,19 @@ from reporting.store import ENCODINGS
 
 LONGEST_LINE = 2000
 OUTSIDE = {"Short", "Magic", "Version", "Encoded"}
+UNCLOSED = "MapsInvalid"
 
 
 def classed(store):
     """Which of the three verdicts it is: yes, no, or that the file is none of which pst_show says more."""
-    return "yes" if store.check else "other" if store.fault.kind in OUTSIDE else "no"
+    if store.check:
+        return "yes"
+    return "other" if store.fault.kind in OUTSIDE or is_unclosed_alone(store) else "no"
+
+
+def is_unclosed_alone(store):
+    """Whether all that is told of the file is that its maps are marked as invalid."""
+    return store.fault.kind == UNCLOSED and store.damage is not None and parts_broken(store.damage) == "the header"
 
 
 def words(store):
@@ -21,9 +29,13 @@ def words(store):
                 "Its header, both index trees, every block by its check value, the allocation maps, and the properties and tables of every "
                 "folder, message and attachment are what the format asks for, and all that these name is there." + encoded)
     if store.fault.kind in OUTSIDE:
-        return ("No: this file is none of the stores that pst_show checks.", "Nothing more of it was looked at, so nothing is said of damage.")
+        return ("No: this file is none of the stores that pst_show checks.",
+                "Nothing more of it was looked at, so nothing is said of damage.")
     if store.damage is None:
         return ("No: this file breaks a rule of the format.", "What else may be broken is not told." + encoded)
+    if is_unclosed_alone(store):
+        return ("No: this store was not closed in order.", "Its header marks the allocation maps as invalid, as Outlook leaves them where "
+                "it is cut off; it makes them anew when it next opens the store. Nothing else is broken." + encoded)
     return ("No: this file is damaged.", f"The first rule that it breaks is told below. Broken: {parts_broken(store.damage)}."
             + encoded + hidden(store.damage))
 
@@ -37,7 +49,8 @@ def hidden(damage):
 def parts_broken(damage):
     """As `the header, 1 index page and 3 blocks`."""
     parts = [word for key, word in (("header", "the header"), ("maps", "the allocation maps")) if damage[key]]
-    parts += [texts.counted(len(damage[key]), word) for key, word in (("pages", "index page"), ("blocks", "block"), ("nodes", "node")) if damage[key]]
+    lists = (("pages", "index page"), ("blocks", "block"), ("nodes", "node"))
+    parts += [texts.counted(len(damage[key]), word) for key, word in lists if damage[key]]
     return " and ".join(filter(None, (", ".join(parts[:-1]), parts[-1])))
 
 
@@ -92,7 +105,8 @@ def counts(store):
         whole = store.damage["whole"]
         rows = [(f"{it.capitalize()} whole", whole[it]) for it in ("folders", "messages", "nodes")]
         rows += [(f"{it.capitalize()} broken", len(store.damage[it])) for it in ("nodes", "blocks", "pages")]
-        about = "A node is a unit that a store is made of: a folder, one of its tables, a message. Its bytes lie in blocks; pages index both."
+        about = ("A node is a unit that a store is made of: a folder, one of its tables, a message. Its bytes lie in blocks; pages index "
+                 "both.")
     else:
         return paragraph("Nothing is counted of a file that is no such store.", "none")
     return facts([(word, texts.number(value)) for word, value in rows], "counts") + paragraph(about, "note")

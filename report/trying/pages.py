@@ -47,6 +47,13 @@ def broken(room):
     return path
 
 
+def unclosed(room):
+    """A sample whose maps are marked as invalid."""
+    path = os.path.join(room, "unclosed.pst")
+    stores.unclosed(sample("mail")(room), path)
+    return path
+
+
 def cut(room):
     """A store of which only the header is left, and not all of that."""
     path = os.path.join(room, "cut.pst")
@@ -59,7 +66,7 @@ def verdicts(room, program):
     """A table of verdicts over the samples and some that are none."""
     table = os.path.join(room, "verdicts.tsv")
     names = sorted(it for it in os.listdir(os.path.join(ROOT, "samples")) if it.endswith(".pst"))
-    paths = [os.path.join(ROOT, "samples", it) for it in names] + [cut(room), broken(room), os.path.join(room, "gone.pst")]
+    paths = [os.path.join(ROOT, "samples", it) for it in names] + [cut(room), broken(room), unclosed(room), os.path.join(room, "gone.pst")]
     with open(table, "w", encoding="utf-8") as file:
         for path in paths:
             ran = subprocess.run([program, "check", "--decode", path], capture_output=True, text=True, check=False)
@@ -69,11 +76,13 @@ def verdicts(room, program):
 
 # The name of each page, the store that it is of, and the status with which its report ends.
 TRIALS = {
-    "whole": (sample("mail"), 0), "encoded": (sample("mail_permute"), 0), "cyclic": (sample("mail_cyclic"), 0), "least": (sample("m0"), 0),
+    "whole": (sample("mail"), 0), "encoded": (sample("mail_permute"), 0), "cyclic": (sample("mail_cyclic"), 0),
+    "least": (sample("m0"), 0),
     "lost-runs": (sample("growths"), 0), "lost-folders": (sample("paths1"), 0), "in-no-folder": (sample("listed"), 0),
     "mailbox": (by(stores.mailbox), 0), "hostile": (by(stores.hostile), 0), "months": (by(stores.months), 0),
-    "damaged": (broken, 1), "pages-alone": (sample("outlook_pages"), 1), "cut": (cut, 1), "folders": (of_bench("many_folders", "3000"), 0),
-    "lost-space": (of_bench("lost_runs", "8"), 0), "messages": (of_bench("mail", "20000", "60", "0"), 0),
+    "damaged": (broken, 1), "unclosed": (unclosed, 1), "pages-alone": (sample("outlook_pages"), 1), "cut": (cut, 1),
+    "folders": (of_bench("many_folders", "3000"), 0), "lost-space": (of_bench("lost_runs", "8"), 0),
+    "messages": (of_bench("mail", "20000", "60", "0"), 0),
     "large": (of_bench("mail", "80000", "60", "0"), 0), "many": (None, 0),
 }
 QUICK = ("whole", "encoded", "mailbox", "hostile", "damaged", "messages", "many")
@@ -99,7 +108,8 @@ def made(name, program, room):
     """Makes a page and looks at its numbers."""
     maker, status = TRIALS[name]
     words = ["--many", verdicts(room, program)] if maker is None else [maker(room)]
-    ran, seconds = spent([REPORT, "--program", program, *words])
+    folder, file = os.path.split(words[-1])
+    ran, seconds = spent([REPORT, "--program", program, *words[:-1], file], cwd=folder)
     path = os.path.join(HERE, "out", f"{name}.html")
     with open(path, "wb") as file:
         file.write(ran.stdout)
@@ -172,13 +182,14 @@ def many(text, table):
     data = data_of(text)
     wrong = differ("files", rows_of(text, "stores"), len(lines))
     wrong += differ("refused", sum(it["count"] for it in data["kinds"]), sum(it[0] != "0" for it in lines))
-    return wrong + differ("bytes", sum(it["bytes"] for it in data["sizes"]), sum(os.path.getsize(it[1]) for it in lines if os.path.exists(it[1])))
+    held = sum(os.path.getsize(it[1]) for it in lines if os.path.exists(it[1]))
+    return wrong + differ("bytes", sum(it["bytes"] for it in data["sizes"]), held)
 
 
 def pictures(browser, program, room):
-    """Writes the pictures of docs/: the beginning of the page of a whole store, and of that of a damaged one, in the dark."""
-    for name, scheme, first, last in (("mailbox", "light", "header", "#times figure"), ("damaged", "dark", "header", "#strip")):
+    """Writes the pictures of docs/: what is drawn of a whole store, and the beginning of the page of a damaged one, in the dark."""
+    for name, scheme, first, last in (("mailbox", "light", "#strip", "#times figure"), ("damaged", "dark", "header", "#strip")):
         made(name, program, room)
-        page = Page(browser, os.path.join(HERE, "out", f"{name}.html"), width=1080, scheme=scheme)
+        page = Page(browser, os.path.join(HERE, "out", f"{name}.html"), width=1200, scheme=scheme)
         page.shot(os.path.join(ROOT, "docs", f"report-{name}.png"), first, last)
         page.leave()

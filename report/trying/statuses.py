@@ -69,11 +69,29 @@ def a_change_meanwhile_is_seen(program, room):
 
 def what_stops_the_program_stops_the_report(program, room):
     path = sample("mail")(room)
+    endings = (("echo 'out of memory' >&2; exit 4", 4, "out of memory"), ("kill -9 $$", 125, "ended by signal 9"),
+               ("echo 'cannot read the file' >&2; exit 3", 3, "cannot read the file"), ("exit 77", 125, "status 77"))
     for command in ("head", "check", "folders", "messages"):
-        for lines, status, said in (("echo 'out of memory' >&2; exit 4", 4, "out of memory"), ("kill -9 $$", 125, "ended by signal 9"),
-                                    ("echo 'cannot read the file' >&2; exit 3", 3, "cannot read the file"), ("exit 77", 125, "status 77")):
+        for lines, status, said in endings:
             text = f'#!/bin/sh\n[ "$1" != {command} ] || {{ {lines}; }}\n"{program}" "$@"\n'
             yield from refused(status, said, run([path], fake(room, text)))
+
+
+def what_is_whole_of_a_damaged_store_is_shown(program, room):
+    """By a program that has --whole; here it says of two folders, of one of which the messages are not known."""
+    lines = {"folders": '{"folders":[{"associated":0,"messages":null,"name":"A folder","nid":"0x122","path":["0x122"],"subfolders":[]},'
+                        '{"associated":0,"messages":1,"name":"Another one","nid":"0x8022","path":null,"subfolders":[]}]}',
+             "messages": '{"attachments":0,"class":null,"folders":["0x8022"],"nid":"0x400024","received":null,"recipients":0,"sender":null,'
+                         '"sent":null,"size":77,"subject":"What is left"}'}
+    cases = "".join(f"    '{command} --help') echo '      --whole  Reads what is whole';;\n    '{command} --whole') echo '{line}';;\n"
+                    for command, line in lines.items())
+    text = f'#!/bin/sh\ncase "$1 $2" in\n{cases}    *) exec "{program}" "$@";;\nesac\n'
+    status, length, said = run([sample("outlook_pages")(room)], program)
+    words = [REPORT, "--program", fake(room, text), sample("outlook_pages")(room)]
+    ran = subprocess.run(words, capture_output=True, text=True, check=False)
+    wanted = ("Only what is whole is shown here", "A folder", "Another one", "What is left", "messages --whole")
+    if (status, ran.returncode, ran.stderr) != (1, 1, "") or not all(it in ran.stdout for it in wanted):
+        yield f"{status} {length} {said}, {ran.returncode}, {ran.stderr}, {[it for it in wanted if it not in ran.stdout]}"
 
 
 def no_program_is_told(program, room):
@@ -101,7 +119,8 @@ def the_same_file_has_the_same_page(program, room):
     pages = set()
     for seed in ("1", "2"):
         environment = dict(os.environ, SOURCE_DATE_EPOCH="1700000000", PYTHONHASHSEED=seed)
-        pages.add(subprocess.run([REPORT, "--program", program, sample("mail")(room)], env=environment, capture_output=True, check=True).stdout)
+        words = [REPORT, "--program", program, sample("mail")(room)]
+        pages.add(subprocess.run(words, env=environment, capture_output=True, check=True).stdout)
     return [] if len(pages) == 1 and b"14 November 2023, 22:13 UTC" in pages.pop() else ["two pages of one file"]
 
 
@@ -113,15 +132,17 @@ def help_and_version_are_told(program, room):
 def what_is_kept_of_d3_is_that_of_its_list(program, room):
     """The files of d3, beside their SHA-256."""
     folder = os.path.join(os.path.dirname(REPORT), "d3")
-    ran = subprocess.run(["sha256sum", "--check", "--strict", "--quiet", "SHA256SUMS"], cwd=folder, capture_output=True, text=True, check=False)
+    words = ["sha256sum", "--check", "--strict", "--quiet", "SHA256SUMS"]
+    ran = subprocess.run(words, cwd=folder, capture_output=True, text=True, check=False)
     listed = {line.split()[1] for line in open(os.path.join(folder, "SHA256SUMS"), encoding="utf-8")}
     there = {it for it in os.listdir(folder) if it.endswith(".js")}
     return [] if ran.returncode == 0 and listed == there else [ran.stdout + ran.stderr, str(listed ^ there)]
 
 
 TRIALS = (words_are_refused, what_cannot_be_read_is_told, a_name_may_begin_with_a_hyphen, a_change_meanwhile_is_seen,
-          what_stops_the_program_stops_the_report, no_program_is_told, what_cannot_be_written_is_told, the_same_file_has_the_same_page,
-          help_and_version_are_told, what_is_kept_of_d3_is_that_of_its_list)
+          what_stops_the_program_stops_the_report, what_is_whole_of_a_damaged_store_is_shown, no_program_is_told,
+          what_cannot_be_written_is_told, the_same_file_has_the_same_page, help_and_version_are_told,
+          what_is_kept_of_d3_is_that_of_its_list)
 
 
 def tried(program, room):

@@ -11,14 +11,16 @@ sys.path.insert(0, os.path.join(ROOT, "bench"))
 
 from stores import mail  # noqa: E402
 from stores.contexts import INTEGER32, STRING, TIME, text  # noqa: E402
-from stores.database import NodeDatabase  # noqa: E402
+from stores.database import NodeDatabase, check_value  # noqa: E402
 
 # What a text of a store may try: markup, the ends of what it may stand in, what turns or hides its neighbours, what is no character.
 HOSTILE = [
     "<script>document.title = 'taken'</script>", "</script><script>document.title = 'taken'</script>", "]]> --> */ <!--",
-    "<img src=x onerror=\"document.title = 'taken'\">", "</title></style></table><h1>taken</h1>", "\u202egpj.eciovni\u202c.exe", "\u2066\u2067\u2068 isolates",
-    "a\x00b\x07c\x1bd\x7fe\x85f", "line\nfeed\ttab\r\u2028\u2029", "zero\u200bwidth\ufeff\u00ad", "\ufffe\ud7ff\ue000", "{{main}} {{script}} \\1 \\g<0> $& $$",
-    "javascript:alert(1)", "&lt;script&gt; &amp; \" ' `", "\u05e9\u05dc\u05d5\u05dd \u0645\u0631\u062d\u0628\u0627", "\U0001f600\U0001f468\u200d\U0001f469\u200d\U0001f467",
+    "<img src=x onerror=\"document.title = 'taken'\">", "</title></style></table><h1>taken</h1>", "\u202egpj.eciovni\u202c.exe",
+    "\u2066\u2067\u2068 isolates", "a\x00b\x07c\x1bd\x7fe\x85f", "line\nfeed\ttab\r\u2028\u2029",
+    "zero\u200bwidth\ufeff\u00ad", "\ufffe\ud7ff\ue000",
+    "{{main}} {{script}} \\1 \\g<0> $& $$", "javascript:alert(1)", "&lt;script&gt; &amp; \" ' `",
+    "\u05e9\u05dc\u05d5\u05dd \u0645\u0631\u062d\u0628\u0627", "\U0001f600\U0001f468\u200d\U0001f469\u200d\U0001f467",
     "e" + "\u0301" * 150, "long " * 2000, "%3Cscript%3E", "__proto__", "constructor", "\x01\x05RE: a prefix", "\x01", "",
 ]
 
@@ -62,8 +64,8 @@ class Mailbox:
 
     @staticmethod
     def write_message(store, identifier, folder, subject, sender, received, size):
-        properties = [(mail.MESSAGE_CLASS, STRING, text("IPM.Note")), (mail.SUBJECT, STRING, subject.encode("utf-16-le", "surrogatepass")),
-                      (mail.SENDER_NAME, STRING, sender.encode("utf-16-le", "surrogatepass")), (mail.MESSAGE_SIZE, INTEGER32, size & 0xFFFFFFFF)]
+        properties = [(mail.MESSAGE_CLASS, STRING, text("IPM.Note")), (mail.SUBJECT, STRING, text(subject)),
+                      (mail.SENDER_NAME, STRING, text(sender)), (mail.MESSAGE_SIZE, INTEGER32, size & 0xFFFFFFFF)]
         if received is not None:
             properties.append((mail.DELIVERY_TIME, TIME, struct.pack("<Q", received)))
         made = mail.context(store, properties)
@@ -73,11 +75,12 @@ class Mailbox:
 
 FOLDERS = [
     (1, 0, "Top of Outlook data file", 0), (2, 1, "Inbox", 420), (3, 1, "Sent Items", 260), (4, 1, "Archive", 40), (5, 4, "2022", 110),
-    (6, 4, "2023", 160), (7, 1, "Projects", 12), (8, 7, "Harbour bridge", 130), (9, 8, "Tenders", 60), (10, 8, "Minutes", 35), (11, 7, "School roof", 75),
-    (12, 1, "Newsletters", 180), (13, 1, "Deleted Items", 55), (14, 1, "Drafts", 4), (15, 1, "Junk E-mail", 30), (16, 2, "From the council", 85),
+    (6, 4, "2023", 160), (7, 1, "Projects", 12), (8, 7, "Harbour bridge", 130), (9, 8, "Tenders", 60), (10, 8, "Minutes", 35),
+    (11, 7, "School roof", 75), (12, 1, "Newsletters", 180), (13, 1, "Deleted Items", 55), (14, 1, "Drafts", 4),
+    (15, 1, "Junk E-mail", 30), (16, 2, "From the council", 85),
 ]
-SUBJECTS = ["Agenda for Thursday", "Invoice 4711", "Re: site visit", "Photos of the north pier", "Minutes, second draft", "Lunch?", "Budget 2024",
-            "Out of office", "Drawings, sheet 12", "Re: Re: delivery dates", "Contract for signature", "Weekly summary"]
+SUBJECTS = ["Agenda for Thursday", "Invoice 4711", "Re: site visit", "Photos of the north pier", "Minutes, second draft", "Lunch?",
+            "Budget 2024", "Out of office", "Drawings, sheet 12", "Re: Re: delivery dates", "Contract for signature", "Weekly summary"]
 SENDERS = ["Ada Berg", "Council office", "M. Duarte", "Print shop", "Ruth Okafor", "Site engineer", "no-reply", "Tomasz W."]
 
 
@@ -122,8 +125,20 @@ def months(path, count=3000):
     made = Mailbox()
     folder = made.folder(0x8022, mail.ROOT, "Each month")
     for number in range(count):
-        made.message(folder, f"Month {number}", "Clock", filetime(datetime(1700 + number // 12, number % 12 + 1, 5, tzinfo=timezone.utc)), 100 + number)
+        when = filetime(datetime(1700 + number // 12, number % 12 + 1, 5, tzinfo=timezone.utc))
+        made.message(folder, f"Month {number}", "Clock", when, 100 + number)
     made.write(path)
+
+
+def unclosed(source, path):
+    """A copy whose header marks the allocation maps as invalid ([MS-PST] 2.2.2.5), with check values that fit (2.2.2.6)."""
+    with open(source, "rb") as file:
+        held = bytearray(file.read())
+    held[0xF8] = 0
+    for at, length in ((4, 471), (524, 516)):
+        held[at:at + 4] = struct.pack("<I", check_value(held[8:8 + length]))
+    with open(path, "wb") as file:
+        file.write(held)
 
 
 def damaged(source, path, count=6):

@@ -6,10 +6,10 @@ ghost use Rattle.serde_json.specs.Written.{compact_text};
 ghost use Rattle.pst_block.specs.Table.{Table};
 ghost use Rattle.pst_btree.specs.Order.{Rises};
 ghost use Rattle.pst_ndb.specs.NodeTable.{table_of_nodes, entries_of_nodes};
-ghost use Rattle.pst_ndb.specs.Views.{table_of_node, roots_of};
+ghost use Rattle.pst_ndb.specs.Views.{table_of_node, roots_of, top_of};
 ghost use Rattle.pst_value_json.specs.pst_tc.Tc.{node_of_tc};
 ghost use Rattle.pst_value_json.specs.pst_tc.Values.{tc_rows};
-ghost use Rattle.pst_verify.specs.pst_msg.Shown.{rows_there};
+ghost use Rattle.pst_verify.specs.pst_msg.Shown.{rows_there, folder_table};
 ghost use Rattle.pst_verify.specs.pst_msg.View.{tc_roots};
 ghost use Rattle.pst_intact.specs.View.{table_of_intact, nodes_of_intact, intact_beside, intact_roots, intact_node};
 ghost use Rattle.pst_whole.specs.View.{lost_in};
@@ -78,26 +78,33 @@ fn told_of_table(lost: &Lost, items: Items, nid: u32) -> Option<Fault>
     lost.told(listing_nid(nid, items))
 }
 
-// How many rows a table has, 0 where it is not there; null where something is told of it.
-fn count_doc(told: Option<Fault>, table: Option<Tc>) -> Doc
-    ensures { (t : Table) → IfSome table.entry (λ x. table_of_node (node_of_tc x) ≡ t)
-        → view result ≡ count_data told t (option_map tc_roots table.entry) }
+// How many rows a table of a folder has, 0 where it is not there; null where something is told of it.
+fn count_doc(folder: &IntactFolder, lost: &Lost, items: Items) -> Doc
+    ensures { let nodes = intact_beside folder.now in let nid = top_of (intact_node folder.now) in
+        view result ≡ count_data (table_told (lost_in lost.now) items nid) (table_of_nodes nodes)
+        (folder_table (entries_of_nodes nodes) items nid) }
 {
-    match told {
+    match told_of_table(lost, items, folder.nid()) {
         Some(_) => Doc::Null,
-        None => Doc::from(count_of(table)),
+        None => Doc::from(count_of(folder.table(items))),
     }
 }
 
-// The identifiers of the rows of a table, of no rows where it is not there; null where something is told of it.
-fn nids_doc(alloc: Global, told: Option<Fault>, table: Option<Tc>) -> Result<Doc, AllocError>
-    ensures { (t : Table) → IfSome table.entry (λ x. table_of_node (node_of_tc x) ≡ t)
-        → IfOk result (λ d. view d ≡ nids_data told t (option_map tc_roots table.entry)) }
+// The identifiers of the rows of such a table, of no rows where it is not there; null where something is told of it.
+fn nids_doc(
+    alloc: Global,
+    folder: &IntactFolder,
+    lost: &Lost,
+    items: Items,
+) -> Result<Doc, AllocError>
+    ensures { let nodes = intact_beside folder.now in let nid = top_of (intact_node folder.now) in
+        IfOk result (λ d. view d ≡ nids_data (table_told (lost_in lost.now) items nid)
+        (table_of_nodes nodes) (folder_table (entries_of_nodes nodes) items nid)) }
 {
-    if told.is_some() {
+    if told_of_table(lost, items, folder.nid()).is_some() {
         return Ok(Doc::Null);
     }
-    match table {
+    match folder.table(items) {
         Some(tc) => row_nids_doc(alloc, &tc),
         None => Ok(Doc::from(Vec::<Doc>::new(alloc))),
     }
@@ -128,15 +135,12 @@ pub(crate) fn folder_doc(
         reached.now (intact_roots folder.entry)) }
 {
     folder.is_sound();
-    let told = told_of_table(lost, Items::Associated, folder.nid());
-    let associated = count_doc(told, folder.associated());
-    let told = told_of_table(lost, Items::Messages, folder.nid());
-    let messages = count_doc(told, folder.contents());
+    let associated = count_doc(&folder, lost, Items::Associated);
+    let messages = count_doc(&folder, lost, Items::Messages);
     let name = text_property_doc(alloc, &folder.pc(), NAME)?;
     let nid = nid_text(alloc, folder.nid())?;
     let path = path_doc(alloc, reached, folder.nid())?;
-    let told = told_of_table(lost, Items::Subfolders, folder.nid());
-    let subfolders = nids_doc(alloc, told, folder.hierarchy())?;
+    let subfolders = nids_doc(alloc, &folder, lost, Items::Subfolders)?;
     json!(in alloc; {
         "associated": associated,
         "messages": messages,
@@ -165,29 +169,41 @@ fn put_path(
     }
 }
 
-// Puts how many rows a table has behind a text, as `count_doc` shows it.
-fn put_count(told: Option<Fault>, table: Option<Tc>, text: &mut Vec<u8>) -> Result<(), AllocError>
-    ensures put { (t : Table) → IfSome table.entry (λ x. table_of_node (node_of_tc x) ≡ t)
-        → OnOk result (text.new.items
-        ≡ text.old.items ++ compact_text (count_data told t (option_map tc_roots table.entry))) }
+// Puts how many rows a table of a folder has behind a text, as `count_doc` shows it.
+fn put_count(
+    folder: &IntactFolder,
+    lost: &Lost,
+    items: Items,
+    text: &mut Vec<u8>,
+) -> Result<(), AllocError>
+    ensures put { let nodes = intact_beside folder.now in let nid = top_of (intact_node folder.now) in
+        let shown = count_data (table_told (lost_in lost.now) items nid) (table_of_nodes nodes)
+        (folder_table (entries_of_nodes nodes) items nid) in
+        OnOk result (text.new.items ≡ text.old.items ++ compact_text shown) }
     ensures kept { OnErr result (BeginsWith text.new.items text.old.items) }
 {
-    match told {
+    match told_of_table(lost, items, folder.nid()) {
         Some(_) => put_null(text),
-        None => put_natural(count_of(table), text),
+        None => put_natural(count_of(folder.table(items)), text),
     }
 }
 
-// Puts the identifiers of the rows of a table behind a text, as `nids_doc` shows them.
-fn put_nids(told: Option<Fault>, table: &Option<Tc>, text: &mut Vec<u8>) -> Result<(), AllocError>
-    ensures put { (t : Table) → IfSome table.now (λ x. table_of_node (node_of_tc x) ≡ t)
-        → OnOk result (text.new.items
-        ≡ text.old.items ++ compact_text (nids_data told t (option_map tc_roots table.now))) }
+// Puts the identifiers of the rows of such a table behind a text, as `nids_doc` shows them.
+fn put_nids(
+    folder: &IntactFolder,
+    lost: &Lost,
+    items: Items,
+    text: &mut Vec<u8>,
+) -> Result<(), AllocError>
+    ensures put { let nodes = intact_beside folder.now in let nid = top_of (intact_node folder.now) in
+        let shown = nids_data (table_told (lost_in lost.now) items nid) (table_of_nodes nodes)
+        (folder_table (entries_of_nodes nodes) items nid) in
+        OnOk result (text.new.items ≡ text.old.items ++ compact_text shown) }
     ensures kept { OnErr result (BeginsWith text.new.items text.old.items) }
 {
-    match told {
+    match told_of_table(lost, items, folder.nid()) {
         Some(_) => put_null(text),
-        None => put_nids_of(table, text),
+        None => put_nids_of(&folder.table(items), text),
     }
 }
 
@@ -208,22 +224,18 @@ pub(crate) fn put_folder(
     ensures kept { OnErr result (BeginsWith text.new.items text.old.items) }
 {
     folder.is_sound();
-    let nid = folder.nid();
     text.extend_from_slice(b"{\"associated\":")?;
-    let own = told_of_table(lost, Items::Associated, nid);
-    put_count(own, folder.associated(), text)?;
+    put_count(&folder, lost, Items::Associated, text)?;
     text.extend_from_slice(b",\"messages\":")?;
-    let held = told_of_table(lost, Items::Messages, nid);
-    put_count(held, folder.contents(), text)?;
+    put_count(&folder, lost, Items::Messages, text)?;
     text.extend_from_slice(b",\"name\":")?;
     put_text_property(alloc, &folder.pc(), NAME, text)?;
     text.extend_from_slice(b",\"nid\":")?;
-    put_nid(nid, text)?;
+    put_nid(folder.nid(), text)?;
     text.extend_from_slice(b",\"path\":")?;
-    put_path(alloc, reached, nid, text)?;
+    put_path(alloc, reached, folder.nid(), text)?;
     text.extend_from_slice(b",\"subfolders\":")?;
-    let below = told_of_table(lost, Items::Subfolders, nid);
-    put_nids(below, &folder.hierarchy(), text)?;
+    put_nids(&folder, lost, Items::Subfolders, text)?;
     text.push(b'}')?;
     Ok(())
 }

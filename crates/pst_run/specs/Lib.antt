@@ -1,7 +1,7 @@
 pub mod Answer
 pub mod Hint
+pub mod Laws
 pub mod Loading
 pub mod Outside
 pub mod Refusal
-pub mod Whole
 pub mod Run

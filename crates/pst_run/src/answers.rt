@@ -58,7 +58,7 @@ fn nodes_answer(alloc: Global, bytes: &[u8]) -> Result<Shown<'static>, Refusal<'
 }
 
 // `folders`: the folders of a store.
-#[tactic(auto, unfolding(crate::specs::Answer::answer_with))]
+#[tactic(auto, unfolding(crate::specs::Answer::answer_with, crate::specs::Answer::read_with))]
 fn folders_answer(alloc: Global, bytes: &[u8]) -> Result<Shown<'static>, Refusal<'static>>
     ensures { (digest : Option (List ℕ)) → Gives result (answer_with folders digest bytes.now) }
 {
@@ -71,7 +71,7 @@ fn folders_answer(alloc: Global, bytes: &[u8]) -> Result<Shown<'static>, Refusal
 }
 
 // `contents`: the messages of a folder.
-#[tactic(auto, unfolding(crate::specs::Answer::answer_with))]
+#[tactic(auto, unfolding(crate::specs::Answer::answer_with, crate::specs::Answer::read_with))]
 fn contents_answer<'p>(
     alloc: Global,
     nid: &'p u32,
@@ -85,7 +85,7 @@ fn contents_answer<'p>(
 }
 
 // `messages`: all messages of a store.
-#[tactic(auto, unfolding(crate::specs::Answer::answer_with))]
+#[tactic(auto, unfolding(crate::specs::Answer::answer_with, crate::specs::Answer::read_with))]
 fn messages_answer(alloc: Global, bytes: &[u8]) -> Result<Shown<'static>, Refusal<'static>>
     ensures { (digest : Option (List ℕ)) → Gives result (answer_with messages digest bytes.now) }
 {
@@ -96,7 +96,7 @@ fn messages_answer(alloc: Global, bytes: &[u8]) -> Result<Shown<'static>, Refusa
 }
 
 // `props`: the properties of what paths lead to, one after another.
-#[tactic(auto, unfolding(crate::specs::Answer::answer_with))]
+#[tactic(auto, unfolding(crate::specs::Answer::answer_with, crate::specs::Answer::read_with))]
 fn props_answer<'p>(
     alloc: Global,
     places: bool,
@@ -112,7 +112,7 @@ fn props_answer<'p>(
 }
 
 // `value`: the value of one property of what a path leads to.
-#[tactic(auto, unfolding(crate::specs::Answer::answer_with))]
+#[tactic(auto, unfolding(crate::specs::Answer::answer_with, crate::specs::Answer::read_with))]
 fn value_answer<'p, 'a>(
     alloc: Global,
     text: bool,

@@ -7,8 +7,7 @@ ghost use Rattle.pst_json.specs.pst_intact.View.{table_of_intact, nodes_of_intac
 ghost use Rattle.pst_json.specs.pst_pc.View.{property_of};
 ghost use Rattle.pst_json.specs.pst_whole.View.{lost_in};
 ghost use Rattle.pst_json.specs.Property.{written_of};
-ghost use Rattle.pst_run.specs.Answer.{Gives, lines_of_paths, plain, told_in};
-ghost use Rattle.pst_run.specs.Whole.{contents_read, props_read, value_read, path_read, read_with, reads};
+ghost use Rattle.pst_run.specs.Answer.{Gives, contents_read, lines_of_paths, path_read, plain, props_read, read_with, reads, told_in, value_read};
 
 use crate::refusal::Refusal;
 use crate::shown::{Shown, Text};
@@ -151,7 +150,7 @@ pub fn reads_nodes(ask: &Ask) -> bool
 }
 
 /// What such a command shows of intact nodes, where this is told of others.
-#[tactic(auto, unfolding(crate::specs::Whole::read_with))]
+#[tactic(auto, unfolding(crate::specs::Answer::read_with))]
 pub(crate) fn read_answer<'p, 'a>(
     alloc: Global,
     ask: &'p Ask,

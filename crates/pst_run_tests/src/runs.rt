@@ -27,6 +27,7 @@ mod one_value;
 mod outlook;
 mod reading;
 mod values;
+mod whole;
 mod words;
 mod writing;
 

@@ -1,2 +1,3 @@
 pub mod LostLemmas
 pub mod WholeLemmas
+pub mod WholeLaws

@@ -41,7 +41,7 @@ broken_rise t nodes broken told r is = rw is (told_rises (node_damage t nodes br
 
 -- ---- what is told of a node
 
-told_by_test : (nid : ℕ) (b : BrokenNode) (rest : List BrokenNode) (v : Bool) → nat_eq b.nid nid ≡ v → fault_told nid (b ∷ rest) ≡ cond v (Some b.fault) (fault_told nid rest)
+pub told_by_test : (nid : ℕ) (b : BrokenNode) (rest : List BrokenNode) (v : Bool) → nat_eq b.nid nid ≡ v → fault_told nid (b ∷ rest) ≡ cond v (Some b.fault) (fault_told nid rest)
 unfolding first_with
 told_by_test nid b rest true e = rw e refl
 told_by_test nid b rest false e = rw e refl
@@ -62,16 +62,16 @@ told_behind part nid low (e ∷ rest) lt r = by_fault (part e) (told_behind part
     by_fault None more = more
     by_fault (Some f) more = told_by_test nid (record { nid = e.nid; fault = f }) (told_by part rest) false (other e.nid nid (omega (arith, lt, r.0))) ∙ more
 
-with_by_test : (nid : ℕ) (e : NodeEntry) (rest : List NodeEntry) (v : Bool) → nat_eq e.nid nid ≡ v → node_with nid (e ∷ rest) ≡ cond v (Some e) (node_with nid rest)
+pub with_by_test : (nid : ℕ) (e : NodeEntry) (rest : List NodeEntry) (v : Bool) → nat_eq e.nid nid ≡ v → node_with nid (e ∷ rest) ≡ cond v (Some e) (node_with nid rest)
 unfolding first_with
 with_by_test nid e rest true h = rw h refl
 with_by_test nid e rest false h = rw h refl
 
-none_with : (nid : ℕ) → node_with nid [] ≡ None
+pub none_with : (nid : ℕ) → node_with nid [] ≡ None
 unfolding first_with
 none_with nid = refl
 
-told_among : (part : Judged) (nid low : ℕ) (nodes : List NodeEntry) → Rises low None (map node_key nodes) → fault_told nid (told_by part nodes) ≡ if_there part (node_with nid nodes)
+pub told_among : (part : Judged) (nid low : ℕ) (nodes : List NodeEntry) → Rises low None (map node_key nodes) → fault_told nid (told_by part nodes) ≡ if_there part (node_with nid nodes)
 unfolding told_by
 told_among part nid low [] r = none_told nid ∙ ap (if_there part) (sym (none_with nid))
 told_among part nid low (e ∷ rest) r = by_test (nat_eq e.nid nid) refl (part e) refl (told_among part nid (e.nid + 1) rest r.2)
@@ -117,10 +117,10 @@ there_required nodes broken nid told = by_found (node_with nid nodes) refl (is_n
     by_found None is false = refl
     by_found None is true = there_put nodes (missing nid) told (rw is refl)
 
-all_there : (part : Judged) (all nodes : List NodeEntry) → ((e : NodeEntry) (f : Fault) → is_some (node_with e.nid nodes) ≡ true → is_some (node_with e.nid all) ≡ true) → (low : ℕ) → Rises low None (map node_key nodes) → filter (is_there all) (told_by part nodes) ≡ told_by part nodes
+all_there : (part : Judged) (all nodes : List NodeEntry) → ((e : NodeEntry) (f : Fault) → is_some (node_with e.nid nodes) ≡ true → is_some (node_with e.nid all) ≡ true) → filter (is_there all) (told_by part nodes) ≡ told_by part nodes
 unfolding told_by
-all_there part all [] among low r = refl
-all_there part all (e ∷ rest) among low r = by_fault (part e) (all_there part all rest later (e.nid + 1) r.2)
+all_there part all [] among = refl
+all_there part all (e ∷ rest) among = by_fault (part e) (all_there part all rest later)
   where
     behind : (nid : ℕ) (v : Bool) → is_some (node_with nid rest) ≡ true → is_some (cond v (Some e) (node_with nid rest)) ≡ true
     behind nid true is = refl
@@ -139,14 +139,14 @@ all_there part all (e ∷ rest) among low r = by_fault (part e) (all_there part 
     by_fault None more = more
     by_fault (Some f) more = rw (here f) (ap (λ l. record { nid = e.nid; fault = f } ∷ l) more)
 
-pub told_there_is : (t : Table) (nodes : List NodeEntry) (broken : List Broken) (all told : List BrokenNode) → Rises 0 None (map node_key nodes) → all ≡ nodes_damage t nodes broken → told ≡ filter (is_there nodes) all → told ≡ broken_nodes t nodes broken
+pub told_there_is : (t : Table) (nodes : List NodeEntry) (broken : List Broken) (all told : List BrokenNode) → all ≡ nodes_damage t nodes broken → told ≡ filter (is_there nodes) all → told ≡ broken_nodes t nodes broken
 unfolding nodes_damage broken_nodes
-told_there_is t nodes broken all told r is kept =
+told_there_is t nodes broken all told is kept =
     let list = told_by (node_damage t nodes broken) nodes in
     kept ∙ ap (filter (is_there nodes)) is
     ∙ there_required nodes broken ROOT (with_required nodes broken STORE list)
     ∙ there_required nodes broken STORE list
-    ∙ all_there (node_damage t nodes broken) nodes nodes (λ e f is. is) 0 r
+    ∙ all_there (node_damage t nodes broken) nodes nodes (λ e f is. is)
 
 pub untold_is : (t : Table) (nodes : List NodeEntry) (broken : List Broken) (told : List BrokenNode) (entries : List NodeEntry) → told ≡ broken_nodes t nodes broken → ((part : Judged) → told ≡ told_by part nodes → entries ≡ sound_by part nodes) → entries ≡ whole_nodes t nodes broken
 unfolding broken_nodes whole_nodes

@@ -84,7 +84,7 @@ none_below nid low (e ∷ rest) lt r = with_by_test nid e rest false (other e.ni
     other : (a b : ℕ) → b < a → nat_eq a b ≡ false
     other a b lt = grind (arith, nat_tests, lt)
 
-found_sound : (part other : Judged) (nid low : ℕ) (nodes : List NodeEntry) (x : NodeEntry) → ((e : NodeEntry) → part e ≡ None → other e ≡ None) → Rises low None (map node_key nodes) → node_with nid (sound_by part nodes) ≡ Some x → node_with nid (sound_by other nodes) ≡ Some x
+pub found_sound : (part other : Judged) (nid low : ℕ) (nodes : List NodeEntry) (x : NodeEntry) → ((e : NodeEntry) → part e ≡ None → other e ≡ None) → Rises low None (map node_key nodes) → node_with nid (sound_by part nodes) ≡ Some x → node_with nid (sound_by other nodes) ≡ Some x
 unfolding sound_by
 found_sound part other nid low [] x is r found = found
 found_sound part other nid low (e ∷ rest) x is r found = by_fault (part e) refl (other e) refl (λ h. found_sound part other nid (e.nid + 1) rest x is r.2 h) found
@@ -208,7 +208,7 @@ roots_of_sound part other (e ∷ rest) is = kept (part e) refl (roots_of_sound p
     kept None none more = both_none (other (entry_roots e)) (first_of other (all_roots (sound_by part rest))) (is e none) more
     kept (Some f) none more = more
 
-found_is_sound : (part : Judged) (nid : ℕ) (nodes : List NodeEntry) (x : NodeEntry) → node_with nid (sound_by part nodes) ≡ Some x → (part x ≡ None) × (x.nid ≡ nid)
+pub found_is_sound : (part : Judged) (nid : ℕ) (nodes : List NodeEntry) (x : NodeEntry) → node_with nid (sound_by part nodes) ≡ Some x → (part x ≡ None) × (x.nid ≡ nid)
 unfolding sound_by
 found_is_sound part nid [] x found = absurd (no (sym (none_with nid) ∙ found))
   where

@@ -1,5 +1,6 @@
 pub mod Lost
 pub mod Nodes
+pub mod Laws
 pub mod View
 pub use Rattle.pst_intact.specs as pst_intact
 pub use Rattle.pst_damage.specs as pst_damage

@@ -21,7 +21,6 @@ pub fn find_whole<'a>(alloc: Global, remains: Remains<'a>) -> Result<WholeNodes<
 {
     let nodes = remains.node_list();
     let judged = judge_nodes(alloc, remains.good_blocks(), nodes, &remains.broken)?;
-    nodes.nids_rise();
     let told = told_there(nodes, judged.broken);
     let entries = untold(alloc, nodes, &told)?;
     Ok(WholeNodes::of(remains, told, entries))

@@ -11,11 +11,13 @@
 #![tactic(auto)]
 
 mod find;
+mod laws;
 mod lost;
 mod told;
 mod whole;
 
 pub use find::find_whole;
+pub use laws::{stores_are_whole, whole_or_told};
 pub use lost::{LeftNodes, Lost};
 pub use pst_damage::BrokenPages;
 pub use pst_intact::{Intact, IntactFolder, IntactFolders, IntactMessages};

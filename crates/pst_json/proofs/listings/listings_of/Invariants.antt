@@ -8,9 +8,9 @@ use Rattle.pst_json.proofs.listings.listings_of.Given as goal
 
 -- what is noted, with the folders that are left, is all
 abbrev pub invariant-loop-folder : goal.invariant-loop-folder
-invariant-loop-folder l = let t = table_of_intact l.intact in let nodes = nodes_of_intact l.intact in record {
+invariant-loop-folder l = let t = table_of_intact l.intact in let all = nodes_of_intact l.intact in record {
   table : table_of_nodes (folders_beside l.folder-iterator) ≡ t;
-  nodes : entries_of_nodes (folders_beside l.folder-iterator) ≡ nodes;
-  noted : (nid : ℕ) → folders_at l.listings nid ++ map top_of_roots (filter (lists t nodes nid) (intact_folders_left l.folder-iterator))
-      ≡ listed_in t nodes nid;
+  nodes : entries_of_nodes (folders_beside l.folder-iterator) ≡ all;
+  noted : (nid : ℕ) → folders_at l.listings nid ++ map top_of_roots (filter (lists t all nid) (intact_folders_left l.folder-iterator))
+      ≡ listed_in t all nid;
 }

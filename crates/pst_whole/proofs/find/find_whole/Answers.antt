@@ -9,6 +9,6 @@ of-requires-clause-whole c =
     let t = table_of c.good_blocks.result in
     let nodes = listed_nodes c.node_list-nodes.result in
     let pages = c.deref.result.now in
-    let told = told_there_is t nodes pages c.in_ok-judged.judged.broken.items c.told_there-told.result.items c.nids_rise.ensures c.in_ok-judged.ensures.broken c.told_there-told.ensures in
+    let told = told_there_is t nodes pages c.in_ok-judged.judged.broken.items c.told_there-told.result.items c.in_ok-judged.ensures.broken c.told_there-told.ensures in
     let whole = untold_is t nodes pages c.deref-2.result.now c.in_ok-entries.entries.items (c.deref-2.ensures.value ∙ told) c.in_ok-entries.ensures in
     rw (c.good_blocks.ensures.table, c.node_list-nodes.ensures, c.deref.ensures.value) at whole
