@@ -3,9 +3,9 @@
 ghost use Rattle.std.specs.Prelude.{◌≡◌, IfOk, Some, true};
 ghost use Rattle.pst_ask.specs.Ask.{request_of, wanted_of};
 ghost use Rattle.pst_datatree.specs.Shown.{bytes_in};
-ghost use Rattle.pst_export.specs.Export.{archive_in};
 ghost use Rattle.pst_plain.specs.Twin.{method_of as method_in};
 ghost use Rattle.pst_run.specs.Answer.{answer_to, answer_with, bytes_for, bytes_shown, decoded_damage as answer_decoded, is_decoded_damage as damage_wanted, is_of_whole as whole_wanted, method_for, whole_by};
+ghost use Rattle.pst_run.specs.Export.{archive_in};
 ghost use Rattle.pst_run.specs.Run.{Ends};
 ghost use Rattle.pst_c.specs.Answer.{Yields};
 
@@ -13,12 +13,10 @@ use crate::decoded::decoded_if;
 use pst_ask::{Ask, Request};
 use pst_bytes::Image;
 use pst_datatree::Value;
-use pst_export::{Export, emit_export};
-use pst_json::emit_value;
 use pst_plain::method_of;
 use pst_run::{
-    Refusal, Text, answer, decoded_damage, digest_if, is_decoded_damage, is_of_whole,
-    write_decoded_whole, write_whole,
+    Export, Refusal, Text, answer, decoded_damage, digest_if, emit_export, emit_value,
+    is_decoded_damage, is_of_whole, write_decoded_whole, write_whole,
 };
 use std::alloc::{AllocError, Global};
 
