@@ -15,7 +15,7 @@ import sys
 ROOT = os.path.dirname(os.path.dirname(os.path.abspath(__file__)))
 WORDS = 2000
 PATH = re.compile(r"(?<![\w/.~-])((?:README|CHANGELOG|CONTRIBUTING|NOTICE|LICENSE-[A-Z]+)(?:\.md)?|(?:docs|crates|tools|bench|samples|examples|bindings|"
-                  r"include|man|completions|built)/[\w./-]*\w)")
+                  r"include|man|completions|built|report)/[\w./-]*\w)")
 SECTION = re.compile(r'(docs/\w+\.md|README\.md)(?:, | \()"([^"]+)"')
 MADE = re.compile(r"/out\b|/NAME|crates/[A-Z]+|docs/schema/\*|samples/none\.pst|bench/out")
 # A number in a page, and where it comes from: the page, its text with the number in brackets, the file, the same there.

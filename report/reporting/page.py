@@ -40,4 +40,4 @@ def page(store, now):
 
 def part(store):
     """A line where only what is whole is shown."""
-    return paragraph("Of what is whole: the store is damaged.", "note") if store.is_part else ""
+    return paragraph("Only what is whole is shown here: the file has a fault.", "note") if store.is_part else ""

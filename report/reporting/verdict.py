@@ -34,8 +34,8 @@ def words(store):
     if store.damage is None:
         return ("No: this file breaks a rule of the format.", "What else may be broken is not told." + encoded)
     if is_unclosed_alone(store):
-        return ("No: this store was not closed in order.", "Its header marks the allocation maps as invalid, as Outlook leaves them where it "
-                "is cut off; it makes them anew when it next opens the store. Nothing else is broken." + encoded)
+        return ("No: this store was not closed in order.", "Its header marks the allocation maps as invalid, as Outlook leaves them where "
+                "it is cut off; it makes them anew when it next opens the store. Nothing else is broken." + encoded)
     return ("No: this file is damaged.", f"The first rule that it breaks is told below. Broken: {parts_broken(store.damage)}."
             + encoded + hidden(store.damage))
 

@@ -89,7 +89,7 @@ def what_is_whole_of_a_damaged_store_is_shown(program, room):
     status, length, said = run([sample("outlook_pages")(room)], program)
     words = [REPORT, "--program", fake(room, text), sample("outlook_pages")(room)]
     ran = subprocess.run(words, capture_output=True, text=True, check=False)
-    wanted = ("Of what is whole: the store is damaged.", "A folder", "Another one", "What is left", "messages --whole")
+    wanted = ("Only what is whole is shown here", "A folder", "Another one", "What is left", "messages --whole")
     if (status, ran.returncode, ran.stderr) != (1, 1, "") or not all(it in ran.stdout for it in wanted):
         yield f"{status} {length} {said}, {ran.returncode}, {ran.stderr}, {[it for it in wanted if it not in ran.stdout]}"
 
@@ -141,7 +141,8 @@ def what_is_kept_of_d3_is_that_of_its_list(program, room):
 
 TRIALS = (words_are_refused, what_cannot_be_read_is_told, a_name_may_begin_with_a_hyphen, a_change_meanwhile_is_seen,
           what_stops_the_program_stops_the_report, what_is_whole_of_a_damaged_store_is_shown, no_program_is_told,
-          what_cannot_be_written_is_told, the_same_file_has_the_same_page, help_and_version_are_told, what_is_kept_of_d3_is_that_of_its_list)
+          what_cannot_be_written_is_told, the_same_file_has_the_same_page, help_and_version_are_told,
+          what_is_kept_of_d3_is_that_of_its_list)
 
 
 def tried(program, room):

@@ -1,3 +1,4 @@
+pub mod FileLemmas
 pub mod StoreLemmas
 pub mod TextLemmas
 pub mod WalkLemmas

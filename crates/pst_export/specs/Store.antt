@@ -1,15 +1,16 @@
 -- All files of a store, and the archive of them.
-use Rattle.std.specs.Prelude.{ℕ, ◌+◌, ◌/◌, Bool, nat_lt, false, Option, Some, None, List, [], ◌∷◌, ◌++◌, length, map, codes}
+use Rattle.std.specs.Prelude.{ℕ, ◌+◌, ◌/◌, Bool, nat_lt, false, Option, Result, Ok, Err, List, [], ◌∷◌, ◌++◌, length, map, codes}
 use Rattle.std.specs.Prelude.{flat_map}
 use Rattle.pst_page.specs.declared.entry.NodeEntry.{NodeEntry}
 use Rattle.pst_block.specs.Table.{Table}
-use Rattle.pst_ndb.specs.Roots.{Roots, node_in, all_roots}
+use Rattle.pst_ndb.specs.Roots.{Roots, all_roots}
 use Rattle.pst_value_json.specs.Line.{line_of}
 use Rattle.pst_value_json.specs.pst_names.Name.{NameParts, store_name}
 use Rattle.pst_json.specs.pst_whole.Lost.{LostParts, nothing_lost}
 use Rattle.pst_json.specs.Folders.{folders_line}
 use Rattle.pst_json.specs.Messages.{messages_text}
-use Rattle.pst_json.specs.Node.{node_props_data}
+use Rattle.pst_json.specs.Node.{node_props_data, props_line}
+use Rattle.pst_json.specs.declared.fault.DocFault.{DocFault}
 use Rattle.pst_verify.specs.pst_msg.declared.nid.TheConstants.{STORE, MESSAGE, ASSOCIATED}
 use Rattle.pst_verify.specs.pst_msg.Nid.{is_type}
 use Rattle.pst_verify.specs.pst_msg.Values.{is_folder}
@@ -28,9 +29,10 @@ file_of name bytes = record { name = name; time = 0; bytes = bytes }
 abbrev pub node_line : (ℕ → Option NameParts) → Table → Roots → List ℕ
 node_line names t r = line_of (node_props_data names false t r r.top)
 
-abbrev pub store_file : (ℕ → Option NameParts) → Table → Option Roots → List Member
-store_file names t None = []
-store_file names t (Some r) = file_of (codes "store.json") (node_line names t r) ∷ []
+-- what `props` prints of the store's own node, where it prints something
+abbrev pub store_file : Result (List ℕ) DocFault → List Member
+store_file (Ok line) = file_of (codes "store.json") line ∷ []
+store_file (Err f) = []
 
 -- ---- of a folder
 
@@ -53,14 +55,14 @@ messages_files names t name rs = flat_map (message_files names t name) rs
 abbrev pub of_type : ℕ → List NodeEntry → List Roots
 of_type kind nodes = of_kind (is_type kind) (all_roots nodes)
 
-abbrev pub front_files : (ℕ → Option NameParts) → Table → List NodeEntry → LostParts → List Member
-front_files names t nodes lost =
-    store_file names t (node_in nodes STORE)
+abbrev pub front_files : Table → List NodeEntry → LostParts → List Member
+front_files t nodes lost =
+    store_file (props_line false t nodes (STORE ∷ []))
     ++ (file_of (codes "folders.json") (folders_line t nodes lost) ∷ file_of (codes "messages.jsonl") (messages_text t nodes) ∷ [])
 
 abbrev pub files_with : (ℕ → Option NameParts) → Table → List NodeEntry → LostParts → List Member
 files_with names t nodes lost =
-    ((front_files names t nodes lost ++ folder_files names t (of_kind is_folder (all_roots nodes)))
+    ((front_files t nodes lost ++ folder_files names t (of_kind is_folder (all_roots nodes)))
     ++ messages_files names t (codes "messages") (of_type MESSAGE nodes))
     ++ messages_files names t (codes "associated") (of_type ASSOCIATED nodes)
 

@@ -1,104 +1,15 @@
-//! An archive of a store.
+//! What an archive is made from.
 
-ghost use Rattle.std.specs.Prelude.{◌≡◌, ℕ, not, IfOk, OnOk, nat_lt};
-ghost use Rattle.std.specs.Io.KnownBytes.{Appends};
-ghost use Rattle.pst_ndb.specs.Views.{table_of_ndb, nodes_of};
-ghost use Rattle.pst_value_json.specs.Props.{names_told};
-ghost use Rattle.pst_verify.specs.pst_store.View.{ndb_of_store, table_of_store, nodes_of_store};
-ghost use Rattle.pst_json.specs.pst_whole.Lost.{nothing_lost};
 ghost use Rattle.pst_json.specs.NamesIndex.{IsNamesIndex};
-ghost use Rattle.pst_json.specs.Output.{AppendsFront};
-ghost use Rattle.pst_export.specs.Export.{TellsExport, archive_in};
-ghost use Rattle.pst_export.specs.Store.{files_with, path_count};
-ghost use Rattle.pst_export.specs.Written.{Adds, AddsFront};
+ghost use Rattle.pst_verify.specs.pst_store.View.{table_of_store, nodes_of_store};
 
-use crate::count::count_down;
-use crate::fault::ExportFault;
-use crate::folders::{write_folders, write_front};
-use crate::messages::write_messages;
-use pst_json::{DocFault, Intact, emit, names_in, names_index};
-use pst_msg::{ASSOCIATED, MESSAGE, NameMap};
-use pst_tar::end;
 use pst_value_json::NameIndex;
-use pst_verify::{Store, Verified};
-use std::alloc::{AllocError, Global};
-use std::io::Write;
-
-// A file that shares no blocks has for each message and each attachment a block of its own, of so many bytes at least.
-const BLOCK: u64 = 64;
+use pst_verify::Verified;
 
 /// What an archive is made from: a store, and what finds the names of its properties.
 #[derive(Drop)]
 pub struct Export<'a> {
-    verified: Verified<'a>,
-    index: NameIndex,
+    pub(crate) verified: Verified<'a>,
+    pub(crate) index: NameIndex,
     ghost named: { IsNamesIndex (table_of_store verified.store) (nodes_of_store verified.store) index },
-}
-
-// Whether so many paths at most lead to messages and attachments.
-#[tactic(auto, unfolding(crate::specs::Store::path_count), using(crate::proofs::StoreLemmas::message_kind, crate::proofs::StoreLemmas::associated_kind))]
-fn are_few(alloc: Global, store: &Store, most: u64) -> Result<bool, AllocError>
-    ensures { let ndb = ndb_of_store store.now in
-        let count = path_count (table_of_ndb ndb) (nodes_of ndb) in
-        IfOk result (λ few. few ≡ not (nat_lt most count)) }
-{
-    match count_down(alloc, store, MESSAGE, "messages", most)? {
-        Some(left) => {
-            let rest = count_down(alloc, store, ASSOCIATED, "associated", left)?;
-            Ok(rest.is_some())
-        }
-        None => Ok(false),
-    }
-}
-
-/// What the archive of a store is made from; TooManyPaths where more paths lead to its messages and attachments than its file has
-/// blocks of 64 bytes.
-pub fn export_of<'a>(alloc: Global, verified: Verified<'a>) -> Result<Export<'a>, DocFault>
-    ensures { TellsExport result verified.entry.store }
-{
-    let store = verified.store;
-    let size = store.ndb().image().len();
-    if !are_few(alloc, &store, size / BLOCK)? {
-        return Err(DocFault::TooManyPaths);
-    }
-    let index = names_index(alloc, &Intact::of(&store))?;
-    Ok(Export { verified, index })
-}
-
-// Writes all files, of which properties are called so.
-#[tactic(auto, using(crate::proofs::StoreLemmas::message_kind, crate::proofs::StoreLemmas::associated_kind))]
-fn write_files<W: Write>(
-    alloc: Global,
-    number: &mut u64,
-    names: Option<NameMap>,
-    verified: &Verified,
-    out: &mut W,
-) -> Result<(), ExportFault>
-    ensures all { let told = names_told names.entry in let ndb = ndb_of_store verified.now.store in
-        let files = files_with told (table_of_ndb ndb) (nodes_of ndb) nothing_lost in
-        OnOk result (Adds (W.contents out.old) (W.contents out.new) number.old number.new files) }
-    ensures front { let told = names_told names.entry in let ndb = ndb_of_store verified.now.store in
-        let files = files_with told (table_of_ndb ndb) (nodes_of ndb) nothing_lost in
-        AddsFront (W.contents out.old) (W.contents out.new) number.old files }
-{
-    let store = verified.store;
-    write_front(alloc, number, names, verified, out)?;
-    write_folders(alloc, number, names, verified, out)?;
-    write_messages(alloc, number, names, &store, MESSAGE, "messages", out)?;
-    write_messages(alloc, number, names, &store, ASSOCIATED, "associated", out)?;
-    Ok(())
-}
-
-/// Writes the archive. Memory is taken for one document at a time, and none for values. After a fault the writer holds a front of it.
-pub fn emit_export<W: Write>(alloc: Global, export: &Export, out: &mut W) -> Result<(), ExportFault>
-    ensures all { OnOk result (Appends (W.contents out.old) (W.contents out.new)
-        (archive_in export.now)) }
-    ensures front { AppendsFront (W.contents out.old) (W.contents out.new) (archive_in export.now) }
-{
-    let intact = Intact::of(&export.verified.store);
-    let names = names_in(&intact, &export.index);
-    let mut number = 0;
-    write_files(alloc, &mut number, names, &export.verified, out)?;
-    emit(end(), out)?;
-    Ok(())
 }

@@ -1,13 +1,13 @@
 //! The files of a store itself, and of its folders.
 
-ghost use Rattle.std.specs.Prelude.{◌≡◌, IfOk, OnOk, [], ◌∷◌, codes, string_bytes};
-ghost use Rattle.pst_ndb.specs.Roots.{all_roots, node_in};
+ghost use Rattle.std.specs.Prelude.{◌≡◌, false, IfOk, OnOk, [], ◌∷◌, codes, string_bytes};
+ghost use Rattle.pst_ndb.specs.Roots.{all_roots};
 ghost use Rattle.pst_ndb.specs.Views.{table_of_ndb, nodes_of};
 ghost use Rattle.pst_value_json.specs.Props.{names_told};
 ghost use Rattle.pst_json.specs.pst_whole.Lost.{nothing_lost};
 ghost use Rattle.pst_json.specs.Folders.{folders_line as line_of_folders};
+ghost use Rattle.pst_json.specs.Node.{props_line as line_of_props};
 ghost use Rattle.pst_json.specs.Messages.{messages_text as text_of_messages};
-ghost use Rattle.pst_verify.specs.pst_msg.declared.nid.TheConstants.{STORE};
 ghost use Rattle.pst_verify.specs.pst_msg.Values.{is_folder};
 ghost use Rattle.pst_verify.specs.pst_msg.View.{ndb_of_folder, folder_roots};
 ghost use Rattle.pst_verify.specs.pst_store.Kind.{of_kind};
@@ -15,35 +15,41 @@ ghost use Rattle.pst_verify.specs.pst_store.View.{ndb_of_store};
 ghost use Rattle.pst_export.specs.Files.{path_of};
 ghost use Rattle.pst_export.specs.Held.{folder_in as folder_called};
 ghost use Rattle.pst_export.specs.Store.{file_of, folder_file, folder_files, front_files, store_file};
+ghost use Rattle.pst_export.specs.Export.{store_of};
 ghost use Rattle.pst_export.specs.Written.{Adds, AddsFront};
 
+use crate::export::Export;
 use crate::fault::ExportFault;
 use crate::files::write_bytes;
 use crate::walk::folder_in;
-use pst_json::{Intact, Lost, folders_line, messages_text, node_line};
-use pst_msg::NameMap;
+use pst_json::{DocFault, Intact, Lost, folders_line, messages_text, node_line, props_line};
+use pst_msg::{NameMap, STORE};
 use pst_verify::{Folder, Verified};
 use std::alloc::{AllocError, Global};
 use std::io::Write;
 
 // Writes the properties of the store.
+#[tactic(auto, using(crate::proofs::FileLemmas::store_there, crate::proofs::FileLemmas::store_none, crate::proofs::WriteLemmas::front_none))]
 fn write_store<W: Write>(
     alloc: Global,
     number: &mut u64,
-    names: Option<NameMap>,
-    verified: &Verified,
+    export: &Export,
     out: &mut W,
 ) -> Result<(), ExportFault>
-    ensures all { let told = names_told names.entry in let ndb = ndb_of_store verified.now.store in
-        let files = store_file told (table_of_ndb ndb) (node_in (nodes_of ndb) STORE) in
-        OnOk result (Adds (W.contents out.old) (W.contents out.new) number.old number.new files) }
-    ensures front { let told = names_told names.entry in let ndb = ndb_of_store verified.now.store in
-        let files = store_file told (table_of_ndb ndb) (node_in (nodes_of ndb) STORE) in
-        AddsFront (W.contents out.old) (W.contents out.new) number.old files }
+    ensures all { let ndb = ndb_of_store (store_of export.now) in
+        let line = line_of_props false (table_of_ndb ndb) (nodes_of ndb) (STORE ∷ []) in
+        OnOk result (Adds (W.contents out.old) (W.contents out.new) number.old number.new
+        (store_file line)) }
+    ensures front { let ndb = ndb_of_store (store_of export.now) in
+        let line = line_of_props false (table_of_ndb ndb) (nodes_of ndb) (STORE ∷ []) in
+        AddsFront (W.contents out.old) (W.contents out.new) number.old (store_file line) }
 {
-    let line = node_line(alloc, verified.store.props(), names)?;
-    write_bytes(alloc, number, b"store.json", 0, &line, out)?;
-    Ok(())
+    let intact = Intact::of(&export.verified.store);
+    match props_line(alloc, &intact, &export.index, &[STORE], false) {
+        Ok(line) => write_bytes(alloc, number, b"store.json", 0, &line, out),
+        Err(DocFault::Memory) => Err(ExportFault::Memory),
+        Err(_) => Ok(()),
+    }
 }
 
 // Writes the folders of the store as a document.
@@ -94,20 +100,19 @@ fn write_summaries<W: Write>(
 pub(crate) fn write_front<W: Write>(
     alloc: Global,
     number: &mut u64,
-    names: Option<NameMap>,
-    verified: &Verified,
+    export: &Export,
     out: &mut W,
 ) -> Result<(), ExportFault>
-    ensures all { let told = names_told names.entry in let ndb = ndb_of_store verified.now.store in
-        let files = front_files told (table_of_ndb ndb) (nodes_of ndb) nothing_lost in
+    ensures all { let ndb = ndb_of_store (store_of export.now) in
+        let files = front_files (table_of_ndb ndb) (nodes_of ndb) nothing_lost in
         OnOk result (Adds (W.contents out.old) (W.contents out.new) number.old number.new files) }
-    ensures front { let told = names_told names.entry in let ndb = ndb_of_store verified.now.store in
-        let files = front_files told (table_of_ndb ndb) (nodes_of ndb) nothing_lost in
+    ensures front { let ndb = ndb_of_store (store_of export.now) in
+        let files = front_files (table_of_ndb ndb) (nodes_of ndb) nothing_lost in
         AddsFront (W.contents out.old) (W.contents out.new) number.old files }
 {
-    write_store(alloc, number, names, verified, out)?;
-    write_list(alloc, number, verified, out)?;
-    write_summaries(alloc, number, verified, out)?;
+    write_store(alloc, number, export, out)?;
+    write_list(alloc, number, &export.verified, out)?;
+    write_summaries(alloc, number, &export.verified, out)?;
     Ok(())
 }
 

@@ -10,6 +10,7 @@
 #![tactic(auto)]
 
 mod count;
+mod emit;
 mod export;
 mod fault;
 mod files;
@@ -20,5 +21,6 @@ mod time;
 mod utf8;
 mod walk;
 
-pub use export::{Export, emit_export, export_of};
+pub use emit::{emit_export, export_of};
+pub use export::Export;
 pub use fault::ExportFault;
