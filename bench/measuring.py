@@ -55,10 +55,12 @@ class Bench:
         for name in ("run_alone", "read_and_sum", "encode_store"):
             subprocess.run(["cc", "-O2", "-o", f"{OUT}/{name}", f"{BENCH}/{name}.c"], check=True)
 
-    def store(self, name, *words, deep=False):
-        """Makes a store; a deep one has trees of as many levels as there may be."""
+    def store(self, name, *words, deep=False, reached=False):
+        """Makes a store; a deep one has trees of as many levels as there may be, and of one that is reached the messages
+        are found from its top folder."""
         path = os.path.join(OUT, "_".join((name, *map(str, words))) + ".pst")
-        subprocess.run([f"{BENCH}/make_store", *["--deep"] * deep, name, path, *map(str, words)], check=True)
+        flags = ["--deep"] * deep + ["--reached"] * reached
+        subprocess.run([f"{BENCH}/make_store", *flags, name, path, *map(str, words)], check=True)
         return path
 
     def encoded(self, store, method):

@@ -2,7 +2,7 @@
 
 _pst_show() {
     local word=${COMP_WORDS[COMP_CWORD]} command='' index files=0
-    local commands='check damage head nodes folders contents messages props value explain help'
+    local commands='check damage head nodes folders contents messages props value export explain help'
     COMPREPLY=()
     for ((index = 1; index < COMP_CWORD; index++)); do
         case ${COMP_WORDS[index]} in
@@ -28,11 +28,12 @@ _pst_show() {
             damage) options='--help --digest --decode' ;;
             head) options='--help --decode' ;;
             nodes) options='--help --decode' ;;
-            folders) options='--help --decode' ;;
-            contents) options='--help --decode' ;;
-            messages) options='--help --decode' ;;
-            props) options='--help --places --decode' ;;
-            value) options='--help --text --decode' ;;
+            folders) options='--help --whole --decode' ;;
+            contents) options='--help --whole --decode' ;;
+            messages) options='--help --whole --decode' ;;
+            props) options='--help --places --whole --decode' ;;
+            value) options='--help --text --whole --decode' ;;
+            export) options='--help --decode' ;;
         esac
         mapfile -t COMPREPLY < <(compgen -W "$options" -- "$word")
         return
@@ -40,7 +41,7 @@ _pst_show() {
     ((files == 0)) || return
     case $command in
         help) mapfile -t COMPREPLY < <(compgen -W "$commands" -- "$word") ;;
-        check | damage | head | nodes | folders | contents | messages | props | value)
+        check | damage | head | nodes | folders | contents | messages | props | value | export)
             compopt -o filenames 2>/dev/null
             mapfile -t COMPREPLY < <(compgen -d -- "$word"; compgen -f -X '!*.[pP][sS][tT]' -- "$word")
             ;;

@@ -3,24 +3,25 @@
 
     tools/check_examples.py [--some] [--program PROGRAM] [FILE ..]
 
-With no FILE: README.md, man/pst_show.1, and of docs/ JSON.md, MANY.md, LIBRARY.md, EVIDENCE.md and OUTLOOK.md. An example is a
-line that begins with `$ `, in a block that opens with ```sh, or of the manual page below EXAMPLES; lines that begin with `> ` go
-on with it, and the lines behind it, up to the next example or the end of the block, are what it has to print, on standard output
-and standard error together. Of the manual page an example may show nothing of that: then it has to end with status 0, to say
-nothing on standard error, and to write something. A block that opens with ```c or ```python is a program where a block that
+With no FILE: README.md, both manual pages, and of docs/ ANSWERS.md, JSON.md, MANY.md, REPORT.md, LIBRARY.md, EVIDENCE.md and
+OUTLOOK.md. An example is a line that begins with `$ `, in a block that opens with ```sh, or of a manual page below EXAMPLES; lines
+that begin with `> ` go on with it, and the lines behind it, up to the next example or the end of the block, are what it has to
+print, on standard output and standard error together. Of a manual page an example may show nothing of that: then it has to end with
+status 0, to say nothing on standard error, and to write something. A block that opens with ```c or ```python is a program where a block that
 opens with ```text stands below it, which is what it has to print, of samples/mail.pst on standard input.
 
-The examples of a file run one after another in one empty folder, in which samples and examples name those of the repository, and
-pst_show, which is on the PATH too, the repository's or the program that --program names; for the manual page there are mail.pst and
+The examples of a file run one after another in one empty folder, in which samples, examples and report name those of the repository,
+and pst_show, which is on the PATH too, the repository's or the program that --program names, as pst_report does its report's; for the manual page there are mail.pst and
 stores/mail.pst. The library is that of PST_LIBRARY, or built/libpst.so.0, with libpst.a beside it.
 
-An example is not run where it uses a command that the program does not know, or something that is not installed, or, up to the
+An example is not run where it uses a command or an option that the program does not know, or something that is not installed, or, up to the
 next heading, where it works on a file that such a one would have written; that is told. Only GNU parallel and the library may
 be missing without failure. The status is 0 where all other examples ran and printed what they should; with --some, where
 all that ran did. It is 1, too, where none ran.
 """
 import argparse
 import difflib
+import functools
 import os
 import re
 import shutil
@@ -30,7 +31,8 @@ import tempfile
 from typing import NamedTuple
 
 ROOT = os.path.dirname(os.path.dirname(os.path.abspath(__file__)))
-DOCUMENTS = ["README.md", "man/pst_show.1", *(f"docs/{name}.md" for name in ("JSON", "MANY", "LIBRARY", "EVIDENCE", "OUTLOOK"))]
+PAGES = ["ANSWERS", "JSON", "MANY", "REPORT", "LIBRARY", "EVIDENCE", "OUTLOOK"]
+DOCUMENTS = ["README.md", "man/pst_show.1", "man/pst_report.1", *(f"docs/{name}.md" for name in PAGES)]
 TOOLS = ["jq", "parallel", "xargs", "find", "flock", "python3"]
 OPTIONAL = ["parallel is not installed", "the library is not there"]
 SHOWN = ["sh", "c", "python", "text"]
@@ -127,6 +129,8 @@ class Room:
         self.link(program, "pst_show")
         self.link(f"{ROOT}/samples", "samples")
         self.link(f"{ROOT}/examples", "examples")
+        self.link(f"{ROOT}/report", "report")
+        self.link(f"{ROOT}/report/pst_report", "pst_report")
 
     def link(self, path, name):
         os.makedirs(os.path.dirname(f"{self.folder}/{name}"), exist_ok=True)
@@ -138,9 +142,12 @@ class Room:
             return "the library is not there"
         if example.language == "c":
             return None if shutil.which("cc") else "cc is not installed"
-        for word in re.findall(r"pst_show ([a-z]+)", example.text):
+        for word, flags in re.findall(r"pst_show ([a-z]+)((?: --[a-z]+)*)", example.text):
             if word not in self.known:
                 return f"the program has no command {word}"
+            for flag in flags.split():
+                if flag not in help_of(self.program, word):
+                    return f"{word} has no option {flag}"
         for tool in TOOLS:
             if re.search(rf"(^|[\s|(]){tool}\s", example.text) and not shutil.which(tool):
                 return f"{tool} is not installed"
@@ -171,16 +178,21 @@ class Room:
         printed = ran.stdout.decode("utf-8", "backslashreplace")
         if example.wanted is not None:
             return printed
-        into = re.search(r">(\w+)$", example.text)
+        into = re.search(r">([\w.]+)$", example.text)
         size = os.path.getsize(f"{self.folder}/{into[1]}") if into else len(printed)
         is_good = ran.returncode == 0 and not ran.stderr and size
         return None if is_good else f"status {ran.returncode}, {size} bytes\n{ran.stderr.decode()}"
 
 
+@functools.cache
+def help_of(program, *words):
+    """What the program says of itself, or of one of its commands."""
+    return subprocess.run([program, *words, "--help"], stdout=subprocess.PIPE, text=True, check=True).stdout
+
+
 def known_commands(program):
     """The commands that the program's help lists."""
-    told = subprocess.run([program, "--help"], stdout=subprocess.PIPE, text=True, check=True).stdout
-    listed = told.partition("\nCommands:\n")[2].partition("\n\n")[0]
+    listed = help_of(program).partition("\nCommands:\n")[2].partition("\n\n")[0]
     return {line.split()[0] for line in listed.split("\n") if line.strip()}
 
 

@@ -1,7 +1,7 @@
 #!/usr/bin/env python3
-"""Compares README's tables of kinds, and the table of docs/FORMATS.md, with the table of which `explain` is made.
+"""Compares the tables of docs/KINDS.md, and the table of docs/FORMATS.md, with the table of which `explain` is made.
 
-That table (crates/pst_explain/src/table.rt) has a row for each kind: its number and name, and what it says of the file. README
+That table (crates/pst_explain/src/table.rt) has a row for each kind: its number and name, and what it says of the file. KINDS.md
 has to say the same of each of the 27 kinds that a file may have, word for word but for the marks of code; FORMATS.md has to
 have the same numbers and names. --program is taken as by the other tools, and not used. The status is 0 where all are alike.
 """
@@ -24,9 +24,9 @@ def kinds():
     return [(int(number), name, says) for _, number, name, says in ROW.findall(read("crates/pst_explain/src/table.rt"))]
 
 
-def readme():
-    """The same by README's tables."""
-    rows = re.findall(r"^\| (\d+) (\w+)(?:\(n\))? \| (.*) \|$", read("README.md"), re.M)
+def page():
+    """The same by the tables of docs/KINDS.md."""
+    rows = re.findall(r"^\| (\d+) (\w+)(?:\(n\))? \| (.*) \|$", read("docs/KINDS.md"), re.M)
     return [(int(number), name, says.replace("`", "")) for number, name, says in rows]
 
 
@@ -43,7 +43,7 @@ def main():
     parser.add_argument("--program", help="taken as by the other tools, and not used")
     parser.parse_args()
     wanted = kinds()
-    wrong = [f"README.md: {row}" for row in sorted(set(readme()) ^ set(wanted[:27]))]
+    wrong = [f"docs/KINDS.md: {row}" for row in sorted(set(page()) ^ set(wanted[:27]))]
     wrong += [f"docs/FORMATS.md: {row}" for row in sorted(set(formats()) ^ {row[:2] for row in wanted})]
     for line in wrong:
         print(line)

@@ -5,9 +5,10 @@
 
 `rt ci` proves every crate and its tests from nothing, tries the must-fail edits and runs the tests, and leaves the program
 in crates/pst_show/out; the library is then made of crates/pst_c. Both must have the bytes of those that are kept in built/.
-Each command of TRIED is then run over the program, and LIBRARY over the library, and counts as one that passed or failed; they
-need two minutes. Where something failed before, they are not run. With --quick the lines of tools/refuse/refuse, one for each
-command line, are shown where it fails, and with -v. The last line is 'N passed, M failed'.
+Each command of TRIED is then run over the program, LIBRARY over the library, and REPORT over the program where there is a Chromium;
+each counts as one that passed or failed. They need two to four minutes. Where something failed before, they are not run. With
+--quick the lines of tools/refuse/refuse, one for each command line, are shown where it fails, and with -v. The last line is
+'N passed, M failed'.
 """
 import os
 import re
@@ -16,6 +17,11 @@ import sys
 import time
 
 ROOT = os.path.dirname(os.path.dirname(os.path.abspath(__file__)))
+sys.dont_write_bytecode = True
+sys.path.insert(0, os.path.join(ROOT, "report"))
+
+from trying import chromium  # noqa: E402
+
 KEEP = os.path.join(ROOT, "tools", "keep")
 PROGRAM = os.path.join(ROOT, "crates", "pst_show", "out", "pst_show")
 CALLS = ["--calls", os.path.join(ROOT, "crates", "pst_refused", "out", "pst_refused")]
@@ -24,13 +30,17 @@ REFUSE = ["tools/refuse/refuse"]
 TRIED = [
     ["tools/compare_answers.py"],
     ["tools/compare_kinds.py"],
+    ["tools/check_pages.py"],
     ["tools/write_words.py", "--compare"],
     ["tools/check_examples.py", "--some"],
+    ["tools/check_schemas.py"],
     ["tools/try_terminal"],
+    ["tools/try_package"],
     REFUSE,
 ]
 LAUNCHER = "tools/try_launcher"
 LIBRARY = "examples/try"
+REPORT = "report/try"
 
 
 def printed(*words):
@@ -67,6 +77,14 @@ def is_good(words, is_shown=True):
     return ran.returncode == 0
 
 
+def report_tried(words):
+    """Whether the report is found good, where there is a browser to open it in; else nothing, and that is told."""
+    if chromium.found() is None:
+        print(f"== {REPORT}: not run, there is no Chromium here (apt-get install chromium)", flush=True)
+        return []
+    return [is_good([sys.executable, REPORT, *words])]
+
+
 def try_all(program, calls, library, is_shown=True):
     """How many of the commands that try a program and a library find nothing wrong, and how many do. `calls` names the built
     program that makes each call which takes memory, for the one that refuses it, whose lines are shown or not; `library` are the
@@ -77,6 +95,7 @@ def try_all(program, calls, library, is_shown=True):
         good.append(is_good([sys.executable, *words, "--program", program, *more], is_shown or words is not REFUSE))
     good.append(is_good([sys.executable, LAUNCHER]))
     good.append(library is not None and is_good([sys.executable, LIBRARY, "--program", program, *library]))
+    good += report_tried(["--program", program, *([] if library == [] else ["--quick"])])
     return sum(good), len(good) - sum(good)
 
 

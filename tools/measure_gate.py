@@ -155,9 +155,16 @@ def lists():
     return {name: [it for it in words if it in found] for name, words in found.items()}
 
 
-def under(crate, deps):
-    """All that a crate stands on."""
-    return set(deps[crate]).union(*(under(it, deps) for it in deps[crate]))
+def all_under(deps):
+    """All that each crate stands on."""
+    found = {}
+
+    def under(crate):
+        if crate not in found:
+            found[crate] = set(deps[crate]).union(*map(under, deps[crate]))
+        return found[crate]
+
+    return {crate: under(crate) for crate in deps}
 
 
 def edits_of(crate):
@@ -204,12 +211,13 @@ def row(crate, done):
 def table(found):
     """Prints the table, and gives its rows."""
     deps = lists()
+    under = all_under(deps)
     rows = {it: row(it, found.get(it, {})) for it in deps}
     shown = lambda it: f"{it:.0f}" if it else ""
     print("| Crate | Alone | Its tests | Its edits | Edits | The dearest | A change, in minutes |")
     print("|---|---|---|---|---|---|---|")
     for crate, it in rows.items():
-        every = [rows[crate], *(rows[up] for up in deps if crate in under(up, deps))]
+        every = [rows[crate], *(rows[up] for up in deps if crate in under[up])]
         change = f"{sum(one['all'] for one in every) / 60:.0f}{'+' if any(one['lacks'] for one in every) else ''}"
         many = f"{len(it['tried'])} of {len(it['edits'])}" if len(it["tried"]) < len(it["edits"]) else len(it["edits"]) or ""
         cells = [crate, shown(it["check"]), shown(it["tests"]), shown(it["of_edits"]), many, shown(max(it["tried"], default=0)), change]

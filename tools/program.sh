@@ -195,7 +195,7 @@ changed_meanwhile='a source was changed while it was proved: try again'
 
 # Notes that the program in out/ was proved and built from the sources of this number, if these have it still.
 note_proved() {
-    printf 'sources: %s\nprogram: %s\n' "$1" "$(digest <"$proved")" | begin_note "$proved_note"
+    printf 'sources: %s\nprogram: %s\nkit: %s\n' "$1" "$(digest <"$proved")" "$(rt version)" | begin_note "$proved_note"
     if [ "$(sources pst_show)" = "$1" ]; then
         keep_note "$proved_note"
     else
@@ -207,7 +207,7 @@ note_proved() {
 # Proves a crate and makes what is wanted of it, by a command, and says how far that is. `$1` names what is wanted in what is said.
 build() {
     command -v rt >/dev/null 2>&1 ||
-        fail "$1 has to be proved and built, and the command rt of the Rattle kit is not on the PATH (README.md, \"What it needs\")"
+        fail "$1 has to be proved and built, and the command rt of the Rattle kit is not on the PATH (docs/INSTALL.md)"
     say "$1 is proved and built first, which takes from 25 minutes to an hour; $log tells of it"
     : >"$log"
     "$3" >"$log" 2>&1 &

@@ -32,17 +32,22 @@ def page(body, kind, place, identifier):
     return body + struct.pack("<BBHIQ", kind, kind, sealed, check_value(body), identifier)
 
 
+FOLDER, MESSAGE = 0x02, 0x04  # types of nodes
+
+
 class NodeDatabase:
     """A store that is being written to a file open for writing.
 
     `block` writes a block and answers its identifier, `node` names a node, `close` writes the rest. Before that may
     be set: `fan_out`, how many entries a page of a tree has (as many as fit where it is None), `levels`, how many
-    levels a tree has at least, and `mark_every_other`, whether every other free unit is marked as allocated."""
+    levels a tree has at least, `top`, which folder those folders and messages name as their parent that name none, and
+    `mark_every_other`, whether every other free unit is marked as allocated."""
 
     def __init__(self, file):
         self.file = file
         self.fan_out = None
         self.levels = 1
+        self.top = 0
         self.mark_every_other = False
         self.written = 0
         self.marks = bytearray()  # a letter for each unit of 64 bytes: 1 where it is allocated, else 0
@@ -71,7 +76,8 @@ class NodeDatabase:
         """Names a node (2.2.2.7.7.4): its data, the list of its subnodes, its parent."""
         if identifier in self.nodes:
             raise ValueError(f"the node {identifier:#x} twice")
-        self.nodes[identifier] = struct.pack("<QQQII", identifier, data, subnodes, parent, 0)
+        above = self.top if parent == 0 and identifier & 0x1F in (FOLDER, MESSAGE) else parent
+        self.nodes[identifier] = struct.pack("<QQQII", identifier, data, subnodes, above, 0)
 
     def close(self):
         """Writes both trees, the maps and the header."""

@@ -24,6 +24,8 @@ WORDS = [
     ["value", "-", "0x400004/0x8025", "3701"],
     ["value", "--text", "-", "0x400004", "1000"],
     ["value", "-", "0x21", "9999"],
+    ["export", "-"],
+    ["export", "--decode", "-"],
 ]
 # And such as need no store, or are none.
 OTHER_WORDS = [

@@ -1,8 +1,5 @@
 """The examples in C, Rust and Python, beside the program."""
 
-import email
-import email.policy
-import glob
 import json
 import os
 import re
@@ -33,7 +30,6 @@ def jobs(trial):
     yield verdicts, trial
     for path in few(trial, trial.samples):
         yield table, trial, path
-        yield mails, trial, path
     for name in few(trial, ["mail.pst", "mail_permute.pst", "mail_cyclic.pst"]):
         yield attachments, trial, sample(name)
 
@@ -134,43 +130,3 @@ def attachments(trial, path):
             ran = trial.run(*words, path, nid, folder)
             written = {it: open(os.path.join(folder, it), "rb").read() for it in os.listdir(folder)}
             trial.tally.note(f"attachments of {nid} of {base} in {language}", (ran.stdout, written) == wanted, said(ran))
-
-
-def mails(trial, path):
-    """Messages as .eml files, read back."""
-    base = os.path.basename(path)
-    folder = trial.path(f"eml-{base}")
-    ran = trial.run(*python(f"{EXAMPLES}/python/eml.py"), path, folder)
-    listed = messages_of(trial, path)
-    trial.tally.note(f"{base} as .eml", (ran.returncode == 0) == (listed is not None), said(ran))
-    if listed is None:
-        return
-    written = glob.glob(os.path.join(glob.escape(folder), "**", "*.eml"), recursive=True)
-    nids = {os.path.basename(it)[:-4] for it in written}
-    trial.tally.note(f"each message of {base} is there", nids == {it["nid"] for it in listed})
-    for it in written:
-        read_back(trial, path, it)
-
-
-def read_back(trial, path, written):
-    """The body and the attachments of a message are those of the program."""
-    nid = os.path.basename(written)[:-4]
-    with open(written, "rb") as file:
-        message = email.message_from_binary_file(file, policy=email.policy.default)
-    text = trial.show(path, "value", "--text", "--decode", "-", nid, "1000")
-    if text.returncode == 0:
-        got = message.get_body(("plain",)).get_content().replace("\r\n", "\n").rstrip("\n")
-        want = text.stdout.decode().replace("\r\n", "\n").replace("\r", "\n").rstrip("\n")
-        trial.tally.note(f"the body of {nid}", got == want, f"  {got!r}\n  {want!r}")
-    parts = list(message.iter_attachments())
-    if not parts:
-        return
-    told = trial.told(path, "props", "--decode", "-", nid)["attachments"]
-    values = [trial.show(path, "value", "--decode", "-", f"{nid}/{it['nid']}", "3701").stdout for it in told]
-    for part in parts:
-        if part.get_content_type() == "message/rfc822":
-            trial.tally.note(f"a message in {nid}", part.get_content()["Subject"] is not None)
-            continue
-        got = part.get_content()
-        got = got.encode() if isinstance(got, str) else got
-        trial.tally.note(f"an attachment of {nid}", got in values)

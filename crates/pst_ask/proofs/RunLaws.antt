@@ -98,9 +98,10 @@ abbrev own_rows : Takes → Flags → List Row
 own_rows File flags = []
 own_rows Report flags = flag_row flags.strict (codes "strict") ++ flag_row flags.digest (codes "digest")
 own_rows Digest flags = flag_row flags.digest (codes "digest")
-own_rows Node flags = []
-own_rows takes.Paths flags = flag_row flags.places (codes "places")
-own_rows takes.Property flags = flag_row flags.text (codes "text")
+own_rows takes.Whole flags = flag_row flags.whole (codes "whole")
+own_rows Node flags = flag_row flags.whole (codes "whole")
+own_rows takes.Paths flags = flag_row flags.places (codes "places") ++ flag_row flags.whole (codes "whole")
+own_rows takes.Property flags = flag_row flags.text (codes "text") ++ flag_row flags.whole (codes "whole")
 own_rows takes.Kind flags = []
 
 abbrev pub flag_rows : Takes → Flags → List Row
@@ -122,50 +123,68 @@ behind_file rows file = holds rows (codes "FILE") file idle 2
 abbrev FlagsRun : Takes → Text → Flags → Type 0
 FlagsRun takes name flags = Runs (level takes name) start (own_flags takes flags ++ flag_if flags.decode (codes "--decode")) (before (flag_rows takes flags) 1)
 
-abbrev flags_with : Bool → Bool → Bool → Bool → Bool → Flags
-flags_with strict digest places text decode = record { strict = strict; digest = digest; places = places; text = text; decode = decode }
+abbrev flags_with : Bool → Bool → Bool → Bool → Bool → Bool → Flags
+flags_with strict digest places text whole decode =
+    record { strict = strict; digest = digest; places = places; text = text; whole = whole; decode = decode }
 
-file_flags : (n : Text) (s g p t d : Bool) → FlagsRun File n (flags_with s g p t d)
+file_flags : (n : Text) (s g p t w d : Bool) → FlagsRun File n (flags_with s g p t w d)
 unfolding clap_on_literals
-file_flags n s g p t false = (refl, refl)
-file_flags n s g p t true = (refl, refl)
+file_flags n s g p t w false = (refl, refl)
+file_flags n s g p t w true = (refl, refl)
 
-node_flags : (n : Text) (s g p t d : Bool) → FlagsRun Node n (flags_with s g p t d)
+whole_flags : (n : Text) (s g p t w d : Bool) → FlagsRun takes.Whole n (flags_with s g p t w d)
 unfolding clap_on_literals
-node_flags n s g p t false = (refl, refl)
-node_flags n s g p t true = (refl, refl)
+whole_flags n s g p t false false = (refl, refl)
+whole_flags n s g p t false true = (refl, refl)
+whole_flags n s g p t true false = (refl, refl)
+whole_flags n s g p t true true = (refl, refl)
 
-report_flags : (n : Text) (s g p t d : Bool) → FlagsRun Report n (flags_with s g p t d)
+node_flags : (n : Text) (s g p t w d : Bool) → FlagsRun Node n (flags_with s g p t w d)
 unfolding clap_on_literals
-report_flags n false false p t false = (refl, refl)
-report_flags n false false p t true = (refl, refl)
-report_flags n false true p t false = (refl, refl)
-report_flags n false true p t true = (refl, refl)
-report_flags n true false p t false = (refl, refl)
-report_flags n true false p t true = (refl, refl)
-report_flags n true true p t false = (refl, refl)
-report_flags n true true p t true = (refl, refl)
+node_flags n s g p t false false = (refl, refl)
+node_flags n s g p t false true = (refl, refl)
+node_flags n s g p t true false = (refl, refl)
+node_flags n s g p t true true = (refl, refl)
 
-digest_flags : (n : Text) (s g p t d : Bool) → FlagsRun Digest n (flags_with s g p t d)
+report_flags : (n : Text) (s g p t w d : Bool) → FlagsRun Report n (flags_with s g p t w d)
 unfolding clap_on_literals
-digest_flags n s false p t false = (refl, refl)
-digest_flags n s false p t true = (refl, refl)
-digest_flags n s true p t false = (refl, refl)
-digest_flags n s true p t true = (refl, refl)
+report_flags n false false p t w false = (refl, refl)
+report_flags n false false p t w true = (refl, refl)
+report_flags n false true p t w false = (refl, refl)
+report_flags n false true p t w true = (refl, refl)
+report_flags n true false p t w false = (refl, refl)
+report_flags n true false p t w true = (refl, refl)
+report_flags n true true p t w false = (refl, refl)
+report_flags n true true p t w true = (refl, refl)
 
-paths_flags : (n : Text) (s g p t d : Bool) → FlagsRun takes.Paths n (flags_with s g p t d)
+digest_flags : (n : Text) (s g p t w d : Bool) → FlagsRun Digest n (flags_with s g p t w d)
 unfolding clap_on_literals
-paths_flags n s g false t false = (refl, refl)
-paths_flags n s g false t true = (refl, refl)
-paths_flags n s g true t false = (refl, refl)
-paths_flags n s g true t true = (refl, refl)
+digest_flags n s false p t w false = (refl, refl)
+digest_flags n s false p t w true = (refl, refl)
+digest_flags n s true p t w false = (refl, refl)
+digest_flags n s true p t w true = (refl, refl)
 
-property_flags : (n : Text) (s g p t d : Bool) → FlagsRun takes.Property n (flags_with s g p t d)
+paths_flags : (n : Text) (s g p t w d : Bool) → FlagsRun takes.Paths n (flags_with s g p t w d)
 unfolding clap_on_literals
-property_flags n s g p false false = (refl, refl)
-property_flags n s g p false true = (refl, refl)
-property_flags n s g p true false = (refl, refl)
-property_flags n s g p true true = (refl, refl)
+paths_flags n s g false t false false = (refl, refl)
+paths_flags n s g false t false true = (refl, refl)
+paths_flags n s g false t true false = (refl, refl)
+paths_flags n s g false t true true = (refl, refl)
+paths_flags n s g true t false false = (refl, refl)
+paths_flags n s g true t false true = (refl, refl)
+paths_flags n s g true t true false = (refl, refl)
+paths_flags n s g true t true true = (refl, refl)
+
+property_flags : (n : Text) (s g p t w d : Bool) → FlagsRun takes.Property n (flags_with s g p t w d)
+unfolding clap_on_literals
+property_flags n s g p false false false = (refl, refl)
+property_flags n s g p false false true = (refl, refl)
+property_flags n s g p false true false = (refl, refl)
+property_flags n s g p false true true = (refl, refl)
+property_flags n s g p true false false = (refl, refl)
+property_flags n s g p true false true = (refl, refl)
+property_flags n s g p true true false = (refl, refl)
+property_flags n s g p true true true = (refl, refl)
 
 -- ---- the file
 
@@ -181,6 +200,7 @@ unfolding clap_on_literals
 file_other File n rows has b rest other = (rw other (rw other refl), rw other (rw other refl))
 file_other Report n rows has b rest other = (rw other (rw other refl), rw other (rw other refl))
 file_other Digest n rows has b rest other = (rw other (rw other refl), rw other (rw other refl))
+file_other takes.Whole n rows has b rest other = (rw other (rw other refl), rw other (rw other refl))
 file_other Node n rows has b rest other = (rw other (rw other refl), rw other (rw other refl))
 file_other takes.Paths n rows has b rest other = (rw other (rw other refl), rw other (rw other refl))
 file_other takes.Property n rows has b rest other = (rw other (rw other refl), rw other (rw other refl))
@@ -191,6 +211,7 @@ unfolding clap_on_literals
 file_empty File n rows has = (refl, refl)
 file_empty Report n rows has = (refl, refl)
 file_empty Digest n rows has = (refl, refl)
+file_empty takes.Whole n rows has = (refl, refl)
 file_empty Node n rows has = (refl, refl)
 file_empty takes.Paths n rows has = (refl, refl)
 file_empty takes.Property n rows has = (refl, refl)
@@ -201,6 +222,7 @@ unfolding clap_on_literals
 file_hyphen File n rows has = (refl, refl)
 file_hyphen Report n rows has = (refl, refl)
 file_hyphen Digest n rows has = (refl, refl)
+file_hyphen takes.Whole n rows has = (refl, refl)
 file_hyphen Node n rows has = (refl, refl)
 file_hyphen takes.Paths n rows has = (refl, refl)
 file_hyphen takes.Property n rows has = (refl, refl)
@@ -223,12 +245,13 @@ with_file takes n flags file has no_option runs =
     runs_on s start (before rows 1) end (own ++ decode) (file ∷ []) runs last
 
 front : (takes : Takes) (n : Text) (flags : Flags) (file : Text) → HasFile takes → IsNoOption file → Runs (level takes n) start (to_file takes flags file) (behind_file (flag_rows takes flags) file)
-front File n f file has no_option = with_file File n f file has no_option (file_flags n f.strict f.digest f.places f.text f.decode)
-front Report n f file has no_option = with_file Report n f file has no_option (report_flags n f.strict f.digest f.places f.text f.decode)
-front Digest n f file has no_option = with_file Digest n f file has no_option (digest_flags n f.strict f.digest f.places f.text f.decode)
-front Node n f file has no_option = with_file Node n f file has no_option (node_flags n f.strict f.digest f.places f.text f.decode)
-front takes.Paths n f file has no_option = with_file takes.Paths n f file has no_option (paths_flags n f.strict f.digest f.places f.text f.decode)
-front takes.Property n f file has no_option = with_file takes.Property n f file has no_option (property_flags n f.strict f.digest f.places f.text f.decode)
+front File n f file has no_option = with_file File n f file has no_option (file_flags n f.strict f.digest f.places f.text f.whole f.decode)
+front Report n f file has no_option = with_file Report n f file has no_option (report_flags n f.strict f.digest f.places f.text f.whole f.decode)
+front Digest n f file has no_option = with_file Digest n f file has no_option (digest_flags n f.strict f.digest f.places f.text f.whole f.decode)
+front takes.Whole n f file has no_option = with_file takes.Whole n f file has no_option (whole_flags n f.strict f.digest f.places f.text f.whole f.decode)
+front Node n f file has no_option = with_file Node n f file has no_option (node_flags n f.strict f.digest f.places f.text f.whole f.decode)
+front takes.Paths n f file has no_option = with_file takes.Paths n f file has no_option (paths_flags n f.strict f.digest f.places f.text f.whole f.decode)
+front takes.Property n f file has no_option = with_file takes.Property n f file has no_option (property_flags n f.strict f.digest f.places f.text f.whole f.decode)
 front takes.Kind n f file has no_option = absurd has
 
 -- what is found where the words behind the file run on to an end

@@ -11,7 +11,7 @@ use Rattle.clap.specs.Walk.{Names, Walk, answers_to, finished, nothing_held, set
 use Rattle.clap.proofs.OnLiterals.{clap_on_literals}
 use Rattle.pst_ask.specs.declared.verb.Takes.{Takes}
 use Rattle.pst_ask.specs.declared.verb.Verb.{Verb}
-use Rattle.pst_ask.specs.declared.verb.Verb.TheVariants.{Check, Damage, Head, Nodes, Folders, Contents, Messages, Props, Value, Explain}
+use Rattle.pst_ask.specs.declared.verb.Verb.TheVariants.{Check, Damage, Head, Nodes, Folders, Contents, Messages, Props, Value, Export, Explain}
 use Rattle.pst_ask.specs.Ask.{Ordered, asked_by, asked_in, asked_with}
 use Rattle.pst_ask.specs.Verbs.{name_of, takes_of, verb_of}
 use Rattle.pst_ask.specs.Words.{IsAsked, app_taking, asked, show_app}
@@ -66,6 +66,7 @@ meets Contents = record { shape = refl; verb = refl; walk = refl; good = refl }
 meets Messages = record { shape = refl; verb = refl; walk = refl; good = refl }
 meets Props = record { shape = refl; verb = refl; walk = refl; good = refl }
 meets Value = record { shape = refl; verb = refl; walk = refl; good = refl }
+meets Export = record { shape = refl; verb = refl; walk = refl; good = refl }
 meets Explain = record { shape = refl; verb = refl; walk = refl; good = refl }
 
 top_stops : (v : Verb) (words : List Text) → fold (walked whole.top.rules (names_of whole)) start (name_of v ∷ words) ≡ stopped_at start (name_of v) words

@@ -14,7 +14,7 @@ use Rattle.pst_ask.specs.declared.ask.Order.{Order}
 use Rattle.pst_ask.specs.declared.ask.Order.TheVariants as order
 use Rattle.pst_ask.specs.declared.ask.Request.{Request}
 use Rattle.pst_ask.specs.declared.verb.Verb.{Verb}
-use Rattle.pst_ask.specs.declared.verb.Verb.TheVariants.{Check, Damage, Head, Nodes, Folders, Contents, Messages, Props, Value, Explain}
+use Rattle.pst_ask.specs.declared.verb.Verb.TheVariants.{Check, Damage, Head, Nodes, Folders, Contents, Messages, Props, Value, Export, Explain}
 use Rattle.pst_ask.specs.declared.words.NoOrder.{NoOrder}
 use Rattle.pst_ask.specs.declared.words.NoOrder.TheVariants.{Words, Lacks}
 use Rattle.pst_ask.specs.declared.path.Path.{Path}
@@ -40,6 +40,8 @@ pub data Wanted : Type 0 where
   props : Bool → List (List ℕ) → Wanted
   -- the value of a property of what a path leads to, and whether a text is written as UTF-8
   value : Bool → List ℕ → ℕ → Wanted
+  -- all that a store has, as an archive
+  export : Wanted
 
 -- the identifiers of a path
 abbrev pub nids_of : Path → List ℕ
@@ -55,18 +57,20 @@ wanted_of (ask.Contents nid) = contents nid
 wanted_of ask.Messages = messages
 wanted_of (ask.Props places paths) = props places (map nids_of paths.items)
 wanted_of (ask.Value text path id) = value text (nids_of path) id
+wanted_of ask.Export = export
 
--- what is to be shown, of which file, and whether that is decoded first
+-- what is to be shown, of which file, whether that is decoded first, and whether what is whole of a damaged one is shown
 pub record Asked : Type 0 where
   pub ask : Wanted
   pub decode : Bool
+  pub whole : Bool
   pub file : Text
 
-abbrev pub asked_of : Wanted → Bool → Text → Asked
-asked_of ask decode file = record { ask = ask; decode = decode; file = file }
+abbrev pub asked_of : Wanted → Bool → Bool → Text → Asked
+asked_of ask decode whole file = record { ask = ask; decode = decode; whole = whole; file = file }
 
 abbrev pub request_of : Request → Asked
-request_of request = asked_of (wanted_of request.ask) request.decode request.file.now
+request_of request = asked_of (wanted_of request.ask) request.decode request.whole request.file.now
 
 -- what is to be done: to show something of a file, or to explain a kind of fault, or all kinds
 pub data Ordered : Type 0 where
@@ -141,14 +145,14 @@ abbrev pub both_of : {X Y Z : Type 0} → (X → Y → Z) → Result X Lack → 
 both_of make (Err lack) y = Err lack
 both_of make (Ok x) y = asking (make x) y
 
--- with the file, and whether that is decoded first
-abbrev pub of_named : Wanted → Bool → Option Text → Result Ordered Lack
-of_named ask decode None = Err Nothing
-of_named ask decode (Some file) = Ok (show (asked_of ask decode file))
+-- with the file, whether that is decoded first, and whether of what is whole
+abbrev pub of_named : Wanted → Bool → Bool → Option Text → Result Ordered Lack
+of_named ask decode whole None = Err Nothing
+of_named ask decode whole (Some file) = Ok (show (asked_of ask decode whole file))
 
 abbrev pub of_file : List Row → Result Wanted Lack → Result Ordered Lack
 of_file rows (Err lack) = Err lack
-of_file rows (Ok ask) = of_named ask (is_used (codes "decode") rows) (first_of (codes "FILE") rows)
+of_file rows (Ok ask) = of_named ask (is_used (codes "decode") rows) (is_used (codes "whole") rows) (first_of (codes "FILE") rows)
 
 -- what a command asks for by its matches
 abbrev pub asked_by : Verb → List Row → Result Ordered Lack
@@ -162,6 +166,7 @@ asked_by Messages rows = of_file rows (Ok messages)
 asked_by Props rows = of_file rows (asking (props (is_used (codes "places") rows)) (paths_named (all_of (codes "PATH") rows)))
 asked_by Value rows =
     of_file rows (both_of (value (is_used (codes "text") rows)) (path_named (first_of (codes "PATH") rows)) (property_named (first_of (codes "ID") rows)))
+asked_by Export rows = of_file rows (Ok export)
 asked_by Explain rows = asking explain (kind_named (first_of (codes "KIND") rows))
 
 abbrev pub asked_with : Option Verb → List Row → Result Ordered Lack
@@ -181,11 +186,12 @@ pub record Flags : Type 0 where
   pub digest : Bool
   pub places : Bool
   pub text : Bool
+  pub whole : Bool
   pub decode : Bool
 
--- what is shown of a file
-abbrev pub shows : Flags → Text → Option Wanted → Option Ordered
-shows flags file wanted = option_map (λ ask. show (asked_of ask flags.decode file)) wanted
+-- what is shown of a file, or of what is whole of it
+abbrev pub shows : Flags → Bool → Text → Option Wanted → Option Ordered
+shows flags whole file wanted = option_map (λ ask. show (asked_of ask flags.decode whole file)) wanted
 
 -- the node that is named, where one word stands there
 abbrev pub only_node : List Text → Option ℕ
@@ -218,13 +224,14 @@ only_kind (word ∷ next ∷ rest) = None
 -- What a command asks for by its flags, its file and the words behind that, where they are words of it: of `contents` a node,
 -- of `props` paths, of `value` a path and a property. `explain` has no file: of it they are a kind, or none.
 abbrev pub asks : Verb → Flags → Text → List Text → Option Ordered
-asks Check flags file words = shows flags file (Some (report flags.strict flags.digest))
-asks Damage flags file words = shows flags file (Some (damage flags.digest))
-asks Head flags file words = shows flags file (Some head)
-asks Nodes flags file words = shows flags file (Some nodes)
-asks Folders flags file words = shows flags file (Some folders)
-asks Contents flags file words = shows flags file (option_map contents (only_node words))
-asks Messages flags file words = shows flags file (Some messages)
-asks Props flags file words = shows flags file (option_map (props flags.places) (some_paths words))
-asks Value flags file words = shows flags file (option_map (λ p. value flags.text p.0 p.1) (only_property words))
+asks Check flags file words = shows flags false file (Some (report flags.strict flags.digest))
+asks Damage flags file words = shows flags false file (Some (damage flags.digest))
+asks Head flags file words = shows flags false file (Some head)
+asks Nodes flags file words = shows flags false file (Some nodes)
+asks Folders flags file words = shows flags flags.whole file (Some folders)
+asks Contents flags file words = shows flags flags.whole file (option_map contents (only_node words))
+asks Messages flags file words = shows flags flags.whole file (Some messages)
+asks Props flags file words = shows flags flags.whole file (option_map (props flags.places) (some_paths words))
+asks Value flags file words = shows flags flags.whole file (option_map (λ p. value flags.text p.0 p.1) (only_property words))
+asks Export flags file words = shows flags false file (Some export)
 asks Explain flags file words = option_map explain (only_kind words)

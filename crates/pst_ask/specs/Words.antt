@@ -37,9 +37,10 @@ abbrev pub with_flags : Takes → App → App
 with_flags File a = a
 with_flags Report a = with_rule (with_rule a (flag_rule (codes "strict"))) (flag_rule (codes "digest"))
 with_flags Digest a = with_rule a (flag_rule (codes "digest"))
-with_flags Node a = a
-with_flags takes.Paths a = with_rule a (flag_rule (codes "places"))
-with_flags takes.Property a = with_rule a (flag_rule (codes "text"))
+with_flags takes.Whole a = with_rule a (flag_rule (codes "whole"))
+with_flags Node a = with_rule a (flag_rule (codes "whole"))
+with_flags takes.Paths a = with_rule (with_rule a (flag_rule (codes "places"))) (flag_rule (codes "whole"))
+with_flags takes.Property a = with_rule (with_rule a (flag_rule (codes "text"))) (flag_rule (codes "whole"))
 with_flags takes.Kind a = a
 
 -- with a file, which may be decoded
@@ -52,6 +53,7 @@ abbrev pub with_words : Takes → App → App
 with_words File a = a
 with_words Report a = a
 with_words Digest a = a
+with_words takes.Whole a = a
 with_words Node a = with_rule a (word_rule (codes "NID"))
 with_words takes.Paths a = with_rule a (several_rule (codes "PATH"))
 with_words takes.Property a = with_rule (with_rule a (word_rule (codes "PATH"))) (word_rule (codes "ID"))
@@ -117,9 +119,10 @@ abbrev pub own_flags : Takes → Flags → List Text
 own_flags File flags = []
 own_flags Report flags = flag_if flags.strict (codes "--strict") ++ flag_if flags.digest (codes "--digest")
 own_flags Digest flags = flag_if flags.digest (codes "--digest")
-own_flags Node flags = []
-own_flags takes.Paths flags = flag_if flags.places (codes "--places")
-own_flags takes.Property flags = flag_if flags.text (codes "--text")
+own_flags takes.Whole flags = flag_if flags.whole (codes "--whole")
+own_flags Node flags = flag_if flags.whole (codes "--whole")
+own_flags takes.Paths flags = flag_if flags.places (codes "--places") ++ flag_if flags.whole (codes "--whole")
+own_flags takes.Property flags = flag_if flags.text (codes "--text") ++ flag_if flags.whole (codes "--whole")
 own_flags takes.Kind flags = []
 
 -- with them a file, and whether that is decoded first
@@ -131,6 +134,7 @@ abbrev pub behind_file : Takes → List Text → List Text
 behind_file File words = []
 behind_file Report words = []
 behind_file Digest words = []
+behind_file takes.Whole words = []
 behind_file Node words = words
 behind_file takes.Paths words = words
 behind_file takes.Property words = words
@@ -141,7 +145,7 @@ abbrev pub words_for : Verb → Flags → Text → List Text → List Text
 words_for v flags file words = name_of v ∷ to_file (takes_of v) flags file ++ behind_file (takes_of v) words
 
 -- The words of each command, with each of its flags or without, are accepted, and ask for what the command shows of the file
--- that they name, whatever its name, if it begins with no hyphen, or is one: decoded with `--decode`, of `contents` of the node
+-- that they name, whatever its name, if it begins with no hyphen, or is one: decoded with `--decode`, what is whole of it with `--whole`, of `contents` of the node
 -- that they name, of `props` of all of the paths, however many and however long, of `value` of the path and the property. The
 -- words of `explain` ask for the kind that they name, or for all.
 abbrev pub WordsLaw : Type 0

@@ -56,6 +56,8 @@ pub enum Ask {
         /// The identifier of the property.
         id: u16,
     },
+    /// All that a store has, as an archive.
+    Export,
 }
 
 /// What is asked for of a file.
@@ -65,6 +67,8 @@ pub struct Request<'a> {
     pub ask: Ask,
     /// Whether an encoded file is decoded first, in memory.
     pub decode: bool,
+    /// Whether what is whole of a damaged store is shown.
+    pub whole: bool,
     /// The name of the file.
     pub file: &'a str,
 }
@@ -190,14 +194,20 @@ fn value_in(alloc: Global, found: &ArgMatches) -> Result<Ask, NoOrder>
     Ok(Ask::Value { text, path, id })
 }
 
-// What is shown of a file: of which, and whether that is decoded first.
+// What is shown of a file: of which, whether that is decoded first, and whether of what is whole.
 fn of_file<'a>(found: &ArgMatches<'a>, ask: Ask) -> Result<Order<'a>, NoOrder>
     ensures { Reads order_of result
         (asked_of_file (rows_of (found_of found.now)) (Okay (wanted_of ask))) }
 {
     let decode = is_given(found, "decode");
+    let whole = is_given(found, "whole");
     match text_in(found, "FILE") {
-        Some(file) => Ok(Order::Show(Request { ask, decode, file })),
+        Some(file) => Ok(Order::Show(Request {
+            ask,
+            decode,
+            whole,
+            file,
+        })),
         None => Err(NoOrder::Lacks(Lack::Nothing)),
     }
 }
@@ -227,6 +237,7 @@ fn order_by<'a>(alloc: Global, verb: Verb, found: &ArgMatches<'a>) -> Result<Ord
             of_file(found, Ask::Props { places, paths })
         }
         Verb::Value => of_file(found, value_in(alloc, found)?),
+        Verb::Export => of_file(found, Ask::Export),
         Verb::Explain => Ok(Order::Explain(kind_in(found)?)),
     }
 }

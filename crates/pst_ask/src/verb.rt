@@ -12,11 +12,13 @@ pub enum Takes {
     Report,
     /// A file, and `--digest` before or behind it or not.
     Digest,
-    /// A file, and the identifier of a node.
+    /// A file, and `--whole` before or behind it or not.
+    Whole,
+    /// A file, and the identifier of a node; and `--whole` or not.
     Node,
-    /// A file, and paths, one at least; and `--places` or not.
+    /// A file, and paths, one at least; and `--places` and `--whole` or not.
     Paths,
-    /// A file, a path, and the identifier of a property; and `--text` or not.
+    /// A file, a path, and the identifier of a property; and `--text` and `--whole` or not.
     Property,
     /// A kind of fault, or nothing; and no file.
     Kind,
@@ -43,13 +45,15 @@ pub enum Verb {
     Props,
     /// The value of one property.
     Value,
+    /// All that a store has.
+    Export,
     /// What a kind of fault says.
     Explain,
 }
 
 impl Verb {
     /// All commands, in the order in which help shows them.
-    pub const ALL: [Verb; 10] = [
+    pub const ALL: [Verb; 11] = [
         Verb::Check,
         Verb::Damage,
         Verb::Head,
@@ -59,6 +63,7 @@ impl Verb {
         Verb::Messages,
         Verb::Props,
         Verb::Value,
+        Verb::Export,
         Verb::Explain,
     ];
 
@@ -72,15 +77,16 @@ impl Verb {
             Verb::Damage => ("damage", "Lists all that is broken", Takes::Digest),
             Verb::Head => ("head", "Shows the fields of the header", Takes::File),
             Verb::Nodes => ("nodes", "Lists the nodes", Takes::File),
-            Verb::Folders => ("folders", "Lists the folders", Takes::File),
+            Verb::Folders => ("folders", "Lists the folders", Takes::Whole),
             Verb::Contents => ("contents", "Lists the messages of a folder", Takes::Node),
             Verb::Messages => (
                 "messages",
                 "Lists all messages, a line for each",
-                Takes::File,
+                Takes::Whole,
             ),
             Verb::Props => ("props", "Shows the properties of nodes", Takes::Paths),
             Verb::Value => ("value", "Writes the value of a property", Takes::Property),
+            Verb::Export => ("export", "Writes all of it as a tar archive", Takes::File),
             Verb::Explain => ("explain", "Explains the kinds of fault", Takes::Kind),
         }
     }

@@ -20,6 +20,9 @@ const VERSION: &str = "0.2.0";
 // What the flag of a digest is for.
 const DIGEST: &str = "Adds the SHA-256 of the file as it is stored";
 
+// What the flag of what is whole is for.
+const WHOLE: &str = "Reads what is whole of a damaged store";
+
 /// Why there is nothing to be done.
 #[derive(Drop)]
 pub enum NoOrder {
@@ -106,13 +109,14 @@ fn with_flags<'a>(
             ))?
             .arg(flag(alloc, "digest", DIGEST)),
         Takes::Digest => command.arg(flag(alloc, "digest", DIGEST)),
-        Takes::Paths => command.arg(flag(
-            alloc,
-            "places",
-            "Adds where in the file each value lies",
-        )),
-        Takes::Property => command.arg(flag(alloc, "text", "Writes a text as UTF-8")),
-        Takes::File | Takes::Node | Takes::Kind => Ok(command),
+        Takes::Whole | Takes::Node => command.arg(flag(alloc, "whole", WHOLE)),
+        Takes::Paths => command
+            .arg(flag(alloc, "places", "Adds where in the file each value lies"))?
+            .arg(flag(alloc, "whole", WHOLE)),
+        Takes::Property => command
+            .arg(flag(alloc, "text", "Writes a text as UTF-8"))?
+            .arg(flag(alloc, "whole", WHOLE)),
+        Takes::File | Takes::Kind => Ok(command),
     }
 }
 
@@ -130,6 +134,7 @@ fn with_file<'a>(
         Takes::File
         | Takes::Report
         | Takes::Digest
+        | Takes::Whole
         | Takes::Node
         | Takes::Paths
         | Takes::Property => {
@@ -168,7 +173,7 @@ fn with_words<'a>(
             "KIND",
             "A kind of fault, by its number or its name",
         )),
-        Takes::File | Takes::Report | Takes::Digest => Ok(command),
+        Takes::File | Takes::Report | Takes::Digest | Takes::Whole => Ok(command),
     }
 }
 

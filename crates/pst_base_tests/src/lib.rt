@@ -1,7 +1,9 @@
-//! Tests of the lowest crates (pst_bytes, pst_crc, pst_fault, pst_explain, pst_time, pst_make, pst_header, pst_space, pst_page), by
+//! Tests of the lowest crates (pst_bytes, pst_crc, pst_fault, pst_explain, pst_tar, pst_time, pst_make, pst_header, pst_space, pst_page), by
 //! their public calls. They stand apart, so that the crates that they are about are proved once, and without them.
 #![tactic(auto)]
 
+#[cfg(test)]
+mod archives;
 #[cfg(test)]
 mod bytes;
 #[cfg(test)]

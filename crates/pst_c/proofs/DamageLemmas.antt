@@ -2,7 +2,7 @@
 use Rattle.std.proofs.Common.{◌≡◌, ℕ, List, Option, None, Some, true, false, refl}
 use Rattle.std.specs.Option.{is_some}
 use Rattle.std.proofs.lemmas.Bool.{and_parts}
-use Rattle.pst_ask.specs.Ask.{Asked, Wanted, report, damage, head, nodes, folders, contents, messages, props, value}
+use Rattle.pst_ask.specs.Ask.{Asked, Wanted, report, damage, head, nodes, folders, contents, messages, props, value, export}
 use Rattle.pst_encoding.specs.declared.method.Method.{Method}
 use Rattle.pst_plain.specs.Twin.{method_of}
 use Rattle.pst_run.specs.Answer.{answer_with, decoded_damage, is_damage, is_decoded_damage}
@@ -18,6 +18,7 @@ as_stored (contents nid) digest I is = absurd cc
 as_stored messages digest I is = absurd cc
 as_stored (props places paths) digest I is = absurd cc
 as_stored (value text path id) digest I is = absurd cc
+as_stored export digest I is = absurd cc
 
 -- there is no method
 pub none_of : (o : Option Method) → is_some o ≡ false → o ≡ None

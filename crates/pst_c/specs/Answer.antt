@@ -92,5 +92,5 @@ AnswersCall words bytes a =
 
 -- what is shown of a file, or why it is refused, unless memory ran out
 abbrev pub Yields : Result (Vec ℕ Global × Bool) Refusal → Result Told Refused → Type 0
-Yields (Ok shown) told = told ≡ Ok (record { text = shown.0.items; fails = shown.1 })
+Yields (Ok shown) told = (streamed : Bool) × (told ≡ Ok (record { text = shown.0.items; fails = shown.1; streamed = streamed }))
 Yields (Err r) told = GivesNone (refused_of r) told

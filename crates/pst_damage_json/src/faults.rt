@@ -1,13 +1,15 @@
 //! Faults put straight behind a text, as JSON.
 
-ghost use Rattle.std.specs.Prelude.{◌≡◌, ◌++◌, OnOk};
+ghost use Rattle.std.specs.Prelude.{◌≡◌, ◌++◌, IfOk, OnOk};
 ghost use Rattle.serde_json.specs.Data.{string};
+ghost use Rattle.serde_json.specs.View.{view};
 ghost use Rattle.serde_json.specs.Written.{compact_text};
 ghost use Rattle.pst_fault.specs.Kind.{kind_text};
 ghost use Rattle.pst_damage_json.specs.Faults.{fault_data, fault_or_null};
 
 use pst_fault::{Fault, Kind};
-use pst_value_json::{put_natural, put_nid, put_null};
+use pst_value_json::{nid_text, put_natural, put_nid, put_null};
+use serde_json::{Value as Doc, json};
 use std::alloc::{AllocError, Global};
 
 // Puts the name of a kind behind a text, in quotes.
@@ -23,7 +25,21 @@ fn put_kind(alloc: Global, kind: Kind, text: &mut Vec<u8>) -> Result<(), AllocEr
     Ok(())
 }
 
-/// Puts a fault behind a text, as an object: where it is, and what it is by its name and its number.
+/// A fault as an object: where it is, and what it is by its name and its number.
+#[tactic(auto, unfolding(crate::specs::Faults::fault_data))]
+pub fn fault_doc(alloc: Global, fault: &Fault) -> Result<Doc, AllocError>
+    ensures { IfOk result (λ d. view d ≡ fault_data fault.now) }
+{
+    let at = fault.place.at;
+    let bid = fault.place.bid;
+    let kind = fault.kind;
+    let kind = format!(in alloc; "{kind}")?;
+    let nid = nid_text(alloc, fault.place.nid)?;
+    let number = fault.kind.number();
+    json!(in alloc; {"at": at, "bid": bid, "kind": kind, "nid": nid, "number": number})
+}
+
+/// Puts a fault behind a text, as `fault_doc` shows it.
 #[tactic(auto, unfolding(crate::specs::Faults::fault_data))]
 pub(crate) fn put_fault(alloc: Global, fault: &Fault, text: &mut Vec<u8>) -> Result<(), AllocError>
     ensures { OnOk result (text.new.items ≡ text.old.items ++ compact_text (fault_data fault.now)) }

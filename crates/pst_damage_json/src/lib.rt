@@ -13,3 +13,4 @@ mod faults;
 mod lists;
 
 pub use damage::damage_line;
+pub use faults::fault_doc;

@@ -35,7 +35,7 @@ fn parts_of<'a>(alloc: Global, pc: &Pc<'a>) -> Result<Vec<Part<PropRows<'a>>>, A
 {
     let parts = vec![in alloc;
         Part::Value("nid", Made::Nid(Some(0x21))),
-        Part::Rows("props", prop_rows(pc, None, false)),
+        Part::Rows("props", prop_rows(pc, None, Filed::Nothing, false)),
     ]?;
     Ok(parts)
 }

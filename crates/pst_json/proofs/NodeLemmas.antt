@@ -10,6 +10,7 @@ use Rattle.pst_verify.specs.pst_msg.Shown.{Shown}
 use Rattle.pst_value_json.specs.Names.{nid_or_null}
 use Rattle.pst_value_json.specs.Plain.{IsPlain}
 use Rattle.pst_value_json.specs.pst_names.Name.{NameParts}
+use Rattle.pst_value_json.specs.declared.filed.Filed.{Filed}
 use Rattle.pst_value_json.specs.Props.{record_data}
 use Rattle.pst_value_json.proofs.PlainLemmas.{list_is_plain}
 use Rattle.pst_value_json.proofs.PropLemmas.{record_is_plain}
@@ -24,11 +25,11 @@ nid_is_plain : (nid : Option ℕ) → IsPlain (nid_or_null nid)
 nid_is_plain None = record { no_float = refl }
 nid_is_plain (Some nid) = record { no_float = refl }
 
-props_are_plain : (names : ℕ → Option NameParts) (places : Bool) (t : Table) (roots : Option Roots) → IsPlain (props_there names places t roots)
-props_are_plain names places t None = record { no_float = refl }
-props_are_plain names places t (Some r) = list_is_plain (record_data names places t r) (record_is_plain names places t r) (pc_records t r)
+props_are_plain : (names : ℕ → Option NameParts) (filed : Filed) (places : Bool) (t : Table) (roots : Option Roots) → IsPlain (props_there names filed places t roots)
+props_are_plain names filed places t None = record { no_float = refl }
+props_are_plain names filed places t (Some r) = list_is_plain (record_data names filed places t r) (record_is_plain names filed places t r) (pc_records t r)
 
-pub attachment_has_none : (names : ℕ → Option NameParts) (places : Bool) (t : Table) (s : Shown) → has_float (attachment_data names places t s) ≡ false
+pub attachment_has_none : (names : ℕ → Option NameParts) (filed : Filed) (places : Bool) (t : Table) (s : Shown) → has_float (attachment_data names filed places t s) ≡ false
 unfolding attachment_data
-attachment_has_none names places t s =
-    rw (IsPlain.no_float (nid_is_plain (embedded_there t s.roots)), IsPlain.no_float (props_are_plain names places t s.roots)) refl
+attachment_has_none names filed places t s =
+    rw (IsPlain.no_float (nid_is_plain (embedded_there t s.roots)), IsPlain.no_float (props_are_plain names filed places t s.roots)) refl

@@ -12,6 +12,7 @@ use Rattle.pst_verify.specs.pst_msg.Values.{is_folder}
 use Rattle.pst_verify.specs.pst_reach.declared.reached.Reach.{Reach}
 use Rattle.pst_verify.specs.pst_reach.Levels.{reaches_of}
 use Rattle.pst_verify.specs.pst_store.Kind.{of_kind}
+use Rattle.pst_whole.specs.Lost.{LostParts}
 use Rattle.pst_json.specs.Folders.{is_shown, shown_folders, folder_data}
 use Rattle.pst_value_json.specs.Names.{nid_data}
 
@@ -34,9 +35,9 @@ front_more front rest behind x is = rw is refl
 pub front_none : (front behind : List Roots) → front ≡ [] → front ++ behind ≡ behind
 front_none front behind is = rw is refl
 
--- all of a store, the first part before the other
-pub rows_of_store : (t : Table) (nodes : List NodeEntry) (reached : List Reach) (left : List Roots) → left ≡ of_kind is_folder (all_roots nodes) → reached ≡ reaches_of t nodes → map (folder_data t nodes reached) (filter (is_shown false reached) left ++ filter (is_shown true reached) (of_kind is_folder (all_roots nodes))) ≡ map (folder_data t nodes (reaches_of t nodes)) (shown_folders nodes (reaches_of t nodes))
-rows_of_store t nodes reached left all found = rw (all, found) refl
+-- all of them, the first part before the other
+pub rows_of_all : (t : Table) (nodes : List NodeEntry) (lost : LostParts) (reached : List Reach) (left : List Roots) → left ≡ of_kind is_folder (all_roots nodes) → reached ≡ reaches_of t nodes → map (folder_data t nodes lost reached) (filter (is_shown false reached) left ++ filter (is_shown true reached) (of_kind is_folder (all_roots nodes))) ≡ map (folder_data t nodes lost (reaches_of t nodes)) (shown_folders nodes (reaches_of t nodes))
+rows_of_all t nodes lost reached left all found = rw (all, found) refl
 
 -- ---- identifiers, each as a document
 

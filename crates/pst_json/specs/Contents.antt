@@ -1,10 +1,10 @@
 -- The messages of a folder as a document ([MS-PST] 2.4.4.5).
 use Rattle.std.specs.Prelude.{ℕ, Option, Some, None, List, map, Result, Ok, Err, codes, if◌then◌else◌}
 use Rattle.serde_json.specs.Data.{Data, null, object, member, no_members}
+use Rattle.pst_fault.specs.declared.fault.Fault.{Fault}
 use Rattle.pst_page.specs.declared.entry.NodeEntry.{NodeEntry}
 use Rattle.pst_block.specs.Table.{Table}
 use Rattle.pst_ndb.specs.Roots.{Roots, node_in}
-use Rattle.pst_ndb.specs.Views.{table_of_ndb, nodes_of}
 use Rattle.pst_value_json.specs.pst_tc.Values.{RowParts}
 use Rattle.pst_verify.specs.pst_msg.declared.items.Items.TheVariants.{Messages}
 use Rattle.pst_verify.specs.pst_msg.declared.nid.TheConstants.{FOLDER}
@@ -13,12 +13,15 @@ use Rattle.pst_verify.specs.pst_msg.Nid.{is_type}
 use Rattle.pst_verify.specs.pst_msg.Shown.{rows_there, folder_table}
 use Rattle.pst_verify.specs.pst_msg.Values.{is_message}
 unfoldable pub use Rattle.pst_verify.specs.pst_store.Kind.{node_of_kind}
-use Rattle.pst_verify.specs.pst_store.View.{ndb_of_store}
+use Rattle.pst_intact.specs.View.{table_of_intact, nodes_of_intact}
+use Rattle.pst_whole.specs.Lost.{LostParts, told_lost}
+use Rattle.pst_whole.specs.View.{lost_in}
+use Rattle.pst_damage_json.specs.Faults.{fault_data}
 use Rattle.pst_json.specs.declared.contents.ListedRows.{ListedRows}
 use Rattle.pst_json.specs.declared.fault.DocFault.{DocFault}
-use Rattle.pst_json.specs.declared.fault.DocFault.TheVariants.{NoFolder}
+use Rattle.pst_json.specs.declared.fault.DocFault.TheVariants.{NoFolder, Bad}
 use Rattle.pst_json.specs.declared.texts.TheConstants.{CLASS, SENDER, SUBJECT}
-use Rattle.pst_json.specs.Folders.{text_property}
+use Rattle.pst_json.specs.Folders.{text_property, table_told}
 use Rattle.pst_json.specs.Told.{lined}
 use Rattle.pst_value_json.specs.Names.{nid_data}
 use Rattle.pst_value_json.specs.Parts.{list_data}
@@ -38,26 +41,47 @@ listed_data t nodes x =
     (member (codes "subject") (text_there t (node_of_kind is_message nodes x.id) SUBJECT)
     no_members))))
 
+-- in place of a message of which something is told, that fault and its identifier
+unfoldable pub told_data : Fault → ℕ → Data
+told_data f nid = object (member (codes "fault") (fault_data f) (member (codes "nid") (nid_data nid) no_members))
+
+abbrev pub told_or_listed : Option Fault → Table → List NodeEntry → RowParts → Data
+told_or_listed None t nodes x = listed_data t nodes x
+told_or_listed (Some f) t nodes x = told_data f x.id
+
+-- a row
+unfoldable pub row_data : Table → List NodeEntry → LostParts → RowParts → Data
+row_data t nodes lost x = told_or_listed (told_lost lost x.id) t nodes x
+
 -- the messages that are left
 abbrev pub listed_rows : ListedRows → List Data
-listed_rows rows = let ndb = ndb_of_store rows.store in map (listed_data (table_of_ndb ndb) (nodes_of ndb)) (rows_of_rest rows.rows)
+listed_rows rows =
+    map (row_data (table_of_intact rows.intact) (nodes_of_intact rows.intact) (lost_in rows.lost)) (rows_of_rest rows.rows)
 
 -- the messages of a folder, their identifiers rising
-unfoldable pub contents_data : Table → List NodeEntry → ℕ → Data
-contents_data t nodes nid =
+unfoldable pub contents_data : Table → List NodeEntry → LostParts → ℕ → Data
+contents_data t nodes lost nid =
     object
     (member (codes "folder") (nid_data nid)
-    (member (codes "messages") (list_data (listed_data t nodes) (rows_there t (folder_table nodes Messages nid)))
+    (member (codes "messages") (list_data (row_data t nodes lost) (rows_there t (folder_table nodes Messages nid)))
     no_members))
 
-abbrev pub contents_there : Table → List NodeEntry → ℕ → Option Roots → Result Data DocFault
-contents_there t nodes nid None = Err NoFolder
-contents_there t nodes nid (Some r) = Ok (contents_data t nodes nid)
+-- where nothing is told
+abbrev pub unless_fault : {X : Type 0} → Option Fault → Result X DocFault → Result X DocFault
+unless_fault None answer = answer
+unless_fault (Some f) answer = Err (Bad f)
 
--- the document of a folder, which is a node of type 02; there is none of any other
-unfoldable pub contents_of : Table → List NodeEntry → ℕ → Result Data DocFault
-contents_of t nodes nid = if is_type FOLDER nid then contents_there t nodes nid (node_in nodes nid) else Err NoFolder
+abbrev pub contents_there : Table → List NodeEntry → LostParts → ℕ → Option Roots → Result Data DocFault
+contents_there t nodes lost nid None = Err NoFolder
+contents_there t nodes lost nid (Some r) = unless_fault (table_told lost Messages nid) (Ok (contents_data t nodes lost nid))
+
+-- The document of a folder, which is a node of type 02; there is none of any other. First is told of what lies behind a broken page,
+-- whatever its type; then of the folder, and then of its contents table.
+unfoldable pub contents_of : Table → List NodeEntry → LostParts → ℕ → Result Data DocFault
+contents_of t nodes lost nid =
+    unless_fault (lost.behind nid)
+    (if is_type FOLDER nid then unless_fault (lost.own nid) (contents_there t nodes lost nid (node_in nodes nid)) else Err NoFolder)
 
 -- the line that shows it
-unfoldable pub contents_line : Table → List NodeEntry → ℕ → Result (List ℕ) DocFault
-contents_line t nodes nid = lined (contents_of t nodes nid)
+unfoldable pub contents_line : Table → List NodeEntry → LostParts → ℕ → Result (List ℕ) DocFault
+contents_line t nodes lost nid = lined (contents_of t nodes lost nid)

@@ -2,42 +2,44 @@
 use Rattle.std.specs.Prelude.{Bool, true, false, List, ◌++◌, map}
 use Rattle.std.specs.List.{filter}
 use Rattle.serde_json.specs.Data.{Data}
+use Rattle.pst_page.specs.declared.entry.NodeEntry.{NodeEntry}
+use Rattle.pst_block.specs.Table.{Table}
 use Rattle.pst_ndb.specs.Roots.{Roots, all_roots}
 use Rattle.pst_verify.specs.pst_msg.Values.{is_folder}
 use Rattle.pst_verify.specs.pst_reach.declared.reached.Reach.{Reach}
 use Rattle.pst_verify.specs.pst_reach.Levels.{reaches_of}
-use Rattle.pst_verify.specs.pst_store.declared.store.Store.{Store}
 use Rattle.pst_verify.specs.pst_store.Kind.{of_kind}
-use Rattle.pst_verify.specs.pst_store.View.{table_of_store, nodes_of_store, folders_left}
-use Rattle.pst_verify.specs.declared.verified.Verified.{Verified}
+use Rattle.pst_intact.specs.declared.intact.Intact.{Intact}
+use Rattle.pst_intact.specs.View.{table_of_intact, nodes_of_intact, intact_folders_left}
+use Rattle.pst_whole.specs.Lost.{LostParts}
+use Rattle.pst_whole.specs.View.{lost_in}
 use Rattle.pst_json.specs.declared.folder_rows.FolderRows.{FolderRows}
 use Rattle.pst_json.specs.Folders.{is_shown, shown_folders, folder_data}
 
-abbrev pub verified_of : FolderRows → Verified
-verified_of rows = rows.verified.now
+-- what the rows are of: intact nodes, what is told of others, and the folders that are reached
+abbrev pub intact_of : FolderRows → Intact
+intact_of rows = rows.intact
 
--- the folders that are reached
-abbrev pub reached_in : Verified → List Reach
-reached_in v = v.report.reached.items
+abbrev pub lost_of_rows : FolderRows → LostParts
+lost_of_rows rows = lost_in rows.lost
+
+abbrev pub reached_of : FolderRows → List Reach
+reached_of rows = rows.reached.now
 
 -- those that are left: where the first part is behind, of the others
-abbrev left_of : Bool → Verified → List Roots → List Roots
-left_of true v rest = filter (is_shown true (reached_in v)) rest
-left_of false v rest =
-    filter (is_shown false (reached_in v)) rest
-    ++ filter (is_shown true (reached_in v)) (of_kind is_folder (all_roots (nodes_of_store v.store)))
+abbrev left_of : Bool → List Reach → List Roots → List Roots → List Roots
+left_of true reached all rest = filter (is_shown true reached) rest
+left_of false reached all rest = filter (is_shown false reached) rest ++ filter (is_shown true reached) all
 
 abbrev pub rows_left : FolderRows → List Roots
-rows_left rows = left_of rows.lost rows.verified.now (folders_left rows.rest)
+rows_left rows =
+    left_of rows.lone rows.reached.now (of_kind is_folder (all_roots (nodes_of_intact rows.intact))) (intact_folders_left rows.rest)
 
 abbrev pub folder_rows : FolderRows → List Data
 folder_rows rows =
-    let v = rows.verified.now in
-    map (folder_data (table_of_store v.store) (nodes_of_store v.store) (reached_in v)) (rows_left rows)
+    map (folder_data (table_of_intact rows.intact) (nodes_of_intact rows.intact) (lost_in rows.lost) rows.reached.now) (rows_left rows)
 
--- all of a store
-abbrev pub all_rows : Store → List Data
-all_rows s =
-    let t = table_of_store s in
-    let nodes = nodes_of_store s in
-    map (folder_data t nodes (reaches_of t nodes)) (shown_folders nodes (reaches_of t nodes))
+-- all of them
+abbrev pub all_rows : Table → List NodeEntry → LostParts → List Data
+all_rows t nodes lost =
+    map (folder_data t nodes lost (reaches_of t nodes)) (shown_folders nodes (reaches_of t nodes))

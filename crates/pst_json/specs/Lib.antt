@@ -3,6 +3,7 @@ pub use Rattle.pst_value_json.specs.Parts
 pub use Rattle.pst_value_json.specs.Names
 pub use Rattle.pst_value_json.specs.Value
 pub use Rattle.pst_value_json.specs.Places
+pub use Rattle.pst_value_json.specs.Filed
 pub use Rattle.pst_value_json.specs.Props
 pub use Rattle.pst_value_json.specs.Cells
 pub mod Head
@@ -26,5 +27,9 @@ pub use Rattle.pst_verify.specs as pst_verify
 pub use Rattle.pst_verify.specs.pst_store as pst_store
 pub use Rattle.pst_verify.specs.pst_msg as pst_msg
 pub use Rattle.pst_ndb.specs as pst_ndb
+pub use Rattle.pst_whole.specs as pst_whole
+pub use Rattle.pst_whole.specs.pst_intact as pst_intact
+pub use Rattle.pst_whole.specs.pst_damage as pst_damage
+pub use Rattle.pst_whole.specs.pst_remains as pst_remains
 pub use Rattle.pst_value_json.specs.pst_pc as pst_pc
 pub use Rattle.pst_value_json.specs.pst_datatree as pst_datatree

@@ -8,11 +8,11 @@ use Rattle.pst_value_json.specs.Props.{names_told, prop_rows_left}
 use Rattle.pst_json.specs.declared.attachment.AttachmentRows.{AttachmentRows}
 use Rattle.pst_json.specs.declared.lists.MessageRows.{MessageRows}
 use Rattle.pst_json.specs.declared.lists.MessageRows.TheVariants.{Attachments, Props, Recipients, Nobody}
-use Rattle.pst_json.specs.Node.{attachment_data}
+use Rattle.pst_json.specs.Node.{listed_data}
 
 abbrev pub attachment_rows_left : AttachmentRows → List Data
 attachment_rows_left rows =
-    map (attachment_data (names_told rows.names) rows.places (table_of_node (holder_left rows.attachments))) (attachments_left rows.attachments)
+    map (listed_data (names_told rows.names) rows.files rows.places (table_of_node (holder_left rows.attachments))) (attachments_left rows.attachments)
 
 abbrev pub list_left : MessageRows → List Data
 list_left (Attachments rows) = attachment_rows_left rows

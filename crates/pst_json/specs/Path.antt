@@ -9,6 +9,7 @@ use Rattle.pst_value_json.specs.pst_pc.Fault.{pc_fault}
 use Rattle.pst_value_json.specs.pst_tc.Values.{row_id_of}
 use Rattle.pst_verify.specs.pst_msg.Shown.{Shown, row_shown, object_shown, attachment_rows}
 use Rattle.pst_verify.specs.pst_msg.Values.{is_message, embedded_of}
+use Rattle.pst_whole.specs.Lost.{LostParts, told_lost}
 use Rattle.pst_json.specs.declared.fault.DocFault.{DocFault}
 use Rattle.pst_json.specs.declared.fault.DocFault.TheVariants.{NoNode, Bad}
 
@@ -56,6 +57,11 @@ first_place nodes nid = option_map (place_of_node nid) (node_in nodes nid)
 unfoldable pub place_at : Table → List NodeEntry → List ℕ → Option Place
 place_at t nodes [] = None
 place_at t nodes (nid ∷ steps) = fold (step t) (first_place nodes nid) steps
+
+-- what is told of the node with which a path begins
+abbrev pub path_told : LostParts → List ℕ → Option Fault
+path_told lost [] = None
+path_told lost (nid ∷ steps) = told_lost lost nid
 
 -- ---- places that have properties: messages, attachments, and other nodes that are property contexts
 

@@ -3,7 +3,7 @@ use Rattle.std.specs.Prelude.{◌≡◌, ℕ, List, ◌++◌, Result, Ok, Err, c
 use Rattle.serde_json.specs.Data.{Data}
 use Rattle.pst_fault.specs.Fault.{fault_text}
 use Rattle.pst_json.specs.declared.fault.DocFault.{DocFault}
-use Rattle.pst_json.specs.declared.fault.DocFault.TheVariants.{NoFolder, NoNode, Bad, NoProperty, Memory}
+use Rattle.pst_json.specs.declared.fault.DocFault.TheVariants.{NoFolder, NoNode, Bad, NoProperty, TooManyPaths, Memory}
 use Rattle.pst_value_json.specs.Line.{line_of}
 use Rattle.pst_value_json.specs.Names.{id_text}
 
@@ -14,6 +14,7 @@ TellsDoc shown (Err NoFolder) answer = answer ≡ Err NoFolder
 TellsDoc shown (Err NoNode) answer = answer ≡ Err NoNode
 TellsDoc shown (Err (Bad f)) answer = answer ≡ Err (Bad f)
 TellsDoc shown (Err (NoProperty id)) answer = answer ≡ Err (NoProperty id)
+TellsDoc shown (Err TooManyPaths) answer = answer ≡ Err TooManyPaths
 TellsDoc shown (Err Memory) answer = Unit {0}
 
 -- what is said of what there is not, without the node or the path that was asked for
@@ -22,6 +23,7 @@ doc_fault_text NoFolder = codes "no folder"
 doc_fault_text NoNode = codes "no node"
 doc_fault_text (Bad f) = fault_text f
 doc_fault_text (NoProperty id) = codes "no property " ++ id_text id
+doc_fault_text TooManyPaths = codes "too many paths"
 doc_fault_text Memory = codes "out of memory"
 
 -- what is told of what there is

@@ -5,10 +5,12 @@ ghost use Rattle.pst_ndb.specs.Views.{table_of_node, roots_of};
 ghost use Rattle.pst_verify.specs.pst_msg.View.{node_of_attachment, attachment_shown};
 ghost use Rattle.pst_value_json.specs.Object.{parts_data, KeysRise};
 ghost use Rattle.pst_value_json.specs.Props.{names_told, prop_rows_left};
-ghost use Rattle.pst_json.specs.Node.{embedded_there, attachment_data};
+ghost use Rattle.pst_json.specs.Node.{embedded_there, attachment_data, filed_in_list as filed_below, listed_data};
 ghost use Rattle.pst_json.specs.Lists.{attachment_rows_left};
 
-use pst_value_json::{Made, NameMap, Part, PropRows, Rows, Sink, Tree, prop_rows, put_object};
+use pst_value_json::{
+    Filed, Made, NameMap, Part, PropRows, Rows, Sink, Tree, prop_rows, put_object,
+};
 use pst_verify::{Attachment, Attachments};
 use serde_json::Value as Doc;
 use std::alloc::{AllocError, Global};
@@ -31,27 +33,59 @@ pub(crate) fn attachment_parts<'a>(
     alloc: Global,
     attachment: Attachment<'a>,
     names: Option<NameMap<'a>>,
+    filed: Filed,
     places: bool,
 ) -> Result<Vec<Part<PropRows<'a>>>, AllocError>
     ensures shown { let t = table_of_node (node_of_attachment attachment.entry) in
         let shown = attachment_shown attachment.entry in let told = names_told names.entry in
         IfOk result (λ parts.
-        parts_data prop_rows_left parts.items ≡ attachment_data told places t shown) }
+        parts_data prop_rows_left parts.items ≡ attachment_data told filed places t shown) }
     ensures keys { IfOk result (λ parts. KeysRise prop_rows_left parts.items) }
 {
     let parts = vec![in alloc;
         Part::Value("embedded", Made::Nid(embedded_nid(attachment))),
         Part::Value("nid", Made::Nid(Some(attachment.nid()))),
-        Part::Rows("props", prop_rows(&attachment.pc(), names, places)),
+        Part::Rows("props", prop_rows(&attachment.pc(), names, filed, places)),
     ]?;
     Ok(parts)
 }
 
-/// The attachments that are left, the names that their properties are shown with, and whether with their places.
+// Of which values of an attachment in the list of a message files are told, where they are told.
+fn filed_in_list(files: bool, nid: u32) -> Filed
+    ensures { result ≡ filed_below files nid }
+{
+    if files {
+        Filed::Attachment(Some(nid))
+    } else {
+        Filed::Nothing
+    }
+}
+
+// What the object of an attachment in the list of a message is made of.
+fn listed_parts<'a>(
+    alloc: Global,
+    attachment: Attachment<'a>,
+    names: Option<NameMap<'a>>,
+    files: bool,
+    places: bool,
+) -> Result<Vec<Part<PropRows<'a>>>, AllocError>
+    ensures shown { let t = table_of_node (node_of_attachment attachment.entry) in
+        let shown = attachment_shown attachment.entry in let told = names_told names.entry in
+        IfOk result (λ parts.
+        parts_data prop_rows_left parts.items ≡ listed_data told files places t shown) }
+    ensures keys { IfOk result (λ parts. KeysRise prop_rows_left parts.items) }
+{
+    let filed = filed_in_list(files, attachment.nid());
+    attachment_parts(alloc, attachment, names, filed, places)
+}
+
+/// The attachments that are left, the names that their properties are shown with, whether files are told in place of their contents,
+/// and whether with their places.
 #[derive(Drop)]
 pub(crate) struct AttachmentRows<'a> {
     pub(crate) attachments: Attachments<'a>,
     pub(crate) names: Option<NameMap<'a>>,
+    pub(crate) files: bool,
     pub(crate) places: bool,
 }
 
@@ -62,7 +96,7 @@ impl Rows for AttachmentRows<'_> {
     fn next_doc(&mut self, alloc: Global) -> Result<Option<Doc>, AllocError> {
         match self.attachments.next() {
             Some(attachment) => {
-                let parts = attachment_parts(alloc, attachment, self.names, self.places)?;
+                let parts = listed_parts(alloc, attachment, self.names, self.files, self.places)?;
                 Ok(Some(Tree::object(alloc, parts)?))
             }
             None => Ok(None),
@@ -79,7 +113,7 @@ impl Rows for AttachmentRows<'_> {
         let Some(attachment) = self.attachments.next() else {
             return Ok(false);
         };
-        let parts = attachment_parts(alloc, attachment, self.names, self.places)?;
+        let parts = listed_parts(alloc, attachment, self.names, self.files, self.places)?;
         put_object(alloc, parts, later, text)?;
         Ok(true)
     }

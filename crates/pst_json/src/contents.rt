@@ -1,29 +1,37 @@
 //! The messages of a folder as a document.
 
-ghost use Rattle.std.specs.Prelude.{◌≡◌, ◌++◌, Ok, Err, IfOk, OnErr, OnOk, IfErr, IfSome, option_map};
+ghost use Rattle.std.specs.Prelude.{◌≡◌, ◌++◌, true, Ok, Err, IfOk, OnErr, OnOk, IfErr, IfSome, option_map};
 ghost use Rattle.serde_json.specs.View.{view};
 ghost use Rattle.serde_json.specs.Written.{compact_text};
 ghost use Rattle.pst_block.specs.Table.{Table};
-ghost use Rattle.pst_ndb.specs.Views.{table_of_ndb, nodes_of, table_of_node, roots_of};
+ghost use Rattle.pst_ndb.specs.Views.{table_of_node, roots_of};
+ghost use Rattle.pst_intact.specs.View.{table_of_intact, nodes_of_intact};
+ghost use Rattle.pst_whole.specs.View.{lost_in};
 ghost use Rattle.pst_value_json.specs.pst_pc.View.{node_of_pc};
 ghost use Rattle.pst_value_json.specs.pst_tc.Tc.{node_of_tc};
 ghost use Rattle.pst_value_json.specs.pst_tc.View.{row_parts};
 ghost use Rattle.pst_verify.specs.pst_msg.declared.items.Items.TheVariants.{Messages};
 ghost use Rattle.pst_verify.specs.pst_msg.Left.{rows_of_rest};
+ghost use Rattle.pst_verify.specs.pst_msg.Nid.{is_type as is_type_of};
+ghost use Rattle.pst_verify.specs.pst_msg.declared.nid.TheConstants.{FOLDER as FOLDER_KIND};
+ghost use Rattle.pst_ndb.specs.Roots.{node_in};
 ghost use Rattle.pst_verify.specs.pst_msg.Shown.{rows_there, folder_table};
 ghost use Rattle.pst_verify.specs.pst_msg.View.{tc_roots, node_of_message, message_roots};
-ghost use Rattle.pst_verify.specs.pst_store.View.{ndb_of_store};
-ghost use Rattle.pst_json.specs.declared.fault.DocFault.TheVariants.{NoFolder};
-ghost use Rattle.pst_json.specs.Contents.{text_there, listed_data, listed_rows, contents_data, contents_of, contents_line as line_of_contents};
+ghost use Rattle.pst_json.specs.Contents.{text_there, listed_data, told_data, row_data, listed_rows, contents_data, contents_there, contents_of, contents_line as line_of_contents};
 ghost use Rattle.pst_json.specs.Told.{TellsDoc};
 ghost use Rattle.pst_value_json.specs.Kept.{BeginsWith};
 
 use crate::fault::DocFault;
 use crate::texts::{CLASS, SENDER, SUBJECT, put_text_property, text_property_doc};
+use pst_damage_json::fault_doc;
+use pst_fault::Fault;
+use pst_intact::Intact;
+use pst_msg::{Items, listing_nid};
 use pst_value_json::{
     Line, Made, Part, Pc, Row, Rows, Sink, Tc, TcRows, Tree, nid_text, put_comma, put_nid, put_null,
 };
-use pst_verify::{FOLDER, Message, Store, is_type};
+use pst_verify::{FOLDER, Message, is_type};
+use pst_whole::Lost;
 use serde_json::{Value as Doc, json};
 use std::alloc::{AllocError, Global};
 
@@ -54,17 +62,40 @@ fn text_of(alloc: Global, pc: Option<Pc>, id: u16) -> Result<Doc, AllocError>
 
 // The message that a row names as an object.
 #[tactic(auto, unfolding(crate::specs::Contents::listed_data))]
-fn listed_doc(alloc: Global, store: &Store, row: Row) -> Result<Doc, AllocError>
-    ensures { let ndb = ndb_of_store store.now in
-        IfOk result (λ d. view d ≡ listed_data (table_of_ndb ndb) (nodes_of ndb)
+fn listed_doc(alloc: Global, intact: &Intact, row: Row) -> Result<Doc, AllocError>
+    ensures { let t = table_of_intact intact.now in
+        IfOk result (λ d. view d ≡ listed_data t (nodes_of_intact intact.now)
         (row_parts row.entry)) }
 {
-    let pc = properties_of(store.message(row.id()));
+    let pc = properties_of(intact.message(row.id()));
     let class = text_of(alloc, pc, CLASS)?;
     let nid = nid_text(alloc, row.id())?;
     let sender = text_of(alloc, pc, SENDER)?;
     let subject = text_of(alloc, pc, SUBJECT)?;
     json!(in alloc; {"class": class, "nid": nid, "sender": sender, "subject": subject})
+}
+
+// A fault, in place of the message with an identifier, as an object.
+#[tactic(auto, unfolding(crate::specs::Contents::told_data))]
+fn told_doc(alloc: Global, fault: &Fault, nid: u32) -> Result<Doc, AllocError>
+    ensures { IfOk result (λ d. view d ≡ told_data fault.now nid) }
+{
+    let fault = fault_doc(alloc, fault)?;
+    let nid = nid_text(alloc, nid)?;
+    json!(in alloc; {"fault": fault, "nid": nid})
+}
+
+// What a row names as an object: the message, or what is told of it.
+#[tactic(auto, unfolding(crate::specs::Contents::row_data))]
+fn row_doc(alloc: Global, intact: &Intact, lost: &Lost, row: Row) -> Result<Doc, AllocError>
+    ensures { let t = table_of_intact intact.now in
+        IfOk result (λ d. view d ≡ row_data t (nodes_of_intact intact.now) (lost_in lost.now)
+        (row_parts row.entry)) }
+{
+    match lost.told(row.id()) {
+        Some(fault) => told_doc(alloc, &fault, row.id()),
+        None => listed_doc(alloc, intact, row),
+    }
 }
 
 // Puts the text of one of these properties behind a text; null where there are none.
@@ -87,13 +118,18 @@ fn put_text_of(
 
 // Puts the message that a row names behind a text, as an object.
 #[tactic(auto, unfolding(crate::specs::Contents::listed_data))]
-fn put_listed(alloc: Global, store: &Store, row: Row, text: &mut Vec<u8>) -> Result<(), AllocError>
-    ensures put { let ndb = ndb_of_store store.now in
-        let shown = listed_data (table_of_ndb ndb) (nodes_of ndb) (row_parts row.entry) in
+fn put_listed(
+    alloc: Global,
+    intact: &Intact,
+    row: Row,
+    text: &mut Vec<u8>,
+) -> Result<(), AllocError>
+    ensures put { let t = table_of_intact intact.now in
+        let shown = listed_data t (nodes_of_intact intact.now) (row_parts row.entry) in
         OnOk result (text.new.items ≡ text.old.items ++ compact_text shown) }
     ensures kept { OnErr result (BeginsWith text.new.items text.old.items) }
 {
-    let pc = properties_of(store.message(row.id()));
+    let pc = properties_of(intact.message(row.id()));
     text.extend_from_slice(b"{\"class\":")?;
     put_text_of(alloc, &pc, CLASS, text)?;
     text.extend_from_slice(b",\"nid\":")?;
@@ -106,40 +142,100 @@ fn put_listed(alloc: Global, store: &Store, row: Row, text: &mut Vec<u8>) -> Res
     Ok(())
 }
 
-// The contents table of a folder, where it is there, or that there is no such folder.
-#[tactic(auto, unfolding(crate::specs::Contents::node_of_kind, crate::specs::Contents::contents_of))]
-fn contents_table<'a>(store: &Store<'a>, nid: u32) -> Result<Option<Tc<'a>>, DocFault>
-    ensures found { let ndb = ndb_of_store store.now in
-        let t = table_of_ndb ndb in let nodes = nodes_of ndb in
-        IfOk result (λ table. contents_of t nodes nid ≡ Ok (contents_data t nodes nid)) }
-    ensures none { let ndb = ndb_of_store store.now in
-        IfErr result (λ f. (f ≡ NoFolder) × (contents_of (table_of_ndb ndb) (nodes_of ndb) nid
-        ≡ Err NoFolder)) }
-    ensures roots { let nodes = nodes_of (ndb_of_store store.now) in
+// Puts a fault behind a text, in place of the message with an identifier, as `told_doc` shows it.
+#[tactic(auto, using(crate::proofs::FolderLemmas::told_has_none))]
+fn put_told(alloc: Global, fault: &Fault, nid: u32, text: &mut Vec<u8>) -> Result<(), AllocError>
+    ensures put { OnOk result (text.new.items
+        ≡ text.old.items ++ compact_text (told_data fault.now nid)) }
+    ensures kept { OnErr result (BeginsWith text.new.items text.old.items) }
+{
+    let shown = told_doc(alloc, fault, nid)?.to_vec(alloc)?;
+    text.extend_from_slice(&shown)
+}
+
+// Puts what a row names behind a text, as `row_doc` shows it.
+#[tactic(auto, unfolding(crate::specs::Contents::row_data))]
+fn put_row(
+    alloc: Global,
+    intact: &Intact,
+    lost: &Lost,
+    row: Row,
+    text: &mut Vec<u8>,
+) -> Result<(), AllocError>
+    ensures put { let t = table_of_intact intact.now in
+        let shown = row_data t (nodes_of_intact intact.now) (lost_in lost.now) (row_parts row.entry) in
+        OnOk result (text.new.items ≡ text.old.items ++ compact_text shown) }
+    ensures kept { OnErr result (BeginsWith text.new.items text.old.items) }
+{
+    match lost.told(row.id()) {
+        Some(fault) => put_told(alloc, &fault, row.id(), text),
+        None => put_listed(alloc, intact, row, text),
+    }
+}
+
+// The contents table of a folder, where it is there and nothing is told of it, or that there is no such folder.
+#[tactic(auto, unfolding(crate::specs::Contents::node_of_kind))]
+fn table_in<'a>(intact: &Intact<'a>, lost: &Lost, nid: u32) -> Result<Option<Tc<'a>>, DocFault>
+    requires kind { is_type_of FOLDER_KIND nid ≡ true }
+    ensures found { let t = table_of_intact intact.now in let nodes = nodes_of_intact intact.now in
+        let all = lost_in lost.now in
+        IfOk result (λ table. contents_there t nodes all nid (node_in nodes nid)
+        ≡ Ok (contents_data t nodes all nid)) }
+    ensures none { let t = table_of_intact intact.now in let nodes = nodes_of_intact intact.now in
+        IfErr result (λ f. contents_there t nodes (lost_in lost.now) nid (node_in nodes nid) ≡ Err f) }
+    ensures roots { let nodes = nodes_of_intact intact.now in
         IfOk result (λ table. option_map tc_roots table ≡ folder_table nodes Messages nid) }
-    ensures table { let t = table_of_ndb (ndb_of_store store.now) in
+    ensures table { let t = table_of_intact intact.now in
         IfOk result (λ table. IfSome table (λ x. table_of_node (node_of_tc x) ≡ t)) }
 {
+    let Some(folder) = intact.folder(nid) else {
+        return Err(DocFault::NoFolder);
+    };
+    let _nid = folder.nid();
+    match lost.told(listing_nid(nid, Items::Messages)) {
+        Some(fault) => Err(DocFault::Bad(fault)),
+        None => Ok(folder.contents()),
+    }
+}
+
+// The same of any identifier, or why there is none.
+#[tactic(auto, unfolding(crate::specs::Contents::contents_of))]
+fn contents_table<'a>(
+    intact: &Intact<'a>,
+    lost: &Lost,
+    nid: u32,
+) -> Result<Option<Tc<'a>>, DocFault>
+    ensures found { let t = table_of_intact intact.now in let nodes = nodes_of_intact intact.now in
+        let all = lost_in lost.now in
+        IfOk result (λ table. contents_of t nodes all nid ≡ Ok (contents_data t nodes all nid)) }
+    ensures none { let t = table_of_intact intact.now in let nodes = nodes_of_intact intact.now in
+        IfErr result (λ f. contents_of t nodes (lost_in lost.now) nid ≡ Err f) }
+    ensures roots { let nodes = nodes_of_intact intact.now in
+        IfOk result (λ table. option_map tc_roots table ≡ folder_table nodes Messages nid) }
+    ensures table { let t = table_of_intact intact.now in
+        IfOk result (λ table. IfSome table (λ x. table_of_node (node_of_tc x) ≡ t)) }
+{
+    if let Some(fault) = lost.behind(nid) {
+        return Err(DocFault::Bad(fault));
+    }
     if !is_type(FOLDER, nid) {
         return Err(DocFault::NoFolder);
     }
-    match store.folder(nid) {
-        Some(folder) => {
-            let _nid = folder.nid();
-            Ok(folder.contents())
-        }
-        None => Err(DocFault::NoFolder),
+    match lost.own(nid) {
+        Some(fault) => Err(DocFault::Bad(fault)),
+        None => table_in(intact, lost, nid),
     }
 }
 
 /// The messages that are left of those that a table lists, each as an object.
 #[derive(Drop)]
 pub(crate) struct ListedRows<'a> {
-    store: Store<'a>,
+    intact: Intact<'a>,
+    lost: Lost<'a>,
     rows: Option<TcRows<'a>>,
 }
 
-#[tactic(auto, using(crate::proofs::FolderLemmas::listed_has_none))]
+#[tactic(auto, using(crate::proofs::FolderLemmas::row_has_none))]
 impl Rows for ListedRows<'_> {
     ghost left = { listed_rows };
 
@@ -150,7 +246,7 @@ impl Rows for ListedRows<'_> {
         let row = rows.next();
         self.rows = Some(rows);
         match row {
-            Some(row) => Ok(Some(listed_doc(alloc, &self.store, row)?)),
+            Some(row) => Ok(Some(row_doc(alloc, &self.intact, &self.lost, row)?)),
             None => Ok(None),
         }
     }
@@ -171,7 +267,7 @@ impl Rows for ListedRows<'_> {
             return Ok(false);
         };
         put_comma(later, text)?;
-        put_listed(alloc, &self.store, row, text)?;
+        put_row(alloc, &self.intact, &self.lost, row, text)?;
         Ok(true)
     }
 }
@@ -191,19 +287,21 @@ fn rows_of(table: Option<Tc>) -> Option<TcRows>
 #[tactic(auto, unfolding(crate::specs::Contents::contents_data))]
 fn shown_contents<'a, S: Sink>(
     alloc: Global,
-    store: &Store<'a>,
+    intact: &Intact<'a>,
+    lost: &Lost<'a>,
     nid: u32,
     table: Option<Tc<'a>>,
 ) -> Result<S::Out, AllocError>
-    requires table { let t = table_of_ndb (ndb_of_store store.now) in
+    requires table { let t = table_of_intact intact.now in
         IfSome table (λ x. table_of_node (node_of_tc x) ≡ t) }
-    requires roots { let nodes = nodes_of (ndb_of_store store.now) in
+    requires roots { let nodes = nodes_of_intact intact.now in
         option_map tc_roots table ≡ folder_table nodes Messages nid }
-    ensures { let ndb = ndb_of_store store.now in
-        IfOk result (λ out. S.Shows out (contents_data (table_of_ndb ndb) (nodes_of ndb) nid)) }
+    ensures { let t = table_of_intact intact.now in let nodes = nodes_of_intact intact.now in
+        IfOk result (λ out. S.Shows out (contents_data t nodes (lost_in lost.now) nid)) }
 {
     let messages = ListedRows {
-        store: *store,
+        intact: *intact,
+        lost: *lost,
         rows: rows_of(table),
     };
     let parts = vec![in alloc;
@@ -213,24 +311,36 @@ fn shown_contents<'a, S: Sink>(
     S::object(alloc, parts)
 }
 
-/// The messages of a folder as a JSON object: the identifier of the folder, and an array that has an object for each row
-/// of its contents table, in order of their identifiers, with the class of the message, its identifier, who sent it, and
-/// its subject, each a text or null. NoFolder where the store has no node of type 02 with the identifier.
-pub fn contents_doc(alloc: Global, store: &Store, nid: u32) -> Result<Doc, DocFault>
-    ensures { let ndb = ndb_of_store store.now in
-        TellsDoc view result (contents_of (table_of_ndb ndb) (nodes_of ndb) nid) }
+/// The messages of a folder among intact nodes as a JSON object: the identifier of the folder, and an array that has an object for
+/// each row of its contents table, in order of their identifiers, with the class of the message, its identifier, who sent it, and
+/// its subject, each a text or null; or, of a message of which something is told, with that fault and its identifier. Bad with what
+/// is told of the folder or of that table; NoFolder where there is no node of type 02 with the identifier.
+#[tactic(auto, using(crate::proofs::FoundLemmas::tells_fault))]
+pub fn contents_doc<'a>(
+    alloc: Global,
+    intact: &Intact<'a>,
+    lost: &Lost<'a>,
+    nid: u32,
+) -> Result<Doc, DocFault>
+    ensures { let t = table_of_intact intact.now in let nodes = nodes_of_intact intact.now in
+        TellsDoc view result (contents_of t nodes (lost_in lost.now) nid) }
 {
-    let table = contents_table(store, nid)?;
-    Ok(shown_contents::<Tree>(alloc, store, nid, table)?)
+    let table = contents_table(intact, lost, nid)?;
+    Ok(shown_contents::<Tree>(alloc, intact, lost, nid, table)?)
 }
 
-/// The line that shows the messages of a folder: the compact text of their document, and a line feed; or that there is no
-/// such folder. It is made message by message: beside the text, memory is taken for one at a time.
-#[tactic(auto, unfolding(crate::specs::Contents::contents_line))]
-pub fn contents_line(alloc: Global, store: &Store, nid: u32) -> Result<Vec<u8>, DocFault>
-    ensures { let ndb = ndb_of_store store.now in
-        TellsDoc (λ t. t.items) result (line_of_contents (table_of_ndb ndb) (nodes_of ndb) nid) }
+/// The line that shows the messages of a folder: the compact text of their document, and a line feed; or why there is none. It is
+/// made message by message: beside the text, memory is taken for one at a time.
+#[tactic(auto, using(crate::proofs::FoundLemmas::lined_fault), unfolding(crate::specs::Contents::contents_line))]
+pub fn contents_line<'a>(
+    alloc: Global,
+    intact: &Intact<'a>,
+    lost: &Lost<'a>,
+    nid: u32,
+) -> Result<Vec<u8>, DocFault>
+    ensures { let t = table_of_intact intact.now in let nodes = nodes_of_intact intact.now in
+        TellsDoc (λ t2. t2.items) result (line_of_contents t nodes (lost_in lost.now) nid) }
 {
-    let table = contents_table(store, nid)?;
-    Ok(shown_contents::<Line>(alloc, store, nid, table)?)
+    let table = contents_table(intact, lost, nid)?;
+    Ok(shown_contents::<Line>(alloc, intact, lost, nid, table)?)
 }

@@ -20,6 +20,8 @@ pub enum DocFault {
     Bad(Fault),
     /// What a path leads to has no property with this identifier.
     NoProperty(u16),
+    /// More paths lead to messages and attachments than there can be in a file that shares no blocks.
+    TooManyPaths,
     /// Memory was refused.
     Memory,
 }
@@ -38,6 +40,7 @@ impl fmt::Display for DocFault {
                 let [high, low] = id.to_be_bytes();
                 write!(f, "no property {high:02X}{low:02X}")
             }
+            DocFault::TooManyPaths => write!(f, "too many paths"),
             DocFault::Memory => write!(f, "out of memory"),
         }
     }

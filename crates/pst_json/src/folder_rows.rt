@@ -1,18 +1,21 @@
-//! The folders of a store, row by row: first those that the root folder reaches, then the others.
+//! Folders row by row: first those that the root folder reaches, then the others.
 
 ghost use Rattle.std.specs.Prelude.{◌≡◌, [], ◌∷◌, None, IfSome, MatchOption, map};
 ghost use Rattle.std.specs.List.{filter};
 ghost use Rattle.pst_btree.specs.Order.{Rises};
+ghost use Rattle.pst_btree.specs.TreeProps.{Rises-prop};
+ghost use Rattle.pst_ndb.specs.NodeTable.{table_of_nodes, entries_of_nodes};
 ghost use Rattle.pst_ndb.specs.Roots.{Roots};
-ghost use Rattle.pst_ndb.specs.Views.{table_of_ndb, nodes_of};
-ghost use Rattle.pst_verify.specs.pst_msg.View.{ndb_of_folder, folder_roots};
+ghost use Rattle.pst_intact.specs.View.{table_of_intact, nodes_of_intact, folders_beside, intact_beside, intact_folders_left, intact_roots};
+ghost use Rattle.pst_verify.specs.pst_reach.Levels.{reaches_of};
 ghost use Rattle.pst_verify.specs.pst_reach.Path.{reach_nid};
-ghost use Rattle.pst_verify.specs.pst_store.View.{table_of_store, nodes_of_store, folders_ndb, folders_left};
 ghost use Rattle.pst_json.specs.Folders.{is_shown};
 
 use crate::folders::{folder_doc, put_folder};
+use pst_intact::{Intact, IntactFolder, IntactFolders};
 use pst_value_json::{Rows, put_comma};
-use pst_verify::{Folder, Folders, Reach, Verified, find_reach};
+use pst_verify::{Reach, find_reach};
+use pst_whole::Lost;
 use serde_json::Value as Doc;
 use std::alloc::{AllocError, Global};
 
@@ -20,12 +23,12 @@ use std::alloc::{AllocError, Global};
 const ROOM: usize = 128;
 
 // Whether a folder is among those that are reached, or among the others.
-fn is_wanted(reached: &[Reach], lost: bool, nid: u32) -> bool
+fn is_wanted(reached: &[Reach], lone: bool, nid: u32) -> bool
     requires rise { Rises 0 None (map reach_nid reached.now) }
-    ensures { (r : Roots) → r.top ≡ nid → result ≡ is_shown lost reached.now r }
+    ensures { (r : Roots) → r.top ≡ nid → result ≡ is_shown lone reached.now r }
 {
     let found = find_reach(reached, nid);
-    if lost {
+    if lone {
         found.is_none()
     } else {
         found.is_some()
@@ -34,17 +37,21 @@ fn is_wanted(reached: &[Reach], lost: bool, nid: u32) -> bool
 
 // The next folder that the root folder reaches, or does not.
 #[tactic(auto, using(crate::proofs::RowsLemmas::shown_here, crate::proofs::RowsLemmas::not_shown, crate::proofs::RowsLemmas::none_shown))]
-fn next_of<'a>(rest: &mut Folders<'a>, reached: &[Reach], lost: bool) -> Option<Folder<'a>>
+fn next_of<'a>(
+    rest: &mut IntactFolders<'a>,
+    reached: &[Reach],
+    lone: bool,
+) -> Option<IntactFolder<'a>>
     requires rise { Rises 0 None (map reach_nid reached.now) }
-    ensures takes { let test = is_shown lost reached.now in
-        MatchOption result (filter test (folders_left rest.old) ≡ [])
-        (λ x. filter test (folders_left rest.old)
-        ≡ folder_roots x ∷ filter test (folders_left rest.new)) }
-    ensures ndb { folders_ndb rest.new ≡ folders_ndb rest.old }
-    ensures of { IfSome result (λ x. ndb_of_folder x ≡ folders_ndb rest.old) }
+    ensures takes { let test = is_shown lone reached.now in
+        MatchOption result (filter test (intact_folders_left rest.old) ≡ [])
+        (λ x. filter test (intact_folders_left rest.old)
+        ≡ intact_roots x ∷ filter test (intact_folders_left rest.new)) }
+    ensures beside { folders_beside rest.new ≡ folders_beside rest.old }
+    ensures of { IfSome result (λ x. intact_beside x ≡ folders_beside rest.old) }
 {
     while let Some(folder) = rest.next() {
-        if is_wanted(reached, lost, folder.nid()) {
+        if is_wanted(reached, lone, folder.nid()) {
             return Some(folder);
         }
     }
@@ -54,55 +61,68 @@ fn next_of<'a>(rest: &mut Folders<'a>, reached: &[Reach], lost: bool) -> Option<
 /// The folders that are left.
 #[derive(Drop)]
 pub(crate) struct FolderRows<'a> {
-    verified: &'a Verified<'a>,
-    rest: Folders<'a>,
+    intact: Intact<'a>,
+    lost: Lost<'a>,
+    reached: &'a [Reach],
+    rest: IntactFolders<'a>,
     // Whether those that the root folder reaches are behind.
-    lost: bool,
-    ghost table: { table_of_ndb (folders_ndb rest) ≡ table_of_store verified.now.store },
-    ghost nodes: { nodes_of (folders_ndb rest) ≡ nodes_of_store verified.now.store },
+    lone: bool,
+    ghost table: { table_of_nodes (folders_beside rest) ≡ table_of_intact intact },
+    ghost nodes: { entries_of_nodes (folders_beside rest) ≡ nodes_of_intact intact },
+    ghost all: { reached.now ≡ reaches_of (table_of_intact intact) (nodes_of_intact intact) },
+    ghost rise: { Rises 0 None (map reach_nid reached.now) } by { Rises-prop 0 None
+        (map reach_nid reached.now) },
 }
 
 impl<'a> FolderRows<'a> {
-    ghost use Rattle.std.specs.Prelude.{◌≡◌, [], ◌∷◌, IfSome, MatchOption};
-    ghost use Rattle.pst_ndb.specs.Views.{table_of_ndb, nodes_of};
-    ghost use Rattle.pst_verify.specs.pst_msg.View.{ndb_of_folder, folder_roots};
-    ghost use Rattle.pst_verify.specs.pst_store.View.{table_of_store, nodes_of_store};
-    ghost use Rattle.pst_json.specs.FolderRows.{all_rows, folder_rows, verified_of, rows_left};
+    ghost use Rattle.std.specs.Prelude.{◌≡◌, [], ◌∷◌, None, IfSome, MatchOption, map};
+    ghost use Rattle.pst_btree.specs.Order.{Rises};
+    ghost use Rattle.pst_ndb.specs.NodeTable.{table_of_nodes, entries_of_nodes};
+    ghost use Rattle.pst_intact.specs.View.{table_of_intact, nodes_of_intact, intact_beside, intact_roots};
+    ghost use Rattle.pst_verify.specs.pst_reach.Levels.{reaches_of};
+    ghost use Rattle.pst_verify.specs.pst_reach.Path.{reach_nid};
+    ghost use Rattle.pst_whole.specs.View.{lost_in};
+    ghost use Rattle.pst_json.specs.FolderRows.{all_rows, folder_rows, intact_of, lost_of_rows, reached_of, rows_left};
 
-    /// All folders of a store.
-    pub(crate) fn of(verified: &'a Verified<'a>) -> FolderRows<'a>
-        ensures { folder_rows result ≡ all_rows verified.now.store }
+    /// All folders among intact nodes, of which the root folder reaches these.
+    #[tactic(auto, using(crate::proofs::RowsLemmas::rows_of_all))]
+    pub(crate) fn of(intact: &Intact<'a>, lost: &Lost<'a>, reached: &'a [Reach]) -> FolderRows<'a>
+        requires reached { let t = table_of_intact intact.now in
+            reached.now ≡ reaches_of t (nodes_of_intact intact.now) }
+        requires rise { Rises 0 None (map reach_nid reached.now) }
+        ensures { let t = table_of_intact intact.now in
+            folder_rows result ≡ all_rows t (nodes_of_intact intact.now) (lost_in lost.now) }
     {
-        verified.is_sound();
-        let rest = verified.store.folders();
         FolderRows {
-            verified,
-            rest,
-            lost: false,
+            intact: *intact,
+            lost: *lost,
+            reached,
+            rest: intact.folders(),
+            lone: false,
         }
     }
 
     // The next folder.
     #[tactic(auto, using(crate::proofs::RowsLemmas::front_more, crate::proofs::RowsLemmas::front_none))]
-    fn next_folder(&mut self) -> Option<Folder<'a>>
-        ensures verified { verified_of self.new ≡ verified_of self.old }
+    fn next_folder(&mut self) -> Option<IntactFolder<'a>>
+        ensures intact { intact_of self.new ≡ intact_of self.old }
+        ensures lost { lost_of_rows self.new ≡ lost_of_rows self.old }
+        ensures reached { reached_of self.new ≡ reached_of self.old }
         ensures takes { MatchOption result (rows_left self.old ≡ [])
-            (λ x. rows_left self.old ≡ folder_roots x ∷ rows_left self.new) }
+            (λ x. rows_left self.old ≡ intact_roots x ∷ rows_left self.new) }
         ensures table { IfSome result (λ x.
-            table_of_ndb (ndb_of_folder x) ≡ table_of_store (verified_of self.old).store) }
+            table_of_nodes (intact_beside x) ≡ table_of_intact (intact_of self.old)) }
         ensures nodes { IfSome result (λ x.
-            nodes_of (ndb_of_folder x) ≡ nodes_of_store (verified_of self.old).store) }
+            entries_of_nodes (intact_beside x) ≡ nodes_of_intact (intact_of self.old)) }
     {
-        self.verified.is_sound();
-        let reached = &self.verified.report.reached;
-        if !self.lost {
-            if let Some(folder) = next_of(&mut self.rest, reached, false) {
+        if !self.lone {
+            if let Some(folder) = next_of(&mut self.rest, self.reached, false) {
                 return Some(folder);
             }
-            self.rest = self.verified.store.folders();
-            self.lost = true;
+            self.rest = self.intact.folders();
+            self.lone = true;
         }
-        next_of(&mut self.rest, reached, true)
+        next_of(&mut self.rest, self.reached, true)
     }
 }
 
@@ -113,10 +133,9 @@ impl Rows for FolderRows<'_> {
     ghost left = { folder_rows };
 
     fn next_doc(&mut self, alloc: Global) -> Result<Option<Doc>, AllocError> {
-        self.verified.is_sound();
         match self.next_folder() {
             Some(folder) => {
-                let doc = folder_doc(alloc, folder, &self.verified.report.reached)?;
+                let doc = folder_doc(alloc, folder, &self.lost, self.reached)?;
                 Ok(Some(doc))
             }
             None => Ok(None),
@@ -130,15 +149,14 @@ impl Rows for FolderRows<'_> {
         later: bool,
         text: &mut Vec<u8>,
     ) -> Result<bool, AllocError> {
-        self.verified.is_sound();
         let Some(folder) = self.next_folder() else {
             return Ok(false);
         };
         if !later {
-            text.reserve(ROOM.saturating_mul(self.verified.report.folders as usize))?;
+            text.reserve(ROOM.saturating_mul(self.reached.len()))?;
         }
         put_comma(later, text)?;
-        put_folder(alloc, folder, &self.verified.report.reached, text)?;
+        put_folder(alloc, folder, &self.lost, self.reached, text)?;
         Ok(true)
     }
 }

@@ -5,14 +5,17 @@ ghost use Rattle.serde_json.specs.View.{view};
 ghost use Rattle.serde_json.specs.Written.{compact_text};
 ghost use Rattle.pst_block.specs.Table.{Table};
 ghost use Rattle.pst_btree.specs.Order.{Rises};
-ghost use Rattle.pst_ndb.specs.Views.{table_of_ndb, nodes_of, table_of_node, roots_of};
+ghost use Rattle.pst_ndb.specs.NodeTable.{table_of_nodes, entries_of_nodes};
+ghost use Rattle.pst_ndb.specs.Views.{table_of_node, roots_of, top_of};
 ghost use Rattle.pst_value_json.specs.pst_tc.Tc.{node_of_tc};
 ghost use Rattle.pst_value_json.specs.pst_tc.Values.{tc_rows};
-ghost use Rattle.pst_verify.specs.pst_msg.Shown.{rows_there};
-ghost use Rattle.pst_verify.specs.pst_msg.View.{tc_roots, ndb_of_folder, folder_roots};
+ghost use Rattle.pst_verify.specs.pst_msg.Shown.{rows_there, folder_table};
+ghost use Rattle.pst_verify.specs.pst_msg.View.{tc_roots};
+ghost use Rattle.pst_intact.specs.View.{table_of_intact, nodes_of_intact, intact_beside, intact_roots, intact_node};
+ghost use Rattle.pst_whole.specs.View.{lost_in};
+ghost use Rattle.pst_verify.specs.pst_reach.Levels.{reaches_of};
 ghost use Rattle.pst_verify.specs.pst_reach.Path.{reach_nid, path_in};
-ghost use Rattle.pst_verify.specs.pst_store.View.{ndb_of_store};
-ghost use Rattle.pst_json.specs.Folders.{row_nid, path_data, folder_data, folders_data, folders_line as line_of_folders};
+ghost use Rattle.pst_json.specs.Folders.{row_nid, path_data, count_data, nids_data, table_told, folder_data, folders_data, folders_line as line_of_folders};
 ghost use Rattle.pst_value_json.specs.Kept.{BeginsWith};
 ghost use Rattle.pst_value_json.specs.Names.{nid_data};
 ghost use Rattle.pst_value_json.specs.Parts.{list_data};
@@ -20,8 +23,12 @@ ghost use Rattle.pst_value_json.specs.Parts.{list_data};
 use crate::folder_rows::FolderRows;
 use crate::nid_lists::{put_nid_list, put_nids_of};
 use crate::texts::{NAME, put_text_property, text_property_doc};
+use pst_fault::Fault;
+use pst_intact::{Intact, IntactFolder};
+use pst_msg::{FOLDER, Items, is_type, listing_nid};
 use pst_value_json::{Line, Part, Sink, Tc, Tree, nid_text, put_natural, put_nid, put_null};
-use pst_verify::{Folder, Reach, Verified, path_from_root};
+use pst_verify::{Reach, path_from_root};
+use pst_whole::Lost;
 use serde_json::{Value as Doc, json};
 use std::alloc::{AllocError, Global};
 
@@ -61,13 +68,43 @@ fn nid_list_doc(alloc: Global, nids: &[u32]) -> Result<Doc, AllocError>
     Ok(Doc::from(docs))
 }
 
-// The identifiers of the rows of a table, of no rows where it is not there.
-fn nids_of(alloc: Global, table: Option<Tc>) -> Result<Doc, AllocError>
-    ensures { (t : Table) → IfSome table.entry (λ x. table_of_node (node_of_tc x) ≡ t)
-        → IfOk result (λ d. view d
-        ≡ list_data row_nid (rows_there t (option_map tc_roots table.entry))) }
+// What is told of a table of a folder.
+fn told_of_table(lost: &Lost, items: Items, nid: u32) -> Option<Fault>
+    ensures { result ≡ table_told (lost_in lost.now) items nid }
 {
-    match table {
+    if !is_type(FOLDER, nid) {
+        return None;
+    }
+    lost.told(listing_nid(nid, items))
+}
+
+// How many rows a table of a folder has, 0 where it is not there; null where something is told of it.
+fn count_doc(folder: &IntactFolder, lost: &Lost, items: Items) -> Doc
+    ensures { let nodes = intact_beside folder.now in let nid = top_of (intact_node folder.now) in
+        view result ≡ count_data (table_told (lost_in lost.now) items nid) (table_of_nodes nodes)
+        (folder_table (entries_of_nodes nodes) items nid) }
+{
+    match told_of_table(lost, items, folder.nid()) {
+        Some(_) => Doc::Null,
+        None => Doc::from(count_of(folder.table(items))),
+    }
+}
+
+// The identifiers of the rows of such a table, of no rows where it is not there; null where something is told of it.
+fn nids_doc(
+    alloc: Global,
+    folder: &IntactFolder,
+    lost: &Lost,
+    items: Items,
+) -> Result<Doc, AllocError>
+    ensures { let nodes = intact_beside folder.now in let nid = top_of (intact_node folder.now) in
+        IfOk result (λ d. view d ≡ nids_data (table_told (lost_in lost.now) items nid)
+        (table_of_nodes nodes) (folder_table (entries_of_nodes nodes) items nid)) }
+{
+    if told_of_table(lost, items, folder.nid()).is_some() {
+        return Ok(Doc::Null);
+    }
+    match folder.table(items) {
         Some(tc) => row_nids_doc(alloc, &tc),
         None => Ok(Doc::from(Vec::<Doc>::new(alloc))),
     }
@@ -88,21 +125,22 @@ fn path_doc(alloc: Global, reached: &[Reach], nid: u32) -> Result<Doc, AllocErro
 #[tactic(auto, unfolding(crate::specs::Folders::folder_data))]
 pub(crate) fn folder_doc(
     alloc: Global,
-    folder: Folder,
+    folder: IntactFolder,
+    lost: &Lost,
     reached: &[Reach],
 ) -> Result<Doc, AllocError>
     requires rise { Rises 0 None (map reach_nid reached.now) }
-    ensures { let ndb = ndb_of_folder folder.entry in
-        IfOk result (λ d. view d ≡ folder_data (table_of_ndb ndb) (nodes_of ndb) reached.now
-        (folder_roots folder.entry)) }
+    ensures { let nodes = intact_beside folder.entry in let t = table_of_nodes nodes in
+        IfOk result (λ d. view d ≡ folder_data t (entries_of_nodes nodes) (lost_in lost.now)
+        reached.now (intact_roots folder.entry)) }
 {
     folder.is_sound();
-    let associated = count_of(folder.associated());
-    let messages = count_of(folder.contents());
+    let associated = count_doc(&folder, lost, Items::Associated);
+    let messages = count_doc(&folder, lost, Items::Messages);
     let name = text_property_doc(alloc, &folder.pc(), NAME)?;
     let nid = nid_text(alloc, folder.nid())?;
     let path = path_doc(alloc, reached, folder.nid())?;
-    let subfolders = nids_of(alloc, folder.hierarchy())?;
+    let subfolders = nids_doc(alloc, &folder, lost, Items::Subfolders)?;
     json!(in alloc; {
         "associated": associated,
         "messages": messages,
@@ -131,25 +169,65 @@ fn put_path(
     }
 }
 
+// Puts how many rows a table of a folder has behind a text, as `count_doc` shows it.
+fn put_count(
+    folder: &IntactFolder,
+    lost: &Lost,
+    items: Items,
+    text: &mut Vec<u8>,
+) -> Result<(), AllocError>
+    ensures put { let nodes = intact_beside folder.now in let nid = top_of (intact_node folder.now) in
+        let shown = count_data (table_told (lost_in lost.now) items nid) (table_of_nodes nodes)
+        (folder_table (entries_of_nodes nodes) items nid) in
+        OnOk result (text.new.items ≡ text.old.items ++ compact_text shown) }
+    ensures kept { OnErr result (BeginsWith text.new.items text.old.items) }
+{
+    match told_of_table(lost, items, folder.nid()) {
+        Some(_) => put_null(text),
+        None => put_natural(count_of(folder.table(items)), text),
+    }
+}
+
+// Puts the identifiers of the rows of such a table behind a text, as `nids_doc` shows them.
+fn put_nids(
+    folder: &IntactFolder,
+    lost: &Lost,
+    items: Items,
+    text: &mut Vec<u8>,
+) -> Result<(), AllocError>
+    ensures put { let nodes = intact_beside folder.now in let nid = top_of (intact_node folder.now) in
+        let shown = nids_data (table_told (lost_in lost.now) items nid) (table_of_nodes nodes)
+        (folder_table (entries_of_nodes nodes) items nid) in
+        OnOk result (text.new.items ≡ text.old.items ++ compact_text shown) }
+    ensures kept { OnErr result (BeginsWith text.new.items text.old.items) }
+{
+    match told_of_table(lost, items, folder.nid()) {
+        Some(_) => put_null(text),
+        None => put_nids_of(&folder.table(items), text),
+    }
+}
+
 /// Puts a folder behind a text, as an object.
 #[tactic(auto, unfolding(crate::specs::Folders::folder_data))]
 pub(crate) fn put_folder(
     alloc: Global,
-    folder: Folder,
+    folder: IntactFolder,
+    lost: &Lost,
     reached: &[Reach],
     text: &mut Vec<u8>,
 ) -> Result<(), AllocError>
     requires rise { Rises 0 None (map reach_nid reached.now) }
-    ensures put { let ndb = ndb_of_folder folder.entry in let t = table_of_ndb ndb in
-        let shown = folder_data t (nodes_of ndb) reached.now (folder_roots folder.entry) in
+    ensures put { let nodes = intact_beside folder.entry in let t = table_of_nodes nodes in
+        let shown = folder_data t (entries_of_nodes nodes) (lost_in lost.now) reached.now
+        (intact_roots folder.entry) in
         OnOk result (text.new.items ≡ text.old.items ++ compact_text shown) }
     ensures kept { OnErr result (BeginsWith text.new.items text.old.items) }
 {
     folder.is_sound();
     text.extend_from_slice(b"{\"associated\":")?;
-    put_natural(count_of(folder.associated()), text)?;
+    put_count(&folder, lost, Items::Associated, text)?;
     text.extend_from_slice(b",\"messages\":")?;
-    put_natural(count_of(folder.contents()), text)?;
+    put_count(&folder, lost, Items::Messages, text)?;
     text.extend_from_slice(b",\"name\":")?;
     put_text_property(alloc, &folder.pc(), NAME, text)?;
     text.extend_from_slice(b",\"nid\":")?;
@@ -157,39 +235,64 @@ pub(crate) fn put_folder(
     text.extend_from_slice(b",\"path\":")?;
     put_path(alloc, reached, folder.nid(), text)?;
     text.extend_from_slice(b",\"subfolders\":")?;
-    put_nids_of(&folder.hierarchy(), text)?;
+    put_nids(&folder, lost, Items::Subfolders, text)?;
     text.push(b'}')?;
     Ok(())
 }
 
 // The document.
 #[tactic(auto, unfolding(crate::specs::Folders::folders_data))]
-fn shown_folders<S: Sink>(alloc: Global, verified: &Verified) -> Result<S::Out, AllocError>
-    ensures { let ndb = ndb_of_store verified.now.store in
-        IfOk result (λ out. S.Shows out (folders_data (table_of_ndb ndb) (nodes_of ndb))) }
+fn shown_folders<'a, S: Sink>(
+    alloc: Global,
+    intact: &Intact<'a>,
+    lost: &Lost<'a>,
+    reached: &'a [Reach],
+) -> Result<S::Out, AllocError>
+    requires reached { let t = table_of_intact intact.now in
+        reached.now ≡ reaches_of t (nodes_of_intact intact.now) }
+    requires rise { Rises 0 None (map reach_nid reached.now) }
+    ensures { let t = table_of_intact intact.now in let nodes = nodes_of_intact intact.now in
+        IfOk result (λ out. S.Shows out (folders_data t nodes (lost_in lost.now))) }
 {
-    let parts = vec![in alloc; Part::Rows("folders", FolderRows::of(verified))]?;
+    let parts = vec![in alloc; Part::Rows("folders", FolderRows::of(intact, lost, reached))]?;
     S::object(alloc, parts)
 }
 
-/// The folders and search folders of a store as a JSON object with one member, an array that has an object for each: first
+/// The folders and search folders among intact nodes as a JSON object with one member, an array that has an object for each: first
 /// those that the root folder reaches, then the others, both in order of their identifiers. A folder has the numbers of the
 /// messages that belong to it and that are in it, its name or null, its identifier, the identifiers from the root folder down
-/// the parents to it or null where that does not reach it, and those of its subfolders.
-pub fn folders_doc(alloc: Global, verified: &Verified) -> Result<Doc, AllocError>
-    ensures { let ndb = ndb_of_store verified.now.store in
-        IfOk result (λ d. view d ≡ folders_data (table_of_ndb ndb) (nodes_of ndb)) }
+/// the parents to it or null where that does not reach it, and those of its subfolders. In place of a table of which something is
+/// told stands null. Those that are reached are what `reach` or `reach_among` gives of these nodes.
+pub fn folders_doc<'a>(
+    alloc: Global,
+    intact: &Intact<'a>,
+    lost: &Lost<'a>,
+    reached: &'a [Reach],
+) -> Result<Doc, AllocError>
+    requires reached { let t = table_of_intact intact.now in
+        reached.now ≡ reaches_of t (nodes_of_intact intact.now) }
+    requires rise { Rises 0 None (map reach_nid reached.now) }
+    ensures { let t = table_of_intact intact.now in let nodes = nodes_of_intact intact.now in
+        IfOk result (λ d. view d ≡ folders_data t nodes (lost_in lost.now)) }
 {
-    shown_folders::<Tree>(alloc, verified)
+    shown_folders::<Tree>(alloc, intact, lost, reached)
 }
 
-/// The line that shows the folders of a store: the compact text of their document, and a line feed. It is made folder by
-/// folder: beside the text, memory is taken for one folder at a time. Room for all of them is taken at the start, so that a
-/// text whose names and paths are short need not be moved while it grows.
+/// The line that shows the folders: the compact text of their document, and a line feed. It is made folder by folder: beside the
+/// text, memory is taken for one folder at a time. Room for those that are reached is taken at the start, so that a text whose
+/// names and paths are short need not be moved while it grows.
 #[tactic(auto, unfolding(crate::specs::Folders::folders_line))]
-pub fn folders_line(alloc: Global, verified: &Verified) -> Result<Vec<u8>, AllocError>
-    ensures { let ndb = ndb_of_store verified.now.store in
-        IfOk result (λ t. t.items ≡ line_of_folders (table_of_ndb ndb) (nodes_of ndb)) }
+pub fn folders_line<'a>(
+    alloc: Global,
+    intact: &Intact<'a>,
+    lost: &Lost<'a>,
+    reached: &'a [Reach],
+) -> Result<Vec<u8>, AllocError>
+    requires reached { let t = table_of_intact intact.now in
+        reached.now ≡ reaches_of t (nodes_of_intact intact.now) }
+    requires rise { Rises 0 None (map reach_nid reached.now) }
+    ensures { let t = table_of_intact intact.now in let nodes = nodes_of_intact intact.now in
+        IfOk result (λ t2. t2.items ≡ line_of_folders t nodes (lost_in lost.now)) }
 {
-    shown_folders::<Line>(alloc, verified)
+    shown_folders::<Line>(alloc, intact, lost, reached)
 }

@@ -1,17 +1,18 @@
 //! What a path leads to.
 
 ghost use Rattle.std.specs.Prelude.{◌≡◌, IfOk, IfSome, option_map, fold, Some};
-ghost use Rattle.pst_ndb.specs.Views.{image_of_ndb, table_of_ndb, nodes_of, image_of_node, table_of_node, roots_of};
+ghost use Rattle.pst_ndb.specs.Views.{image_of_node, table_of_node, roots_of};
+ghost use Rattle.pst_intact.specs.View.{image_of_intact, table_of_intact, nodes_of_intact};
 ghost use Rattle.pst_verify.specs.pst_msg.View.{node_of_attachment, node_of_message};
-ghost use Rattle.pst_verify.specs.pst_store.View.{ndb_of_store};
 ghost use Rattle.pst_json.specs.Found.{node_of_reached, place_of, node_of_found, place_of_found};
 ghost use Rattle.pst_json.specs.Path.{message, attachment, place_of_shown, attachment_with, embedded_with, first_place, found_at, place_at, step, step_from};
 ghost use Rattle.pst_json.specs.Told.{told_of};
 
 use crate::fault::DocFault;
+use pst_intact::Intact;
 use pst_ndb::Node as NodeView;
 use pst_value_json::{Pc, check_pc};
-use pst_verify::{Attachment, Message, Store, is_message};
+use pst_verify::{Attachment, Message, is_message};
 
 // What a path has reached.
 #[derive(Clone, Copy)]
@@ -37,21 +38,21 @@ pub(crate) enum Found<'a> {
 
 // The node with which a path begins.
 #[tactic(auto, unfolding(crate::specs::Contents::node_of_kind))]
-fn first<'a>(store: &Store<'a>, nid: u32) -> Option<Reached<'a>>
-    ensures place { let nodes = nodes_of (ndb_of_store store.now) in
+fn first<'a>(intact: &Intact<'a>, nid: u32) -> Option<Reached<'a>>
+    ensures place { let nodes = nodes_of_intact intact.now in
         option_map place_of result ≡ first_place nodes nid }
-    ensures table { let t = table_of_ndb (ndb_of_store store.now) in
+    ensures table { let t = table_of_intact intact.now in
         IfSome result (λ r. table_of_node (node_of_reached r) ≡ t) }
-    ensures image { let file = image_of_ndb (ndb_of_store store.now) in
+    ensures image { let file = image_of_intact intact.now in
         IfSome result (λ r. image_of_node (node_of_reached r) ≡ file) }
 {
     if is_message(nid) {
-        return match store.message(nid) {
+        return match intact.message(nid) {
             Some(message) => Some(Reached::Message(message)),
             None => None,
         };
     }
-    match store.node(nid) {
+    match intact.node(nid) {
         Some(node) => Some(Reached::Node(node)),
         None => None,
     }
@@ -126,16 +127,16 @@ fn walk<'a>(from: Reached<'a>, steps: &[u32]) -> Option<Reached<'a>>
 }
 
 // Steps from a node on.
-fn walk_from<'a>(store: &Store<'a>, nid: u32, steps: &[u32]) -> Option<Reached<'a>>
-    ensures place { let t = table_of_ndb (ndb_of_store store.now) in
-        let nodes = nodes_of (ndb_of_store store.now) in
+fn walk_from<'a>(intact: &Intact<'a>, nid: u32, steps: &[u32]) -> Option<Reached<'a>>
+    ensures place { let t = table_of_intact intact.now in
+        let nodes = nodes_of_intact intact.now in
         option_map place_of result ≡ fold (step t) (first_place nodes nid) steps.now }
-    ensures table { let t = table_of_ndb (ndb_of_store store.now) in
+    ensures table { let t = table_of_intact intact.now in
         IfSome result (λ r. table_of_node (node_of_reached r) ≡ t) }
-    ensures image { let file = image_of_ndb (ndb_of_store store.now) in
+    ensures image { let file = image_of_intact intact.now in
         IfSome result (λ r. image_of_node (node_of_reached r) ≡ file) }
 {
-    match first(store, nid) {
+    match first(intact, nid) {
         Some(reached) => walk(reached, steps),
         None => None,
     }
@@ -143,16 +144,16 @@ fn walk_from<'a>(store: &Store<'a>, nid: u32, steps: &[u32]) -> Option<Reached<'
 
 // What a path leads to.
 #[tactic(auto, unfolding(crate::specs::Path::place_at))]
-fn reached_by<'a>(store: &Store<'a>, path: &[u32]) -> Option<Reached<'a>>
-    ensures place { let ndb = ndb_of_store store.now in
-        option_map place_of result ≡ place_at (table_of_ndb ndb) (nodes_of ndb) path.now }
-    ensures table { let t = table_of_ndb (ndb_of_store store.now) in
+fn reached_by<'a>(intact: &Intact<'a>, path: &[u32]) -> Option<Reached<'a>>
+    ensures place { let i = intact.now in
+        option_map place_of result ≡ place_at (table_of_intact i) (nodes_of_intact i) path.now }
+    ensures table { let t = table_of_intact intact.now in
         IfSome result (λ r. table_of_node (node_of_reached r) ≡ t) }
-    ensures image { let file = image_of_ndb (ndb_of_store store.now) in
+    ensures image { let file = image_of_intact intact.now in
         IfSome result (λ r. image_of_node (node_of_reached r) ≡ file) }
 {
     let (nid, steps) = path.split_first()?;
-    walk_from(store, *nid, steps)
+    walk_from(intact, *nid, steps)
 }
 
 impl<'a> Found<'a> {
@@ -174,15 +175,15 @@ impl<'a> Found<'a> {
 
 /// What a path leads to that has properties, or why there is none.
 #[tactic(auto, unfolding(crate::specs::Path::found_at))]
-pub(crate) fn found_in<'a>(store: &Store<'a>, path: &[u32]) -> Result<Found<'a>, DocFault>
-    ensures place { let ndb = ndb_of_store store.now in
-        told_of place_of_found result ≡ found_at (table_of_ndb ndb) (nodes_of ndb) path.now }
-    ensures table { let t = table_of_ndb (ndb_of_store store.now) in
+pub(crate) fn found_in<'a>(intact: &Intact<'a>, path: &[u32]) -> Result<Found<'a>, DocFault>
+    ensures place { let i = intact.now in
+        told_of place_of_found result ≡ found_at (table_of_intact i) (nodes_of_intact i) path.now }
+    ensures table { let t = table_of_intact intact.now in
         IfOk result (λ f. table_of_node (node_of_found f) ≡ t) }
-    ensures image { let file = image_of_ndb (ndb_of_store store.now) in
+    ensures image { let file = image_of_intact intact.now in
         IfOk result (λ f. image_of_node (node_of_found f) ≡ file) }
 {
-    match reached_by(store, path) {
+    match reached_by(intact, path) {
         Some(Reached::Message(message)) => Ok(Found::Message(message)),
         Some(Reached::Attachment(attachment)) => Ok(Found::Attachment(attachment)),
         Some(Reached::Node(node)) => match check_pc(node) {

@@ -1,13 +1,12 @@
 //! Which folders list each message.
 
 ghost use Rattle.std.specs.Prelude.{◌≡◌, ℕ, IfOk};
-ghost use Rattle.pst_ndb.specs.Views.{table_of_ndb, nodes_of};
-ghost use Rattle.pst_verify.specs.pst_store.View.{ndb_of_store};
+ghost use Rattle.pst_intact.specs.View.{table_of_intact, nodes_of_intact};
 ghost use Rattle.pst_json.specs.Listings.{folders_at};
 ghost use Rattle.pst_json.specs.Messages.{listed_in};
 
+use pst_intact::{Intact, IntactFolder};
 use pst_value_json::{Tc, tc_ids_rise};
-use pst_verify::{Folder, Store};
 use std::alloc::{AllocError, Global};
 use std::collections::BTreeMap;
 
@@ -22,10 +21,11 @@ pub(crate) struct Listings {
 impl Listings {
     ghost use Rattle.std.specs.Prelude.{◌≡◌, ◌++◌, ℕ, [], OnOk, nat_eq};
     ghost use Rattle.std.specs.List.{list_any};
-    ghost use Rattle.pst_ndb.specs.Views.{table_of_node, table_of_ndb, nodes_of, roots_of};
+    ghost use Rattle.pst_ndb.specs.NodeTable.{table_of_nodes, entries_of_nodes};
+    ghost use Rattle.pst_ndb.specs.Views.{table_of_node, roots_of};
     ghost use Rattle.pst_value_json.specs.pst_tc.Tc.{node_of_tc};
     ghost use Rattle.pst_value_json.specs.pst_tc.Values.{tc_rows};
-    ghost use Rattle.pst_verify.specs.pst_msg.View.{ndb_of_folder, folder_roots};
+    ghost use Rattle.pst_intact.specs.View.{intact_beside, intact_roots};
     ghost use Rattle.pst_json.specs.Listings.{folders_at, if_listed};
     ghost use Rattle.pst_json.specs.Messages.{lists, names};
 
@@ -66,11 +66,11 @@ impl Listings {
     }
 
     // A folder lists what its contents table has.
-    fn note_folder(&mut self, folder: Folder) -> Result<(), AllocError>
-        ensures { let ndb = ndb_of_folder folder.entry in
-            let r = folder_roots folder.entry in
+    fn note_folder(&mut self, folder: IntactFolder) -> Result<(), AllocError>
+        ensures { let all = intact_beside folder.entry in let t = table_of_nodes all in
+            let r = intact_roots folder.entry in
             OnOk result ((nid : ℕ) → folders_at self.new nid
-            ≡ folders_at self.old nid ++ if_listed (lists (table_of_ndb ndb) (nodes_of ndb) nid r) r.top) }
+            ≡ folders_at self.old nid ++ if_listed (lists t (entries_of_nodes all) nid r) r.top) }
     {
         folder.is_sound();
         match folder.contents() {
@@ -90,15 +90,15 @@ impl Listings {
     }
 }
 
-/// Which folders of a store list each message. Each contents table is gone through once for each folder that has it.
+/// Which folders list each message, among intact nodes. Each contents table is gone through once for each folder that has it.
 #[tactic(auto, unfolding(crate::specs::Messages::listed_in), using(crate::proofs::ListingLemmas::folder_noted, crate::proofs::ListingLemmas::folders_noted))]
-pub(crate) fn listings_of(alloc: Global, store: &Store) -> Result<Listings, AllocError>
-    ensures { let ndb = ndb_of_store store.now in
+pub(crate) fn listings_of(alloc: Global, intact: &Intact) -> Result<Listings, AllocError>
+    ensures { let i = intact.now in
         IfOk result (λ l. (nid : ℕ) → folders_at l nid
-        ≡ listed_in (table_of_ndb ndb) (nodes_of ndb) nid) }
+        ≡ listed_in (table_of_intact i) (nodes_of_intact i) nid) }
 {
     let mut listings = Listings::new(alloc);
-    for folder in store.folders() {
+    for folder in intact.folders() {
         listings.note_folder(folder)?;
     }
     Ok(listings)

@@ -2,10 +2,10 @@
 
 ghost use Rattle.std.specs.Prelude.{◌≡◌, ◌++◌, IfOk, OnOk};
 ghost use Rattle.serde_json.specs.Written.{compact_text};
-ghost use Rattle.pst_ndb.specs.Views.{table_of_ndb, nodes_of, table_of_node, roots_of, nid_of, top_of};
+ghost use Rattle.pst_ndb.specs.Views.{table_of_node, roots_of, nid_of, top_of};
+ghost use Rattle.pst_intact.specs.View.{table_of_intact, nodes_of_intact};
 ghost use Rattle.pst_value_json.specs.pst_pc.View.{node_of_pc};
 ghost use Rattle.pst_verify.specs.pst_msg.View.{node_of_message, message_roots};
-ghost use Rattle.pst_verify.specs.pst_store.View.{ndb_of_store};
 ghost use Rattle.pst_value_json.specs.Line.{line_of};
 ghost use Rattle.pst_json.specs.Listings.{folders_at};
 ghost use Rattle.pst_json.specs.Messages.{time_property, number_property, summary_data, messages_text as text_of_messages};
@@ -15,10 +15,11 @@ use crate::listings::{Listings, listings_of};
 use crate::nid_lists::put_nid_list;
 use crate::row_counts::{Held, RowCounts};
 use crate::texts::{CLASS, SENDER, SUBJECT, put_text_property};
+use pst_intact::Intact;
 use pst_value_json::{
     Pc, PropType, put_i32_or_null, put_natural, put_nid, put_null, put_time_or_null,
 };
-use pst_verify::{MESSAGE, Message, Store, is_type};
+use pst_verify::{MESSAGE, Message, is_type};
 use std::alloc::{AllocError, Global};
 
 /// When a message was received (PidTagMessageDeliveryTime).
@@ -130,14 +131,14 @@ fn put_summary(
 /// one message at a time; some 100 bytes for each message that folders list, and up to 8 for each folder that lists it; and some
 /// 60 for each list of subnodes, and 40 for each table of more than 2,048 bytes, that messages name.
 #[tactic(auto, using(crate::proofs::MessageLemmas::lines_are, crate::proofs::MessageLemmas::line_put, crate::proofs::MessageLemmas::line_passed, crate::proofs::MessageLemmas::lines_end))]
-pub fn messages_text(alloc: Global, store: &Store) -> Result<Vec<u8>, AllocError>
-    ensures { let ndb = ndb_of_store store.now in
-        IfOk result (λ t. t.items ≡ text_of_messages (table_of_ndb ndb) (nodes_of ndb)) }
+pub fn messages_text(alloc: Global, intact: &Intact) -> Result<Vec<u8>, AllocError>
+    ensures { let i = intact.now in
+        IfOk result (λ t. t.items ≡ text_of_messages (table_of_intact i) (nodes_of_intact i)) }
 {
-    let listings = listings_of(alloc, store)?;
+    let listings = listings_of(alloc, intact)?;
     let mut counts = RowCounts::new(alloc);
     let mut text = Vec::new(alloc);
-    for message in store.messages() {
+    for message in intact.messages() {
         if is_type(MESSAGE, message.nid()) {
             put_summary(alloc, message, &listings, &mut counts, &mut text)?;
         }

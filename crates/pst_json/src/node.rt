@@ -4,15 +4,15 @@ ghost use Rattle.std.specs.Prelude.{◌≡◌, IfOk};
 ghost use Rattle.serde_json.specs.Data.{array};
 ghost use Rattle.serde_json.specs.View.{view, items_of};
 ghost use Rattle.pst_ndb.specs.Roots.{subnode_of};
-ghost use Rattle.pst_ndb.specs.Views.{table_of_ndb, nodes_of, table_of_node, roots_of};
+ghost use Rattle.pst_ndb.specs.Views.{table_of_node, nid_of, roots_of};
+ghost use Rattle.pst_intact.specs.View.{table_of_intact, nodes_of_intact};
 ghost use Rattle.pst_value_json.specs.Props.{names_told};
 ghost use Rattle.pst_value_json.specs.pst_pc.View.{node_of_pc};
 ghost use Rattle.pst_verify.specs.pst_msg.View.{node_of_attachment, attachment_shown, node_of_message};
-ghost use Rattle.pst_verify.specs.pst_store.View.{ndb_of_store};
 ghost use Rattle.pst_json.specs.Found.{node_of_found, place_of_found};
 ghost use Rattle.pst_json.specs.Lists.{list_left};
 ghost use Rattle.pst_json.specs.NamesIndex.{IsNamesIndex};
-ghost use Rattle.pst_json.specs.Node.{recipient_nid, recipients_there, attachment_data, message_data, node_props_data, place_data, props_told, props_line as line_of_props};
+ghost use Rattle.pst_json.specs.Node.{recipient_nid, recipients_there, attachment_data, filed_of_message, message_data, node_props_data, place_data, props_told, props_line as line_of_props};
 ghost use Rattle.pst_json.specs.Told.{TellsDoc};
 
 use crate::attachment::{AttachmentRows, attachment_parts};
@@ -21,10 +21,24 @@ use crate::found::{Found, found_in};
 use crate::index::index_of;
 use crate::lists::MessageRows;
 use crate::names::names_in;
-use pst_value_json::{Line, Made, NameIndex, NameMap, Part, Pc, Sink, Tree, prop_rows, table_rows};
-use pst_verify::{Attachment, Message, Store};
+use pst_intact::Intact;
+use pst_value_json::{
+    Filed, Line, Made, NameIndex, NameMap, Part, Pc, Sink, Tree, prop_rows, table_rows,
+};
+use pst_verify::{Attachment, Message};
 use serde_json::Value as Doc;
 use std::alloc::{AllocError, Global};
+
+// Of which values of a message files are told, where they are told.
+fn filed_of(files: bool) -> Filed
+    ensures { result ≡ filed_of_message files }
+{
+    if files {
+        Filed::Message
+    } else {
+        Filed::Nothing
+    }
+}
 
 // The document of a message whose recipients these are.
 #[tactic(auto, unfolding(crate::specs::Node::message_data))]
@@ -33,6 +47,7 @@ fn shown_lists<'a, S: Sink>(
     nid: u32,
     message: Message<'a>,
     names: Option<NameMap<'a>>,
+    files: bool,
     places: bool,
     recipients: MessageRows<'a>,
 ) -> Result<S::Out, AllocError>
@@ -42,14 +57,16 @@ fn shown_lists<'a, S: Sink>(
         ≡ recipients_there places t (subnode_of t r recipient_nid) }
     ensures { let node = node_of_message message.entry in let told = names_told names.entry in
         IfOk result (λ out.
-        S.Shows out (message_data told places (table_of_node node) (roots_of node) nid)) }
+        S.Shows out (message_data told files places (table_of_node node) (roots_of node) nid)) }
 {
     let attachments = MessageRows::Attachments(AttachmentRows {
         attachments: message.attachments(),
         names,
+        files,
         places,
     });
-    let props = MessageRows::Props(prop_rows(&message.pc(), names, places));
+    let filed = filed_of(files);
+    let props = MessageRows::Props(prop_rows(&message.pc(), names, filed, places));
     let parts = vec![in alloc;
         Part::Rows("attachments", attachments),
         Part::Value("nid", Made::Nid(Some(nid))),
@@ -65,11 +82,12 @@ fn shown_message<'a, S: Sink>(
     nid: u32,
     message: Message<'a>,
     names: Option<NameMap<'a>>,
+    files: bool,
     places: bool,
 ) -> Result<S::Out, AllocError>
     ensures { let node = node_of_message message.entry in let told = names_told names.entry in
         IfOk result (λ out.
-        S.Shows out (message_data told places (table_of_node node) (roots_of node) nid)) }
+        S.Shows out (message_data told files places (table_of_node node) (roots_of node) nid)) }
 {
     match message.recipients() {
         Some(table) => {
@@ -80,12 +98,44 @@ fn shown_message<'a, S: Sink>(
                 nid,
                 message,
                 names,
+                files,
                 places,
                 MessageRows::Recipients(rows),
             )
         }
-        None => shown_lists::<S>(alloc, nid, message, names, places, MessageRows::Nobody),
+        None => shown_lists::<S>(
+            alloc,
+            nid,
+            message,
+            names,
+            files,
+            places,
+            MessageRows::Nobody,
+        ),
     }
+}
+
+// The same, of a message that has been lent no index yet.
+pub(crate) fn indexed_message<'a, S: Sink>(
+    alloc: Global,
+    message: Message<'a>,
+    names: Option<NameMap<'a>>,
+    files: bool,
+    places: bool,
+) -> Result<S::Out, AllocError>
+    ensures { let node = node_of_message message.entry in let told = names_told names.entry in
+        IfOk result (λ out. S.Shows out
+        (message_data told files places (table_of_node node) (roots_of node) (nid_of node))) }
+{
+    let index = index_of(alloc, message.node())?;
+    shown_message::<S>(
+        alloc,
+        message.nid(),
+        message.indexed(&index),
+        names,
+        files,
+        places,
+    )
 }
 
 // The document of a node that is no message.
@@ -103,23 +153,42 @@ fn shown_node<'a, S: Sink>(
 {
     let parts = vec![in alloc;
         Part::Value("nid", Made::Nid(Some(nid))),
-        Part::Rows("props", prop_rows(pc, names, places)),
+        Part::Rows("props", prop_rows(pc, names, Filed::Nothing, places)),
     ]?;
     S::object(alloc, parts)
 }
 
+// The same, of one that has been lent no index yet.
+pub(crate) fn indexed_node<'a, S: Sink>(
+    alloc: Global,
+    pc: Pc<'a>,
+    names: Option<NameMap<'a>>,
+    places: bool,
+) -> Result<S::Out, AllocError>
+    ensures { let node = node_of_pc pc.entry in let told = names_told names.entry in
+        IfOk result (λ out. S.Shows out
+        (node_props_data told places (table_of_node node) (roots_of node) (nid_of node))) }
+{
+    let index = index_of(alloc, pc.node())?;
+    shown_node::<S>(alloc, pc.node().nid(), &pc.indexed(&index), names, places)
+}
+
 // The document of an attachment.
-fn shown_attachment<S: Sink>(
+pub(crate) fn shown_attachment<S: Sink>(
     alloc: Global,
     attachment: Attachment,
     names: Option<NameMap>,
+    filed: Filed,
     places: bool,
 ) -> Result<S::Out, AllocError>
     ensures { let t = table_of_node (node_of_attachment attachment.entry) in
         let shown = attachment_shown attachment.entry in let told = names_told names.entry in
-        IfOk result (λ out. S.Shows out (attachment_data told places t shown)) }
+        IfOk result (λ out. S.Shows out (attachment_data told filed places t shown)) }
 {
-    S::object(alloc, attachment_parts(alloc, attachment, names, places)?)
+    S::object(
+        alloc,
+        attachment_parts(alloc, attachment, names, filed, places)?,
+    )
 }
 
 // The document of what has one.
@@ -133,15 +202,11 @@ fn shown_found<'a, S: Sink>(
         IfOk result (λ out. S.Shows out (place_data told places t (place_of_found found.entry))) }
 {
     match found {
-        Found::Message(message) => {
-            let index = index_of(alloc, message.node())?;
-            shown_message::<S>(alloc, message.nid(), message.indexed(&index), names, places)
+        Found::Message(message) => { indexed_message::<S>(alloc, message, names, false, places) }
+        Found::Attachment(attachment) => {
+            shown_attachment::<S>(alloc, attachment, names, Filed::Nothing, places)
         }
-        Found::Attachment(attachment) => shown_attachment::<S>(alloc, attachment, names, places),
-        Found::Pc(pc) => {
-            let index = index_of(alloc, pc.node())?;
-            shown_node::<S>(alloc, pc.node().nid(), &pc.indexed(&index), names, places)
-        }
+        Found::Pc(pc) => indexed_node::<S>(alloc, pc, names, places),
     }
 }
 
@@ -155,18 +220,18 @@ fn shown_found<'a, S: Sink>(
 #[tactic(auto, using(crate::proofs::FoundLemmas::told_found, crate::proofs::FoundLemmas::told_refused), unfolding(crate::specs::Node::props_told))]
 pub fn props_doc<'a>(
     alloc: Global,
-    store: &Store<'a>,
+    intact: &Intact<'a>,
     index: &'a NameIndex,
     path: &[u32],
     places: bool,
 ) -> Result<Doc, DocFault>
-    requires { let ndb = ndb_of_store store.now in
-        IsNamesIndex (table_of_ndb ndb) (nodes_of ndb) index.now }
-    ensures { let ndb = ndb_of_store store.now in
-        TellsDoc view result (props_told places (table_of_ndb ndb) (nodes_of ndb) path.now) }
+    requires { let i = intact.now in
+        IsNamesIndex (table_of_intact i) (nodes_of_intact i) index.now }
+    ensures { let i = intact.now in
+        TellsDoc view result (props_told places (table_of_intact i) (nodes_of_intact i) path.now) }
 {
-    let found = found_in(store, path)?;
-    Ok(shown_found::<Tree>(alloc, found, names_in(store, index), places)?)
+    let found = found_in(intact, path)?;
+    Ok(shown_found::<Tree>(alloc, found, names_in(intact, index), places)?)
 }
 
 /// The line that shows the properties of what a path leads to: the compact text of their document, and a line feed; or why there is
@@ -174,17 +239,17 @@ pub fn props_doc<'a>(
 #[tactic(auto, using(crate::proofs::FoundLemmas::line_found, crate::proofs::FoundLemmas::line_refused), unfolding(crate::specs::Node::props_line, crate::specs::Node::props_told))]
 pub fn props_line<'a>(
     alloc: Global,
-    store: &Store<'a>,
+    intact: &Intact<'a>,
     index: &'a NameIndex,
     path: &[u32],
     places: bool,
 ) -> Result<Vec<u8>, DocFault>
-    requires { let ndb = ndb_of_store store.now in
-        IsNamesIndex (table_of_ndb ndb) (nodes_of ndb) index.now }
-    ensures { let ndb = ndb_of_store store.now in
-        let line = line_of_props places (table_of_ndb ndb) (nodes_of ndb) path.now in
+    requires { let i = intact.now in
+        IsNamesIndex (table_of_intact i) (nodes_of_intact i) index.now }
+    ensures { let i = intact.now in
+        let line = line_of_props places (table_of_intact i) (nodes_of_intact i) path.now in
         TellsDoc (λ t. t.items) result line }
 {
-    let found = found_in(store, path)?;
-    Ok(shown_found::<Line>(alloc, found, names_in(store, index), places)?)
+    let found = found_in(intact, path)?;
+    Ok(shown_found::<Line>(alloc, found, names_in(intact, index), places)?)
 }

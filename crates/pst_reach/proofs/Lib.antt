@@ -7,5 +7,6 @@ pub mod ListLemmas
 pub mod PathLemmas
 pub mod WayLaws
 pub mod ReachLaws
+pub mod RootLemmas
 pub mod CountLaws
 pub use Rattle.pst_store.proofs as pst_store

@@ -22,9 +22,9 @@ use Rattle.pst_reach.specs.Reach.{folder_ids, IsWay, AreAllReached, AreAllUnreac
 use Rattle.pst_reach.specs.Levels.{reaches_of}
 use Rattle.pst_reach.specs.Path.{reach_nid, reach_in, is_lost_in, unreached_of}
 use Rattle.pst_reach.specs.Laws.{ReachLaw, UnreachedLaw}
-use Rattle.pst_reach.proofs.LevelLemmas.{is_folder_of, AllNamed}
+use Rattle.pst_reach.proofs.LevelLemmas.{is_folder_of}
 use Rattle.pst_reach.proofs.ListLemmas.{in_none, in_more, in_filter, of_filter, filter_rises}
-use Rattle.pst_reach.proofs.StoreLemmas.{in_ids, ids_rise, named_of_store}
+use Rattle.pst_reach.proofs.StoreLemmas.{in_ids, ids_rise, all_named}
 use Rattle.pst_reach.proofs.WayLaws.{are_reached}
 
 keys_at : (I : List ℕ) (places : List ℕ) → map node_key (map (node_entry_at I) places) ≡ map (key_at Nbt I) places
@@ -35,22 +35,12 @@ keys_at I (at ∷ rest) = rw (keys_at I rest) refl
 pub store_rises : (I : List ℕ) (s : StoreParts) → IsStore I s → Rises 0 None (folder_ids (entries_in I s))
 store_rises I s is = ids_rise (entries_in I s) (rw (keys_at I (entries_of s.nodes)) (tree_rises Nbt I s.nodes 0 None is.node_tree.1.bounded))
 
--- the same, of the table and the nodes that a store shows
-pub named_in_store : (I : List ℕ) (s : StoreParts) (t : Table) (nodes : List NodeEntry) → IsStore I s → t ≡ table_in I s → nodes ≡ entries_in I s → AllNamed t nodes
-named_in_store I s t nodes is table entries = rw (table, entries) (named_of_store I s is)
-
-pub rises_in_store : (I : List ℕ) (s : StoreParts) (nodes : List NodeEntry) → IsStore I s → nodes ≡ entries_in I s → Rises 0 None (folder_ids nodes)
-rises_in_store I s nodes is entries = rw entries (store_rises I s is)
-
 pub root_there : (I : List ℕ) (s : StoreParts) → IsStore I s → is_folder_of (entries_in I s) ROOT ≡ true
 unfolding node_in
 root_there I s is = in_ids (entries_in I s) ROOT is.root.0 is.root.1 refl
 
-pub root_in_store : (I : List ℕ) (s : StoreParts) (nodes : List NodeEntry) → IsStore I s → nodes ≡ entries_in I s → is_folder_of nodes ROOT ≡ true
-root_in_store I s nodes is entries = rw entries (root_there I s is)
-
 pub reach_law : ReachLaw
-reach_law I s is = are_reached (table_in I s) (entries_in I s) (named_of_store I s is) (store_rises I s is) (root_there I s is)
+reach_law I s is = are_reached (table_in I s) (entries_in I s) (all_named (table_in I s) (entries_in I s)) (store_rises I s is) (root_there I s is)
 
 -- ---- and the others are all to which none leads
 

@@ -1,11 +1,10 @@
 -- What hierarchy tables name are folders of the store; and the folders, one after another.
-use Rattle.std.proofs.Common.{◌≡◌, ℕ, zero, suc, ◌+◌, ◌<◌, ◌≤◌, Bool, true, false, cond, List, [], ◌∷◌, length, Option, Some, None, refl, sym, ap, ◌∙◌, arith}
-use Rattle.std.specs.Prelude.{nat_eq, map, option_map}
-use Rattle.std.specs.List.{Contains, list_any, slice_index_or}
+use Rattle.std.proofs.Common.{◌≡◌, ℕ, ◌+◌, ◌≤◌, Bool, true, false, cond, List, [], ◌∷◌, Option, Some, None, refl, sym, ap, ◌∙◌, arith}
+use Rattle.std.specs.Prelude.{nat_eq, is_some, map, option_map}
+use Rattle.std.specs.List.{Contains, list_any}
 use Rattle.std.specs.Ordering.{nat_cmp}
 use Rattle.std.specs.BTreeMap.{is_at}
 use Rattle.std.specs.Cmp.{unsigned_tied}
-use Rattle.std.proofs.lemmas.Bool.{eqb-true}
 use Rattle.pst_fault.proofs.EachLemmas.{contains_here, contains_later}
 use Rattle.pst_fault.proofs.GeneralLemmas.{number_of_test, test_of_number, or_true}
 use Rattle.pst_page.specs.declared.entry.NodeEntry.{NodeEntry}
@@ -13,17 +12,13 @@ use Rattle.pst_block.specs.Table.{Table}
 use Rattle.pst_btree.specs.Entries.{first_with, node_key, node_with}
 use Rattle.pst_btree.specs.Order.{Rises}
 use Rattle.pst_ndb.specs.Roots.{Roots, entry_roots, node_in, all_roots}
-use Rattle.pst_tc.specs.Values.{RowParts, tc_rows}
 use Rattle.pst_store.specs.pst_msg.declared.items.Items.TheVariants.{Subfolders}
-use Rattle.pst_store.specs.pst_msg.declared.nid.TheConstants.{FOLDER}
-use Rattle.pst_store.specs.pst_msg.Nid.{type_of, is_type}
 use Rattle.pst_store.specs.pst_msg.Shown.{rows_there, folder_table}
-use Rattle.pst_store.specs.pst_msg.Values.{is_folder, listing_of}
-use Rattle.pst_store.specs.Grammar.{IsStore}
+use Rattle.pst_store.specs.pst_msg.Values.{is_folder}
 use Rattle.pst_store.specs.Kind.{of_kind, node_of_kind}
-use Rattle.pst_store.specs.Parts.{StoreParts, table_in, entries_in}
-use Rattle.pst_reach.specs.Reach.{folder_ids, ids_of, subfolders_of}
+use Rattle.pst_reach.specs.Reach.{folder_ids, ids_of, is_folder_among, folders_named, subfolders_of}
 use Rattle.pst_reach.proofs.LevelLemmas.{is_folder_of, AllNamed}
+use Rattle.pst_reach.proofs.ListLemmas.{of_filter}
 
 -- ---- nodes by their identifiers
 
@@ -63,49 +58,32 @@ in_ids (e ∷ rest) nid r is kind = by_test (nat_eq e.nid nid) refl (λ found. i
 
 -- ---- what hierarchy tables name
 
-row_of : (rows : List RowParts) (nid : ℕ) → Contains (ids_of rows) nid → (x : RowParts) × Contains rows x × (x.id ≡ nid)
-row_of [] nid w = absurd (omega (arith, w.1))
-row_of (x ∷ rows) nid w = by_place (λ v. row_of rows nid v) w.0 w.1 w.2
+pub folder_among : (nodes : List NodeEntry) (nid : ℕ) → is_folder_among nodes nid ≡ true → is_folder_of nodes nid ≡ true
+unfolding node_of_kind node_in
+folder_among nodes nid is = by_kind (is_folder nid) refl is
   where
-    later : (y : RowParts) × Contains rows y × (y.id ≡ nid) → (y : RowParts) × Contains (x ∷ rows) y × (y.id ≡ nid)
-    later v = (v.0, contains_later x v.0 rows v.1, v.2)
+    by_node : (o : Option Roots) → option_map entry_roots (node_with nid nodes) ≡ o → is_folder nid ≡ true → is_some o ≡ true → is_folder_of nodes nid ≡ true
+    by_node None f e there = absurd cc
+    by_node (Some r) f e there = in_ids nodes nid r f e
 
-    by_place : (Contains (ids_of rows) nid → (y : RowParts) × Contains rows y × (y.id ≡ nid)) → (k : ℕ) → k < length (ids_of (x ∷ rows)) → slice_index_or (ids_of (x ∷ rows)) k nid ≡ nid → (y : RowParts) × Contains (x ∷ rows) y × (y.id ≡ nid)
-    by_place more zero lt is = (x, contains_here x rows, is)
-    by_place more (suc k) lt is = later (more (k, omega (arith, lt), is))
+    by_kind : (v : Bool) → is_folder nid ≡ v → is_some (cond v (option_map entry_roots (node_with nid nodes)) None) ≡ true → is_folder_of nodes nid ≡ true
+    by_kind false e there = absurd cc
+    by_kind true e there = by_node (option_map entry_roots (node_with nid nodes)) refl e there
 
 nothing_named : (nid : ℕ) → Contains [] nid → ⊥
 nothing_named nid w = omega (arith, w.1)
 
-pub named_of_store : (I : List ℕ) (s : StoreParts) → IsStore I s → AllNamed (table_in I s) (entries_in I s)
-unfolding subfolders_of node_of_kind folder_table node_in
-named_of_store I s is parent nid named = by_node (is_folder parent) (node_in nodes parent) refl named
+pub all_named : (t : Table) (nodes : List NodeEntry) → AllNamed t nodes
+unfolding subfolders_of
+all_named t nodes parent nid named = by_node (node_of_kind is_folder nodes parent) named
   where
-    t : Table
-    t = table_in I s
+    named_in : Option Roots → List ℕ
+    named_in None = []
+    named_in (Some r) = folders_named nodes (rows_there t (folder_table nodes Subfolders r.top))
 
-    nodes : List NodeEntry
-    nodes = entries_in I s
-
-    ids_there : Option Roots → List ℕ
-    ids_there table = ids_of (rows_there t table)
-
-    by_table : (r : Roots) → Contains (all_roots nodes) r → (v : Bool) → is_type FOLDER r.top ≡ v → (table : Option Roots) → listing_of nodes Subfolders r.top ≡ table → Contains (ids_there (cond v table None)) nid → is_folder_of nodes nid ≡ true
-    by_table r there false e table at w = absurd (nothing_named nid w)
-    by_table r there true e None at w = absurd (nothing_named nid w)
-    by_table r there true e (Some table) at w =
-        let x = row_of (tc_rows t table) nid w in
-        let lists = ((is.folders r (there, eqb-true (type_of r.top) FOLDER e)).subfolders table at).1 x.0 x.1 in
-        in_ids nodes nid lists.0.0 (rw x.2 at lists.0.1) (rw x.2 at lists.1)
-
-    ids_in : Option Roots → List ℕ
-    ids_in None = []
-    ids_in (Some r) = ids_there (cond (is_type FOLDER r.top) (listing_of nodes Subfolders r.top) None)
-
-    by_node : (v : Bool) (o : Option Roots) → node_in nodes parent ≡ o → Contains (ids_in (cond v o None)) nid → is_folder_of nodes nid ≡ true
-    by_node false o e w = absurd (nothing_named nid w)
-    by_node true None e w = absurd (nothing_named nid w)
-    by_node true (Some r) e w = by_table r (node_there nodes parent r e).0 (is_type FOLDER r.top) refl (listing_of nodes Subfolders r.top) refl w
+    by_node : (o : Option Roots) → Contains (named_in o) nid → is_folder_of nodes nid ≡ true
+    by_node None w = absurd (nothing_named nid w)
+    by_node (Some r) w = folder_among nodes nid (of_filter (is_folder_among nodes) (ids_of (rows_there t (folder_table nodes Subfolders r.top))) nid w).1
 
 -- ---- the folders, one after another
 

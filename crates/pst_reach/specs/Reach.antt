@@ -1,7 +1,7 @@
 -- Which folders are reached from the root folder, by rows of hierarchy tables ([MS-PST] 2.4.4.4): in the format's words. Nothing
 -- here searches.
-use Rattle.std.specs.Prelude.{◌≡◌, ℕ, zero, suc, ◌≤◌, Option, Some, None, List, [], map}
-use Rattle.std.specs.List.{Contains}
+use Rattle.std.specs.Prelude.{◌≡◌, ℕ, zero, suc, ◌≤◌, Bool, is_some, Option, Some, None, List, [], map}
+use Rattle.std.specs.List.{Contains, filter}
 use Rattle.pst_page.specs.declared.entry.NodeEntry.{NodeEntry}
 use Rattle.pst_block.specs.Table.{Table}
 use Rattle.pst_btree.specs.Order.{Rises}
@@ -22,10 +22,19 @@ folder_ids nodes = map (λ (r : Roots). r.top) (of_kind is_folder (all_roots nod
 abbrev pub ids_of : List RowParts → List ℕ
 ids_of rows = map (λ (x : RowParts). x.id) rows
 
+-- a folder or search folder with this identifier is among the nodes
+abbrev pub is_folder_among : List NodeEntry → ℕ → Bool
+is_folder_among nodes nid = is_some (node_of_kind is_folder nodes nid)
+
+-- the folders among them that the rows of a table name: in a store each row names one, and of a damaged file a row that names what is
+-- not among its whole nodes leads nowhere
+abbrev pub folders_named : List NodeEntry → List RowParts → List ℕ
+folders_named nodes rows = filter (is_folder_among nodes) (ids_of rows)
+
 -- the folders that the hierarchy table of a folder names, row by row; a search folder has no such table
 abbrev subfolders_in : Table → List NodeEntry → Option Roots → List ℕ
 subfolders_in t nodes None = []
-subfolders_in t nodes (Some r) = ids_of (rows_there t (folder_table nodes Subfolders r.top))
+subfolders_in t nodes (Some r) = folders_named nodes (rows_there t (folder_table nodes Subfolders r.top))
 
 unfoldable pub subfolders_of : Table → List NodeEntry → ℕ → List ℕ
 subfolders_of t nodes nid = subfolders_in t nodes (node_of_kind is_folder nodes nid)

@@ -14,6 +14,7 @@ use Rattle.pst_ndb.specs.Roots.{Roots}
 use Rattle.pst_tc.specs.Values.{RowParts, tc_rows}
 use Rattle.pst_store.specs.pst_msg.Keys.{pair_cmp}
 use Rattle.pst_reach.specs.declared.reached.Reach.{Reach}
+use Rattle.pst_reach.specs.Reach.{is_folder_among}
 use Rattle.pst_reach.specs.Levels.{Step, step_nid, by_rows, found, level, folders_at}
 
 -- what is found of a folder so far
@@ -54,10 +55,11 @@ table_key r = (bid_key r.bid_data, bid_key r.bid_sub)
 abbrev pub was_taken : BTreeSet (ℕ × ℕ) → Roots → Bool
 was_taken tables r = list_any (is_at (pair_cmp (table_key r))) tables.keys
 
--- of a table that was gone through, each row names a folder that is found
-abbrev pub AreTaken : Table → BTreeSet (ℕ × ℕ) → BTreeMap ℕ Reach → Type 0
-AreTaken t tables m =
-    (r : Roots) → was_taken tables r ≡ true → (x : RowParts) → Contains (tc_rows t r) x → is_some (found_in m x.id) ≡ true
+-- of a table that was gone through, each folder that a row names is found
+abbrev pub AreTaken : Table → List NodeEntry → BTreeSet (ℕ × ℕ) → BTreeMap ℕ Reach → Type 0
+AreTaken t nodes tables m =
+    (r : Roots) → was_taken tables r ≡ true → (x : RowParts) → Contains (tc_rows t r) x → is_folder_among nodes x.id ≡ true
+    → is_some (found_in m x.id) ≡ true
 
 -- ---- a depth
 

@@ -26,4 +26,4 @@ pub use pst_store::{
     Store, check_messaging, is_folder, is_message, is_type,
 };
 pub use reached::Reach;
-pub use search::reach;
+pub use search::{reach, reach_among};

@@ -5,12 +5,14 @@ ghost use Rattle.pst_btree.specs.Order.{Rises};
 ghost use Rattle.pst_ndb.specs.Counts.{capped};
 ghost use Rattle.pst_ndb.specs.Views.{table_of_ndb, nodes_of, roots_of};
 ghost use Rattle.pst_store.specs.pst_msg.Fault.{messaging_fault};
+ghost use Rattle.pst_intact.specs.View.{table_of_intact, nodes_of_intact};
 ghost use Rattle.pst_reach.specs.Levels.{reaches_of, folders_in, folders_at};
 ghost use Rattle.pst_reach.specs.Path.{reach_nid};
 ghost use Rattle.pst_reach.specs.Search.{table_key};
 
 use crate::reached::Reach;
 use crate::rows::take_rows;
+use pst_intact::Intact;
 use pst_ndb::{Ndb, Node, Work};
 use pst_page::PageKind;
 use pst_store::{FOLDER, ROOT, Store, is_type};
@@ -48,7 +50,7 @@ fn count_folder(walked: u64, nid: u32) -> u64
 #[derive(Drop)]
 struct Search<'a> {
     alloc: Global,
-    store: Store<'a>,
+    intact: Intact<'a>,
     found: BTreeMap<u32, Reach>,
     // The tables that were gone through, by the identifiers of their blocks without bit 0. What several folders have is gone
     // through once: it names nothing new, and no lesser parent, where it is met again.
@@ -58,11 +60,12 @@ struct Search<'a> {
 }
 
 impl<'a> Search<'a> {
-    ghost use Rattle.std.specs.Prelude.{◌≡◌, ℕ, suc, ◌+◌, OnOk, IfOk, length};
+    ghost use Rattle.std.specs.Prelude.{◌≡◌, ℕ, suc, ◌+◌, true, OnOk, IfOk, length};
     ghost use Rattle.pst_ndb.specs.Counts.{capped};
-    ghost use Rattle.pst_store.specs.View.{table_of_store, nodes_of_store};
+    ghost use Rattle.pst_intact.specs.View.{table_of_intact, nodes_of_intact};
     ghost use Rattle.pst_reach.specs.Levels.{steps_of, reaches_of, folders_in, folders_at};
-    ghost use Rattle.pst_reach.specs.Reach.{folder_ids};
+    ghost use Rattle.pst_reach.specs.Reach.{folder_ids, is_folder_among};
+    ghost use Rattle.pst_store.specs.pst_msg.declared.nid.TheConstants.{ROOT as ROOT_NID};
     ghost use Rattle.pst_reach.specs.Search.{Takes, AreTaken, IsWithin, IsLevel};
 
     // The rows of the hierarchy table of a folder at the depth before.
@@ -72,16 +75,16 @@ impl<'a> Search<'a> {
         depth: u32,
         parent: u32,
     ) -> Result<(), AllocError>
-        requires taken { AreTaken (table_of_store self.old.store) self.old.tables self.old.found }
-        ensures store { self.new.store ≡ self.old.store }
+        requires taken { AreTaken (table_of_intact self.old.intact) (nodes_of_intact self.old.intact) self.old.tables self.old.found }
+        ensures intact { self.new.intact ≡ self.old.intact }
         ensures walked { self.new.walked ≡ self.old.walked }
-        ensures taken { let t = table_of_store self.old.store in
-            OnOk result (AreTaken t self.new.tables self.new.found) }
-        ensures takes { let t = table_of_store self.old.store in
-            let steps = steps_of t (nodes_of_store self.old.store) parent in
+        ensures taken { let t = table_of_intact self.old.intact in
+            OnOk result (AreTaken t (nodes_of_intact self.old.intact) self.new.tables self.new.found) }
+        ensures takes { let t = table_of_intact self.old.intact in
+            let steps = steps_of t (nodes_of_intact self.old.intact) parent in
             OnOk result (Takes depth steps self.old.found next.old self.new.found next.new) }
     {
-        let Some(folder) = self.store.folder(parent) else {
+        let Some(folder) = self.intact.folder(parent) else {
             return Ok(());
         };
         let Some(table) = folder.hierarchy() else {
@@ -91,29 +94,29 @@ impl<'a> Search<'a> {
         if self.tables.contains(&key) {
             return Ok(());
         }
-        take_rows(&mut self.found, next, depth, parent, table)?;
+        take_rows(&self.intact, &mut self.found, next, depth, parent, table)?;
         let _new = self.tables.insert(key)?;
         Ok(())
     }
 
     // The folders at a depth, from those at the depth before.
     fn take_level(&mut self, depth: u32, level: BTreeSet<u32>) -> Result<BTreeSet<u32>, AllocError>
-        requires taken { AreTaken (table_of_store self.old.store) self.old.tables self.old.found }
-        ensures store { self.new.store ≡ self.old.store }
-        ensures taken { let t = table_of_store self.old.store in
-            OnOk result (AreTaken t self.new.tables self.new.found) }
-        ensures within { let t = table_of_store self.old.store in
-            let nodes = nodes_of_store self.old.store in
+        requires taken { AreTaken (table_of_intact self.old.intact) (nodes_of_intact self.old.intact) self.old.tables self.old.found }
+        ensures intact { self.new.intact ≡ self.old.intact }
+        ensures taken { let t = table_of_intact self.old.intact in
+            OnOk result (AreTaken t (nodes_of_intact self.old.intact) self.new.tables self.new.found) }
+        ensures within { let t = table_of_intact self.old.intact in
+            let nodes = nodes_of_intact self.old.intact in
             (n : ℕ) → depth ≡ suc n → IsWithin t nodes n self.old.found → IsLevel t nodes n level →
             OnOk result (IsWithin t nodes (suc n) self.new.found) }
-        ensures level { let t = table_of_store self.old.store in
-            let nodes = nodes_of_store self.old.store in
+        ensures level { let t = table_of_intact self.old.intact in
+            let nodes = nodes_of_intact self.old.intact in
             (n : ℕ) → depth ≡ suc n → IsWithin t nodes n self.old.found → IsLevel t nodes n level →
             IfOk result (IsLevel t nodes (suc n)) }
         ensures walked { (before : ℕ) → self.old.walked ≡ capped before →
             OnOk result (self.new.walked ≡ capped (before + folders_at level.keys)) }
     {
-        self.store.is_sound();
+        self.intact.nids_rise();
         let mut level = level;
         let mut next = BTreeSet::new(self.alloc);
         while let Some(parent) = level.pop_first() {
@@ -126,24 +129,25 @@ impl<'a> Search<'a> {
 
     // All levels. No way is as long as there are folders, unless it goes in a circle.
     fn take_levels(&mut self, level: BTreeSet<u32>) -> Result<(), AllocError>
-        requires taken { AreTaken (table_of_store self.old.store) self.old.tables self.old.found }
-        requires within { let t = table_of_store self.old.store in
-            IsWithin t (nodes_of_store self.old.store) 0 self.old.found }
-        requires level { let t = table_of_store self.old.store in
-            IsLevel t (nodes_of_store self.old.store) 0 level }
-        ensures store { self.new.store ≡ self.old.store }
-        ensures within { let t = table_of_store self.old.store in
-            let nodes = nodes_of_store self.old.store in
+        requires taken { AreTaken (table_of_intact self.old.intact) (nodes_of_intact self.old.intact) self.old.tables self.old.found }
+        requires root { is_folder_among (nodes_of_intact self.old.intact) ROOT_NID ≡ true }
+        requires within { let t = table_of_intact self.old.intact in
+            IsWithin t (nodes_of_intact self.old.intact) 0 self.old.found }
+        requires level { let t = table_of_intact self.old.intact in
+            IsLevel t (nodes_of_intact self.old.intact) 0 level }
+        ensures intact { self.new.intact ≡ self.old.intact }
+        ensures within { let t = table_of_intact self.old.intact in
+            let nodes = nodes_of_intact self.old.intact in
             OnOk result (IsWithin t nodes (length (folder_ids nodes)) self.new.found) }
-        ensures walked { let all = reaches_of (table_of_store self.old.store)
-            (nodes_of_store self.old.store) in
+        ensures walked { let all = reaches_of (table_of_intact self.old.intact)
+            (nodes_of_intact self.old.intact) in
             (before : ℕ) → self.old.walked ≡ capped before →
             OnOk result (self.new.walked ≡ capped (before + folders_in all)) }
     {
-        self.store.is_sound();
+        self.intact.nids_rise();
         let mut level = level;
         let mut depth = 0;
-        let mut rest = self.store.folders();
+        let mut rest = self.intact.folders();
         while let Some(folder) = rest.next() {
             if level.is_empty() {
                 return Ok(());
@@ -157,13 +161,13 @@ impl<'a> Search<'a> {
 
     // What is found, the identifiers rising.
     fn list(&self) -> Result<Vec<Reach>, AllocError>
-        requires within { let nodes = nodes_of_store self.now.store in
-            IsWithin (table_of_store self.now.store) nodes (length (folder_ids nodes)) self.now.found }
-        ensures { let t = table_of_store self.now.store in
-            IfOk result (λ v. v.items ≡ reaches_of t (nodes_of_store self.now.store)) }
+        requires within { let nodes = nodes_of_intact self.now.intact in
+            IsWithin (table_of_intact self.now.intact) nodes (length (folder_ids nodes)) self.now.found }
+        ensures { let t = table_of_intact self.now.intact in
+            IfOk result (λ v. v.items ≡ reaches_of t (nodes_of_intact self.now.intact)) }
     {
         let mut reached = Vec::new(self.alloc);
-        let mut rest = self.store.folders();
+        let mut rest = self.intact.folders();
         while let Some(folder) = rest.next() {
             if let Some(reach) = self.found.get(&folder.nid()).copied() {
                 reached.push(reach)?;
@@ -173,12 +177,62 @@ impl<'a> Search<'a> {
     }
 }
 
+// What the search finds among intact nodes, and how many folders were walked from by then. Where the root folder is not among
+// them, it reaches none.
+#[tactic(auto, using(crate::proofs::RootLemmas::nothing_reached, crate::proofs::RootLemmas::nothing_walked))]
+fn search_from(alloc: Global, intact: &Intact, walked: u64) -> Result<(Vec<Reach>, u64), AllocError>
+    ensures exact { let t = table_of_intact intact.now in
+        IfOk result (λ x. x.0.items ≡ reaches_of t (nodes_of_intact intact.now)) }
+    ensures walked { let all = reaches_of (table_of_intact intact.now) (nodes_of_intact intact.now) in
+        (before : ℕ) → walked ≡ capped before →
+        IfOk result (λ x. x.1 ≡ capped (before + folders_in all)) }
+{
+    intact.nids_rise();
+    if intact.folder(ROOT).is_none() {
+        return Ok((Vec::new(alloc), walked));
+    }
+    let mut found = BTreeMap::new(alloc);
+    let root = Reach {
+        nid: ROOT,
+        parent: 0,
+        depth: 0,
+    };
+    let _none = found.insert(ROOT, root)?;
+    let mut level = BTreeSet::new(alloc);
+    let _new = level.insert(ROOT)?;
+    let mut search = Search {
+        alloc,
+        intact: *intact,
+        found,
+        tables: BTreeSet::new(alloc),
+        walked,
+    };
+    search.take_levels(level)?;
+    let reached = search.list()?;
+    Ok((reached, search.walked))
+}
+
+/// The folders and search folders among intact nodes that the root folder reaches, their identifiers rising, each with its depth
+/// and its parent: a row of a hierarchy table that names what is not among these nodes leads nowhere. AllocError where memory is
+/// refused.
+#[tactic(auto, using(crate::proofs::RootLemmas::reaches_rise))]
+pub fn reach_among(alloc: Global, intact: &Intact) -> Result<Vec<Reach>, AllocError>
+    ensures exact { let t = table_of_intact intact.now in
+        IfOk result (λ v. v.items ≡ reaches_of t (nodes_of_intact intact.now)) }
+    ensures rise { IfOk result (λ v. Rises 0 None (map reach_nid v.items)) }
+{
+    intact.nids_rise();
+    let (reached, _walked) = search_from(alloc, intact, 0)?;
+    Ok(reached)
+}
+
 /// The folders and search folders that the root folder reaches, their identifiers rising, each with its depth and its parent. The
 /// count of the folders that were walked from is raised by their number: each is walked from once, and a search folder, which has
 /// no table to walk by, is not. It stays at its greatest value once it is there, and the other counts stay as they are.
 ///
 /// Each hierarchy table is gone through once, also one that several folders have, and a row of it takes about log n steps of n
 /// folders. It answers nothing but that memory is refused, and then no count is raised.
+#[tactic(auto, using(crate::proofs::RootLemmas::reaches_rise, crate::proofs::LoopLemmas::capped_small))]
 pub fn reach(alloc: Global, ndb: &Ndb, work: &mut Work) -> Result<Vec<Reach>, AllocError>
     requires { messaging_fault (table_of_ndb ndb.now) (nodes_of ndb.now) ≡ None }
     ensures exact { let t = table_of_ndb ndb.now in
@@ -193,25 +247,9 @@ pub fn reach(alloc: Global, ndb: &Ndb, work: &mut Work) -> Result<Vec<Reach>, Al
     ensures contexts { work.new.contexts ≡ work.old.contexts }
 {
     let walked = walked_in(work);
-    let mut found = BTreeMap::new(alloc);
-    let root = Reach {
-        nid: ROOT,
-        parent: 0,
-        depth: 0,
-    };
-    let _none = found.insert(ROOT, root)?;
-    let mut level = BTreeSet::new(alloc);
-    let _new = level.insert(ROOT)?;
-    let mut search = Search {
-        alloc,
-        store: Store::known(*ndb),
-        found,
-        tables: BTreeSet::new(alloc),
-        walked,
-    };
-    search.take_levels(level)?;
-    let reached = search.list()?;
-    search.store.is_sound();
-    work.walked = search.walked;
+    let intact = Intact::of(&Store::known(*ndb));
+    intact.nids_rise();
+    let (reached, walked) = search_from(alloc, &intact, walked)?;
+    work.walked = walked;
     Ok(reached)
 }

@@ -5,13 +5,14 @@ ghost use Rattle.pst_value_json.specs.Rows.{PutsNext};
 
 use crate::refused::{Refused, holds};
 use pst_bytes::Image;
+use pst_export::{emit_export, export_of};
 use pst_header::read_header;
 use pst_json::{
     check_doc, check_line, contents_doc, contents_line, folders_doc, folders_line, head_doc,
     head_line, hex_doc, messages_text, names_index, nodes_doc, nodes_line, pc_doc, props_doc,
     props_line, read_nodes, table_doc, text, text_of, value_doc, verify,
 };
-use pst_value_json::{Rows, prop_rows, table_rows};
+use pst_value_json::{Filed, Rows, prop_rows, table_rows};
 use pst_verify::Verified;
 use serde_json::Value as Doc;
 use std::alloc::Global;
@@ -90,6 +91,16 @@ pub(crate) fn nodes(alloc: Global, bytes: &[u8]) -> Result<(), Refused> {
     )
 }
 
+/// The archive of the store, in memory: of whole blocks.
+pub(crate) fn archive(alloc: Global, bytes: &[u8]) -> Result<(), Refused> {
+    let export = export_of(alloc, verify(alloc, bytes)?)?;
+    let mut out = Vec::new(alloc);
+    match emit_export(alloc, &export, &mut out) {
+        Ok(()) => holds(out.len() > 1024 && out.len() % 512 == 0),
+        Err(_) => Err(Refused::Memory),
+    }
+}
+
 // Puts the next row behind a text; where memory is refused within the row, no byte of the text is lost.
 fn put_behind<R: Rows>(
     alloc: Global,
@@ -122,7 +133,7 @@ pub(crate) fn values(alloc: Global, bytes: &[u8]) -> Result<(), Refused> {
     let store = verify(alloc, bytes)?.store;
     let pc = store.props();
     let _all = pc_doc(alloc, &pc, store.names(), false)?;
-    put_all(alloc, prop_rows(&pc, store.names(), true))?;
+    put_all(alloc, prop_rows(&pc, store.names(), Filed::Nothing, true))?;
     for prop in pc.props() {
         let _shown = value_doc(alloc, prop.kind, prop.value)?;
         let _bytes = hex_doc(alloc, prop.value)?;

@@ -68,7 +68,10 @@ impl From<DocFault> for Refused {
         match fault {
             DocFault::Memory => Refused::Memory,
             DocFault::Bad(fault) => Refused::from(fault),
-            DocFault::NoFolder | DocFault::NoNode | DocFault::NoProperty(_) => Refused::Otherwise,
+            DocFault::NoFolder
+            | DocFault::NoNode
+            | DocFault::NoProperty(_)
+            | DocFault::TooManyPaths => Refused::Otherwise,
         }
     }
 }

@@ -16,11 +16,11 @@ use Rattle.pst_ask.specs.Ask.{Asked, damage, nids_of, report}
 use Rattle.pst_encoding.specs.declared.method.Method.{Method}
 use Rattle.pst_plain.specs.Twin.{method_of}
 use Rattle.pst_json.specs.declared.fault.DocFault.{DocFault}
-use Rattle.pst_json.specs.declared.fault.DocFault.TheVariants.{NoFolder, NoNode, NoProperty, Bad, Memory}
+use Rattle.pst_json.specs.declared.fault.DocFault.TheVariants.{NoFolder, NoNode, NoProperty, TooManyPaths, Bad, Memory}
 use Rattle.pst_json.specs.Told.{TellsDoc}
 use Rattle.pst_run.specs.declared.refusal.Refusal.{Refusal}
 use Rattle.pst_run.specs.Refusal.{Refused, fault, is_memory, memory, refusal_for, refusal_of, refused_of}
-use Rattle.pst_run.specs.Answer.{GivesNone, Told, answer_to, answer_with, behind, bytes_for, decoded_damage, digest_for, in_front, is_decoded_damage, line_at, lines_of_paths, of_store, plain, report_in, report_told}
+use Rattle.pst_run.specs.Answer.{GivesNone, Told, answer_to, answer_with, behind, bytes_for, decoded_damage, digest_for, in_front, is_decoded_damage, is_of_whole, line_at, lines_of_paths, method_for, of_store, plain, report_in, report_told, whole_by}
 
 report_is : (I : List ℕ) (r : Report) → IsReportOf I (store_in I) r → report_parts r ≡ report_in I
 report_is I r is =
@@ -91,6 +91,7 @@ gives_for : {Y : Type 0} (shown : Y → List ℕ) (path : List ℕ) (f : DocFaul
 gives_for shown path NoFolder whole line tells is = is tells
 gives_for shown path NoNode whole line tells is = is tells
 gives_for shown path (NoProperty id) whole line tells is = is tells
+gives_for shown path TooManyPaths whole line tells is = is tells
 gives_for shown path (Bad f) whole line tells is = gives_fault f (is_memory f.kind) whole (is tells)
 gives_for shown path Memory whole line tells is = tt
 
@@ -108,9 +109,14 @@ line_refused shown line paths i d given told text f r whole inside this same tel
 pub to_damage : (a : Asked) (bytes : List ℕ) → is_decoded_damage a ≡ true → answer_to a bytes ≡ decoded_damage (method_of bytes) (digest_for a.ask bytes) bytes
 to_damage a bytes is = rw is refl
 
+-- what is whole of a file
+pub to_whole : (a : Asked) (bytes : List ℕ) → is_decoded_damage a ≡ false → is_of_whole a ≡ true → answer_to a bytes ≡ whole_by (method_for a.decode bytes) a.ask bytes
+to_whole a bytes is whole = rw (is, whole) refl
+
 -- all else
-pub to_shown : (a : Asked) (bytes : List ℕ) → is_decoded_damage a ≡ false → answer_to a bytes ≡ answer_with a.ask (digest_for a.ask bytes) (bytes_for a.decode bytes)
-to_shown a bytes is = rw is refl
+pub to_shown : (a : Asked) (bytes : List ℕ) → is_decoded_damage a ≡ false → is_of_whole a ≡ false
+    → answer_to a bytes ≡ answer_with a.ask (digest_for a.ask bytes) (bytes_for a.decode bytes)
+to_shown a bytes is whole = rw (is, whole) refl
 
 -- of a file that is not encoded
 pub damage_as_stored : (digested : Bool) (method : Option Method) (digest : Option (List ℕ)) (I : List ℕ) → method ≡ None → answer_with (damage digested) digest I ≡ decoded_damage method digest I

@@ -4,3 +4,4 @@ pub mod Loading
 pub mod OutsideLemmas
 pub mod RunLemmas
 pub mod SaidLemmas
+pub mod WholeLemmas

@@ -1,6 +1,6 @@
 -- What a run does for words that ask for something.
-use Rattle.std.proofs.Common.{◌≡◌, ◌∙◌, inl, inr, sym, ap, subst, ℕ, List, Ok, Err, arith}
-use Rattle.std.specs.Prelude.{Bool, Option, None, Result}
+use Rattle.std.proofs.Common.{◌≡◌, ◌∙◌, inl, inr, refl, sym, ap, subst, ℕ, List, Ok, Err, arith}
+use Rattle.std.specs.Prelude.{Bool, true, Option, None, Result}
 use Rattle.pst_fault.specs.declared.kind.Kind.{Kind}
 use Rattle.pst_ask.specs.clap.Words.{IsAmong, Text, kind_of}
 use Rattle.pst_ask.specs.Ask.{Asked, Ordered, show, explain}
@@ -8,8 +8,11 @@ use Rattle.pst_ask.specs.declared.words.NoOrder.{NoOrder}
 use Rattle.pst_ask.specs.declared.words.NoOrder.TheVariants.{Words, Lacks}
 use Rattle.pst_ask.specs.Words.{Declines, IsAsked}
 use Rattle.pst_run.specs.declared.ending.Ending.{Ending}
+use Rattle.pst_export.specs.declared.fault.ExportFault.{ExportFault}
+use Rattle.pst_export.specs.declared.fault.ExportFault.TheVariants.{Output, Memory}
+use Rattle.pst_json.specs.Output.{AppendsFront}
 use Rattle.pst_run.specs.Answer.{Told}
-use Rattle.pst_run.specs.Refusal.{Refused, fault, document, input, output, memory, fault_of, status_of}
+use Rattle.pst_run.specs.Refusal.{Refused, fault, document, input, output, memory, fault_of, status_of, written_for}
 use Rattle.pst_run.specs.Run.{CarriesOut, EndsAs, EndsWith, IsStatusOf, MatchNone, Outputs, Shows, TellsFault, fault_in}
 
 -- words ask for one thing: what is done for it is done for all that they ask for
@@ -47,3 +50,10 @@ tells_refused answer (document path f) old new ending ends is told = (λ _. told
 tells_refused answer input old new ending ends is told = absurd ends
 tells_refused answer (output f) old new ending ends is told = (λ one. absurd (omega (arith, is, one)), λ _. told)
 tells_refused answer memory old new ending ends is told = (λ one. absurd (omega (arith, is, one)), λ _. told)
+
+-- ---- a text that was not written to its end
+
+pub ends_written : (f : ExportFault) (r : Refused) (told : Told) (answer : Result Told Refused) (old new : Option (List ℕ)) → r ≡ written_for f → answer ≡ Ok told
+    → AppendsFront old new told.text → (f ≡ Memory → told.streamed ≡ true) → EndsWith r answer old new
+ends_written (Output e) r told answer old new is shown front memory = subst (λ x. EndsWith x answer old new) (sym is) (told, shown, front)
+ends_written Memory r told answer old new is shown front memory = subst (λ x. EndsWith x answer old new) (sym is) (inr (told, shown, memory refl, front))

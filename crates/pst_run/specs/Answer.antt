@@ -14,27 +14,34 @@ use Rattle.pst_json.specs.pst_store.Fault.{store_fault}
 use Rattle.pst_json.specs.pst_store.Parts.{table_in, entries_in}
 use Rattle.pst_json.specs.pst_store.Values.{store_in}
 use Rattle.pst_json.specs.pst_verify.Counts.{count_of}
+use Rattle.pst_json.specs.pst_whole.Lost.{LostParts, lost_of, nothing_lost}
+use Rattle.pst_json.specs.pst_whole.Nodes.{whole_nodes}
 use Rattle.pst_json.specs.declared.fault.DocFault.{DocFault}
+use Rattle.pst_json.specs.declared.fault.DocFault.TheVariants.{TooManyPaths}
+use Rattle.pst_export.specs.Export.{archive_in}
+use Rattle.pst_export.specs.Store.{archive_text, has_too_many}
 use Rattle.pst_json.specs.Check.{ReportParts, check_line}
-use Rattle.pst_json.specs.Contents.{contents_line}
+use Rattle.pst_json.specs.Contents.{contents_line, unless_fault}
 use Rattle.pst_json.specs.Folders.{folders_line}
 use Rattle.pst_json.specs.Head.{head_line}
 use Rattle.pst_json.specs.Messages.{messages_text}
 use Rattle.pst_json.specs.Node.{props_line}
 use Rattle.pst_json.specs.Nodes.{nodes_line}
+use Rattle.pst_json.specs.Path.{path_told}
 use Rattle.pst_json.specs.Told.{told_of}
 use Rattle.pst_json.specs.Property.{property_at, written_of}
 use Rattle.pst_encoding.specs.declared.method.Method.{Method}
 use Rattle.pst_plain.specs.Twin.{method_of, twin_of}
 use Rattle.pst_remains.specs.Decoded.{decoded_remains_of}
+use Rattle.pst_remains.specs.Remains.{RemainsParts, remains_of}
 use Rattle.pst_damage.specs.Damage.{DamageParts, damage_in, damage_of}
 use Rattle.pst_damage_json.specs.Damage.{damage_line}
 use Rattle.sha2.specs.Sha256.{sha256}
 use Rattle.pst_datatree.specs.Shown.{bytes_in}
 use Rattle.pst_run.specs.declared.shown.Shown.{Shown}
 use Rattle.pst_run.specs.declared.shown.Text.{Text}
-use Rattle.pst_run.specs.declared.shown.Text.TheVariants.{Made, Lent}
-use Rattle.pst_ask.specs.Ask.{Asked, Wanted, report, damage, head, nodes, folders, contents, messages, props, value}
+use Rattle.pst_run.specs.declared.shown.Text.TheVariants.{Made, Lent, Archive}
+use Rattle.pst_ask.specs.Ask.{Asked, Wanted, report, damage, head, nodes, folders, contents, messages, props, value, export}
 use Rattle.pst_run.specs.declared.refusal.Refusal.{Refusal}
 use Rattle.pst_run.specs.Outside.{outside_fault}
 use Rattle.pst_run.specs.Refusal.{Refused, fault, document, input, output, memory, refused_of, refusal_of, refusal_for}
@@ -56,17 +63,26 @@ digest_for ask bytes = None
 pub record Told : Type 0 where
   pub text : List ℕ
   pub fails : Bool
+  -- it is made as it is written
+  pub streamed : Bool
 
 -- the bytes that are written
 abbrev pub bytes_shown : Text → List ℕ
 bytes_shown (Made text) = text.items
 bytes_shown (Lent lent) = bytes_in lent
+bytes_shown (Archive export) = archive_in export
+
+-- it is made as it is written
+abbrev pub is_streamed : Text → Bool
+is_streamed (Made text) = false
+is_streamed (Lent lent) = false
+is_streamed (Archive export) = true
 
 abbrev pub told_in : Shown → Told
-told_in s = record { text = bytes_shown s.text; fails = s.fails }
+told_in s = record { text = bytes_shown s.text; fails = s.fails; streamed = is_streamed s.text }
 
 abbrev pub plain : List ℕ → Told
-plain text = record { text = text; fails = false }
+plain text = record { text = text; fails = false; streamed = false }
 
 -- ---- of the header, and of both trees
 
@@ -96,7 +112,7 @@ report_in I = let s = store_in I in record {
 
 -- a strict check fails where there are lost runs
 abbrev pub report_told : Bool → Option (List ℕ) → ReportParts → Told
-report_told strict digest r = record { text = check_line r digest; fails = strict && not (length r.lost == 0) }
+report_told strict digest r = record { text = check_line r digest; fails = strict && not (length r.lost == 0); streamed = false }
 
 -- its blocks, and the entries of its node B-tree
 abbrev pub table_of_file : List ℕ → Table
@@ -111,7 +127,7 @@ is_whole d = is_none d.header && is_none d.maps && length d.pages == 0 && length
 
 -- what is told of all that is broken, with the digest of the file where it is asked for; it fails where something is
 abbrev pub damage_told : Option (List ℕ) → DamageParts → Told
-damage_told digest d = record { text = damage_line d digest; fails = not (is_whole d) }
+damage_told digest d = record { text = damage_line d digest; fails = not (is_whole d); streamed = false }
 
 -- a line or a value, or that there is none of the folder or at the path with these identifiers
 abbrev pub line_at : List ℕ → Result (List ℕ) DocFault → Result Told Refused
@@ -132,6 +148,54 @@ unfoldable pub lines_of_paths : (List ℕ → Result (List ℕ) DocFault) → Li
 lines_of_paths line [] = Ok (plain [])
 lines_of_paths line (path ∷ rest) = in_front (line_at path (line path)) (lines_of_paths line rest)
 
+-- the archive of a store in a file of so many bytes, or that there are too many paths
+abbrev pub archive_told : ℕ → Table → List NodeEntry → Result Told Refused
+archive_told size t nodes =
+    if has_too_many size t nodes then Err (document [] TooManyPaths)
+    else Ok (record { text = archive_text t nodes; fails = false; streamed = true })
+
+-- ---- of intact nodes, over these blocks, where this is told of others
+
+abbrev pub contents_read : Table → List NodeEntry → LostParts → ℕ → Result Told Refused
+contents_read t entries lost nid = line_at (nid ∷ []) (contents_line t entries lost nid)
+
+-- a line, unless something is told of the node with which the path begins
+abbrev pub path_read : Bool → Table → List NodeEntry → LostParts → List ℕ → Result (List ℕ) DocFault
+path_read places t entries lost path = unless_fault (path_told lost path) (props_line places t entries path)
+
+abbrev pub props_read : Bool → Table → List NodeEntry → LostParts → List (List ℕ) → Result Told Refused
+props_read places t entries lost paths = lines_of_paths (path_read places t entries lost) paths
+
+abbrev pub value_read : Bool → Table → List NodeEntry → LostParts → List ℕ → ℕ → Result Told Refused
+value_read text t entries lost path id =
+    line_at path (unless_fault (path_told lost path) (told_of (written_of text) (property_at t entries path id)))
+
+-- the commands that read nodes
+abbrev pub reads : Wanted → Bool
+reads folders = true
+reads (contents nid) = true
+reads messages = true
+reads (props places paths) = true
+reads (value text path id) = true
+reads (report strict digested) = false
+reads (damage digested) = false
+reads head = false
+reads nodes = false
+reads export = false
+
+-- what each of them shows; of the others nothing is said here
+unfoldable pub read_with : Wanted → Table → List NodeEntry → LostParts → Result Told Refused
+read_with folders t entries lost = Ok (plain (folders_line t entries lost))
+read_with (contents nid) t entries lost = contents_read t entries lost nid
+read_with messages t entries lost = Ok (plain (messages_text t entries))
+read_with (props places paths) t entries lost = props_read places t entries lost paths
+read_with (value text path id) t entries lost = value_read text t entries lost path id
+read_with ask t entries lost = Ok (plain [])
+
+-- of a store, all of whose nodes are intact: nothing is told of others
+abbrev pub read_of_store : Wanted → List ℕ → Result Told Refused
+read_of_store ask I = of_store (store_fault I) (read_with ask (table_of_file I) (entries_of_file I) nothing_lost)
+
 -- ---- all of them
 
 -- The text that a command shows of these bytes, with this digest, and whether it fails; or why it refuses them. `head` shows
@@ -143,12 +207,12 @@ answer_with (report strict digested) digest I = of_store (store_fault I) (Ok (re
 answer_with (damage digested) digest I = of_store (outside_fault I) (Ok (damage_told digest (damage_of I)))
 answer_with head digest I = line_or_fault head_line (answer (header_fault I) (fields I))
 answer_with nodes digest I = line_or_fault nodes_line (listed_nodes I)
-answer_with folders digest I = of_store (store_fault I) (Ok (plain (folders_line (table_of_file I) (entries_of_file I))))
-answer_with messages digest I = of_store (store_fault I) (Ok (plain (messages_text (table_of_file I) (entries_of_file I))))
-answer_with (contents nid) digest I = of_store (store_fault I) (line_at (nid ∷ []) (contents_line (table_of_file I) (entries_of_file I) nid))
-answer_with (props places paths) digest I = of_store (store_fault I) (lines_of_paths (props_line places (table_of_file I) (entries_of_file I)) paths)
-answer_with (value text path id) digest I =
-    of_store (store_fault I) (line_at path (told_of (written_of text) (property_at (table_of_file I) (entries_of_file I) path id)))
+answer_with folders digest I = read_of_store folders I
+answer_with messages digest I = read_of_store messages I
+answer_with (contents nid) digest I = read_of_store (contents nid) I
+answer_with (props places paths) digest I = read_of_store (props places paths) I
+answer_with (value text path id) digest I = read_of_store (value text path id) I
+answer_with export digest I = of_store (store_fault I) (archive_told (length I) (table_of_file I) (entries_of_file I))
 
 -- All that is broken of an encoded file: it is judged as it is stored, and then its blocks without fault are decoded, and the
 -- nodes looked at. A file that is not encoded is answered as it is.
@@ -164,12 +228,35 @@ is_damage ask = false
 abbrev pub is_decoded_damage : Asked → Bool
 is_decoded_damage a = is_damage a.ask && a.decode
 
+-- ---- of what is whole of a damaged file
+
+-- The nodes that are left of it and have no fault, over the blocks without fault; of the others their fault is told, and of what lies
+-- behind a broken page that of the page.
+abbrev pub read_left : Wanted → RemainsParts → Result Told Refused
+read_left ask r = read_with ask r.table (whole_nodes r.table r.nodes r.broken) (lost_of r.table r.nodes r.broken)
+
+-- An encoded file is judged as it is stored, and then its blocks without fault are decoded.
+abbrev pub whole_by : Option Method → Wanted → List ℕ → Result Told Refused
+whole_by None ask I = of_store (outside_fault I) (read_left ask (remains_of I))
+whole_by (Some method) ask I = read_left ask (decoded_remains_of method I)
+
+-- how a file is to be decoded, where that is asked for
+abbrev pub method_for : Bool → List ℕ → Option Method
+method_for decode I = if decode then method_of I else None
+
+-- what is whole is asked for, by a command that reads nodes
+abbrev pub is_of_whole : Asked → Bool
+is_of_whole a = a.whole && reads a.ask
+
+-- ---- the answer
+
 -- The same of the bytes of a file, with the digest of the file as it is: of its plain twin where that is asked for, but of all that is
--- broken.
+-- broken, and of what is whole, where the file is judged as it is stored.
 abbrev pub answer_to : Asked → List ℕ → Result Told Refused
 answer_to a bytes =
     let digest = digest_for a.ask bytes in
     if is_decoded_damage a then decoded_damage (method_of bytes) digest bytes
+    else if is_of_whole a then whole_by (method_for a.decode bytes) a.ask bytes
     else answer_with a.ask digest (bytes_for a.decode bytes)
 
 -- nothing is shown for this reason, which is the answer, unless memory ran out

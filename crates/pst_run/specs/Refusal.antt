@@ -4,6 +4,8 @@ use Rattle.pst_fault.specs.Fault.{fault_text, hex}
 use Rattle.pst_fault.specs.declared.fault.Fault.{Fault}
 use Rattle.pst_fault.specs.declared.kind.Kind.{Kind}
 use Rattle.pst_fault.specs.declared.kind.Kind.TheVariants.{NoMemory}
+use Rattle.pst_export.specs.declared.fault.ExportFault.{ExportFault}
+use Rattle.pst_export.specs.declared.fault.ExportFault.TheVariants.{Output, Memory}
 use Rattle.pst_json.specs.declared.fault.DocFault.{DocFault}
 use Rattle.pst_json.specs.declared.fault.DocFault.TheVariants as doc
 use Rattle.pst_json.specs.declared.output.EmitFault.{EmitFault}
@@ -48,6 +50,7 @@ abbrev pub refusal_for : List ℕ → DocFault → Refused
 refusal_for path (doc.Bad f) = refusal_of f
 refusal_for path doc.Memory = memory
 refusal_for path (doc.NoProperty id) = document [] (doc.NoProperty id)
+refusal_for path doc.TooManyPaths = document [] doc.TooManyPaths
 refusal_for path f = document path f
 
 -- what may come from reading
@@ -99,3 +102,8 @@ line_of_text text = text ++ 10 ∷ []
 abbrev pub refusal_line : Refused → List ℕ
 refusal_line (output Closed) = []
 refusal_line r = line_of_text (refusal_text r)
+
+-- for an archive that was not written to its end
+abbrev pub written_for : ExportFault → Refused
+written_for (Output f) = output f
+written_for Memory = memory

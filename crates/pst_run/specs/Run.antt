@@ -49,16 +49,20 @@ Shows answer fails old new = (told : Told) × (answer ≡ Ok told) × (fails ≡
 abbrev pub ShowsFront : Result Told Refused → Option (List ℕ) → Option (List ℕ) → Type 0
 ShowsFront answer old new = (told : Told) × (answer ≡ Ok told) × AppendsFront old new told.text
 
+-- nothing is written, or of a text that is made as it is written a front
+abbrev pub LeavesFront : Result Told Refused → Option (List ℕ) → Option (List ℕ) → Type 0
+LeavesFront answer old new = Keeps old new ⊎ ((told : Told) × (answer ≡ Ok told) × (told.streamed ≡ true) × AppendsFront old new told.text)
+
 -- nothing is shown for this reason: what the output holds then
 abbrev pub EndsWith : Refused → Result Told Refused → Option (List ℕ) → Option (List ℕ) → Type 0
 EndsWith (fault f) answer old new = (answer ≡ Err (fault f)) × Keeps old new
 EndsWith (document path f) answer old new = (answer ≡ Err (document path f)) × Keeps old new
 EndsWith input answer old new = ⊥
 EndsWith (output f) answer old new = ShowsFront answer old new
-EndsWith memory answer old new = Keeps old new
+EndsWith memory answer old new = LeavesFront answer old new
 
--- How showing an answer ends, and what the output then holds: all of the answer; at a refusal nothing; and where the
--- output failed, a front of the answer.
+-- How showing an answer ends, and what the output then holds: all of the answer; at a refusal nothing; where the output failed, a
+-- front of the answer; and where memory was refused nothing, or of an archive a front.
 abbrev pub Ends : Result Bool Refusal → Result Told Refused → Option (List ℕ) → Option (List ℕ) → Type 0
 Ends (Ok fails) answer old new = Shows answer fails old new
 Ends (Err r) answer old new = EndsWith (refused_of r) answer old new
@@ -66,6 +70,10 @@ Ends (Err r) answer old new = EndsWith (refused_of r) answer old new
 -- memory was refused, which is said, and nothing is written
 abbrev pub IsOutOfMemory : ℕ → Outputs → Outputs → Type 0
 IsOutOfMemory status old new = (status ≡ 4) × Keeps old.out new.out × Says memory old.err new.err
+
+-- memory was refused, which is said, and nothing is written, or of an archive a front
+abbrev pub WantsMemory : Result Told Refused → ℕ → Outputs → Outputs → Type 0
+WantsMemory answer status old new = (status ≡ 4) × LeavesFront answer old.out new.out × Says memory old.err new.err
 
 -- The answer is written, its status is the run's, and nothing is said on the error output; or the answer is a refusal, the
 -- status is its, and its line is said there and nothing written. Only an output that cannot be written (3) and want of memory
@@ -75,7 +83,7 @@ Answers answer status old new =
     ((fails : Bool) × (status ≡ shown_status fails) × Shows answer fails old.out new.out × Keeps old.err new.err)
     ⊎ (((r : Refused) × (answer ≡ Err r) × (status ≡ status_of r) × Keeps old.out new.out × Says r old.err new.err)
     ⊎ (((f : EmitFault) × (status ≡ 3) × ShowsFront answer old.out new.out × Says (output f) old.err new.err)
-    ⊎ IsOutOfMemory status old new))
+    ⊎ WantsMemory answer status old new))
 
 -- the bytes did not come: the file cannot be read, or memory was refused, which is said, and nothing is written
 abbrev pub IsUnread : ℕ → Outputs → Outputs → Type 0

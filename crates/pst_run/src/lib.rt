@@ -17,22 +17,28 @@ mod damaged;
 mod ending;
 mod hint;
 mod input;
+mod laws;
 mod line;
 mod outside;
 mod progress;
+mod read;
 mod refusal;
 mod running;
 mod said;
 mod shown;
 mod source;
+mod whole;
 
 pub use answers::answer;
 pub use damaged::decoded_damage;
 pub use ending::Ending;
 pub use hint::{say_what_helps, say_word};
 pub use input::{LoadFault, MOST_BYTES, MOST_READS, Reads, load, load_counted};
+pub use laws::whole_changes_no_store;
 pub use line::{line_of, line_of_lack};
 pub use progress::Progress;
+pub use pst_export::{Export, emit_export};
+pub use pst_json::emit_value;
 pub use refusal::Refusal;
 pub use running::{
     answer_out, carry_out, decline, digest_if, explain_out, is_decoded_damage, lack_text, run,
@@ -40,3 +46,4 @@ pub use running::{
 pub use said::refuse;
 pub use shown::{Shown, Text};
 pub use source::{Source, Watched, say_cause};
+pub use whole::{is_of_whole, write_decoded_whole, write_whole};

@@ -1,9 +1,10 @@
 //! Why a run shows nothing.
 
 ghost use Rattle.std.specs.Prelude.{◌≡◌};
-ghost use Rattle.pst_run.specs.Refusal.{IsOfInput, fault_of, memory, output, refusal_of, refusal_for, refused_of, status_of};
+ghost use Rattle.pst_run.specs.Refusal.{IsOfInput, fault_of, memory, output, refusal_of, refusal_for, refused_of, status_of, written_for};
 
 use crate::input::LoadFault;
+use pst_export::ExportFault;
 use pst_fault::{Fault, Kind};
 use pst_json::{DocFault, EmitFault};
 use std::alloc::AllocError;
@@ -52,7 +53,7 @@ impl<'a> Refusal<'a> {
         match fault {
             DocFault::Bad(fault) => Refusal::from(fault),
             DocFault::Memory => Refusal::Memory,
-            DocFault::NoProperty(_) => Refusal::Document(&[], fault),
+            DocFault::NoProperty(_) | DocFault::TooManyPaths => Refusal::Document(&[], fault),
             _ => Refusal::Document(path, fault),
         }
     }
@@ -94,5 +95,16 @@ impl<'a> From<EmitFault> for Refusal<'a> {
 
     fn from(fault: EmitFault) -> Refusal<'a> {
         Refusal::Output(fault)
+    }
+}
+
+impl<'a> From<ExportFault> for Refusal<'a> {
+    ghost from_gives = { λ f r. refused_of r ≡ written_for f };
+
+    fn from(fault: ExportFault) -> Refusal<'a> {
+        match fault {
+            ExportFault::Output(fault) => Refusal::Output(fault),
+            ExportFault::Memory => Refusal::Memory,
+        }
     }
 }

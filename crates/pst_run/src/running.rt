@@ -1,12 +1,12 @@
 //! One run of the program.
 
-ghost use Rattle.std.specs.Prelude.{◌≡◌, ◌≢◌, ◌⊎◌, [], Option, Err, IfOk, IfSome};
+ghost use Rattle.std.specs.Prelude.{◌≡◌, ◌≢◌, ◌⊎◌, [], Option, Err, IfOk, IfSome, true};
 ghost use Rattle.pst_ask.specs.Ask.{Asked, request_of, show, explain, wanted_of};
 ghost use Rattle.pst_ask.specs.Words.{IsAsked, asked, show_app, texts};
 ghost use Rattle.pst_ask.specs.clap.Words.{fault_of, kind_of};
 ghost use Rattle.pst_ask.specs.declared.words.NoOrder.TheVariants.{Lacks};
 ghost use Rattle.pst_plain.specs.Twin.{method_of};
-ghost use Rattle.pst_run.specs.Answer.{answer_to, answer_with, bytes_for, decoded_damage as answer_decoded, digest_for, is_decoded_damage as damage_wanted};
+ghost use Rattle.pst_run.specs.Answer.{answer_to, answer_with, bytes_for, decoded_damage as answer_decoded, digest_for, is_decoded_damage as damage_wanted, is_of_whole as whole_wanted, method_for, whole_by};
 ghost use Rattle.pst_run.specs.Refusal.{memory};
 ghost use Rattle.pst_fault.specs.declared.kind.Kind.{Kind as FaultKind};
 ghost use Rattle.pst_run.specs.Run.{Answers, CarriesOut, Ends, EndsAs, Explains, IsLacking, IsOutOfMemory, IsRefused, IsStatusOf, MatchNone, Says, SaysLine, TellsFault, lack_text as text_of_lack, outputs};
@@ -18,6 +18,7 @@ use crate::input::load_counted;
 use crate::refusal::Refusal;
 use crate::said::{refuse, say};
 use crate::shown::emit_text;
+use crate::whole::{is_of_whole, write_decoded_whole, write_whole};
 use pst_ask::{Ask, ErrorKind, Kind, Lack, NoOrder, Order, Request, parse};
 use pst_explain::explanation;
 use pst_json::{EmitFault, emit};
@@ -55,6 +56,7 @@ pub fn is_decoded_damage(request: &Request) -> bool
 }
 
 // Writes all that is broken of a file that may be encoded, and tells whether something is.
+#[tactic(auto, using(crate::proofs::RunLemmas::ends_written))]
 fn write_decoded_damage<W: Write>(
     alloc: Global,
     digest: Option<[u8; 32]>,
@@ -65,12 +67,13 @@ fn write_decoded_damage<W: Write>(
         (W.contents out.old) (W.contents out.new) }
 {
     let shown = decoded_damage(alloc, digest, &mut bytes)?;
-    emit_text(&shown.text, out)?;
+    emit_text(alloc, &shown.text, out)?;
     Ok(shown.fails)
 }
 
 // Writes what a command answers to these bytes of a file, with this digest, or to those of its plain twin, where it is to be
 // decoded; and tells whether the run fails all the same.
+#[tactic(auto, using(crate::proofs::RunLemmas::ends_written))]
 fn write_shown<'a, W: Write>(
     alloc: Global,
     request: &'a Request,
@@ -84,8 +87,25 @@ fn write_shown<'a, W: Write>(
 {
     let bytes = decode_if(alloc, request.decode, bytes)?;
     let shown = answer(alloc, &request.ask, digest, &bytes)?;
-    emit_text(&shown.text, out)?;
+    emit_text(alloc, &shown.text, out)?;
     Ok(shown.fails)
+}
+
+// Writes what a command shows of what is whole of these bytes of a file, and tells whether the run fails all the same.
+fn write_whole_of<'a, W: Write>(
+    alloc: Global,
+    request: &'a Request,
+    mut bytes: Vec<u8>,
+    out: &mut W,
+) -> Result<bool, Refusal<'a>>
+    requires { whole_wanted (request_of request.now) ≡ true }
+    ensures { Ends result (whole_by (method_for request.now.decode bytes.items) (wanted_of request.now.ask) bytes.items)
+        (W.contents out.old) (W.contents out.new) }
+{
+    if request.decode {
+        return write_decoded_whole(alloc, &request.ask, &mut bytes, out);
+    }
+    write_whole(alloc, &request.ask, &bytes, out)
 }
 
 // Writes what a command answers to these bytes of a file, and tells whether the run fails all the same. The digest is taken
@@ -102,6 +122,9 @@ fn write_answer<'a, W: Write>(
     let digest = digest_if(&request.ask, &bytes);
     if is_decoded_damage(request) {
         return write_decoded_damage(alloc, digest, bytes, out);
+    }
+    if is_of_whole(request) {
+        return write_whole_of(alloc, request, bytes, out);
     }
     write_shown(alloc, request, digest, bytes, out)
 }

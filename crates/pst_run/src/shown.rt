@@ -1,12 +1,14 @@
 //! What a command shows, and the writing of it.
 
-ghost use Rattle.std.specs.Prelude.{◌≡◌, OnOk};
+ghost use Rattle.std.specs.Prelude.{◌≡◌, IsErrOf, OnOk, true};
 ghost use Rattle.std.specs.Io.KnownBytes.{Appends};
 ghost use Rattle.pst_json.specs.Output.{AppendsFront};
-ghost use Rattle.pst_run.specs.Answer.{bytes_shown};
+ghost use Rattle.pst_run.specs.Answer.{bytes_shown, is_streamed};
 
 use pst_datatree::Value;
-use pst_json::{EmitFault, emit, emit_value};
+use pst_export::{Export, ExportFault, emit_export};
+use pst_json::{emit, emit_value};
+use std::alloc::Global;
 use std::io::Write;
 
 /// What a command writes.
@@ -16,6 +18,8 @@ pub enum Text<'a> {
     Made(Vec<u8>),
     /// Bytes of the file, where they lie.
     Lent(Value<'a>),
+    /// Files of a store, in an archive that is made as it is written.
+    Archive(Export<'a>),
 }
 
 /// What a command shows.
@@ -42,14 +46,16 @@ impl<'a> Shown<'a> {
     }
 }
 
-/// Writes all of it: a text as one, and bytes of the file piece by piece, for which no memory is taken. After a fault the writer
-/// holds a front of it.
-pub fn emit_text<W: Write>(text: &Text, out: &mut W) -> Result<(), EmitFault>
+/// Writes all of it: a text as one, bytes of the file piece by piece, for which no memory is taken, and an archive file by file, for
+/// which memory may be refused. After a fault the writer holds a front of it.
+pub fn emit_text<W: Write>(alloc: Global, text: &Text, out: &mut W) -> Result<(), ExportFault>
     ensures all { OnOk result (Appends (W.contents out.old) (W.contents out.new) (bytes_shown text.now)) }
     ensures front { AppendsFront (W.contents out.old) (W.contents out.new) (bytes_shown text.now) }
+    ensures memory { IsErrOf result ExportFault.Memory → is_streamed text.now ≡ true }
 {
     match text {
-        Text::Made(text) => emit(text, out),
-        Text::Lent(value) => emit_value(*value, out),
+        Text::Made(text) => Ok(emit(text, out)?),
+        Text::Lent(value) => Ok(emit_value(*value, out)?),
+        Text::Archive(export) => emit_export(alloc, export, out),
     }
 }

@@ -1,6 +1,7 @@
 //! Runs of the program, from the words to the status: over small images, and over readers and writers that fail.
 
 mod all_messages;
+mod archives;
 mod check_cases;
 mod check_contexts;
 mod check_files;
@@ -26,6 +27,7 @@ mod one_value;
 mod outlook;
 mod reading;
 mod values;
+mod whole;
 mod words;
 mod writing;
 

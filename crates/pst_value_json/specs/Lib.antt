@@ -7,6 +7,7 @@ pub mod Form
 pub mod Value
 pub mod Time
 pub mod Places
+pub mod Filed
 pub mod Props
 pub mod Cells
 pub mod Laws

@@ -11,7 +11,9 @@ use Rattle.pst_names.specs.View.{node_of_names}
 use Rattle.pst_pc.specs.Left.{pc_left, rest_of}
 use Rattle.pst_pc.specs.Values.{Property, property_at, spans_in}
 use Rattle.pst_pc.specs.View.{node_of_pc}
+use Rattle.pst_value_json.specs.declared.filed.Filed.{Filed}
 use Rattle.pst_value_json.specs.declared.props.PropRows.{PropRows}
+use Rattle.pst_value_json.specs.Filed.{file_told}
 use Rattle.pst_value_json.specs.Names.{id_text}
 use Rattle.pst_value_json.specs.Parts.{natural}
 use Rattle.pst_value_json.specs.Places.{places_of, places_data, if_asked, member_if}
@@ -47,9 +49,31 @@ prop_data name places p =
     (member (codes "value") (value_data p.kind p.bytes)
     no_members))))))
 
+-- one whose value has a file of its own: the name of that file, and no value
+unfoldable pub filed_data : List ℕ → Option NameParts → Option (List Span) → Property → Data
+filed_data file name places p =
+    object
+    (member (codes "file") (string file)
+    (member (codes "id") (string (id_text p.id))
+    (member_if (codes "name") (option_map called_data name)
+    (member_if (codes "places") (option_map places_data places)
+    (member_if (codes "set") (option_map set_of_data name)
+    (member (codes "type") (string (id_text p.kind))
+    no_members))))))
+
+-- one of both
+abbrev pub shown_data : Option (List ℕ) → Option NameParts → Option (List Span) → Property → Data
+shown_data None name places p = prop_data name places p
+shown_data (Some file) name places p = filed_data file name places p
+
+-- a property, where the values of these have files
+abbrev pub filed_prop_data : Filed → Option NameParts → Option (List Span) → Property → Data
+filed_prop_data filed name places p = shown_data (file_told filed p.id p.kind) name places p
+
 -- that of a record of a property context, of which properties are called so
-abbrev pub record_data : (ℕ → Option NameParts) → Bool → Table → Roots → ℕ × Span → Data
-record_data names places t r x = prop_data (names x.0) (if_asked places (places_of t.image (spans_in t r x))) (property_at t r x)
+abbrev pub record_data : (ℕ → Option NameParts) → Filed → Bool → Table → Roots → ℕ × Span → Data
+record_data names filed places t r x =
+    filed_prop_data filed (names x.0) (if_asked places (places_of t.image (spans_in t r x))) (property_at t r x)
 
 -- what properties are called by a name map; where there is none, no property has a name
 abbrev pub names_told : Option NameMap → ℕ → Option NameParts
@@ -60,4 +84,4 @@ names_told (Some map) id = name_of (table_of_node (node_of_names map)) (roots_of
 unfoldable pub prop_rows_left : PropRows → List Data
 prop_rows_left rows =
     let node = node_of_pc (pc_left rows.props) in
-    map (record_data (names_told rows.names) rows.places (table_of_node node) (roots_of node)) (rest_of rows.props)
+    map (record_data (names_told rows.names) rows.filed rows.places (table_of_node node) (roots_of node)) (rest_of rows.props)

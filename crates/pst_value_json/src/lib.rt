@@ -15,7 +15,7 @@
 //! ) -> Result<S::Out, AllocError> {
 //!     let parts = vec![in alloc;
 //!         Part::Value("nid", Made::Nid(Some(nid))),
-//!         Part::Rows("props", prop_rows(pc, names, places)),
+//!         Part::Rows("props", prop_rows(pc, names, Filed::Nothing, places)),
 //!     ]?;
 //!     S::object(alloc, parts)
 //! }
@@ -28,6 +28,7 @@ mod cells;
 mod compact;
 mod digits;
 mod escape;
+mod filed;
 mod form;
 mod laws;
 mod listing;
@@ -40,6 +41,7 @@ mod put_cells;
 mod put_props;
 mod put_values;
 mod scalar;
+mod shown;
 mod sinks;
 mod time;
 mod utf16;
@@ -48,6 +50,7 @@ mod value;
 pub use cells::{TableRows, table_doc, table_rows};
 pub use compact::{line_text, put_comma, text};
 pub use digits::put_nid;
+pub use filed::{BODY, CONTENT, Filed, HEADERS, HTML, RTF, attachment_file, message_file};
 pub use laws::{cell_places_hold, prop_places_hold};
 pub use listing::Rows;
 pub use names::nid_text;

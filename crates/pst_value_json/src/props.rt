@@ -6,16 +6,18 @@ ghost use Rattle.pst_names.specs.View.{kind_parts, name_parts};
 ghost use Rattle.pst_ndb.specs.Views.{table_of_node, roots_of};
 ghost use Rattle.pst_pc.specs.Values.{pc_records};
 ghost use Rattle.pst_pc.specs.View.{node_of_pc, property_of};
+ghost use Rattle.pst_value_json.specs.declared.filed.Filed.TheVariants.{Nothing};
 ghost use Rattle.pst_value_json.specs.Parts.{list_data};
 ghost use Rattle.pst_value_json.specs.Places.{places_in, if_asked};
 ghost use Rattle.pst_value_json.specs.Props.{kind_data, set_data, prop_data, record_data, names_told, prop_rows_left};
 
 use crate::compact::put_comma;
+use crate::filed::Filed;
 use crate::listing::{Rows, list_doc};
 use crate::names::id_text;
 use crate::places::places_doc;
-use crate::put_props::put_prop;
 use crate::scalar::text_doc;
+use crate::shown::{put_shown, shown_doc};
 use crate::value::value_doc;
 use pst_names::{Name, NameKind, NameMap};
 use pst_pc::{Pc, Prop, Props};
@@ -23,8 +25,8 @@ use serde_json::{Map, Value as Doc, put};
 use std::alloc::{AllocError, Global};
 use uuid::Uuid;
 
-// A name within its set.
-fn kind_doc(alloc: Global, kind: NameKind) -> Result<Doc, AllocError>
+/// A name within its set.
+pub(crate) fn kind_doc(alloc: Global, kind: NameKind) -> Result<Doc, AllocError>
     ensures { IfOk result (λ d. view d ≡ kind_data (kind_parts kind.entry)) }
 {
     match kind {
@@ -33,8 +35,8 @@ fn kind_doc(alloc: Global, kind: NameKind) -> Result<Doc, AllocError>
     }
 }
 
-// The set that a name is of, or null.
-fn set_doc(alloc: Global, set: Option<Uuid>) -> Result<Doc, AllocError>
+/// The set that a name is of, or null.
+pub(crate) fn set_doc(alloc: Global, set: Option<Uuid>) -> Result<Doc, AllocError>
     ensures { IfOk result (λ d. view d ≡ set_data set) }
 {
     match set {
@@ -43,8 +45,8 @@ fn set_doc(alloc: Global, set: Option<Uuid>) -> Result<Doc, AllocError>
     }
 }
 
-// What a property is called; None where it has no name, or where there is no name map.
-fn name_in<'a>(names: Option<NameMap<'a>>, id: u16) -> Option<Name<'a>>
+/// What a property is called; None where it has no name, or where there is no name map.
+pub(crate) fn name_in<'a>(names: Option<NameMap<'a>>, id: u16) -> Option<Name<'a>>
     ensures { option_map name_parts result ≡ names_told names.entry id }
 {
     match names {
@@ -53,9 +55,9 @@ fn name_in<'a>(names: Option<NameMap<'a>>, id: u16) -> Option<Name<'a>>
     }
 }
 
-// A property as an object.
+/// A property as an object.
 #[tactic(auto, unfolding(crate::specs::Props::prop_data))]
-fn prop_doc(
+pub(crate) fn prop_doc(
     alloc: Global,
     names: Option<NameMap>,
     places: bool,
@@ -81,36 +83,44 @@ fn prop_doc(
     Ok(Doc::from(map))
 }
 
-/// The properties that are left of a context, the names that they are shown with, and whether with their places.
+/// The properties that are left of a context, the names that they are shown with, of which files are told, and whether with their
+/// places.
 #[derive(Drop)]
 pub struct PropRows<'a> {
     props: Props<'a>,
     names: Option<NameMap<'a>>,
+    filed: Filed,
     places: bool,
 }
 
-/// All properties of a context, called as a name map says, without names where there is no name map; with their places where these
-/// are asked for.
+/// All properties of a context, called as a name map says, without names where there is no name map; with files in place of these
+/// values; and with their places where these are asked for.
 #[tactic(auto, unfolding(crate::specs::Props::prop_rows_left))]
-pub fn prop_rows<'a>(pc: &Pc<'a>, names: Option<NameMap<'a>>, places: bool) -> PropRows<'a>
+pub fn prop_rows<'a>(
+    pc: &Pc<'a>,
+    names: Option<NameMap<'a>>,
+    filed: Filed,
+    places: bool,
+) -> PropRows<'a>
     ensures { let node = node_of_pc pc.now in let t = table_of_node node in let r = roots_of node in
         prop_rows_left result
-        ≡ map (record_data (names_told names.entry) places t r) (pc_records t r) }
+        ≡ map (record_data (names_told names.entry) filed places t r) (pc_records t r) }
 {
     PropRows {
         props: pc.props(),
         names,
+        filed,
         places,
     }
 }
 
-#[tactic(auto, unfolding(crate::specs::Props::prop_rows_left), using(crate::proofs::PropLemmas::prop_has_none))]
+#[tactic(auto, unfolding(crate::specs::Props::prop_rows_left), using(crate::proofs::PropLemmas::filed_has_none))]
 impl Rows for PropRows<'_> {
     ghost left = { prop_rows_left };
 
     fn next_doc(&mut self, alloc: Global) -> Result<Option<Doc>, AllocError> {
         match self.props.next() {
-            Some(prop) => Ok(Some(prop_doc(alloc, self.names, self.places, prop)?)),
+            Some(prop) => Ok(Some(shown_doc(alloc, self.names, self.filed, self.places, prop)?)),
             None => Ok(None),
         }
     }
@@ -125,9 +135,8 @@ impl Rows for PropRows<'_> {
         let Some(prop) = self.props.next() else {
             return Ok(false);
         };
-        let name = name_in(self.names, prop.id);
         put_comma(later, text)?;
-        put_prop(alloc, &name, self.places, prop, text)?;
+        put_shown(alloc, self.names, self.filed, self.places, prop, text)?;
         Ok(true)
     }
 }
@@ -143,8 +152,8 @@ pub fn pc_doc(
     places: bool,
 ) -> Result<Doc, AllocError>
     ensures { let node = node_of_pc pc.now in let t = table_of_node node in let r = roots_of node in
-        let shown = record_data (names_told names.entry) places t r in
+        let shown = record_data (names_told names.entry) Nothing places t r in
         IfOk result (λ d. view d ≡ list_data shown (pc_records t r)) }
 {
-    list_doc(alloc, prop_rows(pc, names, places))
+    list_doc(alloc, prop_rows(pc, names, Filed::Nothing, places))
 }

@@ -6,13 +6,13 @@ ghost use Rattle.pst_names.specs.View.{kind_parts, name_parts};
 ghost use Rattle.pst_pc.specs.View.{property_of};
 ghost use Rattle.pst_value_json.specs.Object.{if_member_text};
 ghost use Rattle.pst_value_json.specs.Places.{places_in, places_data, if_asked};
-ghost use Rattle.pst_value_json.specs.Props.{kind_data, set_data, called_data, set_of_data, prop_data};
+ghost use Rattle.pst_value_json.specs.Props.{kind_data, set_data, called_data, set_of_data, prop_data, filed_data};
 ghost use Rattle.pst_value_json.specs.Kept.{BeginsWith};
 
 use crate::compact::put_doc;
 use crate::digits::put_id;
 use crate::places::places_doc;
-use crate::put::{put_natural, put_null};
+use crate::put::{put_natural, put_null, put_string};
 use crate::put_values::{put_guid, put_text, put_value};
 use pst_datatree::Value;
 use pst_names::{Name, NameKind};
@@ -113,6 +113,35 @@ pub(crate) fn put_prop(
     put_id(prop.kind.0, text)?;
     text.extend_from_slice(b",\"value\":")?;
     put_value(alloc, prop.kind, prop.value, text)?;
+    text.push(b'}')?;
+    Ok(())
+}
+
+/// Puts a property whose value has a file of its own behind a text, as an object.
+#[tactic(auto, unfolding(crate::specs::Props::filed_data))]
+pub(crate) fn put_filed_prop(
+    alloc: Global,
+    file: &str,
+    name: &Option<Name>,
+    places: bool,
+    prop: Prop,
+    text: &mut Vec<u8>,
+) -> Result<(), AllocError>
+    ensures put { let name = option_map name_parts name.now in
+        let places = if_asked places (places_in prop.entry.value) in OnOk result (text.new.items
+        ≡ text.old.items
+        ++ compact_text (filed_data file.now name places (property_of prop.entry))) }
+    ensures kept { OnErr result (BeginsWith text.new.items text.old.items) }
+{
+    text.extend_from_slice(b"{\"file\":")?;
+    put_string(file, text)?;
+    text.extend_from_slice(b",\"id\":")?;
+    put_id(prop.id, text)?;
+    put_name_member(alloc, name, text)?;
+    put_places_member(alloc, places, prop.value, text)?;
+    put_set_member(name, text)?;
+    text.extend_from_slice(b",\"type\":")?;
+    put_id(prop.kind.0, text)?;
     text.push(b'}')?;
     Ok(())
 }

@@ -21,7 +21,7 @@ pub use check::verify;
 pub use laws::look_ups_are_of_the_store;
 pub use pst_reach::{
     Attachment, Attachments, FOLDER, Folder, Folders, MESSAGE, Message, Name, NameKind, NameMap,
-    Reach, Store, find_reach, is_message, is_type, path_from_root,
+    Reach, Store, find_reach, is_message, is_type, path_from_root, reach_among,
 };
 pub use report::Report;
 pub use verified::Verified;

@@ -21,9 +21,9 @@ macro_rules! ending {
 /// The end of the help of the program.
 pub(super) const PROGRAM: &str =
     "The answer is one line of JSON on standard output, of messages and props one for each;
-of value it is the bytes of the value, and of explain plain words. Where there is none,
-one line on standard error says why. FILE is the name of a file, or - for standard
-input; the program only reads it.
+of value it is the bytes of the value, of export an archive, and of explain plain words.
+Where there is none, one line on standard error says why. FILE is the name of a file, or
+- for standard input; the program only reads it.
 
 Exit status:
   0    The answer is printed; of check and damage: the file is a store
@@ -71,14 +71,16 @@ const FOLDERS: &str = ending!(
     "Checks the whole file, and prints of each folder its identifier and its name, the
 identifiers from the root folder down to it and of its subfolders, how many messages are
 in it, and how many belong to the folder itself. Those that the root folder does not
-reach come last, without a path.",
+reach come last, without a path. With --whole those of a damaged store in which nothing
+is broken, as damage tells it.",
     "The folders are printed",
     "The file breaks a rule of the format: standard error tells the first fault"
 );
 
 const CONTENTS: &str = ending!(
     "Checks the whole file, and prints of each message in the folder NID its identifier,
-its class, its sender and its subject.",
+its class, its sender and its subject. With --whole the store may be damaged: of a
+message that is broken it prints the fault.",
     "The messages are printed",
     "The file breaks a rule of the format, or has no such folder: standard error tells which"
 );
@@ -87,7 +89,8 @@ const MESSAGES: &str = ending!(
     "Checks the whole file, and prints of each message, a line for each, its identifier,
 its class, its sender and its subject, when it was sent and received, its size, how
 many recipients and attachments it has, and the folders that list it. A message that
-no folder lists is there, too.",
+no folder lists is there, too. With --whole those of a damaged store in which nothing is
+broken.",
     "The messages are printed",
     "The file breaks a rule of the format: standard error tells the first fault"
 );
@@ -98,7 +101,8 @@ its type and its value; of a message also the attachments and the recipients. PA
 node; and, with a slash between each and the next, from a message an attachment of it,
 from an attachment the message that it embeds, and so on. Of several paths it prints a
 line for each, in their order; and none where one of them leads nowhere. With --places
-it also prints of each value the pieces of the file in which it lies: place and length.",
+it also prints of each value the pieces of the file in which it lies: place and length.
+With --whole the store may be damaged, if nothing is broken in what the path begins with.",
     "The properties are printed",
     "The file breaks a rule of the format, or has no such node, or that has no properties:
      standard error tells which"
@@ -108,10 +112,23 @@ const VALUE: &str = ending!(
     "Checks the whole file, and writes the bytes of the value of one property of what PATH
 leads to, as the file has them, and nothing else. ID is four hexadecimal digits, as
 props prints them. With --text a text (type 001F), which the file has as UTF-16, is
-written as UTF-8; values of other types are written as they are.",
+written as UTF-8; values of other types are written as they are. With --whole the store
+may be damaged, if nothing is broken in what the path begins with.",
     "The value is written",
     "The file breaks a rule of the format, or has no such node or property: standard
      error tells which"
+);
+
+const EXPORT: &str = ending!(
+    "Checks the whole file, and writes all that is in it as one tar archive: what folders,
+messages and props print of the store, its folders and its messages, and of each message
+its headers, its texts, its attachments and the messages that they embed as files, whose
+bytes are the values. Their names are words of the program and identifiers of the file:
+messages/0x200024/body.txt. `pst_show export FILE | tar x` makes them below the folder
+where it runs.",
+    "The archive is written",
+    "The file breaks a rule of the format, or more paths lead to its messages than it has
+     space for: standard error tells which"
 );
 
 // It reads no file, so it has no answer of one.
@@ -138,6 +155,7 @@ pub(super) fn ending_of<'a>(verb: Verb) -> &'a str {
         Verb::Messages => MESSAGES,
         Verb::Props => PROPS,
         Verb::Value => VALUE,
+        Verb::Export => EXPORT,
         Verb::Explain => EXPLAIN,
     }
 }

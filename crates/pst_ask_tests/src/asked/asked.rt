@@ -30,15 +30,20 @@ const DAMAGE: Ask = Ask::Damage { digest: false };
 
 const DAMAGE_DIGEST: Ask = Ask::Damage { digest: true };
 
-// Compares what words ask for, of a file as it is.
+// Compares what words ask for, of a file as it is, all of it.
 fn is_asked<R: Abort + AllocGlobal>(
     rt: &R,
     words: &[&str],
     ask: Ask,
     file: &str,
 ) -> Result<(), Fail> {
-    let decode = false;
-    is_request(rt, words, Request { ask, decode, file })
+    let expected = Request {
+        ask,
+        decode: false,
+        whole: false,
+        file,
+    };
+    is_request(rt, words, expected)
 }
 
 // Compares what words ask for of a file.
@@ -66,7 +71,7 @@ fn is_order<R: Abort + AllocGlobal>(
 fn are_paths<R: Abort + AllocGlobal>(
     rt: &R,
     words: &[&str],
-    (places, decode): (bool, bool),
+    (places, whole, decode): (bool, bool, bool),
     expected: &[&[u32]],
 ) -> Result<(), Fail> {
     let mut paths = Vec::new(rt.alloc());
@@ -74,24 +79,32 @@ fn are_paths<R: Abort + AllocGlobal>(
         let nids = Vec::from_slice(rt.alloc(), nids)?;
         paths.push(Path { nids })?;
     }
-    let file = "a.pst";
-    let ask = Ask::Props { places, paths };
-    is_request(rt, words, Request { ask, decode, file })
+    let expected = Request {
+        ask: Ask::Props { places, paths },
+        decode,
+        whole,
+        file: "a.pst",
+    };
+    is_request(rt, words, expected)
 }
 
 // Compares of which property words ask for the value.
 fn is_value<R: Abort + AllocGlobal>(
     rt: &R,
     words: &[&str],
-    (text, decode): (bool, bool),
+    (text, whole, decode): (bool, bool, bool),
     nids: &[u32],
     id: u16,
 ) -> Result<(), Fail> {
     let nids = Vec::from_slice(rt.alloc(), nids)?;
     let path = Path { nids };
-    let file = "a.pst";
-    let ask = Ask::Value { text, path, id };
-    is_request(rt, words, Request { ask, decode, file })
+    let expected = Request {
+        ask: Ask::Value { text, path, id },
+        decode,
+        whole,
+        file: "a.pst",
+    };
+    is_request(rt, words, expected)
 }
 
 #[test]
@@ -99,37 +112,37 @@ fn props_takes_paths_in_their_order(rt: HostRuntime) -> Result<(), Fail> {
     for (words, flags, paths) in [
         (
             &["props", "a.pst", "0x12D"][..],
-            (false, false),
+            (false, false, false),
             &[&[0x12d][..]][..],
         ),
         (
             &["props", "a.pst", "--decode", "0x21"],
-            (false, true),
+            (false, false, true),
             &[&[0x21]],
         ),
         (
             &["props", "a.pst", "0x21", "--decode"],
-            (false, true),
+            (false, false, true),
             &[&[0x21]],
         ),
         (
             &["props", "--places", "a.pst", "0x122", "0x21", "0x122"],
-            (true, false),
+            (true, false, false),
             &[&[0x122], &[0x21], &[0x122]],
         ),
         (
             &["props", "a.pst", "0x21", "--decode", "0x61/0x0/0x021"],
-            (false, true),
+            (false, false, true),
             &[&[0x21], &[0x61, 0, 0x21]],
         ),
         (
             &["props", "a.pst", "--places", "0x21", "--decode", "0x61"],
-            (true, true),
+            (true, false, true),
             &[&[0x21], &[0x61]],
         ),
         (
             &["props", "a.pst", "0x200024/0x8025/0xffFFffFF"],
-            (false, false),
+            (false, false, false),
             &[&[0x200024, 0x8025, u32::MAX]],
         ),
     ] {
@@ -143,19 +156,19 @@ fn value_takes_a_path_and_a_property(rt: HostRuntime) -> Result<(), Fail> {
     for (words, flags, nids, id) in [
         (
             &["value", "a.pst", "0x21", "0037"][..],
-            (false, false),
+            (false, false, false),
             &[0x21][..],
             0x37,
         ),
         (
             &["value", "--text", "a.pst", "0x200024", "1000"],
-            (true, false),
+            (true, false, false),
             &[0x200024],
             0x1000,
         ),
         (
             &["value", "a.pst", "0x21", "fFFf", "--decode"],
-            (false, true),
+            (false, false, true),
             &[0x21],
             u16::MAX,
         ),
@@ -168,7 +181,7 @@ fn value_takes_a_path_and_a_property(rt: HostRuntime) -> Result<(), Fail> {
                 "--decode",
                 "3701",
             ],
-            (true, true),
+            (true, false, true),
             &[0x200024, 0x8025],
             0x3701,
         ),
@@ -204,7 +217,7 @@ fn explain_takes_a_kind_or_none(rt: HostRuntime) -> Result<(), Fail> {
 
 #[test]
 fn each_command_takes_a_file_that_is_decoded_first(rt: HostRuntime) -> Result<(), Fail> {
-    let (file, decode) = ("a.pst", true);
+    let (file, decode, whole) = ("a.pst", true, false);
     for (words, ask) in [
         (&["check", "--decode", "a.pst"][..], CHECK),
         (&["check", "a.pst", "--decode", "--strict"], STRICT),
@@ -217,14 +230,84 @@ fn each_command_takes_a_file_that_is_decoded_first(rt: HostRuntime) -> Result<()
         (&["nodes", "a.pst", "--decode"], Ask::Nodes),
         (&["folders", "--decode", "--", "a.pst"], Ask::Folders),
         (&["messages", "a.pst", "--decode"], Ask::Messages),
+        (&["export", "--decode", "a.pst"], Ask::Export),
         (
             &["contents", "--decode", "a.pst", "0x8082"],
             Ask::Contents(0x8082),
         ),
     ] {
-        is_request(&rt, words, Request { ask, decode, file })?;
+        let expected = Request {
+            ask,
+            decode,
+            whole,
+            file,
+        };
+        is_request(&rt, words, expected)?;
     }
     Ok(())
+}
+
+#[test]
+fn what_is_whole_is_asked_for(rt: HostRuntime) -> Result<(), Fail> {
+    let (file, whole) = ("a.pst", true);
+    for (words, ask, decode) in [
+        (&["folders", "--whole", "a.pst"][..], Ask::Folders, false),
+        (
+            &["folders", "--decode", "a.pst", "--whole"],
+            Ask::Folders,
+            true,
+        ),
+        (&["messages", "a.pst", "--whole"], Ask::Messages, false),
+        (
+            &["messages", "--whole", "--decode", "--", "a.pst"],
+            Ask::Messages,
+            true,
+        ),
+        (
+            &["contents", "--whole", "a.pst", "0x8082"],
+            Ask::Contents(0x8082),
+            false,
+        ),
+        (
+            &["contents", "a.pst", "0x8082", "--whole", "--decode"],
+            Ask::Contents(0x8082),
+            true,
+        ),
+    ] {
+        let expected = Request {
+            ask,
+            decode,
+            whole,
+            file,
+        };
+        is_request(&rt, words, expected)?;
+    }
+    are_paths(
+        &rt,
+        &["props", "--whole", "a.pst", "0x21", "--places", "0x122"],
+        (true, true, false),
+        &[&[0x21], &[0x122]],
+    )?;
+    are_paths(
+        &rt,
+        &["props", "a.pst", "--decode", "0x21", "--whole"],
+        (false, true, true),
+        &[&[0x21]],
+    )?;
+    is_value(
+        &rt,
+        &["value", "--whole", "--text", "a.pst", "0x21", "3001"],
+        (true, true, false),
+        &[0x21],
+        0x3001,
+    )?;
+    is_value(
+        &rt,
+        &["value", "a.pst", "0x21", "3001", "--whole", "--decode"],
+        (false, true, true),
+        &[0x21],
+        0x3001,
+    )
 }
 
 #[test]
@@ -256,6 +339,7 @@ fn each_command_is_asked_for(rt: HostRuntime) -> Result<(), Fail> {
     is_asked(&rt, &["nodes", ""], Ask::Nodes, "")?;
     is_asked(&rt, &["folders", "--", "-h"], Ask::Folders, "-h")?;
     is_asked(&rt, &["messages", "a.pst"], Ask::Messages, "a.pst")?;
+    is_asked(&rt, &["export", "-"], Ask::Export, "-")?;
     let contents = Ask::Contents(0x8082);
     is_asked(&rt, &["contents", "a b", "0x8082"], contents, "a b")
 }

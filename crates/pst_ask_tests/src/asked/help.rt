@@ -20,6 +20,7 @@ Commands:
   messages  Lists all messages, a line for each
   props     Shows the properties of nodes
   value     Writes the value of a property
+  export    Writes all of it as a tar archive
   explain   Explains the kinds of fault
   help      Print this message or the help of the given subcommand(s)
 
@@ -28,9 +29,9 @@ Options:
   -V, --version  Print version
 
 The answer is one line of JSON on standard output, of messages and props one for each;
-of value it is the bytes of the value, and of explain plain words. Where there is none,
-one line on standard error says why. FILE is the name of a file, or - for standard
-input; the program only reads it.
+of value it is the bytes of the value, of export an archive, and of explain plain words.
+Where there is none, one line on standard error says why. FILE is the name of a file, or
+- for standard input; the program only reads it.
 
 Exit status:
   0    The answer is printed; of check and damage: the file is a store

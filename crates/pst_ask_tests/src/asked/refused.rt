@@ -10,7 +10,7 @@ const NO_COMMAND: [Refused; 5] = [
     (
         &[],
         "error: 'pst_show' requires a subcommand but one was not provided
-  [subcommands: check, damage, head, nodes, folders, contents, messages, props, value, explain, help]
+  [subcommands: check, damage, head, nodes, folders, contents, messages, props, value, export, explain, help]
 
 Usage: pst_show <COMMAND>
 ",
@@ -109,7 +109,7 @@ Usage: pst_show value --text <FILE> <PATH> <ID>
     ),
 ];
 
-const TOO_MANY: [Refused; 13] = [
+const TOO_MANY: [Refused; 17] = [
     (
         &["nodes", "a.pst", "b.pst"],
         "error: unexpected argument 'b.pst' found
@@ -193,6 +193,38 @@ Usage: pst_show value [OPTIONS] <FILE> <PATH> <ID>
   tip: to pass '--text' as a value, use '-- --text'
 
 Usage: pst_show props [OPTIONS] <FILE> <PATH>...
+",
+    ),
+    (
+        &["check", "--whole", "a.pst"],
+        "error: unexpected argument '--whole' found
+
+  tip: to pass '--whole' as a value, use '-- --whole'
+
+Usage: pst_show check [OPTIONS] <FILE>
+",
+    ),
+    (
+        &["export", "--whole", "a.pst"],
+        "error: unexpected argument '--whole' found
+
+  tip: to pass '--whole' as a value, use '-- --whole'
+
+Usage: pst_show export [OPTIONS] <FILE>
+",
+    ),
+    (
+        &["messages", "--whole", "--whole", "a.pst"],
+        "error: the argument '--whole' cannot be used multiple times
+
+Usage: pst_show messages [OPTIONS] <FILE>
+",
+    ),
+    (
+        &["export", "a.pst", "0x21"],
+        "error: unexpected argument '0x21' found
+
+Usage: pst_show export [OPTIONS] <FILE>
 ",
     ),
     (

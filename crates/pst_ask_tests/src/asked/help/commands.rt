@@ -1,7 +1,7 @@
 //! The help of each command, word for word.
 
 // The name of each command, and its help.
-pub(super) const HELP_OF: [(&str, &str); 10] = [
+pub(super) const HELP_OF: [(&str, &str); 11] = [
     (
         "check",
         "Checks whether it is a store
@@ -116,13 +116,15 @@ Arguments:
   <FILE>  The file to read, or - for standard input
 
 Options:
+      --whole   Reads what is whole of a damaged store
       --decode  Decodes an encoded file first, in memory
   -h, --help    Print help
 
 Checks the whole file, and prints of each folder its identifier and its name, the
 identifiers from the root folder down to it and of its subfolders, how many messages are
 in it, and how many belong to the folder itself. Those that the root folder does not
-reach come last, without a path.
+reach come last, without a path. With --whole those of a damaged store in which nothing
+is broken, as damage tells it.
 
 Exit status:
   0  The folders are printed
@@ -143,11 +145,13 @@ Arguments:
   <NID>   The identifier of a node, as 0x122
 
 Options:
+      --whole   Reads what is whole of a damaged store
       --decode  Decodes an encoded file first, in memory
   -h, --help    Print help
 
 Checks the whole file, and prints of each message in the folder NID its identifier,
-its class, its sender and its subject.
+its class, its sender and its subject. With --whole the store may be damaged: of a
+message that is broken it prints the fault.
 
 Exit status:
   0  The messages are printed
@@ -167,13 +171,15 @@ Arguments:
   <FILE>  The file to read, or - for standard input
 
 Options:
+      --whole   Reads what is whole of a damaged store
       --decode  Decodes an encoded file first, in memory
   -h, --help    Print help
 
 Checks the whole file, and prints of each message, a line for each, its identifier,
 its class, its sender and its subject, when it was sent and received, its size, how
 many recipients and attachments it has, and the folders that list it. A message that
-no folder lists is there, too.
+no folder lists is there, too. With --whole those of a damaged store in which nothing is
+broken.
 
 Exit status:
   0  The messages are printed
@@ -195,6 +201,7 @@ Arguments:
 
 Options:
       --places  Adds where in the file each value lies
+      --whole   Reads what is whole of a damaged store
       --decode  Decodes an encoded file first, in memory
   -h, --help    Print help
 
@@ -204,6 +211,7 @@ node; and, with a slash between each and the next, from a message an attachment 
 from an attachment the message that it embeds, and so on. Of several paths it prints a
 line for each, in their order; and none where one of them leads nowhere. With --places
 it also prints of each value the pieces of the file in which it lies: place and length.
+With --whole the store may be damaged, if nothing is broken in what the path begins with.
 
 Exit status:
   0  The properties are printed
@@ -227,18 +235,49 @@ Arguments:
 
 Options:
       --text    Writes a text as UTF-8
+      --whole   Reads what is whole of a damaged store
       --decode  Decodes an encoded file first, in memory
   -h, --help    Print help
 
 Checks the whole file, and writes the bytes of the value of one property of what PATH
 leads to, as the file has them, and nothing else. ID is four hexadecimal digits, as
 props prints them. With --text a text (type 001F), which the file has as UTF-16, is
-written as UTF-8; values of other types are written as they are.
+written as UTF-8; values of other types are written as they are. With --whole the store
+may be damaged, if nothing is broken in what the path begins with.
 
 Exit status:
   0  The value is written
   1  The file breaks a rule of the format, or has no such node or property: standard
      error tells which
+  2  The words are refused
+  3  The file cannot be read or is too long, or the output cannot be written
+  4  Memory was refused
+",
+    ),
+    (
+        "export",
+        "Writes all of it as a tar archive
+
+Usage: pst_show export [OPTIONS] <FILE>
+
+Arguments:
+  <FILE>  The file to read, or - for standard input
+
+Options:
+      --decode  Decodes an encoded file first, in memory
+  -h, --help    Print help
+
+Checks the whole file, and writes all that is in it as one tar archive: what folders,
+messages and props print of the store, its folders and its messages, and of each message
+its headers, its texts, its attachments and the messages that they embed as files, whose
+bytes are the values. Their names are words of the program and identifiers of the file:
+messages/0x200024/body.txt. `pst_show export FILE | tar x` makes them below the folder
+where it runs.
+
+Exit status:
+  0  The archive is written
+  1  The file breaks a rule of the format, or more paths lead to its messages than it has
+     space for: standard error tells which
   2  The words are refused
   3  The file cannot be read or is too long, or the output cannot be written
   4  Memory was refused

@@ -2,11 +2,11 @@ use Rattle.std.proofs.Common.{refl}
 use Rattle.std.specs.Prelude.{◌≡◌, ◌++◌, codes, option_map, IfSome}
 use Rattle.serde_json.specs.Data.{Members, object, member, no_members}
 use Rattle.serde_json.specs.Written.{compact_text}
-use Rattle.pst_ndb.specs.Views.{table_of_ndb, table_of_node, roots_of}
+use Rattle.pst_ndb.specs.Views.{table_of_node, roots_of}
+use Rattle.pst_intact.specs.View.{table_of_intact}
 use Rattle.pst_value_json.specs.pst_pc.View.{node_of_pc}
 use Rattle.pst_value_json.specs.Names.{nid_data}
 use Rattle.pst_value_json.proofs.MemberLemmas.{first_marked, next_marked, closed}
-use Rattle.pst_verify.specs.pst_store.View.{ndb_of_store}
 use Rattle.pst_json.specs.declared.texts.TheConstants.{CLASS, SENDER, SUBJECT}
 use Rattle.pst_json.specs.Contents.{text_there, listed_data}
 use Rattle.pst_value_json.proofs.KeptLemmas.{kept_here, kept_more, kept_still, kept_through, kept_so}
@@ -15,7 +15,7 @@ use Rattle.pst_json.proofs.contents.put_listed.Goals as goal
 pub returns-clause-put : goal.returns-clause-put
 unfolding listed_data
 returns-clause-put c =
-    let t = table_of_ndb (ndb_of_store c.args.store.now) in
+    let t = table_of_intact c.args.intact.now in
     let known : IfSome c.properties_of-pc.result (λ p. table_of_node (node_of_pc p) ≡ t) = c.properties_of-pc.ensures.table t c.message.ensures.table in
     let r = option_map (λ p. roots_of (node_of_pc p)) c.properties_of-pc.result in
     let subject : Members = member (codes "subject") (text_there t r SUBJECT) no_members in
@@ -34,22 +34,22 @@ pub returns-in_err-put_text_of-clause-kept : goal.returns-in_err-put_text_of-cla
 returns-in_err-put_text_of-clause-kept c = kept_so c.from_residual-in_err-put_text_of.result _ _ (kept_through _ _ _ (kept_here _ _ _ c.in_ok-extend_from_slice.ensures.items) c.in_err-put_text_of.ensures.kept)
 
 pub returns-in_err-extend_from_slice-2-clause-kept : goal.returns-in_err-extend_from_slice-2-clause-kept
-returns-in_err-extend_from_slice-2-clause-kept c = kept_so c.from_residual-in_err-extend_from_slice-2.result _ _ (kept_still _ _ _ (kept_more _ _ _ _ (kept_here _ _ _ c.in_ok-extend_from_slice.ensures.items) (c.in_ok-put_text_of.ensures.put (table_of_ndb (ndb_of_store c.args.store.now)) (c.properties_of-pc.ensures.table (table_of_ndb (ndb_of_store c.args.store.now)) c.message.ensures.table))) c.in_err-extend_from_slice-2.ensures.items)
+returns-in_err-extend_from_slice-2-clause-kept c = kept_so c.from_residual-in_err-extend_from_slice-2.result _ _ (kept_still _ _ _ (kept_more _ _ _ _ (kept_here _ _ _ c.in_ok-extend_from_slice.ensures.items) (c.in_ok-put_text_of.ensures.put (table_of_intact c.args.intact.now) (c.properties_of-pc.ensures.table (table_of_intact c.args.intact.now) c.message.ensures.table))) c.in_err-extend_from_slice-2.ensures.items)
 
 pub returns-in_err-put_nid-clause-kept : goal.returns-in_err-put_nid-clause-kept
-returns-in_err-put_nid-clause-kept c = kept_so c.from_residual-in_err-put_nid.result _ _ (kept_through _ _ _ (kept_more _ _ _ _ (kept_more _ _ _ _ (kept_here _ _ _ c.in_ok-extend_from_slice.ensures.items) (c.in_ok-put_text_of.ensures.put (table_of_ndb (ndb_of_store c.args.store.now)) (c.properties_of-pc.ensures.table (table_of_ndb (ndb_of_store c.args.store.now)) c.message.ensures.table))) c.in_ok-extend_from_slice-2.ensures.items) c.in_err-put_nid.ensures.kept)
+returns-in_err-put_nid-clause-kept c = kept_so c.from_residual-in_err-put_nid.result _ _ (kept_through _ _ _ (kept_more _ _ _ _ (kept_more _ _ _ _ (kept_here _ _ _ c.in_ok-extend_from_slice.ensures.items) (c.in_ok-put_text_of.ensures.put (table_of_intact c.args.intact.now) (c.properties_of-pc.ensures.table (table_of_intact c.args.intact.now) c.message.ensures.table))) c.in_ok-extend_from_slice-2.ensures.items) c.in_err-put_nid.ensures.kept)
 
 pub returns-in_err-extend_from_slice-3-clause-kept : goal.returns-in_err-extend_from_slice-3-clause-kept
-returns-in_err-extend_from_slice-3-clause-kept c = kept_so c.from_residual-in_err-extend_from_slice-3.result _ _ (kept_still _ _ _ (kept_more _ _ _ _ (kept_more _ _ _ _ (kept_more _ _ _ _ (kept_here _ _ _ c.in_ok-extend_from_slice.ensures.items) (c.in_ok-put_text_of.ensures.put (table_of_ndb (ndb_of_store c.args.store.now)) (c.properties_of-pc.ensures.table (table_of_ndb (ndb_of_store c.args.store.now)) c.message.ensures.table))) c.in_ok-extend_from_slice-2.ensures.items) c.in_ok-put_nid.ensures.put) c.in_err-extend_from_slice-3.ensures.items)
+returns-in_err-extend_from_slice-3-clause-kept c = kept_so c.from_residual-in_err-extend_from_slice-3.result _ _ (kept_still _ _ _ (kept_more _ _ _ _ (kept_more _ _ _ _ (kept_more _ _ _ _ (kept_here _ _ _ c.in_ok-extend_from_slice.ensures.items) (c.in_ok-put_text_of.ensures.put (table_of_intact c.args.intact.now) (c.properties_of-pc.ensures.table (table_of_intact c.args.intact.now) c.message.ensures.table))) c.in_ok-extend_from_slice-2.ensures.items) c.in_ok-put_nid.ensures.put) c.in_err-extend_from_slice-3.ensures.items)
 
 pub returns-in_err-put_text_of-2-clause-kept : goal.returns-in_err-put_text_of-2-clause-kept
-returns-in_err-put_text_of-2-clause-kept c = kept_so c.from_residual-in_err-put_text_of-2.result _ _ (kept_through _ _ _ (kept_more _ _ _ _ (kept_more _ _ _ _ (kept_more _ _ _ _ (kept_more _ _ _ _ (kept_here _ _ _ c.in_ok-extend_from_slice.ensures.items) (c.in_ok-put_text_of.ensures.put (table_of_ndb (ndb_of_store c.args.store.now)) (c.properties_of-pc.ensures.table (table_of_ndb (ndb_of_store c.args.store.now)) c.message.ensures.table))) c.in_ok-extend_from_slice-2.ensures.items) c.in_ok-put_nid.ensures.put) c.in_ok-extend_from_slice-3.ensures.items) c.in_err-put_text_of-2.ensures.kept)
+returns-in_err-put_text_of-2-clause-kept c = kept_so c.from_residual-in_err-put_text_of-2.result _ _ (kept_through _ _ _ (kept_more _ _ _ _ (kept_more _ _ _ _ (kept_more _ _ _ _ (kept_more _ _ _ _ (kept_here _ _ _ c.in_ok-extend_from_slice.ensures.items) (c.in_ok-put_text_of.ensures.put (table_of_intact c.args.intact.now) (c.properties_of-pc.ensures.table (table_of_intact c.args.intact.now) c.message.ensures.table))) c.in_ok-extend_from_slice-2.ensures.items) c.in_ok-put_nid.ensures.put) c.in_ok-extend_from_slice-3.ensures.items) c.in_err-put_text_of-2.ensures.kept)
 
 pub returns-in_err-extend_from_slice-4-clause-kept : goal.returns-in_err-extend_from_slice-4-clause-kept
-returns-in_err-extend_from_slice-4-clause-kept c = kept_so c.from_residual-in_err-extend_from_slice-4.result _ _ (kept_still _ _ _ (kept_more _ _ _ _ (kept_more _ _ _ _ (kept_more _ _ _ _ (kept_more _ _ _ _ (kept_more _ _ _ _ (kept_here _ _ _ c.in_ok-extend_from_slice.ensures.items) (c.in_ok-put_text_of.ensures.put (table_of_ndb (ndb_of_store c.args.store.now)) (c.properties_of-pc.ensures.table (table_of_ndb (ndb_of_store c.args.store.now)) c.message.ensures.table))) c.in_ok-extend_from_slice-2.ensures.items) c.in_ok-put_nid.ensures.put) c.in_ok-extend_from_slice-3.ensures.items) (c.in_ok-put_text_of-2.ensures.put (table_of_ndb (ndb_of_store c.args.store.now)) (c.properties_of-pc.ensures.table (table_of_ndb (ndb_of_store c.args.store.now)) c.message.ensures.table))) c.in_err-extend_from_slice-4.ensures.items)
+returns-in_err-extend_from_slice-4-clause-kept c = kept_so c.from_residual-in_err-extend_from_slice-4.result _ _ (kept_still _ _ _ (kept_more _ _ _ _ (kept_more _ _ _ _ (kept_more _ _ _ _ (kept_more _ _ _ _ (kept_more _ _ _ _ (kept_here _ _ _ c.in_ok-extend_from_slice.ensures.items) (c.in_ok-put_text_of.ensures.put (table_of_intact c.args.intact.now) (c.properties_of-pc.ensures.table (table_of_intact c.args.intact.now) c.message.ensures.table))) c.in_ok-extend_from_slice-2.ensures.items) c.in_ok-put_nid.ensures.put) c.in_ok-extend_from_slice-3.ensures.items) (c.in_ok-put_text_of-2.ensures.put (table_of_intact c.args.intact.now) (c.properties_of-pc.ensures.table (table_of_intact c.args.intact.now) c.message.ensures.table))) c.in_err-extend_from_slice-4.ensures.items)
 
 pub returns-in_err-put_text_of-3-clause-kept : goal.returns-in_err-put_text_of-3-clause-kept
-returns-in_err-put_text_of-3-clause-kept c = kept_so c.from_residual-in_err-put_text_of-3.result _ _ (kept_through _ _ _ (kept_more _ _ _ _ (kept_more _ _ _ _ (kept_more _ _ _ _ (kept_more _ _ _ _ (kept_more _ _ _ _ (kept_more _ _ _ _ (kept_here _ _ _ c.in_ok-extend_from_slice.ensures.items) (c.in_ok-put_text_of.ensures.put (table_of_ndb (ndb_of_store c.args.store.now)) (c.properties_of-pc.ensures.table (table_of_ndb (ndb_of_store c.args.store.now)) c.message.ensures.table))) c.in_ok-extend_from_slice-2.ensures.items) c.in_ok-put_nid.ensures.put) c.in_ok-extend_from_slice-3.ensures.items) (c.in_ok-put_text_of-2.ensures.put (table_of_ndb (ndb_of_store c.args.store.now)) (c.properties_of-pc.ensures.table (table_of_ndb (ndb_of_store c.args.store.now)) c.message.ensures.table))) c.in_ok-extend_from_slice-4.ensures.items) c.in_err-put_text_of-3.ensures.kept)
+returns-in_err-put_text_of-3-clause-kept c = kept_so c.from_residual-in_err-put_text_of-3.result _ _ (kept_through _ _ _ (kept_more _ _ _ _ (kept_more _ _ _ _ (kept_more _ _ _ _ (kept_more _ _ _ _ (kept_more _ _ _ _ (kept_more _ _ _ _ (kept_here _ _ _ c.in_ok-extend_from_slice.ensures.items) (c.in_ok-put_text_of.ensures.put (table_of_intact c.args.intact.now) (c.properties_of-pc.ensures.table (table_of_intact c.args.intact.now) c.message.ensures.table))) c.in_ok-extend_from_slice-2.ensures.items) c.in_ok-put_nid.ensures.put) c.in_ok-extend_from_slice-3.ensures.items) (c.in_ok-put_text_of-2.ensures.put (table_of_intact c.args.intact.now) (c.properties_of-pc.ensures.table (table_of_intact c.args.intact.now) c.message.ensures.table))) c.in_ok-extend_from_slice-4.ensures.items) c.in_err-put_text_of-3.ensures.kept)
 
 pub returns-in_err-push-clause-kept : goal.returns-in_err-push-clause-kept
-returns-in_err-push-clause-kept c = kept_so c.from_residual-in_err-push.result _ _ (kept_still _ _ _ (kept_more _ _ _ _ (kept_more _ _ _ _ (kept_more _ _ _ _ (kept_more _ _ _ _ (kept_more _ _ _ _ (kept_more _ _ _ _ (kept_more _ _ _ _ (kept_here _ _ _ c.in_ok-extend_from_slice.ensures.items) (c.in_ok-put_text_of.ensures.put (table_of_ndb (ndb_of_store c.args.store.now)) (c.properties_of-pc.ensures.table (table_of_ndb (ndb_of_store c.args.store.now)) c.message.ensures.table))) c.in_ok-extend_from_slice-2.ensures.items) c.in_ok-put_nid.ensures.put) c.in_ok-extend_from_slice-3.ensures.items) (c.in_ok-put_text_of-2.ensures.put (table_of_ndb (ndb_of_store c.args.store.now)) (c.properties_of-pc.ensures.table (table_of_ndb (ndb_of_store c.args.store.now)) c.message.ensures.table))) c.in_ok-extend_from_slice-4.ensures.items) (c.in_ok-put_text_of-3.ensures.put (table_of_ndb (ndb_of_store c.args.store.now)) (c.properties_of-pc.ensures.table (table_of_ndb (ndb_of_store c.args.store.now)) c.message.ensures.table))) c.in_err-push.ensures.items)
+returns-in_err-push-clause-kept c = kept_so c.from_residual-in_err-push.result _ _ (kept_still _ _ _ (kept_more _ _ _ _ (kept_more _ _ _ _ (kept_more _ _ _ _ (kept_more _ _ _ _ (kept_more _ _ _ _ (kept_more _ _ _ _ (kept_more _ _ _ _ (kept_here _ _ _ c.in_ok-extend_from_slice.ensures.items) (c.in_ok-put_text_of.ensures.put (table_of_intact c.args.intact.now) (c.properties_of-pc.ensures.table (table_of_intact c.args.intact.now) c.message.ensures.table))) c.in_ok-extend_from_slice-2.ensures.items) c.in_ok-put_nid.ensures.put) c.in_ok-extend_from_slice-3.ensures.items) (c.in_ok-put_text_of-2.ensures.put (table_of_intact c.args.intact.now) (c.properties_of-pc.ensures.table (table_of_intact c.args.intact.now) c.message.ensures.table))) c.in_ok-extend_from_slice-4.ensures.items) (c.in_ok-put_text_of-3.ensures.put (table_of_intact c.args.intact.now) (c.properties_of-pc.ensures.table (table_of_intact c.args.intact.now) c.message.ensures.table))) c.in_err-push.ensures.items)

@@ -1,7 +1,6 @@
 use Rattle.std.proofs.Common.{ap, sym, ◌∙◌}
 use Rattle.std.specs.Prelude.{Some, fold}
-use Rattle.pst_ndb.specs.Views.{table_of_ndb}
-use Rattle.pst_verify.specs.pst_store.View.{ndb_of_store}
+use Rattle.pst_intact.specs.View.{table_of_intact}
 use Rattle.pst_json.specs.Found.{place_of}
 use Rattle.pst_json.specs.Path.{step}
 use Rattle.pst_json.proofs.PathLemmas.{nowhere}
@@ -9,13 +8,13 @@ use Rattle.pst_json.proofs.found.walk_from.Goals as goal
 
 pub returns-in-None-clause-place : goal.returns-in-None-clause-place
 returns-in-None-clause-place c =
-    let t = table_of_ndb (ndb_of_store c.args.store.now) in
+    let t = table_of_intact c.args.intact.now in
     let steps = c.args.steps.now in
     sym (ap (λ p. fold (step t) p steps) (sym c.in-None.ensures.place) ∙ nowhere t steps)
 
 pub returns-in-Some-clause-place : goal.returns-in-Some-clause-place
 returns-in-Some-clause-place c =
-    let t = table_of_ndb (ndb_of_store c.args.store.now) in
+    let t = table_of_intact c.args.intact.now in
     let steps = c.args.steps.now in
     c.walk.ensures.place
     ∙ ap (λ u. fold (step u) (Some (place_of c.in-Some.reached)) steps) c.in-Some.ensures.table

@@ -1,7 +1,6 @@
-use Rattle.std.proofs.Common.{◌≡◌, ◌∙◌}
-use Rattle.pst_ndb.specs.Views.{table_of_ndb, nodes_of}
-use Rattle.pst_verify.specs.pst_msg.View.{ndb_of_folder, folder_roots}
-use Rattle.pst_verify.specs.pst_store.View.{ndb_of_store}
+use Rattle.std.proofs.Common.{◌≡◌, ap, ◌∙◌}
+use Rattle.pst_ndb.specs.NodeTable.{table_of_nodes, entries_of_nodes}
+use Rattle.pst_intact.specs.View.{table_of_intact, nodes_of_intact, intact_beside, intact_roots}
 use Rattle.pst_json.specs.Messages.{lists}
 use Rattle.pst_json.proofs.ListingLemmas.{folder_noted}
 use Rattle.pst_json.proofs.listings.listings_of.Goals as goal
@@ -9,10 +8,13 @@ use Rattle.pst_json.proofs.listings.listings_of.Goals as goal
 pub loop-folder-preserved : goal.loop-folder-preserved
 loop-folder-preserved c =
     let i = c.loop-folder.invariant in
-    let ndb = ndb_of_store c.args.store.now in
+    let t = table_of_intact c.args.intact.now in
+    let nodes = nodes_of_intact c.args.intact.now in
     let steps = c.in-Some.ensures.steps in
-    let of_store : ndb_of_folder c.in-Some.folder ≡ ndb = steps.2 ∙ i.same in
+    let table : table_of_nodes (intact_beside c.in-Some.folder) ≡ t = ap table_of_nodes steps.2 ∙ i.table in
+    let entries : entries_of_nodes (intact_beside c.in-Some.folder) ≡ nodes = ap entries_of_nodes steps.2 ∙ i.nodes in
     record {
-      same = steps.1 ∙ i.same;
-      noted = λ nid. folder_noted (lists (table_of_ndb ndb) (nodes_of ndb) nid) (folder_roots c.in-Some.folder) _ _ _ _ _ steps.0 (rw of_store at (c.in_ok-note_folder.ensures nid)) (i.noted nid);
+      table = ap table_of_nodes steps.1 ∙ i.table;
+      nodes = ap entries_of_nodes steps.1 ∙ i.nodes;
+      noted = λ nid. folder_noted (lists t nodes nid) (intact_roots c.in-Some.folder) _ _ _ _ _ steps.0 (rw (table, entries) at (c.in_ok-note_folder.ensures nid)) (i.noted nid);
     }

@@ -1,9 +1,10 @@
 use Rattle.std.proofs.Common.{rules, ◌≡◌, true, ap, ◌∙◌}
-use Rattle.pst_ndb.specs.Views.{table_of_ndb, nodes_of, table_of_node}
+use Rattle.pst_ndb.specs.NodeTable.{table_of_nodes}
+use Rattle.pst_ndb.specs.Views.{table_of_node}
+use Rattle.pst_intact.specs.View.{table_of_intact, nodes_of_intact}
 use Rattle.pst_verify.specs.pst_msg.declared.nid.TheConstants.{MESSAGE}
 use Rattle.pst_verify.specs.pst_msg.Nid.{is_type}
 use Rattle.pst_verify.specs.pst_msg.View.{node_of_message, message_roots}
-use Rattle.pst_verify.specs.pst_store.View.{ndb_of_store}
 use Rattle.pst_json.specs.Listings.{folders_at}
 use Rattle.pst_json.proofs.MessageLemmas.{line_put}
 use Rattle.pst_json.proofs.messages.messages_text.Goals as goal
@@ -11,14 +12,14 @@ use Rattle.pst_json.proofs.messages.messages_text.Goals as goal
 pub loop-message-preserved-in-Continue-branch-2 : goal.loop-message-preserved-in-Continue-branch-2
 loop-message-preserved-in-Continue-branch-2 c =
     let i = c.loop-message.invariant in
-    let ndb = ndb_of_store c.args.store.now in
-    let t = table_of_ndb ndb in
+    let t = table_of_intact c.args.intact.now in
+    let nodes = nodes_of_intact c.args.intact.now in
     let r = message_roots c.in-Some.message in
     let steps = c.in-Some.ensures.steps in
-    let table : table_of_node (node_of_message c.in-Some.message) ≡ t = steps.2 ∙ ap table_of_ndb i.same in
+    let table : table_of_node (node_of_message c.in-Some.message) ≡ t = steps.2 ∙ i.table in
     let kind : is_type MESSAGE r.top ≡ true = search rules in
     record {
-      same = steps.1 ∙ i.same;
+      table = ap table_of_nodes steps.1 ∙ i.table;
       known = rw table at c.put_summary.ensures.known;
-      lines = line_put t (nodes_of ndb) (folders_at c.in_ok-listings.listings) r _ _ _ _ _ c.in_ok-listings.ensures kind steps.0 (rw table at c.in_ok-put_summary.ensures.put) i.lines;
+      lines = line_put t nodes (folders_at c.in_ok-listings.listings) r _ _ _ _ _ c.in_ok-listings.ensures kind steps.0 (rw table at c.in_ok-put_summary.ensures.put) i.lines;
     }

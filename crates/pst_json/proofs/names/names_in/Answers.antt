@@ -1,21 +1,21 @@
 use Rattle.std.proofs.Common.{ap, ◌∙◌}
 use Rattle.std.specs.Prelude.{Some}
-use Rattle.pst_ndb.specs.Views.{table_of_ndb, nodes_of, table_of_node, roots_of}
-use Rattle.pst_verify.specs.pst_store.View.{ndb_of_store}
+use Rattle.pst_ndb.specs.Views.{table_of_node, roots_of}
+use Rattle.pst_intact.specs.View.{table_of_intact, nodes_of_intact}
 use Rattle.pst_json.proofs.NameLemmas.{told_none, told_some, index_lent}
 use Rattle.pst_json.proofs.names.names_in.Goals as goal
 
 pub indexed-requires : goal.indexed-requires
 indexed-requires c =
-    let ndb = ndb_of_store c.args.store.now in
-    index_lent c.in-Some.map (table_of_ndb ndb) (nodes_of ndb) c.args.index.now c.in-Some.ensures.table c.in-Some.ensures.roots c.requires
+    let i = c.args.intact.now in
+    index_lent c.in-Some.map (table_of_intact i) (nodes_of_intact i) c.args.index.now c.in-Some.ensures.table c.in-Some.ensures.roots c.requires
 
 pub returns-in-Some : goal.returns-in-Some
 returns-in-Some c =
-    let ndb = ndb_of_store c.args.store.now in
-    told_some c.indexed.result (table_of_ndb ndb) (nodes_of ndb) (ap table_of_node c.indexed.ensures ∙ c.in-Some.ensures.table) (ap (λ n. Some (roots_of n)) c.indexed.ensures ∙ c.in-Some.ensures.roots)
+    let i = c.args.intact.now in
+    told_some c.indexed.result (table_of_intact i) (nodes_of_intact i) (ap table_of_node c.indexed.ensures ∙ c.in-Some.ensures.table) (ap (λ n. Some (roots_of n)) c.indexed.ensures ∙ c.in-Some.ensures.roots)
 
 pub returns-in-None : goal.returns-in-None
 returns-in-None c =
-    let ndb = ndb_of_store c.args.store.now in
-    told_none (table_of_ndb ndb) (nodes_of ndb) c.in-None.ensures.roots
+    let i = c.args.intact.now in
+    told_none (table_of_intact i) (nodes_of_intact i) c.in-None.ensures.roots

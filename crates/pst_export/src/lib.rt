@@ -1,0 +1,26 @@
+//! All that a store has, as a tar archive of files.
+//!
+//! `export_of` gathers what an archive is made from, or says that there would be too many files; `emit_export` writes it. The bytes
+//! of values go from the file's own memory to the output, piece by piece:
+//!
+//! ```
+//! let export = export_of(alloc, verified)?;
+//! emit_export(alloc, &export, &mut out)?;
+//! ```
+#![tactic(auto)]
+
+mod count;
+mod emit;
+mod export;
+mod fault;
+mod files;
+mod folders;
+mod held;
+mod messages;
+mod time;
+mod utf8;
+mod walk;
+
+pub use emit::{emit_export, export_of};
+pub use export::Export;
+pub use fault::ExportFault;

@@ -1,0 +1,2 @@
+pub mod IntactLemmas
+pub use Rattle.pst_store.proofs as pst_store

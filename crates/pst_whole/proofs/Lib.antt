@@ -1,0 +1,3 @@
+pub mod LostLemmas
+pub mod WholeLemmas
+pub mod WholeLaws
