@@ -14,13 +14,14 @@ The examples of a file run one after another in one empty folder, in which sampl
 and pst_show, which is on the PATH too, the repository's or the program that --program names, as pst_report does its report's; for the manual page there are mail.pst and
 stores/mail.pst. The library is that of PST_LIBRARY, or built/libpst.so.0, with libpst.a beside it.
 
-An example is not run where it uses a command that the program does not know, or something that is not installed, or, up to the
+An example is not run where it uses a command or an option that the program does not know, or something that is not installed, or, up to the
 next heading, where it works on a file that such a one would have written; that is told. Only GNU parallel and the library may
 be missing without failure. The status is 0 where all other examples ran and printed what they should; with --some, where
 all that ran did. It is 1, too, where none ran.
 """
 import argparse
 import difflib
+import functools
 import os
 import re
 import shutil
@@ -141,9 +142,12 @@ class Room:
             return "the library is not there"
         if example.language == "c":
             return None if shutil.which("cc") else "cc is not installed"
-        for word in re.findall(r"pst_show ([a-z]+)", example.text):
+        for word, flags in re.findall(r"pst_show ([a-z]+)((?: --[a-z]+)*)", example.text):
             if word not in self.known:
                 return f"the program has no command {word}"
+            for flag in flags.split():
+                if flag not in help_of(self.program, word):
+                    return f"{word} has no option {flag}"
         for tool in TOOLS:
             if re.search(rf"(^|[\s|(]){tool}\s", example.text) and not shutil.which(tool):
                 return f"{tool} is not installed"
@@ -180,10 +184,15 @@ class Room:
         return None if is_good else f"status {ran.returncode}, {size} bytes\n{ran.stderr.decode()}"
 
 
+@functools.cache
+def help_of(program, *words):
+    """What the program says of itself, or of one of its commands."""
+    return subprocess.run([program, *words, "--help"], stdout=subprocess.PIPE, text=True, check=True).stdout
+
+
 def known_commands(program):
     """The commands that the program's help lists."""
-    told = subprocess.run([program, "--help"], stdout=subprocess.PIPE, text=True, check=True).stdout
-    listed = told.partition("\nCommands:\n")[2].partition("\n\n")[0]
+    listed = help_of(program).partition("\nCommands:\n")[2].partition("\n\n")[0]
     return {line.split()[0] for line in listed.split("\n") if line.strip()}
 
 

@@ -139,7 +139,7 @@ class Page:
             const one = document.querySelector({json.dumps(first)}).getBoundingClientRect();
             const other = document.querySelector({json.dumps(last)}).getBoundingClientRect();
             return {{ y: one.top + scrollY, height: other.bottom - one.top, width: document.documentElement.clientWidth }}; }})()""")
-        clip = {"x": 0, "y": max(0, box["y"] - 16), "width": box["width"], "height": min(box["height"] + 32, 16000), "scale": 1}
+        clip = {"x": 0, "y": max(0, box["y"] - 16), "width": box["width"], "height": min(box["height"] + 20, 16000), "scale": 1}
         made = self.call("Page.captureScreenshot", format="png", captureBeyondViewport=True, clip=clip)
         with open(path, "wb") as file:
             file.write(base64.b64decode(made["data"]))

@@ -4,13 +4,15 @@ ghost use Rattle.std.specs.Prelude.{IfOk};
 ghost use Rattle.pst_value_json.specs.Rows.{PutsNext};
 
 use crate::refused::{Refused, holds};
+use crate::remains::{damaged, remains_of};
 use pst_bytes::Image;
 use pst_export::{emit_export, export_of};
 use pst_header::read_header;
 use pst_json::{
-    check_doc, check_line, contents_doc, contents_line, folders_doc, folders_line, head_doc,
-    head_line, hex_doc, messages_text, names_index, nodes_doc, nodes_line, pc_doc, props_doc,
-    props_line, read_nodes, table_doc, text, text_of, value_doc, verify,
+    Intact, Lost, check_doc, check_line, contents_doc, contents_line, find_whole, folders_doc,
+    folders_line, head_doc, head_line, hex_doc, messages_text, names_index, nodes_doc, nodes_line,
+    pc_doc, props_doc, props_line, reach_among, read_nodes, table_doc, text, text_of, value_doc,
+    verify,
 };
 use pst_value_json::{Filed, Rows, prop_rows, table_rows};
 use pst_verify::Verified;
@@ -46,49 +48,76 @@ pub(crate) fn lists(alloc: Global, bytes: &[u8]) -> Result<(), Refused> {
     let tree = read_nodes(alloc, Image::new(bytes))?;
     is_line(alloc, &nodes_doc(alloc, &tree)?, &nodes_line(alloc, &tree)?)?;
     let verified = verify(alloc, bytes)?;
+    verified.is_sound();
+    let intact = Intact::of(&verified.store);
+    let reached = &verified.report.reached;
     is_line(
         alloc,
-        &folders_doc(alloc, &verified)?,
-        &folders_line(alloc, &verified)?,
+        &folders_doc(alloc, &intact, &Lost::Nothing, reached)?,
+        &folders_line(alloc, &intact, &Lost::Nothing, reached)?,
     )
+}
+
+// The contents of each folder of type 02 among intact nodes.
+fn contents(alloc: Global, intact: &Intact, lost: &Lost) -> Result<(), Refused> {
+    for folder in intact.folders() {
+        let nid = folder.nid();
+        if nid % 32 == 2 {
+            let doc = contents_doc(alloc, intact, lost, nid)?;
+            is_line(alloc, &doc, &contents_line(alloc, intact, lost, nid)?)?;
+        }
+    }
+    Ok(())
 }
 
 /// The contents of each folder, and the properties of each message, of its attachments and of the store.
 pub(crate) fn nodes(alloc: Global, bytes: &[u8]) -> Result<(), Refused> {
     let store = verify(alloc, bytes)?.store;
-    let index = names_index(alloc, &store)?;
-    for folder in store.folders() {
-        let nid = folder.node().nid();
-        if nid % 32 == 2 {
-            let doc = contents_doc(alloc, &store, nid)?;
-            is_line(alloc, &doc, &contents_line(alloc, &store, nid)?)?;
-        }
-    }
+    let intact = Intact::of(&store);
+    let index = names_index(alloc, &intact)?;
+    contents(alloc, &intact, &Lost::Nothing)?;
     for message in store.messages() {
         let nid = message.node().nid();
-        let doc = props_doc(alloc, &store, &index, &[nid], true)?;
+        let doc = props_doc(alloc, &intact, &index, &[nid], true)?;
         is_line(
             alloc,
             &doc,
-            &props_line(alloc, &store, &index, &[nid], true)?,
+            &props_line(alloc, &intact, &index, &[nid], true)?,
         )?;
         for attachment in message.attachments() {
             let path = [nid, attachment.node().nid()];
-            let doc = props_doc(alloc, &store, &index, &path, false)?;
+            let doc = props_doc(alloc, &intact, &index, &path, false)?;
             is_line(
                 alloc,
                 &doc,
-                &props_line(alloc, &store, &index, &path, false)?,
+                &props_line(alloc, &intact, &index, &path, false)?,
             )?;
         }
     }
-    let _lines = messages_text(alloc, &store)?;
-    let doc = props_doc(alloc, &store, &index, &[0x21], false)?;
+    let _lines = messages_text(alloc, &intact)?;
+    let doc = props_doc(alloc, &intact, &index, &[0x21], false)?;
     is_line(
         alloc,
         &doc,
-        &props_line(alloc, &store, &index, &[0x21], false)?,
+        &props_line(alloc, &intact, &index, &[0x21], false)?,
     )
+}
+
+/// What is whole of a damaged file, and the documents of that.
+pub(crate) fn whole(alloc: Global, bytes: &[u8]) -> Result<(), Refused> {
+    let damaged = damaged(alloc, bytes)?;
+    let whole = find_whole(alloc, remains_of(alloc, &damaged)?)?;
+    let pages = whole.pages(alloc)?;
+    let (intact, lost) = (whole.intact(), whole.lost(&pages));
+    let reached = reach_among(alloc, &intact)?;
+    is_line(
+        alloc,
+        &folders_doc(alloc, &intact, &lost, &reached)?,
+        &folders_line(alloc, &intact, &lost, &reached)?,
+    )?;
+    contents(alloc, &intact, &lost)?;
+    let _lines = messages_text(alloc, &intact)?;
+    Ok(())
 }
 
 /// The archive of the store, in memory: of whole blocks.

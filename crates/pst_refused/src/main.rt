@@ -34,13 +34,14 @@ enum Calls {
     Lists,
     Nodes,
     Values,
+    Whole,
     Archive,
     Images,
     Load,
     Run,
 }
 
-const ALL: [Calls; 12] = [
+const ALL: [Calls; 14] = [
     Calls::Layers,
     Calls::Database,
     Calls::Remains,
@@ -50,6 +51,7 @@ const ALL: [Calls; 12] = [
     Calls::Lists,
     Calls::Nodes,
     Calls::Values,
+    Calls::Whole,
     Calls::Archive,
     Calls::Images,
     Calls::Load,
@@ -67,6 +69,7 @@ fn made(alloc: Global, calls: Calls, bytes: &[u8]) -> Result<(), Refused> {
         Calls::Lists => documents::lists(alloc, bytes),
         Calls::Nodes => documents::nodes(alloc, bytes),
         Calls::Values => documents::values(alloc, bytes),
+        Calls::Whole => documents::whole(alloc, bytes),
         Calls::Archive => documents::archive(alloc, bytes),
         Calls::Images => whole::images(alloc),
         Calls::Load => whole::loads(alloc, bytes),

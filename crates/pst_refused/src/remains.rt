@@ -11,7 +11,7 @@ use pst_remains::{Found, Remains, find_decoded, find_remains};
 use std::alloc::Global;
 
 // What remains of a file.
-fn remains_of<'a>(alloc: Global, bytes: &'a [u8]) -> Result<Remains<'a>, Refused> {
+pub(crate) fn remains_of<'a>(alloc: Global, bytes: &'a [u8]) -> Result<Remains<'a>, Refused> {
     let image = Image::new(bytes);
     if image.len() < 564 {
         return Err(Refused::Otherwise);
@@ -34,7 +34,7 @@ fn flip_at(bytes: &mut [u8], at: u64) -> Result<(), Refused> {
 }
 
 // The file with a byte changed of the check value of its node B-tree's root, and one of the first block's body.
-fn damaged(alloc: Global, bytes: &[u8]) -> Result<Vec<u8>, Refused> {
+pub(crate) fn damaged(alloc: Global, bytes: &[u8]) -> Result<Vec<u8>, Refused> {
     let root = read_header(Image::new(bytes))?.nbt;
     let remains = remains_of(alloc, bytes)?;
     holds(told(&remains) == (false, 0, 0))?;

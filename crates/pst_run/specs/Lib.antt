@@ -5,3 +5,4 @@ pub mod Loading
 pub mod Outside
 pub mod Refusal
 pub mod Run
+pub use Rattle.pst_export.specs.Export

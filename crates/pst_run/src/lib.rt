@@ -37,6 +37,8 @@ pub use input::{LoadFault, MOST_BYTES, MOST_READS, Reads, load, load_counted};
 pub use laws::whole_changes_no_store;
 pub use line::{line_of, line_of_lack};
 pub use progress::Progress;
+pub use pst_export::{Export, emit_export};
+pub use pst_json::emit_value;
 pub use refusal::Refusal;
 pub use running::{
     answer_out, carry_out, decline, digest_if, explain_out, is_decoded_damage, lack_text, run,

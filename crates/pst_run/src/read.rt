@@ -7,6 +7,7 @@ ghost use Rattle.pst_json.specs.pst_intact.View.{table_of_intact, nodes_of_intac
 ghost use Rattle.pst_json.specs.pst_pc.View.{property_of};
 ghost use Rattle.pst_json.specs.pst_whole.View.{lost_in};
 ghost use Rattle.pst_json.specs.Property.{written_of};
+ghost use Rattle.pst_json.specs.Told.{TellsDoc};
 ghost use Rattle.pst_run.specs.Answer.{Gives, contents_read, lines_of_paths, path_read, plain, props_read, read_with, reads, told_in, value_read};
 
 use crate::refusal::Refusal;

@@ -125,8 +125,7 @@ messages and props print of the store, its folders and its messages, and of each
 its headers, its texts, its attachments and the messages that they embed as files, whose
 bytes are the values. Their names are words of the program and identifiers of the file:
 messages/0x200024/body.txt. `pst_show export FILE | tar x` makes them below the folder
-where it runs. With --whole it writes what is whole of a damaged store, and before that,
-as damage.json, what damage prints.",
+where it runs.",
     "The archive is written",
     "The file breaks a rule of the format, or more paths lead to its messages than it has
      space for: standard error tells which"

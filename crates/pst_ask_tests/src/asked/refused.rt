@@ -109,7 +109,7 @@ Usage: pst_show value --text <FILE> <PATH> <ID>
     ),
 ];
 
-const TOO_MANY: [Refused; 16] = [
+const TOO_MANY: [Refused; 17] = [
     (
         &["nodes", "a.pst", "b.pst"],
         "error: unexpected argument 'b.pst' found
@@ -205,10 +205,19 @@ Usage: pst_show check [OPTIONS] <FILE>
 ",
     ),
     (
-        &["export", "--whole", "--whole", "a.pst"],
-        "error: the argument '--whole' cannot be used multiple times
+        &["export", "--whole", "a.pst"],
+        "error: unexpected argument '--whole' found
+
+  tip: to pass '--whole' as a value, use '-- --whole'
 
 Usage: pst_show export [OPTIONS] <FILE>
+",
+    ),
+    (
+        &["messages", "--whole", "--whole", "a.pst"],
+        "error: the argument '--whole' cannot be used multiple times
+
+Usage: pst_show messages [OPTIONS] <FILE>
 ",
     ),
     (
