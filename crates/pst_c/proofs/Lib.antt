@@ -1,3 +1,4 @@
 mod DamageLemmas
 pub mod DeclinedLemmas
 mod DecodedLemmas
+pub mod WholeLemmas

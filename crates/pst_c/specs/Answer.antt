@@ -13,7 +13,7 @@ use Rattle.pst_explain.specs.Text.{explanation}
 use Rattle.pst_fault.specs.declared.kind.Kind.{Kind}
 use Rattle.pst_run.specs.declared.refusal.Refusal.{Refusal}
 use Rattle.pst_run.specs.Answer.{GivesNone, Told, answer_to}
-use Rattle.pst_run.specs.Refusal.{Refused, input, memory, line_of_text, refusal_text, refused_of, status_of}
+use Rattle.pst_run.specs.Refusal.{Refused, input, memory, output, line_of_text, refusal_text, refused_of, status_of}
 use Rattle.pst_run.specs.Run.{MatchNone, lack_text, shown_status}
 use Rattle.pst_c.specs.declared.answer.Answer.{Answer}
 use Rattle.pst_c.specs.declared.words.NoWords.{NoWords}
@@ -89,6 +89,11 @@ Wordless bytes a = (IsEndless bytes × WordlessBy Endless a) ⊎ (IsNoText bytes
 abbrev pub AnswersCall : List ℕ → List ℕ → Answer → Type 0
 AnswersCall words bytes a =
     ((these : List (List ℕ)) × IsWords words these × AnswersWords these bytes a) ⊎ (Wordless words a ⊎ IsMemory a)
+
+-- why nothing is shown where the text is made in memory: such an output fails for want of memory alone
+abbrev pub refused_in_memory : Refused → Refused
+refused_in_memory (output f) = memory
+refused_in_memory r = r
 
 -- what is shown of a file, or why it is refused, unless memory ran out
 abbrev pub Yields : Result (Vec ℕ Global × Bool) Refusal → Result Told Refused → Type 0

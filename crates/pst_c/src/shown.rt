@@ -6,8 +6,9 @@ ghost use Rattle.pst_datatree.specs.Shown.{bytes_in};
 ghost use Rattle.pst_plain.specs.Twin.{method_of as method_in};
 ghost use Rattle.pst_run.specs.Answer.{answer_to, answer_with, bytes_for, bytes_shown, decoded_damage as answer_decoded, is_decoded_damage as damage_wanted, is_of_whole as whole_wanted, method_for, whole_by};
 ghost use Rattle.pst_run.specs.Export.{archive_in};
+ghost use Rattle.pst_run.specs.Refusal.{refused_of};
 ghost use Rattle.pst_run.specs.Run.{Ends};
-ghost use Rattle.pst_c.specs.Answer.{Yields};
+ghost use Rattle.pst_c.specs.Answer.{Yields, refused_in_memory};
 
 use crate::decoded::decoded_if;
 use pst_ask::{Ask, Request};
@@ -107,8 +108,18 @@ fn write_whole_of<'p>(
     write_decoded_whole(alloc, &request.ask, &mut copy, text)
 }
 
-// What a command shows of what is whole of these bytes, and whether the run fails all the same. Only memory refuses a text that is made
-// in memory.
+// Why nothing is shown, where the text is made in memory: such an output fails for want of memory alone.
+fn in_memory(refusal: Refusal<'_>) -> Refusal<'_>
+    ensures { refused_of result ≡ refused_in_memory (refused_of refusal.entry) }
+{
+    match refusal {
+        Refusal::Output(_) => Refusal::Memory,
+        _ => refusal,
+    }
+}
+
+// What a command shows of what is whole of these bytes, and whether the run fails all the same.
+#[tactic(auto, using(crate::proofs::WholeLemmas::yields_shown, crate::proofs::WholeLemmas::yields_none))]
 fn whole_of<'p>(
     alloc: Global,
     request: &'p Request,
@@ -120,8 +131,7 @@ fn whole_of<'p>(
     let mut text = Vec::new(alloc);
     match write_whole_of(alloc, request, bytes, &mut text) {
         Ok(fails) => Ok((text, fails)),
-        Err(Refusal::Output(_)) => Err(Refusal::Memory),
-        Err(refusal) => Err(refusal),
+        Err(refusal) => Err(in_memory(refusal)),
     }
 }
 

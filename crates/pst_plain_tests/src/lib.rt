@@ -7,6 +7,8 @@ mod bodies;
 #[cfg(test)]
 mod encoded;
 #[cfg(test)]
+mod method;
+#[cfg(test)]
 mod told;
 #[cfg(test)]
 mod twins;
