@@ -26,6 +26,11 @@ WORDS = [
     ["value", "-", "0x21", "9999"],
     ["export", "-"],
     ["export", "--decode", "-"],
+    ["folders", "--whole", "-"],
+    ["contents", "--whole", "--decode", "-", "0x8082"],
+    ["messages", "--whole", "-"],
+    ["props", "--whole", "--decode", "--places", "-", "0x400004", "0x400024/0x8045/0x200024"],
+    ["value", "--whole", "-", "0x400004/0x8025", "3701"],
 ]
 # And such as need no store, or are none.
 OTHER_WORDS = [

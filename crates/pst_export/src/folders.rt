@@ -1,6 +1,6 @@
 //! The files of a store itself, and of its folders.
 
-ghost use Rattle.std.specs.Prelude.{◌≡◌, false, IfOk, OnOk, [], ◌∷◌, codes, string_bytes};
+ghost use Rattle.std.specs.Prelude.{◌≡◌, ◌≢◌, false, IfOk, OnOk, [], ◌∷◌, codes, string_bytes};
 ghost use Rattle.pst_ndb.specs.Roots.{all_roots};
 ghost use Rattle.pst_ndb.specs.Views.{table_of_ndb, nodes_of};
 ghost use Rattle.pst_value_json.specs.Props.{names_told};
@@ -28,6 +28,16 @@ use pst_verify::{Folder, Verified};
 use std::alloc::{AllocError, Global};
 use std::io::Write;
 
+// Whether there is no document for another reason than that memory was refused.
+fn unless_memory(fault: DocFault) -> Result<(), AllocError>
+    ensures { OnOk result (fault ≢ DocFault.Memory) }
+{
+    if fault == DocFault::Memory {
+        return Err(AllocError);
+    }
+    Ok(())
+}
+
 // Writes the properties of the store.
 #[tactic(auto, using(crate::proofs::FileLemmas::store_there, crate::proofs::FileLemmas::store_none, crate::proofs::WriteLemmas::front_none))]
 fn write_store<W: Write>(
@@ -46,9 +56,14 @@ fn write_store<W: Write>(
 {
     let intact = Intact::of(&export.verified.store);
     match props_line(alloc, &intact, &export.index, &[STORE], false) {
-        Ok(line) => write_bytes(alloc, number, b"store.json", 0, &line, out),
-        Err(DocFault::Memory) => Err(ExportFault::Memory),
-        Err(_) => Ok(()),
+        Ok(line) => {
+            write_bytes(alloc, number, b"store.json", 0, &line, out)?;
+            Ok(())
+        }
+        Err(fault) => {
+            unless_memory(fault)?;
+            Ok(())
+        }
     }
 }
 

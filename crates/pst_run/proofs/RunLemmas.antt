@@ -55,5 +55,5 @@ tells_refused answer memory old new ending ends is told = (λ one. absurd (omega
 
 pub ends_written : (f : ExportFault) (r : Refused) (told : Told) (answer : Result Told Refused) (old new : Option (List ℕ)) → r ≡ written_for f → answer ≡ Ok told
     → AppendsFront old new told.text → (f ≡ Memory → told.streamed ≡ true) → EndsWith r answer old new
-ends_written (Output e) r told answer old new is shown front memory = subst (λ x. EndsWith x answer old new) (sym is) (told, shown, front)
-ends_written Memory r told answer old new is shown front memory = subst (λ x. EndsWith x answer old new) (sym is) (inr (told, shown, memory refl, front))
+ends_written (Output e) r told answer old new is shown front why = subst (λ x. EndsWith x answer old new) (sym is) (told, shown, front)
+ends_written Memory r told answer old new is shown front why = subst (λ x. EndsWith x answer old new) (sym is) (inr (told, shown, why refl, front))

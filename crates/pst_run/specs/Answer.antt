@@ -70,13 +70,13 @@ pub record Told : Type 0 where
 abbrev pub bytes_shown : Text → List ℕ
 bytes_shown (Made text) = text.items
 bytes_shown (Lent lent) = bytes_in lent
-bytes_shown (Archive export) = archive_in export
+bytes_shown (Archive e) = archive_in e
 
 -- it is made as it is written
 abbrev pub is_streamed : Text → Bool
 is_streamed (Made text) = false
 is_streamed (Lent lent) = false
-is_streamed (Archive export) = true
+is_streamed (Archive e) = true
 
 abbrev pub told_in : Shown → Told
 told_in s = record { text = bytes_shown s.text; fails = s.fails; streamed = is_streamed s.text }
@@ -150,9 +150,9 @@ lines_of_paths line (path ∷ rest) = in_front (line_at path (line path)) (lines
 
 -- the archive of a store in a file of so many bytes, or that there are too many paths
 abbrev pub archive_told : ℕ → Table → List NodeEntry → Result Told Refused
-archive_told size t nodes =
-    if has_too_many size t nodes then Err (document [] TooManyPaths)
-    else Ok (record { text = archive_text t nodes; fails = false; streamed = true })
+archive_told size t entries =
+    if has_too_many size t entries then Err (document [] TooManyPaths)
+    else Ok (record { text = archive_text t entries; fails = false; streamed = true })
 
 -- ---- of intact nodes, over these blocks, where this is told of others
 

@@ -53,7 +53,7 @@ fn path_line<'a>(
     places: bool,
     path: &[u32],
     intact: &Intact<'a>,
-    lost: &Lost<'a>,
+    lost: &Lost,
     index: &'a NameIndex,
 ) -> Result<Vec<u8>, DocFault>
     requires { IsNamesIndex (table_of_intact intact.now) (nodes_of_intact intact.now) index.now }
@@ -73,7 +73,7 @@ fn props_lines<'p, 'a>(
     places: bool,
     paths: &'p [Path],
     intact: &Intact<'a>,
-    lost: &Lost<'a>,
+    lost: &Lost,
     index: &'a NameIndex,
 ) -> Result<Shown<'static>, Refusal<'p>>
     requires { IsNamesIndex (table_of_intact intact.now) (nodes_of_intact intact.now) index.now }
@@ -92,18 +92,19 @@ fn props_lines<'p, 'a>(
 }
 
 /// The properties of what paths lead to, one after another.
-pub(crate) fn props_shown<'p, 'a>(
+pub(crate) fn props_shown<'p>(
     alloc: Global,
     places: bool,
     paths: &'p [Path],
-    intact: &Intact<'a>,
-    lost: &Lost<'a>,
+    intact: &Intact,
+    lost: &Lost,
 ) -> Result<Shown<'static>, Refusal<'p>>
     ensures { let t = table_of_intact intact.now in let nodes = nodes_of_intact intact.now in
         Gives result (props_read places t nodes (lost_in lost.now) (map nids_of paths.now)) }
 {
-    let index = names_index(alloc, intact)?;
-    props_lines(alloc, places, paths, intact, lost, &index)
+    let here = *intact;
+    let index = names_index(alloc, &here)?;
+    props_lines(alloc, places, paths, &here, lost, &index)
 }
 
 // What is written of a property: its value where it lies; or its text in UTF-8, where that is asked for and it is one.

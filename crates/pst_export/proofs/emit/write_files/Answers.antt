@@ -24,7 +24,7 @@ returns-in_err-write_front-clause-front g c =
     let nodes = nodes_of ndb in
     let told = store_name t nodes in
     let same : names_told c.names_in-names.result ≡ told =
-        c.names_in-names.ensures ∙ ap (λ x. store_name x (nodes_of_intact c.of-intact.result)) c.of-intact.ensures.table ∙ ap (store_name t) c.of-intact.ensures.nodes in
+    c.names_in-names.ensures ∙ ap (λ x. store_name x (nodes_of_intact c.of-intact.result)) c.of-intact.ensures.table ∙ ap (store_name t) c.of-intact.ensures.nodes in
     let front : List Member = front_files t nodes nothing_lost in
     let folders : List Member = folder_files told t (of_kind is_folder (all_roots nodes)) in
     let messages : List Member = messages_files told t (codes "messages") (of_type MESSAGE nodes) in
@@ -39,7 +39,7 @@ returns-in_err-write_folders-clause-front g c =
     let nodes = nodes_of ndb in
     let told = store_name t nodes in
     let same : names_told c.names_in-names.result ≡ told =
-        c.names_in-names.ensures ∙ ap (λ x. store_name x (nodes_of_intact c.of-intact.result)) c.of-intact.ensures.table ∙ ap (store_name t) c.of-intact.ensures.nodes in
+    c.names_in-names.ensures ∙ ap (λ x. store_name x (nodes_of_intact c.of-intact.result)) c.of-intact.ensures.table ∙ ap (store_name t) c.of-intact.ensures.nodes in
     let front : List Member = front_files t nodes nothing_lost in
     let folders : List Member = folder_files told t (of_kind is_folder (all_roots nodes)) in
     let messages : List Member = messages_files told t (codes "messages") (of_type MESSAGE nodes) in
@@ -55,7 +55,7 @@ returns-in_err-write_messages-clause-front g c =
     let nodes = nodes_of ndb in
     let told = store_name t nodes in
     let same : names_told c.names_in-names.result ≡ told =
-        c.names_in-names.ensures ∙ ap (λ x. store_name x (nodes_of_intact c.of-intact.result)) c.of-intact.ensures.table ∙ ap (store_name t) c.of-intact.ensures.nodes in
+    c.names_in-names.ensures ∙ ap (λ x. store_name x (nodes_of_intact c.of-intact.result)) c.of-intact.ensures.table ∙ ap (store_name t) c.of-intact.ensures.nodes in
     let front : List Member = front_files t nodes nothing_lost in
     let folders : List Member = folder_files told t (of_kind is_folder (all_roots nodes)) in
     let messages : List Member = messages_files told t (codes "messages") (of_type MESSAGE nodes) in
@@ -71,7 +71,7 @@ returns-in_err-write_messages-2-clause-front g c =
     let nodes = nodes_of ndb in
     let told = store_name t nodes in
     let same : names_told c.names_in-names.result ≡ told =
-        c.names_in-names.ensures ∙ ap (λ x. store_name x (nodes_of_intact c.of-intact.result)) c.of-intact.ensures.table ∙ ap (store_name t) c.of-intact.ensures.nodes in
+    c.names_in-names.ensures ∙ ap (λ x. store_name x (nodes_of_intact c.of-intact.result)) c.of-intact.ensures.table ∙ ap (store_name t) c.of-intact.ensures.nodes in
     let front : List Member = front_files t nodes nothing_lost in
     let folders : List Member = folder_files told t (of_kind is_folder (all_roots nodes)) in
     let messages : List Member = messages_files told t (codes "messages") (of_type MESSAGE nodes) in
@@ -86,7 +86,7 @@ returns-clause-all g c =
     let nodes = nodes_of ndb in
     let told = store_name t nodes in
     let same : names_told c.names_in-names.result ≡ told =
-        c.names_in-names.ensures ∙ ap (λ x. store_name x (nodes_of_intact c.of-intact.result)) c.of-intact.ensures.table ∙ ap (store_name t) c.of-intact.ensures.nodes in
+    c.names_in-names.ensures ∙ ap (λ x. store_name x (nodes_of_intact c.of-intact.result)) c.of-intact.ensures.table ∙ ap (store_name t) c.of-intact.ensures.nodes in
     let front : List Member = front_files t nodes nothing_lost in
     let folders : List Member = folder_files told t (of_kind is_folder (all_roots nodes)) in
     let messages : List Member = messages_files told t (codes "messages") (of_type MESSAGE nodes) in
@@ -101,7 +101,7 @@ returns-clause-front g c =
     let nodes = nodes_of ndb in
     let told = store_name t nodes in
     let same : names_told c.names_in-names.result ≡ told =
-        c.names_in-names.ensures ∙ ap (λ x. store_name x (nodes_of_intact c.of-intact.result)) c.of-intact.ensures.table ∙ ap (store_name t) c.of-intact.ensures.nodes in
+    c.names_in-names.ensures ∙ ap (λ x. store_name x (nodes_of_intact c.of-intact.result)) c.of-intact.ensures.table ∙ ap (store_name t) c.of-intact.ensures.nodes in
     let front : List Member = front_files t nodes nothing_lost in
     let folders : List Member = folder_files told t (of_kind is_folder (all_roots nodes)) in
     let messages : List Member = messages_files told t (codes "messages") (of_type MESSAGE nodes) in
