@@ -1,4 +1,5 @@
 pub mod AnswerLemmas
+pub mod ArchiveLemmas
 pub mod LineLemmas
 pub mod Loading
 pub mod OutsideLemmas

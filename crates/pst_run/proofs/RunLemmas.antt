@@ -13,7 +13,7 @@ use Rattle.pst_export.specs.declared.fault.ExportFault.TheVariants.{Output, Memo
 use Rattle.pst_json.specs.Output.{AppendsFront}
 use Rattle.pst_run.specs.Answer.{Told}
 use Rattle.pst_run.specs.Refusal.{Refused, fault, document, input, output, memory, fault_of, status_of, written_for}
-use Rattle.pst_run.specs.Run.{CarriesOut, EndsAs, EndsWith, IsStatusOf, MatchNone, Outputs, Shows, TellsFault, fault_in}
+use Rattle.pst_run.specs.Run.{Answers, CarriesOut, EndsAs, EndsWith, IsStatusOf, MatchNone, Outputs, Says, Shows, TellsFault, fault_in}
 
 -- words ask for one thing: what is done for it is done for all that they ask for
 pub done_as_asked : (words : List Text) (done : Asked → Type 0) (this : Asked) → IsAsked words (show this) → done this → (a : Asked) → IsAsked words (show a) → done a
@@ -50,6 +50,15 @@ tells_refused answer (document path f) old new ending ends is told = (λ _. told
 tells_refused answer input old new ending ends is told = absurd ends
 tells_refused answer (output f) old new ending ends is told = (λ one. absurd (omega (arith, is, one)), λ _. told)
 tells_refused answer memory old new ending ends is told = (λ one. absurd (omega (arith, is, one)), λ _. told)
+
+-- nothing is shown for a reason, which is said
+pub answers_refused : (answer : Result Told Refused) (r : Refused) (status : ℕ) (old new : Outputs) → EndsWith r answer old.out new.out → status ≡ status_of r
+    → Says r old.err new.err → Answers answer status old new
+answers_refused answer (fault f) status old new ends is said = inr (inl (fault f, ends.0, is, ends.1, said))
+answers_refused answer (document path f) status old new ends is said = inr (inl (document path f, ends.0, is, ends.1, said))
+answers_refused answer input status old new ends is said = absurd ends
+answers_refused answer (output f) status old new ends is said = inr (inr (inl (f, is, ends, said)))
+answers_refused answer memory status old new ends is said = inr (inr (inr (is, ends, said)))
 
 -- ---- a text that was not written to its end
 
