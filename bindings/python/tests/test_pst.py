@@ -1,6 +1,7 @@
 """The binding over the samples of the repository: python3 -m unittest discover bindings/python/tests"""
 
 import hashlib
+import json
 import mmap
 import os
 import pickle
@@ -88,6 +89,17 @@ class Refusals(unittest.TestCase):
         self.assertEqual((no.at, no.bid, no.nid), (0x4C40, 8, 0))
         self.assertEqual(str(no), "no: 14 BlockTrailer at 0x4c40 bid 0x8 nid 0x0")
         self.assertEqual(str(pickle.loads(pickle.dumps(no))), str(no))
+
+    def test_what_is_whole(self):
+        data = bytearray(bytes_of("mail.pst"))
+        data[22473] = 0x90
+        store = pst.Store(data)
+        with self.assertRaises(pst.Refused):
+            store.messages()
+        lines = store.answer("messages", "--whole", "-").splitlines()
+        self.assertEqual([json.loads(line)["nid"] for line in lines], ["0x400024", "0x400044", "0x400064"])
+        with self.assertRaisesRegex(pst.Fault, "^no: 15 BlockMissing at 0x0 bid 0xc nid 0x400004$"):
+            store.answer("props", "--whole", "-", "0x400004")
 
     def test_what_there_is_not(self):
         with pst.open(sample("mail.pst")) as store:
