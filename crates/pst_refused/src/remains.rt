@@ -1,5 +1,8 @@
 //! What remains of a damaged file, and all that is broken of it.
 
+ghost use Rattle.std.specs.Prelude.{IfOk};
+ghost use Rattle.pst_remains.specs.View.{IsOver};
+
 use crate::refused::{Refused, holds};
 use pst_bytes::Image;
 use pst_damage::damage_beside;
@@ -59,7 +62,9 @@ fn encoded(alloc: Global, bytes: &[u8]) -> Result<Vec<u8>, Refused> {
 
 // What is found of such a file, its blocks decoded; where that is refused memory, the bytes are looked at: they have to be as they
 // were.
-fn decoded(alloc: Global, stored: &mut [u8]) -> Result<Found, Refused> {
+fn decoded(alloc: Global, stored: &mut [u8]) -> Result<Found, Refused>
+    ensures { IfOk result (IsOver stored.new) }
+{
     let before = Vec::from_slice(alloc, stored)?;
     let Some(method) = method_of(Image::new(stored)) else {
         return Err(Refused::Otherwise);
