@@ -53,7 +53,7 @@ class NodeRefused(Fault):
     """Of props and value: what is told may be of the node alone that a path names.
 
     It is no property context, for this reason, as a table is none, and the bytes may be a store all the same: `Store.report` says
-    whether they are.
+    whether they are. Where what is whole is asked for: the node is broken, or lies behind a broken page.
     """
 
 
@@ -73,6 +73,10 @@ class InUse(Error, BufferError):
     """A view into a store's bytes is still used, so that they cannot be let go."""
 
 
+# Short, Magic, Version and Encoded.
+_OUTSIDE = (1, 2, 3, 4)
+
+
 def _node_of(word: str) -> int | None:
     """The node of a path that is one node, as 0x12D."""
     return int(word, 16) if re.fullmatch("0x[0-9A-Fa-f]{1,8}", word) else None
@@ -82,11 +86,15 @@ def _is_of_node(words: tuple[str, ...], number: int, nid: int) -> bool:
     """Whether a store may be whole of which these words get a fault.
 
     props and value tell kinds 17 and 21 to 24 also of a node that a path names by itself and that is no property context. Of the
-    nodes that are one in every store (the store itself, the name map, folders, search folders and messages) it is the file's.
+    nodes that are one in every store (the store itself, the name map, folders, search folders and messages) it is the file's. With
+    --whole it is the file's only where nothing of that is looked at.
     """
+    if words[:1] not in (("props",), ("value",)):
+        return False
+    if "--whole" in words:
+        return number not in _OUTSIDE
     return (
-        words[:1] in (("props",), ("value",))
-        and number in (17, 21, 22, 23, 24)
+        number in (17, 21, 22, 23, 24)
         and nid not in (0x21, 0x61)
         and nid % 32 not in (2, 3, 4, 8)
         and nid in map(_node_of, words)

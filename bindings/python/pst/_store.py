@@ -40,14 +40,18 @@ class Report:
 
 @dataclass(frozen=True)
 class Folder:
-    """A folder. path leads to it from the root folder; None where the root folder does not reach it."""
+    """A folder. path leads to it from the root folder; None where the root folder does not reach it.
+
+    Where what is whole of a damaged store is asked for, subfolders, messages and associated are None where the folder's table of
+    these is not whole.
+    """
 
     nid: str
     name: str | None
     path: tuple[str, ...] | None
-    subfolders: tuple[str, ...]
-    messages: int
-    associated: int
+    subfolders: tuple[str, ...] | None
+    messages: int | None
+    associated: int | None
 
 
 @dataclass(frozen=True)
@@ -79,20 +83,30 @@ def title_of(subject: str | None) -> str:
     return subject[2:] if subject[:1] == "\x01" else subject
 
 
+# Where a file says how its blocks are encoded ([MS-PST] 2.2.2.6, bCryptMethod); 0 says that they are not.
+_METHOD = 513
+
+
 class Store:
     """A store, over its bytes in memory. `open` makes one of a file.
 
     The bytes are those of any object that lends them in one piece (bytes, bytearray, mmap, memoryview), and nobody may change them
     meanwhile. Each answer is of one check of all of them. Threads may share a store.
 
+    With whole they need not be a store: folders, messages, props, all_props and value answer of what is whole of them
+    (docs/JSON.md, "--whole"), decoded where they are encoded. Then the views of values that are encoded are a ValueError, and
+    value has them.
+
         with pst.open("mail.pst") as store:
             for message in store.messages():
                 print(message.title)
     """
 
-    def __init__(self, data: Any) -> None:
+    def __init__(self, data: Any, *, whole: bool = False) -> None:
         self._data = data
         self._all = memoryview(data).toreadonly()
+        self._flags = ("--whole", "--decode") if whole else ()
+        self._is_encoded = whole and any(self._all.cast("B")[_METHOD : _METHOD + 1])
         # The views that were given out and are still there, by numbers: a memoryview is hashed by all of its bytes, or not at all.
         self._lent: weakref.WeakValueDictionary[int, memoryview] = (
             weakref.WeakValueDictionary()
@@ -110,6 +124,10 @@ class Store:
             raise_for(words, status, line)
         return text
 
+    def _answer(self, command: str, *words: str) -> bytes:
+        """The same of a command that takes --whole."""
+        return self.answer(command, *self._flags, *words)
+
     @property
     def report(self) -> Report:
         """The counts of the check. Refused where the bytes are no store."""
@@ -125,11 +143,11 @@ class Store:
                 nid=it["nid"],
                 name=it["name"],
                 path=None if it["path"] is None else tuple(it["path"]),
-                subfolders=tuple(it["subfolders"]),
+                subfolders=None if it["subfolders"] is None else tuple(it["subfolders"]),
                 messages=it["messages"],
                 associated=it["associated"],
             )
-            for it in json.loads(self.answer("folders", "-"))["folders"]
+            for it in json.loads(self._answer("folders", "-"))["folders"]
         ]
 
     def messages(self) -> list[Message]:
@@ -147,13 +165,14 @@ class Store:
                 recipients=it["recipients"],
                 attachments=it["attachments"],
             )
-            for it in map(json.loads, self.answer("messages", "-").splitlines())
+            for it in map(json.loads, self._answer("messages", "-").splitlines())
         ]
 
     def props(self, path: str) -> Node:
         """The properties of what a path leads to, as "0x122" or "0x400024/0x8045/0x200024".
 
-        Missing where it leads nowhere, and NodeRefused where it leads to something else than properties, as a table.
+        Missing where it leads nowhere, and NodeRefused where it leads to something else than properties, as a table; where what is
+        whole is asked for, also where the node with which the path begins is broken or lies behind a broken page.
         """
         return self.all_props([path])[0]
 
@@ -162,7 +181,7 @@ class Store:
         named = list(paths)
         if not named:
             return []
-        lines = self.answer("props", "--places", "-", *named).splitlines()
+        lines = self._answer("props", "--places", "-", *named).splitlines()
         return [
             node_of(path, json.loads(line), self._slice)
             for path, line in zip(named, lines)
@@ -171,11 +190,13 @@ class Store:
     def value(self, path: str, id: str, *, text: bool = False) -> bytes:
         """The bytes of the value of a property, copied; with text a text as UTF-8. Missing where there is none."""
         flag = ["--text"] if text else []
-        return self.answer("value", *flag, "-", path, id)
+        return self._answer("value", *flag, "-", path, id)
 
     # ---- views
 
     def _slice(self, at: int, length: int) -> memoryview:
+        if self._is_encoded:
+            raise ValueError("the bytes there are encoded: Store.value decodes them")
         view = self._all[at : at + length]
         self._lent[next(self._numbers)] = view
         return view
@@ -237,15 +258,23 @@ def _read(path: str | os.PathLike[str]) -> bytearray:
 
 
 def open_store(
-    path: str | os.PathLike[str], *, decode: bool = False, mapped: bool = True
+    path: str | os.PathLike[str],
+    *,
+    decode: bool = False,
+    mapped: bool = True,
+    whole: bool = False,
 ) -> Store:
     """A store of a file, which is mapped, and not read as a whole.
 
     With decode an encoded file, as Outlook makes them, is decoded in memory; the file is not changed. While it is mapped no other
     program may write to it or make it shorter: then nothing is promised of the answers, and a shorter one ends the process. Where
     that may happen, mapped=False reads it first.
+
+    With whole the file need not be a store: what is whole of it is answered (see Store). It is judged as it is stored, so it is not
+    decoded here, with decode or without.
     """
+    decode = decode and not whole
     data = _mapped(path, decode) if mapped else _read(path)
     if decode and len(data):
         _library.decode(data)
-    return Store(data)
+    return Store(data, whole=whole)

@@ -1,7 +1,6 @@
 """The binding over the samples of the repository: python3 -m unittest discover bindings/python/tests"""
 
 import hashlib
-import json
 import mmap
 import os
 import pickle
@@ -90,17 +89,6 @@ class Refusals(unittest.TestCase):
         self.assertEqual(str(no), "no: 14 BlockTrailer at 0x4c40 bid 0x8 nid 0x0")
         self.assertEqual(str(pickle.loads(pickle.dumps(no))), str(no))
 
-    def test_what_is_whole(self):
-        data = bytearray(bytes_of("mail.pst"))
-        data[22473] = 0x90
-        store = pst.Store(data)
-        with self.assertRaises(pst.Refused):
-            store.messages()
-        lines = store.answer("messages", "--whole", "-").splitlines()
-        self.assertEqual([json.loads(line)["nid"] for line in lines], ["0x400024", "0x400044", "0x400064"])
-        with self.assertRaisesRegex(pst.Fault, "^no: 15 BlockMissing at 0x0 bid 0xc nid 0x400004$"):
-            store.answer("props", "--whole", "-", "0x400004")
-
     def test_what_there_is_not(self):
         with pst.open(sample("mail.pst")) as store:
             for path in ("0x999", "0x400024/0x8045/0x999"):
@@ -155,6 +143,56 @@ class Refusals(unittest.TestCase):
     def test_no_file(self):
         with self.assertRaises(FileNotFoundError):
             pst.open(sample("none.pst"))
+
+
+class Whole(unittest.TestCase):
+    @staticmethod
+    def damaged(name, at):
+        data = bytearray(bytes_of(name))
+        data[at] ^= 1
+        return data
+
+    def test_what_is_left(self):
+        # A byte of the block of the first message's properties.
+        for name in ("mail.pst", "mail_permute.pst", "mail_cyclic.pst"):
+            data = self.damaged(name, 22473)
+            with self.assertRaises(pst.Refused):
+                pst.Store(data).messages()
+            store = pst.Store(data, whole=True)
+            self.assertEqual([it.nid for it in store.messages()], ["0x400024", "0x400044", "0x400064"])
+            self.assertEqual([it.messages for it in store.folders()], [0, 0, 0, 0, 4])
+            for ask in (lambda: store.props("0x400004"), lambda: store.value("0x400004/0x8025", "3701")):
+                with self.assertRaises(pst.NodeRefused) as caught:
+                    ask()
+                self.assertEqual(str(caught.exception), "no: 15 BlockMissing at 0x0 bid 0xc nid 0x400004")
+            with self.assertRaises(pst.Refused):
+                store.report
+
+    def test_views_of_encoded_values(self):
+        with pst.open(sample("mail.pst")) as store:
+            wanted = store.value("0x400044/0x8025", "3701")
+        for name in ("mail.pst", "mail_permute.pst", "mail_cyclic.pst"):
+            store = pst.Store(self.damaged(name, 22473), whole=True)
+            data = store.props("0x400044").attachments[0].data
+            self.assertEqual(store.value("0x400044/0x8025", "3701"), wanted)
+            if name == "mail.pst":
+                self.assertEqual(data.view, wanted)
+            else:
+                with self.assertRaises(ValueError):
+                    data.read()
+
+    def test_of_a_store_the_same(self):
+        for name in ("mail.pst", "growths.pst", "m0.pst", "mail_cyclic.pst"):
+            with pst.open(sample(name), decode=True) as plain, pst.open(sample(name), decode=True, whole=True) as whole:
+                self.assertEqual(plain.messages(), whole.messages())
+                self.assertEqual(plain.folders(), whole.folders())
+                for message in plain.messages():
+                    self.assertEqual(plain.props(message.nid).recipients, whole.props(message.nid).recipients)
+
+    def test_no_pst(self):
+        for data in (b"", bytes(1000)):
+            with self.assertRaises(pst.Refused):
+                pst.Store(data, whole=True).props("0x21")
 
 
 class Decoding(unittest.TestCase):

@@ -29,11 +29,17 @@ impl Fault {
 
     /// Whether a store may be whole of which these words get it. `props` and `value` tell kinds 17 and 21 to 24 also of a node that a
     /// path names by itself and that is no property context, as a table. Of the nodes that are one in every store (the store itself,
-    /// the name map, folders, search folders and messages) it is the file's.
+    /// the name map, folders, search folders and messages) it is the file's. With `--whole` it is the file's only where nothing of that
+    /// is looked at.
     fn is_of_node<W: AsRef<str>>(&self, words: &[W]) -> bool {
         let command = words.first().map(AsRef::as_ref);
-        matches!(command, Some("props" | "value"))
-            && matches!(self.number, 17 | 21..=24)
+        if !matches!(command, Some("props" | "value")) {
+            return false;
+        }
+        if words.iter().any(|it| it.as_ref() == "--whole") {
+            return !matches!(self.number, 1..=4);
+        }
+        matches!(self.number, 17 | 21..=24)
             && !matches!(self.nid, 0x21 | 0x61)
             && !matches!(self.nid % 32, 2..=4 | 8)
             && words
@@ -101,7 +107,8 @@ pub enum Refusal {
     /// The bytes break a rule of the format.
     Fault(Fault),
     /// Of `props` and `value`: what is told may be of the node alone that a path names. It is no property context, for this reason,
-    /// as a table is none, and the bytes may be a store all the same: [`check`](crate::check) says whether they are.
+    /// as a table is none, and the bytes may be a store all the same: [`check`](crate::check) says whether they are. Where what is whole
+    /// is asked for: the node is broken, or lies behind a broken page.
     Node(Fault),
     /// The store has no such folder, node or property, as the line says.
     Missing(String),

@@ -33,7 +33,8 @@ pub struct Report {
     pub lost: Vec<Lost>,
 }
 
-/// A folder.
+/// A folder. Of what is whole of a damaged store `subfolders`, `messages` and `associated` are None where its table of these is not
+/// whole.
 #[derive(Clone, Debug, PartialEq, Eq)]
 pub struct Folder {
     /// Its identifier.
@@ -43,11 +44,11 @@ pub struct Folder {
     /// From the root folder down to it; None where that does not reach it.
     pub path: Option<Vec<String>>,
     /// The folders in it.
-    pub subfolders: Vec<String>,
+    pub subfolders: Option<Vec<String>>,
     /// How many messages it lists.
-    pub messages: u64,
+    pub messages: Option<u64>,
     /// How many associated messages it lists.
-    pub associated: u64,
+    pub associated: Option<u64>,
 }
 
 /// A message.
@@ -99,12 +100,33 @@ pub fn check(bytes: &[u8]) -> Result<Report, Refusal> {
 #[derive(Clone, Copy, Debug)]
 pub struct Store<'a> {
     bytes: &'a [u8],
+    flags: &'static [&'static str],
 }
 
 impl<'a> Store<'a> {
     /// Nothing is checked yet. An encoded file is to be decoded before ([`decode`](crate::decode)).
     pub fn new(bytes: &'a [u8]) -> Store<'a> {
-        Store { bytes }
+        Store { bytes, flags: &[] }
+    }
+
+    /// The same bytes, which need not be a store: folders, messages, properties and values are answered of what is whole of them
+    /// (docs/JSON.md, "--whole"). Encoded bytes are refused, since their pieces would be encoded: of such a file that is damaged
+    /// [`answer`](crate::answer) answers, with the words `--whole` and `--decode`.
+    ///
+    /// ```
+    /// use pst_verify::Store;
+    ///
+    /// let mut bytes = std::fs::read("../../samples/mail.pst")?;
+    /// bytes[22473] ^= 1;
+    /// assert!(Store::new(&bytes).messages().is_err());
+    /// assert_eq!(Store::new(&bytes).whole().messages()?.len(), 3);
+    /// # Ok::<(), Box<dyn std::error::Error>>(())
+    /// ```
+    pub fn whole(self) -> Store<'a> {
+        Store {
+            flags: &["--whole"],
+            ..self
+        }
     }
 
     /// What the program writes for these words, with `-` in FILE's place, or what it says instead. A strict check is refused as
@@ -117,6 +139,11 @@ impl<'a> Store<'a> {
             1 if is_damage && answer.line.is_empty() => Ok(answer.text),
             status => Err(Refusal::of(words, status, &answer.line)),
         }
+    }
+
+    /// The same of a command that takes `--whole`.
+    fn shown(&self, command: &str, words: &[&str]) -> Result<Block, Refusal> {
+        self.answer(&[&[command], self.flags, words].concat())
     }
 
     /// The counts of the check.
@@ -138,27 +165,29 @@ impl<'a> Store<'a> {
 
     /// The folders: first those that the root folder reaches, each in order of their identifiers.
     pub fn folders(&self) -> Result<Vec<Folder>, Refusal> {
-        let told = json(&self.answer(&["folders", "-"])?);
+        let told = json(&self.shown("folders", &["-"])?);
         Ok(all(&told["folders"], |it| Folder {
             nid: string(&it["nid"]),
             name: maybe(&it["name"]),
             path: it["path"].is_array().then(|| all(&it["path"], string)),
-            subfolders: all(&it["subfolders"], string),
-            messages: number(&it["messages"]),
-            associated: number(&it["associated"]),
+            subfolders: it["subfolders"]
+                .is_array()
+                .then(|| all(&it["subfolders"], string)),
+            messages: it["messages"].as_u64(),
+            associated: it["associated"].as_u64(),
         }))
     }
 
     /// All messages, in order of their identifiers; those that are embedded in others are not among them.
     pub fn messages(&self) -> Result<Vec<Message>, Refusal> {
-        let text = self.answer(&["messages", "-"])?;
+        let text = self.shown("messages", &["-"])?;
         Ok(lines(&text).map(|line| message(&json(line))).collect())
     }
 
     /// The properties of what a path leads to, as `0x122` or `0x400024/0x8045/0x200024`. A node that is something else, as a table,
     /// is refused as [`Refusal::Node`], and the bytes may be a store all the same.
     pub fn props(&self, path: &str) -> Result<Node<'a>, Refusal> {
-        let text = self.answer(&["props", "--places", "-", path])?;
+        let text = self.shown("props", &["--places", "-", path])?;
         Ok(Node::of(path, &json(&text), self.bytes))
     }
 
@@ -167,13 +196,18 @@ impl<'a> Store<'a> {
         if paths.is_empty() {
             return Ok(Vec::new());
         }
-        let mut words = vec!["props", "--places", "-"];
+        let mut words = vec!["--places", "-"];
         words.extend(paths.iter().map(AsRef::as_ref));
-        let text = self.answer(&words)?;
+        let text = self.shown("props", &words)?;
         let told = paths.iter().zip(lines(&text));
         Ok(told
             .map(|(path, line)| Node::of(path.as_ref(), &json(line), self.bytes))
             .collect())
+    }
+
+    /// The bytes of the value of a property, copied.
+    pub fn value(&self, path: &str, id: &str) -> Result<Block, Refusal> {
+        self.shown("value", &["-", path, id])
     }
 }
 

@@ -104,6 +104,35 @@ fn values() {
 }
 
 #[test]
+fn what_is_whole() {
+    let mut bytes = sample("mail.pst");
+    // A byte of the block of the first message's properties.
+    bytes[22473] ^= 1;
+    let store = Store::new(&bytes);
+    assert!(matches!(store.messages(), Err(Refusal::Fault(_))));
+    let whole = store.whole();
+    let messages = whole.messages().expect("some are whole");
+    let nids: Vec<&str> = messages.iter().map(|it| it.nid.as_str()).collect();
+    assert_eq!(nids, ["0x400024", "0x400044", "0x400064"]);
+    let folders = whole.folders().expect("they are whole");
+    assert_eq!(folders[4].messages, Some(4));
+    let no = whole.props("0x400004").expect_err("it is broken");
+    let line = "no: 15 BlockMissing at 0x0 bid 0xc nid 0x400004";
+    assert!(matches!(no, Refusal::Node(_)));
+    assert_eq!(no.to_string(), line);
+    let value = whole.value("0x400044/0x8025", "3701").expect("it is whole");
+    let node = whole.props("0x400044").expect("it is whole");
+    let data = node.attachments[0].data().expect("it has bytes");
+    assert_eq!(data.as_slice(), Some(&*value));
+    let encoded = sample("mail_permute.pst");
+    let refused = Store::new(&encoded).whole().messages();
+    assert!(matches!(refused, Err(Refusal::Fault(fault)) if fault.number == 4));
+    // With both words it is answered.
+    let answer = answer(&["messages", "--whole", "--decode", "-"], &encoded);
+    assert_eq!(answer.status, 0);
+}
+
+#[test]
 fn what_there_is_not() {
     let bytes = sample("mail.pst");
     let store = Store::new(&bytes);
