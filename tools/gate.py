@@ -29,6 +29,7 @@ COUNTS = re.compile(r"(\d+) passed, (\d+) failed\s*")
 REFUSE = ["tools/refuse/refuse"]
 TRIED = [
     ["tools/compare_answers.py"],
+    ["tools/check_whole.py"],
     ["tools/compare_kinds.py"],
     ["tools/check_pages.py"],
     ["tools/write_words.py", "--compare"],
