@@ -19,6 +19,7 @@ from concurrent.futures import ThreadPoolExecutor
 
 ROOT = os.path.dirname(os.path.dirname(os.path.abspath(__file__)))
 NAME_MAP = "0x61"
+ENCODED = ["mail_cyclic.pst", "mail_permute.pst"]
 # the kinds of fault that say why a whole node has no properties
 BARE = {17, 21, 22, 23, 24}
 
@@ -187,10 +188,11 @@ def main():
     names = sorted(name for name in os.listdir(f"{ROOT}/samples") if name.endswith(".pst"))
     with ThreadPoolExecutor(os.cpu_count()) as pool:
         samples = [it for it in pool.map(lambda name: Sample(program, name), names) if it.is_sound]
-        encoded = [it for it in pool.map(lambda name: Sample(program, name, ("--decode",)), ["mail_cyclic.pst", "mail_permute.pst"]) if it.is_sound]
+        decoded = pool.map(lambda name: Sample(program, name, ("--decode",)), ENCODED)
+        encoded = [it for it in decoded if it.is_sound]
         same = [(it, found) for it, found in zip(samples + encoded, pool.map(Sample.differing, samples + encoded))]
         copies = [(samples[number % len(samples)], f"{given.seed} {number}") for number in range(given.copies)]
-        found = [it for it in pool.map(lambda it: held(program, *it), copies)]
+        found = list(pool.map(lambda it: held(program, *it), copies))
     for sample, words in same:
         for it in words:
             print(f"{sample.name}: {' '.join(it)} is another with --whole")
@@ -198,7 +200,7 @@ def main():
         print(*it[:3], sep="\n", end="\n" if it else "")
     alike, good = sum(not words for _, words in same), sum(not it for it in found)
     print(f"whole: {alike} of {len(same)} sound samples answer the same, {good} of {len(found)} damaged copies hold")
-    return 0 if len(encoded) == 2 and alike == len(same) and good == len(found) else 1
+    return 0 if len(encoded) == len(ENCODED) and alike == len(same) and good == len(found) else 1
 
 
 if __name__ == "__main__":
