@@ -33,7 +33,7 @@ _pst_show() {
             messages) options='--help --whole --decode' ;;
             props) options='--help --places --whole --decode' ;;
             value) options='--help --text --whole --decode' ;;
-            export) options='--help --decode' ;;
+            export) options='--help --whole --decode' ;;
         esac
         mapfile -t COMPREPLY < <(compgen -W "$options" -- "$word")
         return

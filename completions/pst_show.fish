@@ -36,6 +36,7 @@ complete -c pst_show -n "__fish_seen_subcommand_from props" -l decode -d 'Decode
 complete -c pst_show -n "__fish_seen_subcommand_from value" -l text -d 'Writes a text as UTF-8'
 complete -c pst_show -n "__fish_seen_subcommand_from value" -l whole -d 'Reads what is whole of a damaged store'
 complete -c pst_show -n "__fish_seen_subcommand_from value" -l decode -d 'Decodes an encoded file first, in memory'
+complete -c pst_show -n "__fish_seen_subcommand_from export" -l whole -d 'Reads what is whole of a damaged store'
 complete -c pst_show -n "__fish_seen_subcommand_from export" -l decode -d 'Decodes an encoded file first, in memory'
 complete -c pst_show -n "__fish_seen_subcommand_from check damage head nodes folders contents messages props value export explain" -s h -l help -d 'Show help'
 complete -c pst_show -n "__fish_seen_subcommand_from check damage head nodes folders contents messages props value export" \

@@ -224,7 +224,7 @@ def run_document(path, program):
             if not lack and lacking and example.heading == lacking[0] and "pst_show" not in example.text:
                 lack = lacking[1]
             if lack:
-                if re.search(r">>?\w", example.text):
+                if re.search(r"(>>?|--joblog )\w", example.text):
                     lacking = example.heading, lack
                 left_out.setdefault(lack, []).append(str(example.number))
             elif is_same(path, example, room.run(example)):

@@ -25,7 +25,7 @@ SCHEMAS = os.path.join(ROOT, "docs", "schema")
 OF_COMMAND = {"check": "check", "contents": "contents", "damage": "damage", "folders": "folders", "head": "head",
               "messages": "message", "nodes": "nodes", "props": "props"}
 WHOLE = {"contents": "contents-whole", "folders": "folders-whole"}
-OF_FILE = {"damage.json": "damage", "folders": "props", "folders.json": "folders", "messages.jsonl": "message", "store.json": "props"}
+OF_FILE = {"damage.json": "damage", "folders": "props", "folders.json": "folders-whole", "messages.jsonl": "message", "store.json": "props"}
 OPTIONAL = ["places", "sha256"]
 SPOILT, LONGEST = 6, 1500
 OF_KIND = {bool: "yes", int: "7", str: 7, list: {}, dict: [], type(None): -1.5}
@@ -76,7 +76,7 @@ def of_sample(program, name):
 
 def of_export(program, name):
     """The same of each file of JSON that the program exports of a sample."""
-    archive = subprocess.run([program, "export", "--decode", name], cwd=ROOT, capture_output=True, check=False).stdout
+    archive = subprocess.run([program, "export", "--decode", "--whole", name], cwd=ROOT, capture_output=True, check=False).stdout
     if not archive:
         return
     with tarfile.open(fileobj=io.BytesIO(archive)) as tar:

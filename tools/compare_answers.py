@@ -2,12 +2,13 @@
 """Compares what the built program answers over samples/ with samples/answers.json, which another program wrote.
 
 An answer has the sample's name, the words (F stands for the sample), the status, the output (as text, or, where that may be
-none, its bytes in hexadecimal) and the line on standard error, null where only the status and the output are compared; and
+none, its bytes in hexadecimal; of an archive their SHA-256) and the line on standard error, null where only the status and the output are compared; and
 some have changes, bytes in hexadecimal that are set at places in the sample first, or a length, to which it is cut then: such a
 sample the program gets on standard input. With words, only the commands that are named are compared; --program names the
 program in place of ./pst_show. The status is 0 where all are the same.
 """
 import argparse
+import hashlib
 import json
 import os
 import subprocess
@@ -26,9 +27,11 @@ def changed(answer):
     return bytes(held[:answer.get("length")])
 
 
-def wanted_output(answer):
-    """The bytes that have to come on standard output."""
-    return bytes.fromhex(answer["stdout_hex"]) if "stdout_hex" in answer else answer["stdout"].encode()
+def is_output(answer, given):
+    """Whether these bytes are what has to come on standard output."""
+    if "stdout_sha256" in answer:
+        return hashlib.sha256(given).hexdigest() == answer["stdout_sha256"]
+    return given == (bytes.fromhex(answer["stdout_hex"]) if "stdout_hex" in answer else answer["stdout"].encode())
 
 
 def is_same(program, answer):
@@ -37,11 +40,12 @@ def is_same(program, answer):
     name = f"samples/{answer['file']}" if held is None else "-"
     words = [name if word == "F" else word for word in answer["words"]]
     ran = subprocess.run([program, *words], cwd=ROOT, input=held, capture_output=True, check=False)
-    given = (ran.returncode, ran.stdout, ran.stderr)
-    wanted = (answer["status"], wanted_output(answer), ran.stderr if answer["stderr"] is None else answer["stderr"].encode())
-    if given != wanted:
-        print(f"{answer['file']} {' '.join(words)} {answer.get('changes', '')} {answer.get('length', '')}: {given}")
-    return given == wanted
+    line = ran.stderr if answer["stderr"] is None else answer["stderr"].encode()
+    same = (ran.returncode, ran.stderr) == (answer["status"], line) and is_output(answer, ran.stdout)
+    if not same:
+        given = (ran.returncode, ran.stdout[:2000], ran.stderr)
+        print(f"{answer['file']} {' '.join(words)} {str(answer.get('changes', ''))[:200]} {answer.get('length', '')}: {given}")
+    return same
 
 
 def main():

@@ -12,6 +12,7 @@ each counts as one that passed or failed. They need two to four minutes. Where s
 """
 import os
 import re
+import resource
 import subprocess
 import sys
 import time
@@ -26,10 +27,13 @@ KEEP = os.path.join(ROOT, "tools", "keep")
 PROGRAM = os.path.join(ROOT, "crates", "pst_show", "out", "pst_show")
 CALLS = ["--calls", os.path.join(ROOT, "crates", "pst_refused", "out", "pst_refused")]
 COUNTS = re.compile(r"(\d+) passed, (\d+) failed\s*")
+# What a proof takes at most, in bytes, with room for what others take beside it.
+PROOF = 4_500_000_000
 REFUSE = ["tools/refuse/refuse"]
 TRIED = [
     ["tools/compare_answers.py"],
     ["tools/check_whole.py"],
+    ["tools/check_export.py"],
     ["tools/compare_kinds.py"],
     ["tools/check_pages.py"],
     ["tools/write_words.py", "--compare"],
@@ -50,17 +54,29 @@ def printed(*words):
     return ran.stdout.strip() if ran.returncode == 0 else None
 
 
+def lanes():
+    """How many proofs go side by side: one for each processor, as far as the free memory holds what they take. rt plans with
+    twice as much for the upper crates, so that processors would be idle for the last hour."""
+    with open("/proc/meminfo", encoding="utf-8") as it:
+        free = 1024 * int(re.search(r"^MemAvailable: +(\d+)", it.read(), re.M)[1])
+    return max(1, min(len(os.sched_getaffinity(0)), free // PROOF))
+
+
 def prove():
-    """Runs `rt ci` and shows what it says, but for the counts that it ends with, which are given."""
+    """Runs `rt ci` and shows what it says, but for the counts that it ends with, which are given; and how long it took."""
     counts = (0, 1)
     sources = printed("--sources")
-    with subprocess.Popen(["rt", "ci"], cwd=ROOT, stdout=subprocess.PIPE, text=True, errors="replace") as gate:
+    began, env = time.monotonic(), {"RT_JOBS": str(lanes()), **os.environ}
+    with subprocess.Popen(["rt", "ci"], cwd=ROOT, env=env, stdout=subprocess.PIPE, text=True, errors="replace") as gate:
         for line in gate.stdout:
             last = COUNTS.fullmatch(line)
             if last:
                 counts = (int(last[1]), int(last[2]))
             else:
                 print(line, end="", flush=True)
+    used = resource.getrusage(resource.RUSAGE_CHILDREN)
+    minutes, taken = (time.monotonic() - began) / 60, (used.ru_utime + used.ru_stime) / 60
+    print(f"rt ci took {minutes:.0f} minutes, {taken:.0f} of a processor, with {env['RT_JOBS']} proofs side by side", flush=True)
     if gate.returncode != 0 and counts[1] == 0:
         counts = (counts[0], 1)
     if counts[1] == 0 and printed("--proved", sources) is None:

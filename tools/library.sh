@@ -53,11 +53,18 @@ tell_library() {
     echo "version: $(sed -n 's/^#define PST_VERSION "\(.*\)"$/\1/p' "$root/include/pst.h")"
 }
 
-# Proves crates/pst_c, and the crates below it where they are not proved yet, and makes the library of it: only what is proved is
-# built.
-make_library() {
-    (cd "$crates/pst_c" && rt lib --jobs "$(processors)" </dev/null) && "$root/bindings/c/build" "$made" "$archive"
+# Proves crates/pst_c, and the crates below it where they are not proved yet, and makes the archive of it.
+make_archive() { (cd "$crates/pst_c" && rt lib --jobs "$(processors)" </dev/null); }
+
+# The same behind `rt ci`, over what that proved and left.
+make_archive_of_ci() {
+    python3 "$root/tools/make_archive.py" && return
+    [ $? -eq 3 ] && make_archive
 }
+
+# Makes the library of the archive that the command makes: only what is proved is built.
+make_library_by() { "$1" && "$root/bindings/c/build" "$made" "$archive"; }
+make_library() { make_library_by make_archive; }
 
 # Notes that the library was made from the sources of this number, if these have it still.
 note_library() {

@@ -31,6 +31,7 @@ WORDS = [
     ["messages", "--whole", "-"],
     ["props", "--whole", "--decode", "--places", "-", "0x400004", "0x400024/0x8045/0x200024"],
     ["value", "--whole", "-", "0x400004/0x8025", "3701"],
+    ["export", "--whole", "--decode", "-"],
 ]
 # And such as need no store, or are none.
 OTHER_WORDS = [

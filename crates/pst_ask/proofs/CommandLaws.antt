@@ -179,5 +179,5 @@ words_law Value flags file words order no_option is =
     gives Value flags file (to_file takes.Property flags file ++ words) (λ p. value flags.text p.0 p.1) (only_property words)
     (λ both. by_property Value value refl (λ rows. refl) flags file words both no_option) order is
 words_law Export flags file words order no_option is =
-    exactly (name_of Export ∷ (to_file File flags file ++ [])) _ order is (by_file Export export refl (λ rows. refl) flags file no_option)
+    exactly (name_of Export ∷ (to_file takes.Whole flags file ++ [])) _ order is (by_whole Export export refl (λ rows. refl) flags file no_option)
 words_law Explain flags file words order no_option is = asked_so (name_of Explain ∷ words) explain (only_kind words) order (by_kind words) is

@@ -233,5 +233,5 @@ asks Contents flags file words = shows flags flags.whole file (option_map conten
 asks Messages flags file words = shows flags flags.whole file (Some messages)
 asks Props flags file words = shows flags flags.whole file (option_map (props flags.places) (some_paths words))
 asks Value flags file words = shows flags flags.whole file (option_map (λ p. value flags.text p.0 p.1) (only_property words))
-asks Export flags file words = shows flags false file (Some export)
+asks Export flags file words = shows flags flags.whole file (Some export)
 asks Explain flags file words = option_map explain (only_kind words)

@@ -19,7 +19,7 @@ line_of_verb Contents = (codes "contents", Node)
 line_of_verb Messages = (codes "messages", takes.Whole)
 line_of_verb Props = (codes "props", takes.Paths)
 line_of_verb Value = (codes "value", takes.Property)
-line_of_verb Export = (codes "export", File)
+line_of_verb Export = (codes "export", takes.Whole)
 line_of_verb Explain = (codes "explain", takes.Kind)
 
 abbrev pub name_of : Verb → Text

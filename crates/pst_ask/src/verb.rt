@@ -86,7 +86,7 @@ impl Verb {
             ),
             Verb::Props => ("props", "Shows the properties of nodes", Takes::Paths),
             Verb::Value => ("value", "Writes the value of a property", Takes::Property),
-            Verb::Export => ("export", "Writes all of it as a tar archive", Takes::File),
+            Verb::Export => ("export", "Writes all of it as a tar archive", Takes::Whole),
             Verb::Explain => ("explain", "Explains the kinds of fault", Takes::Kind),
         }
     }

@@ -2,10 +2,10 @@
 use Rattle.std.specs.Prelude.{◌≡◌, ℕ, List, Vec, vec_capacity, vec_len}
 use Rattle.std.specs.Global.{Global}
 use Rattle.std.specs.Vec.{vec_ptr}
-use Rattle.pst_c.specs.declared.answer.Answer.{Answer}
+use Rattle.pst_answer.specs.declared.answer.Answer.{Answer}
 use Rattle.pst_c.specs.declared.exported.PstAnswer.{PstAnswer}
 use Rattle.pst_c.specs.declared.exported.PstText.{PstText}
-use Rattle.pst_c.specs.Answer.{AnswersCall}
+use Rattle.pst_answer.specs.Answer.{AnswersCall}
 
 -- the place, the length and the room of a text's block
 pub record IsHanded (text : Vec ℕ Global) (handed : PstText) : Type 0 where

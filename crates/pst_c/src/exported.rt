@@ -4,7 +4,7 @@ ghost use Rattle.std.specs.Prelude.{◌≡◌, ◌≢◌};
 ghost use Rattle.pst_c.specs.Handed.{Hands, IsHanded};
 ghost use Rattle.pst_plain.specs.Twin.{twin_of};
 
-use crate::answer::{Answer, answer_text};
+use pst_answer::{Answer, answer_text};
 use pst_plain::plain;
 use std::alloc::Global;
 

@@ -1,20 +1,12 @@
 //! The way in for C: what the program answers to the words of a command line, over the caller's own bytes in place of a file.
 //!
-//! Begin with `answer_text`, which the export `pst_c_answer` calls: it takes the words, each ended by a zero byte, and the bytes
-//! of the file, and gives the status of the program's run, what that writes, and what it says on the error output. Nothing is
-//! kept between two calls:
+//! Begin with the export `pst_c_answer`, which hands what `answer_text` of pst_answer gives to C:
 //!
 //! ```text
-//! let answer = answer_text(alloc, b"check\0-\0", bytes);
+//! let status = pst_c_answer(alloc, b"check\0-\0", bytes, &mut answer);
 //! ```
 #![tactic(auto)]
 
-mod answer;
-mod decoded;
 mod exported;
-mod kept;
-mod shown;
-mod words;
 
-pub use answer::{Answer, answer_text};
 pub use exported::{PstAnswer, PstText, pst_c_answer, pst_c_decode};

@@ -5,8 +5,6 @@ use Rattle.std.specs.BTreeMap.{get, IsEmpty, IsUnchanged}
 use Rattle.std.specs.Ordering.{eq_by_cmp}
 use Rattle.std.proofs.lemmas.Map.Views.{tells_apart}
 use Rattle.pst_fault.specs.declared.fault.Fault.{Fault}
-use Rattle.pst_fault.specs.declared.kind.Kind.{Kind}
-use Rattle.pst_fault.specs.declared.kind.Kind.TheVariants.{Short, Magic, Version, Encoded, HeaderCheck, Root, MapsInvalid, PagePlace, PageTrailer, PageShape, KeyOrder, Overlap, BlockPlace, BlockTrailer, BlockMissing, DataTree, Subnode, Nesting, MapPage, MapMissing, Heap, HeapId, Bth, Property, Table as BadTable, NodeMissing, NodeKind, NoMemory}
 use Rattle.pst_fault.specs.Fault.{at_node}
 use Rattle.pst_fault.specs.First.{Tells, IsFirst}
 use Rattle.pst_fault.specs.Each.{first_of}
@@ -14,13 +12,11 @@ use Rattle.pst_page.specs.declared.entry.NodeEntry.{NodeEntry}
 use Rattle.pst_block.specs.Block.{bid_key}
 use Rattle.pst_block.specs.Table.{Table}
 use Rattle.pst_datatree.specs.Data.{data_fault}
-use Rattle.pst_subnode.specs.declared.check.TheConstants.{LISTS}
-use Rattle.pst_subnode.specs.Tree.{sub_fault, at_top, list_placed}
 use Rattle.pst_ndb.specs.Roots.{Roots}
-use Rattle.pst_pc.specs.pst_heap.Fault.{told_under}
+use Rattle.pst_msg.specs.pst_pc.pst_heap.Fault.{told_under}
 use Rattle.pst_remains.specs.declared.pages.Broken.{Broken}
-use Rattle.pst_pc.specs.Fault.{untold_pc_fault, pc_fault}
-use Rattle.pst_pc.proofs.AlikeLaws.{alike_pc_law}
+use Rattle.pst_msg.specs.pst_pc.Fault.{untold_pc_fault, pc_fault}
+use Rattle.pst_msg.proofs.pst_pc.AlikeLaws.{alike_pc_law}
 use Rattle.pst_tc.specs.Fault.{untold_tc_fault, tc_fault}
 use Rattle.pst_tc.specs.Values.{tc_rows}
 use Rattle.pst_tc.proofs.AlikeLaws.{alike_tc_law, rows_alike}
@@ -34,7 +30,7 @@ use Rattle.pst_damage.specs.Folder.{row_damage}
 use Rattle.pst_damage.specs.Listings.{items_number}
 use Rattle.pst_damage.specs.Rows.{as_it_is, items_with, rows_part}
 use Rattle.pst_damage.specs.Faults.{Parts, Retelling, IsFaultOf, fault_kept, AreFaultsOf, IsTold}
-use Rattle.pst_damage.specs.Trees.{data_part, list_part}
+use Rattle.pst_damage.specs.Trees.{data_part}
 
 -- ---- none, one more, and as before
 
@@ -73,7 +69,7 @@ told_some (Err g) first f tells e told = by (let same : g ≡ f = cc in same) te
     by same (inl memory) = absurd (told (ap (λ (h : Fault). h.kind) (sym same ∙ memory)))
     by same (inr is) = is ∙ ap Some same
 
--- ---- the data and the list of a node, told of another
+-- ---- the data of a node, told of another
 
 pub data_retold : (t : Table) (q : Key) (nid : ℕ) (f : Fault) → data_part t q nid ≡ Some f → IsFaultOf at_node (data_part t) q f
 data_retold t q nid f is other = by (data_fault t q.0.0) is
@@ -84,50 +80,6 @@ data_retold t q nid f is other = by (data_fault t q.0.0) is
 
 pub data_keep : (t : Table) (q : Key) (nid : ℕ) (answer : Result (Unit {0}) Fault) → Tells answer (data_part t q nid) tt → (f : Fault) → answer ≡ Err f → IsTold f → IsFaultOf at_node (data_part t) q f
 data_keep t q nid answer tells f e told = data_retold t q nid f (told_some answer (data_part t q nid) f tells e told)
-
--- by the kind of the fault
-placed_again : (k : Kind) (top nid other : ℕ) (u : Fault) → (k ≡ NoMemory → ⊥) → list_placed k top other u ≡ at_node other (list_placed k top nid u)
-placed_again Short top nid other u told = refl
-placed_again Magic top nid other u told = refl
-placed_again (Version n) top nid other u told = refl
-placed_again (Encoded n) top nid other u told = refl
-placed_again HeaderCheck top nid other u told = refl
-placed_again Root top nid other u told = refl
-placed_again MapsInvalid top nid other u told = refl
-placed_again PagePlace top nid other u told = refl
-placed_again PageTrailer top nid other u told = refl
-placed_again PageShape top nid other u told = refl
-placed_again KeyOrder top nid other u told = refl
-placed_again Overlap top nid other u told = refl
-placed_again BlockPlace top nid other u told = refl
-placed_again BlockTrailer top nid other u told = refl
-placed_again BlockMissing top nid other u told = refl
-placed_again DataTree top nid other u told = refl
-placed_again Subnode top nid other u told = refl
-placed_again Nesting top nid other u told = refl
-placed_again MapPage top nid other u told = refl
-placed_again MapMissing top nid other u told = refl
-placed_again Heap top nid other u told = refl
-placed_again HeapId top nid other u told = refl
-placed_again Bth top nid other u told = refl
-placed_again Property top nid other u told = refl
-placed_again BadTable top nid other u told = refl
-placed_again NodeMissing top nid other u told = refl
-placed_again NodeKind top nid other u told = refl
-placed_again NoMemory top nid other u told = absurd (told refl)
-
-pub list_retold : (t : Table) (q : Key) (nid : ℕ) (f : Fault) → list_part t q nid ≡ Some f → IsTold f → IsFaultOf at_node (list_part t) q f
-list_retold t q nid f is told other = by (sub_fault t LISTS q.0.1) is
-  where
-    no_memory_stays : (u : Fault) → at_top q.0.1 nid u ≡ f → u.kind ≡ NoMemory → ⊥
-    no_memory_stays u same kind = told (ap (λ (g : Fault). g.kind) (sym same) ∙ ap (λ (k : Kind). (list_placed k q.0.1 nid u).kind) kind ∙ kind)
-
-    by : (o : Option Fault) → option_map (at_top q.0.1 nid) o ≡ Some f → option_map (at_top q.0.1 other) o ≡ Some (at_node other f)
-    by None e = absurd cc
-    by (Some u) e = let same : at_top q.0.1 nid u ≡ f = cc in rw (← same) (ap Some (placed_again u.kind q.0.1 nid other u (no_memory_stays u same)))
-
-pub list_keep : (t : Table) (q : Key) (nid : ℕ) (answer : Result (Unit {0}) Fault) → Tells answer (list_part t q nid) tt → (f : Fault) → answer ≡ Err f → IsTold f → IsFaultOf at_node (list_part t) q f
-list_keep t q nid answer tells f e told = list_retold t q nid f (told_some answer (list_part t q nid) f tells e told) told
 
 -- ---- contexts
 

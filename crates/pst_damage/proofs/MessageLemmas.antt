@@ -14,8 +14,8 @@ use Rattle.pst_subnode.specs.declared.sub.Sub.{Sub}
 use Rattle.pst_subnode.specs.List.{sub_nid, subs_of}
 use Rattle.pst_subnode.specs.Tree.{nesting}
 use Rattle.pst_ndb.specs.Roots.{Roots, sub_roots, subnode_of}
-use Rattle.pst_pc.specs.Fault.{pc_fault}
-use Rattle.pst_pc.proofs.AlikeLaws.{alike_pc_law}
+use Rattle.pst_msg.specs.pst_pc.Fault.{pc_fault}
+use Rattle.pst_msg.proofs.pst_pc.AlikeLaws.{alike_pc_law}
 use Rattle.pst_tc.specs.Fault.{tc_fault}
 use Rattle.pst_tc.specs.Values.{RowParts, tc_rows}
 use Rattle.pst_tc.proofs.AlikeLaws.{alike_tc_law, rows_alike}

@@ -5,7 +5,7 @@ use Rattle.pst_fault.specs.declared.kind.Kind.TheVariants.{Subnode, Heap, HeapId
 use Rattle.pst_fault.specs.Fault.{at_node}
 use Rattle.pst_block.specs.Table.{Table}
 use Rattle.pst_ndb.specs.Roots.{Roots}
-use Rattle.pst_pc.specs.Fault.{pc_fault}
+use Rattle.pst_msg.specs.pst_pc.Fault.{pc_fault}
 use Rattle.pst_tc.specs.Fault.{tc_fault}
 use Rattle.pst_msg.specs.Checker.{IsCheckerOf}
 use Rattle.pst_msg.specs.Fault.{message_fault}

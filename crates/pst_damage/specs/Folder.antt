@@ -10,10 +10,10 @@ use Rattle.pst_block.specs.Table.{Table}
 use Rattle.pst_ndb.specs.Roots.{Roots}
 use Rattle.pst_remains.specs.declared.pages.Broken.{Broken}
 use Rattle.pst_remains.specs.Pages.{page_before}
-use Rattle.pst_pc.specs.Fault.{pc_fault}
+use Rattle.pst_msg.specs.pst_pc.Fault.{pc_fault}
 use Rattle.pst_tc.specs.Fault.{tc_fault}
 use Rattle.pst_tc.specs.Values.{RowParts, tc_rows}
-use Rattle.pst_names.specs.declared.name_map.TheConstants.{NAME_MAP}
+use Rattle.pst_msg.specs.pst_names.declared.name_map.TheConstants.{NAME_MAP}
 use Rattle.pst_msg.specs.declared.items.Items.{Items}
 use Rattle.pst_msg.specs.declared.items.Items.TheVariants.{Subfolders, Messages, Associated}
 use Rattle.pst_msg.specs.declared.nid.TheConstants.{STORE, FOLDER, SEARCH_FOLDER}

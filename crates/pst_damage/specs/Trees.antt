@@ -3,9 +3,8 @@ use Rattle.std.specs.Prelude.{option_map}
 use Rattle.pst_fault.specs.Fault.{at_node}
 use Rattle.pst_block.specs.Table.{Table}
 use Rattle.pst_datatree.specs.Data.{data_fault}
-use Rattle.pst_subnode.specs.declared.check.TheConstants.{LISTS}
+use Rattle.pst_subnode.specs.Faults.{AreSubFaultsTrue}
 use Rattle.pst_subnode.specs.Known.{AreBothTrue}
-use Rattle.pst_subnode.specs.Tree.{sub_fault, at_top}
 use Rattle.pst_damage.specs.declared.trees.Known.{Known}
 use Rattle.pst_damage.specs.Faults.{Parts, AreFaultsOf}
 
@@ -13,12 +12,8 @@ use Rattle.pst_damage.specs.Faults.{Parts, AreFaultsOf}
 abbrev pub data_part : Table → Parts
 data_part t q nid = option_map (at_node nid) (data_fault t q.0.0)
 
--- its list of subnodes
-abbrev pub list_part : Table → Parts
-list_part t q nid = option_map (at_top q.0.1 nid) (sub_fault t LISTS q.0.1)
-
 -- What was found without fault has none, and each fault that is remembered is that of its tree, or of its list.
 pub record AreTreesKnown (t : Table) (k : Known) : Type 0 where
   pub whole : AreBothTrue t k.seen k.heights
   pub content : AreFaultsOf at_node (data_part t) k.content
-  pub lists : AreFaultsOf at_node (list_part t) k.lists
+  pub below : AreSubFaultsTrue t k.below

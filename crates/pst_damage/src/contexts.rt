@@ -47,7 +47,7 @@ impl Contexts {
     ghost use Rattle.pst_block.specs.Table.{Table};
     ghost use Rattle.pst_fault.specs.First.{Tells};
     ghost use Rattle.pst_ndb.specs.Views.{table_of_node, roots_of};
-    ghost use Rattle.pst_pc.specs.Fault.{pc_fault};
+    ghost use Rattle.pst_msg.specs.pst_pc.Fault.{pc_fault};
     ghost use Rattle.pst_tc.specs.Fault.{tc_fault};
     ghost use Rattle.pst_msg.specs.Fault.{name_map_fault, message_fault};
     ghost use Rattle.pst_damage.specs.Contexts.{AreContextsKnown};

@@ -6,7 +6,6 @@ ghost use Rattle.pst_fault.specs.First.{Tells};
 ghost use Rattle.pst_block.specs.Blocks.{table_of};
 ghost use Rattle.pst_datatree.specs.Data.{data_fault};
 ghost use Rattle.pst_subnode.specs.declared.check.TheConstants.{LISTS};
-ghost use Rattle.pst_subnode.specs.Known.{AreBothTrue};
 ghost use Rattle.pst_subnode.specs.Tree.{sub_fault, at_top};
 ghost use Rattle.pst_ndb.specs.Fault.{node_fault};
 ghost use Rattle.pst_damage.specs.Judged.{sound_nodes, told_by};
@@ -18,7 +17,7 @@ use pst_block::Blocks;
 use pst_datatree::{Seen, check_data};
 use pst_fault::Fault;
 use pst_page::NodeEntry;
-use pst_subnode::{Heights, check_sub};
+use pst_subnode::{Heights, SubFaults, check_sub_with};
 use std::alloc::{AllocError, Global};
 
 /// The nodes by their own trees.
@@ -30,14 +29,14 @@ pub(crate) struct Trees {
     pub(crate) broken: Vec<BrokenNode>,
 }
 
-// What is known of the trees that were looked at. What has no fault is passed over where it is met again; of the data and of the
-// list of subnodes of a node that have one, it is remembered.
+// What is known of the trees that were looked at. What has no fault is passed over where it is met again; of the data of a node,
+// and of each list and data below it, that have one it is remembered.
 #[derive(Drop)]
 struct Known {
     seen: Seen,
     heights: Heights,
     content: Faults,
-    lists: Faults,
+    below: SubFaults,
 }
 
 impl Known {
@@ -52,7 +51,7 @@ impl Known {
             seen: Seen::new(alloc),
             heights: Heights::new(alloc),
             content: Faults::new(alloc),
-            lists: Faults::new(alloc),
+            below: SubFaults::new(alloc),
         }
     }
 }
@@ -77,23 +76,6 @@ fn check_content(
     known.content.keep(part, answer)
 }
 
-// A list of subnodes, told of a node.
-fn check_list(
-    alloc: Global,
-    blocks: &Blocks,
-    entry: NodeEntry,
-    seen: &mut Seen,
-    heights: &mut Heights,
-) -> Result<(), Fault>
-    requires { AreBothTrue (table_of blocks.now) seen.old heights.old }
-    ensures known { AreBothTrue (table_of blocks.now) seen.new heights.new }
-    ensures exact { Tells result (option_map (at_top entry.bid_sub entry.nid)
-        (sub_fault (table_of blocks.now) LISTS entry.bid_sub)) tt }
-{
-    check_sub(alloc, blocks, entry.bid_sub, entry.nid, seen, heights)?;
-    Ok(())
-}
-
 // The subnodes of a node.
 fn check_subs(
     alloc: Global,
@@ -106,12 +88,16 @@ fn check_subs(
     ensures exact { Tells result (option_map (at_top entry.bid_sub entry.nid)
         (sub_fault (table_of blocks.now) LISTS entry.bid_sub)) tt }
 {
-    let part = ((0, entry.bid_sub), 0);
-    if let Some(fault) = known.lists.get(part) {
-        return Err(fault.at_node(entry.nid));
-    }
-    let answer = check_list(alloc, blocks, entry, &mut known.seen, &mut known.heights);
-    known.lists.keep(part, answer)
+    check_sub_with(
+        alloc,
+        blocks,
+        entry.bid_sub,
+        entry.nid,
+        &mut known.seen,
+        &mut known.heights,
+        &mut known.below,
+    )?;
+    Ok(())
 }
 
 // One node: its data, then its subnodes.

@@ -7,7 +7,7 @@ mod sharing;
 mod tree;
 
 use self::Body::{Bytes, List};
-use self::tree::{Indexed, Known, Tree};
+use self::tree::{Indexed, Known, Met, Tree};
 use crate::told::is;
 use pst_block::{Blocks, check_blocks};
 use pst_btree::walk_blocks;

@@ -5,15 +5,16 @@ use Rattle.pst_block.specs.Table.{Table}
 use Rattle.pst_btree.specs.Entries.{first_with}
 use Rattle.pst_ndb.specs.declared.node.Node.{Node}
 use Rattle.pst_ndb.specs.Roots.{Roots}
-use Rattle.pst_ndb.specs.Views.{table_of_ndb, table_of_node, nid_of, top_of, roots_of}
+use Rattle.pst_ndb.specs.NodeTable.{table_of_nodes}
+use Rattle.pst_ndb.specs.Views.{table_of_node, nid_of, top_of, roots_of}
+use Rattle.pst_intact.specs.declared.folder.IntactFolder.{IntactFolder}
+use Rattle.pst_intact.specs.View.{intact_beside, intact_node, intact_roots}
 use Rattle.pst_json.specs.declared.fault.DocFault.{DocFault}
 use Rattle.pst_json.specs.declared.fault.DocFault.TheVariants.{NoFolder, NoNode, Bad, NoProperty, TooManyPaths, Memory}
 use Rattle.pst_json.specs.Node.{node_props_data}
 use Rattle.pst_json.specs.Told.{TellsDoc}
 use Rattle.pst_value_json.specs.Line.{line_of}
 use Rattle.pst_value_json.specs.pst_names.Name.{NameParts}
-use Rattle.pst_verify.specs.pst_msg.declared.folder_view.Folder.{Folder}
-use Rattle.pst_verify.specs.pst_msg.View.{folder_roots, ndb_of_folder, node_of_folder}
 use Rattle.pst_tar.specs.Archive.{Member}
 use Rattle.pst_value_json.specs.pst_pc.Values.{Property, id_of, props_of}
 use Rattle.pst_export.specs.Files.{file_at, named_file, path_of, value_file}
@@ -51,16 +52,16 @@ store_none a n shown Memory told tells other = absurd (other refl)
 
 -- ---- the file of a folder
 
-pub folder_is : (told : ℕ → Option NameParts) (f : Folder) (n : Node) (nid : ℕ) (path line : List ℕ) → n ≡ node_of_folder f
-    → table_of_node (node_of_folder f) ≡ table_of_ndb (ndb_of_folder f) → nid ≡ nid_of (node_of_folder f) → nid ≡ top_of (node_of_folder f)
+pub folder_is : (told : ℕ → Option NameParts) (f : IntactFolder) (n : Node) (nid : ℕ) (path line : List ℕ) → n ≡ intact_node f
+    → table_of_node (intact_node f) ≡ table_of_nodes (intact_beside f) → nid ≡ nid_of (intact_node f) → nid ≡ top_of (intact_node f)
     → path ≡ path_of (folder_in (codes "folders") nid) (codes "props.json")
     → line ≡ line_of (node_props_data told false (table_of_node n) (roots_of n) (nid_of n))
-    → member_of path 0 line ≡ folder_file told (table_of_ndb (ndb_of_folder f)) (folder_roots f)
+    → member_of path 0 line ≡ folder_file told (table_of_nodes (intact_beside f)) (intact_roots f)
 unfolding folder_file
 folder_is told f n nid path line same table own top called shown =
-    let node = node_of_folder f in
+    let node = intact_node f in
     let r = roots_of node in
-    let t = table_of_ndb (ndb_of_folder f) in
+    let t = table_of_nodes (intact_beside f) in
     let name = path_of (folder_in (codes "folders") (top_of node)) (codes "props.json") in
     ap (λ x. member_of x 0 line) (called ∙ ap (λ k. path_of (folder_in (codes "folders") k) (codes "props.json")) top)
     ∙ ap (member_of name 0) (shown ∙ ap (λ m. line_of (node_props_data told false (table_of_node m) (roots_of m) (nid_of m))) same

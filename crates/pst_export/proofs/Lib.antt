@@ -1,5 +1,9 @@
+pub mod AsciiLemmas
 pub mod FileLemmas
+pub mod NameLaws
+pub mod SafeLaws
 pub mod StoreLemmas
 pub mod TextLemmas
+pub mod ValueLaws
 pub mod WalkLemmas
 pub mod WriteLemmas

@@ -1,15 +1,20 @@
 -- The messages of a type among all messages; and what is counted of them.
-use Rattle.std.proofs.Common.{◌≡◌, ◌<◌, ◌≤◌, ◌+◌, ℕ, Bool, true, false, cond, List, [], ◌∷◌, ◌++◌, length, map, refl, sym, ap, ◌∙◌, arith}
+use Rattle.std.proofs.Common.{◌≡◌, ◌<◌, ◌≤◌, ◌+◌, ◌/◌, ℕ, Ok, Err, Bool, true, false, cond, List, [], ◌∷◌, ◌++◌, length, map, refl, sym, ap, ◌∙◌, arith}
 use Rattle.std.specs.Prelude.{◌||◌, not, nat_lt, Option, Some, None}
 use Rattle.std.specs.Option.{is_some}
 use Rattle.std.specs.Prelude.{flat_map}
 use Rattle.std.proofs.lemmas.Bool.{false≢true, lt-ltb, le-ltb}
+use Rattle.pst_page.specs.declared.entry.NodeEntry.{NodeEntry}
+use Rattle.pst_block.specs.Table.{Table}
 use Rattle.pst_ndb.specs.Roots.{Roots}
+use Rattle.pst_json.specs.declared.fault.DocFault.TheVariants.{TooManyPaths}
+use Rattle.pst_json.specs.pst_whole.Lost.{LostParts}
 use Rattle.pst_verify.specs.pst_msg.declared.nid.TheConstants.{MESSAGE, ASSOCIATED}
 use Rattle.pst_verify.specs.pst_msg.Nid.{is_type}
 use Rattle.pst_verify.specs.pst_msg.Values.{is_message}
 use Rattle.pst_verify.specs.pst_store.Kind.{of_kind}
 use Rattle.pst_export.specs.Export.{CountsDown}
+use Rattle.pst_export.specs.Store.{archive_text, export_told, path_count}
 
 or_right : (a b : Bool) → b ≡ true → (a || b) ≡ true
 or_right true b is = refl
@@ -50,3 +55,20 @@ few_none most a b less = let more : most < a + b = omega arith in rw (lt-ltb mos
 pub few_counted : (most left a b : ℕ) (o : Option ℕ) → most ≡ left + a → CountsDown left b o → is_some o ≡ not (nat_lt most (a + b))
 few_counted most left a b None is less = let more : most < a + b = omega arith in rw (lt-ltb most (a + b) more) refl
 few_counted most left a b (Some rest) is counted = let no : a + b ≤ most = omega arith in rw (le-ltb most (a + b) no) refl
+
+-- so an archive is told, or that there are too many paths
+not_less : (b : Bool) → true ≡ not b → b ≡ false
+not_less true is = absurd cc
+not_less false is = refl
+
+is_less : (b : Bool) → false ≡ not b → b ≡ true
+is_less true is = refl
+is_less false is = absurd cc
+
+pub told_few : (size : ℕ) (damage : Option (List ℕ)) (t : Table) (nodes : List NodeEntry) (lost : LostParts) (few : Bool) → few ≡ not (nat_lt (size / 64) (path_count t nodes)) → few ≡ true
+    → export_told size damage t nodes lost ≡ Ok (archive_text damage t nodes lost)
+told_few size damage t nodes lost few is held = rw (not_less (nat_lt (size / 64) (path_count t nodes)) (sym held ∙ is)) refl
+
+pub told_many : (size : ℕ) (damage : Option (List ℕ)) (t : Table) (nodes : List NodeEntry) (lost : LostParts) (few : Bool) → few ≡ not (nat_lt (size / 64) (path_count t nodes)) → few ≡ false
+    → export_told size damage t nodes lost ≡ Err TooManyPaths
+told_many size damage t nodes lost few is failed = rw (is_less (nat_lt (size / 64) (path_count t nodes)) (sym failed ∙ is)) refl

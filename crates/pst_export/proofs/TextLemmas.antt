@@ -81,25 +81,28 @@ utf8_next left us c is = ap encode_utf8_all is
 abbrev pub IsGathered : Option (List ℕ) → Option (List ℕ) → List ℕ → List ℕ → List ℕ → Type 0
 IsGathered old now whole gathered left = Written old now whole (gathered ++ encode_utf8_all left)
 
-pub gathered_none : (old : Option (List ℕ)) (gathered left : List ℕ) → gathered ≡ [] → IsGathered old old (encode_utf8_all left) gathered left
-gathered_none old gathered left is = rw is (written_none old (encode_utf8_all left))
+-- nothing is written yet
+pub gathered_first : (old : Option (List ℕ)) (whole all : List ℕ) → all ≡ whole → Written old old whole all
+gathered_first old whole all is = subst (Written old old whole) (sym is) (written_none old whole)
 
--- one character more is gathered, and what was gathered may be written
-pub gathered_more : (old now new : Option (List ℕ)) (whole before gathered kept left us : List ℕ) (c : ℕ) → left ≡ c ∷ us → gathered ≡ before ++ encode_utf8 c
-    → IsGathered old now whole before left → Moves gathered kept now new → IsGathered old new whole kept us
-gathered_more old now new whole before gathered kept left us c next more so_far moves =
+-- one character more is gathered, and what stands behind it
+pub gathered_char : (before put gathered rest left us : List ℕ) (c : ℕ) → left ≡ c ∷ us → put ≡ before ++ encode_utf8 c → gathered ++ rest ≡ put ++ encode_utf8_all us
+    → gathered ++ rest ≡ before ++ encode_utf8_all left
+gathered_char before put gathered rest left us c next more behind =
     let text = encode_utf8_all us in
-    let same = ap (λ l. before ++ l) (utf8_next left us c next) ∙ sym (append_assoc before (encode_utf8 c) text) ∙ ap (λ l. l ++ text) (sym more ∙ sym moves.2)
-    ∙ append_assoc moves.0 kept text in
-    written_more old now new whole moves.0 (kept ++ text) (subst (Written old now whole) same so_far) moves.1
+    behind ∙ ap (λ l. l ++ text) more ∙ append_assoc before (encode_utf8 c) text ∙ ap (λ l. before ++ l) (sym (utf8_next left us c next))
+
+-- what was gathered may be written
+pub gathered_moved : (old now new : Option (List ℕ)) (whole all gathered kept rest : List ℕ) → gathered ++ rest ≡ all → Written old now whole all → Moves gathered kept now new
+    → Written old new whole (kept ++ rest)
+gathered_moved old now new whole all gathered kept rest same so_far moves =
+    let split = sym same ∙ ap (λ l. l ++ rest) (sym moves.2) ∙ append_assoc moves.0 kept rest in
+    written_more old now new whole moves.0 (kept ++ rest) (subst (Written old now whole) split so_far) moves.1
 
 -- a front of what was gathered is a front of the text
-pub gathered_front : (old now new : Option (List ℕ)) (whole before gathered left us : List ℕ) (c : ℕ) → left ≡ c ∷ us → gathered ≡ before ++ encode_utf8 c
-    → IsGathered old now whole before left → AppendsFront now new gathered → AppendsFront old new whole
-gathered_front old now new whole before gathered left us c next more so_far front =
-    let text = encode_utf8_all us in
-    let same = ap (λ l. before ++ l) (utf8_next left us c next) ∙ sym (append_assoc before (encode_utf8 c) text) ∙ ap (λ l. l ++ text) (sym more) in
-    written_front old now new whole gathered text (subst (Written old now whole) same so_far) front
+pub gathered_front : (old now new : Option (List ℕ)) (whole all gathered rest : List ℕ) → gathered ++ rest ≡ all → Written old now whole all → AppendsFront now new gathered
+    → AppendsFront old new whole
+gathered_front old now new whole all gathered rest same so_far front = written_front old now new whole gathered rest (subst (Written old now whole) (sym same) so_far) front
 
 -- nothing more was written
 pub gathered_still : (old now : Option (List ℕ)) (whole before left : List ℕ) → IsGathered old now whole before left → AppendsFront old now whole

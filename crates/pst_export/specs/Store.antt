@@ -1,16 +1,17 @@
--- All files of a store, and the archive of them.
-use Rattle.std.specs.Prelude.{ℕ, ◌+◌, ◌/◌, Bool, nat_lt, false, Option, Result, Ok, Err, List, [], ◌∷◌, ◌++◌, length, map, codes}
+-- All files of intact nodes, of a store or of what is whole of a damaged one, and the archive of them.
+use Rattle.std.specs.Prelude.{ℕ, ◌+◌, ◌/◌, Bool, nat_lt, false, if◌then◌else◌, Option, Some, None, Result, Ok, Err, List, [], ◌∷◌, ◌++◌, length, map, codes}
 use Rattle.std.specs.Prelude.{flat_map}
 use Rattle.pst_page.specs.declared.entry.NodeEntry.{NodeEntry}
 use Rattle.pst_block.specs.Table.{Table}
 use Rattle.pst_ndb.specs.Roots.{Roots, all_roots}
 use Rattle.pst_value_json.specs.Line.{line_of}
 use Rattle.pst_value_json.specs.pst_names.Name.{NameParts, store_name}
-use Rattle.pst_json.specs.pst_whole.Lost.{LostParts, nothing_lost}
+use Rattle.pst_json.specs.pst_whole.Lost.{LostParts}
 use Rattle.pst_json.specs.Folders.{folders_line}
 use Rattle.pst_json.specs.Messages.{messages_text}
 use Rattle.pst_json.specs.Node.{node_props_data, props_line}
 use Rattle.pst_json.specs.declared.fault.DocFault.{DocFault}
+use Rattle.pst_json.specs.declared.fault.DocFault.TheVariants.{TooManyPaths}
 use Rattle.pst_verify.specs.pst_msg.declared.nid.TheConstants.{STORE, MESSAGE, ASSOCIATED}
 use Rattle.pst_verify.specs.pst_msg.Nid.{is_type}
 use Rattle.pst_verify.specs.pst_msg.Values.{is_folder}
@@ -28,6 +29,11 @@ file_of name bytes = record { name = name; time = 0; bytes = bytes }
 -- a node that is no message: what `props` prints of it
 abbrev pub node_line : (ℕ → Option NameParts) → Table → Roots → List ℕ
 node_line names t r = line_of (node_props_data names false t r r.top)
+
+-- what `damage` prints, where something is broken
+abbrev pub damage_file : Option (List ℕ) → List Member
+damage_file None = []
+damage_file (Some text) = file_of (codes "damage.json") text ∷ []
 
 -- what `props` prints of the store's own node, where it prints something
 abbrev pub store_file : Result (List ℕ) DocFault → List Member
@@ -66,13 +72,13 @@ files_with names t nodes lost =
     ++ messages_files names t (codes "messages") (of_type MESSAGE nodes))
     ++ messages_files names t (codes "associated") (of_type ASSOCIATED nodes)
 
--- The files of a store, in order.
-unfoldable pub store_files : Table → List NodeEntry → List Member
-store_files t nodes = files_with (store_name t nodes) t nodes nothing_lost
+-- The files of intact nodes, in order, where this is told of all that is broken, and of others.
+unfoldable pub all_files : Option (List ℕ) → Table → List NodeEntry → LostParts → List Member
+all_files damage t nodes lost = damage_file damage ++ files_with (store_name t nodes) t nodes lost
 
 -- The archive of them.
-abbrev pub archive_text : Table → List NodeEntry → List ℕ
-archive_text t nodes = archive_of (store_files t nodes)
+abbrev pub archive_text : Option (List ℕ) → Table → List NodeEntry → LostParts → List ℕ
+archive_text damage t nodes lost = archive_of (all_files damage t nodes lost)
 
 -- ---- how many messages and attachments there are, each counted once for each path that leads to it
 
@@ -86,3 +92,7 @@ path_count t nodes =
 -- There are more paths than a file of so many bytes has that shares no blocks: of 64 bytes one.
 abbrev pub has_too_many : ℕ → Table → List NodeEntry → Bool
 has_too_many size t nodes = nat_lt (size / 64) (path_count t nodes)
+
+-- The archive, of a file of so many bytes; or that there are too many paths.
+abbrev pub export_told : ℕ → Option (List ℕ) → Table → List NodeEntry → LostParts → Result (List ℕ) DocFault
+export_told size damage t nodes lost = if has_too_many size t nodes then Err TooManyPaths else Ok (archive_text damage t nodes lost)

@@ -1,18 +1,18 @@
 //! How many messages and attachments an archive has, each counted once for each path that leads to it.
 
 ghost use Rattle.std.specs.Prelude.{◌≡◌, ℕ, true, IfOk, length};
-ghost use Rattle.pst_ndb.specs.Views.{table_of_ndb, nodes_of, table_of_node, nid_of, top_of};
+ghost use Rattle.pst_ndb.specs.Views.{table_of_node, nid_of, top_of};
+ghost use Rattle.pst_intact.specs.View.{table_of_intact, nodes_of_intact};
 ghost use Rattle.pst_verify.specs.pst_msg.Nid.{is_type as is_of_type};
 ghost use Rattle.pst_verify.specs.pst_msg.Values.{is_message};
 ghost use Rattle.pst_verify.specs.pst_msg.View.{node_of_message, message_roots};
-ghost use Rattle.pst_verify.specs.pst_store.View.{ndb_of_store};
 ghost use Rattle.pst_export.specs.Export.{CountsDown};
 ghost use Rattle.pst_export.specs.Held.{held_of};
 ghost use Rattle.pst_export.specs.Store.{all_held, of_type};
 
 use crate::walk::Walk;
+use pst_json::Intact;
 use pst_msg::{Message, is_type};
-use pst_verify::Store;
 use std::alloc::{AllocError, Global};
 
 // Counts a message and what it holds down from so many: how many are left, or None where there are more. No more of them are gone
@@ -42,18 +42,18 @@ fn count_message(
 /// Counts the messages of a type, and what they hold, down from so many: how many are left, or None where there are more.
 pub(crate) fn count_down(
     alloc: Global,
-    store: &Store,
+    intact: &Intact,
     kind: u32,
     name: &str,
     most: u64,
 ) -> Result<Option<u64>, AllocError>
     requires { (nid : ℕ) → is_of_type kind nid ≡ true → is_message nid ≡ true }
-    ensures { let ndb = ndb_of_store store.now in
-        let held = all_held (table_of_ndb ndb) name.now (of_type kind (nodes_of ndb)) in
+    ensures { let i = intact.now in
+        let held = all_held (table_of_intact i) name.now (of_type kind (nodes_of_intact i)) in
         IfOk result (CountsDown most (length held)) }
 {
     let mut left = most;
-    for message in store.messages() {
+    for message in intact.messages() {
         if is_type(kind, message.nid()) {
             match count_message(alloc, name, message, left)? {
                 Some(rest) => left = rest,

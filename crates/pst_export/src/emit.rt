@@ -1,23 +1,28 @@
-//! An archive of a store, from what it is made to its last byte.
+//! An archive, from what it is made to its last byte.
 
-ghost use Rattle.std.specs.Prelude.{◌≡◌, ℕ, not, IfOk, OnOk, nat_lt};
+ghost use Rattle.std.specs.Prelude.{◌≡◌, ℕ, not, map, None, IfOk, OnOk, nat_lt, option_map};
 ghost use Rattle.std.specs.Io.KnownBytes.{Appends};
-ghost use Rattle.pst_ndb.specs.Views.{table_of_ndb, nodes_of};
-ghost use Rattle.pst_verify.specs.pst_store.View.{ndb_of_store};
+ghost use Rattle.pst_btree.specs.Order.{Rises};
+ghost use Rattle.pst_intact.specs.View.{table_of_intact, nodes_of_intact};
+ghost use Rattle.pst_json.specs.pst_whole.View.{lost_in};
 ghost use Rattle.pst_json.specs.Output.{AppendsFront};
-ghost use Rattle.pst_export.specs.Export.{TellsExport, archive_in, store_of};
-ghost use Rattle.pst_export.specs.Store.{path_count, store_files};
+ghost use Rattle.pst_json.specs.Told.{TellsDoc};
+ghost use Rattle.pst_verify.specs.pst_reach.Levels.{reaches_of};
+ghost use Rattle.pst_verify.specs.pst_reach.Path.{reach_nid};
+ghost use Rattle.pst_export.specs.Export.{archive_in, damage_in};
+ghost use Rattle.pst_value_json.specs.pst_names.Name.{store_name};
+ghost use Rattle.pst_export.specs.Store.{all_files, export_told, files_with, path_count};
 ghost use Rattle.pst_export.specs.Written.{Adds, AddsFront};
 
 use crate::count::count_down;
 use crate::export::Export;
 use crate::fault::ExportFault;
-use crate::folders::{write_folders, write_front};
+use crate::folders::write_folders;
+use crate::front::{write_damage, write_front};
 use crate::messages::write_messages;
-use pst_json::{DocFault, Intact, emit, names_in, names_index};
+use pst_json::{DocFault, Intact, Lost, Reach, emit, names_in, names_index};
 use pst_msg::{ASSOCIATED, MESSAGE};
 use pst_tar::end;
-use pst_verify::{Store, Verified};
 use std::alloc::{AllocError, Global};
 use std::io::Write;
 
@@ -26,56 +31,93 @@ const BLOCK: u64 = 64;
 
 // Whether so many paths at most lead to messages and attachments.
 #[tactic(auto, unfolding(crate::specs::Store::path_count), using(crate::proofs::StoreLemmas::message_kind, crate::proofs::StoreLemmas::associated_kind, crate::proofs::StoreLemmas::few_none, crate::proofs::StoreLemmas::few_counted))]
-fn are_few(alloc: Global, store: &Store, most: u64) -> Result<bool, AllocError>
-    ensures { let ndb = ndb_of_store store.now in
-        let count = path_count (table_of_ndb ndb) (nodes_of ndb) in
+fn are_few(alloc: Global, intact: &Intact, most: u64) -> Result<bool, AllocError>
+    ensures { let i = intact.now in
+        let count = path_count (table_of_intact i) (nodes_of_intact i) in
         IfOk result (λ few. few ≡ not (nat_lt most count)) }
 {
-    match count_down(alloc, store, MESSAGE, "messages", most)? {
+    match count_down(alloc, intact, MESSAGE, "messages", most)? {
         Some(left) => {
-            let rest = count_down(alloc, store, ASSOCIATED, "associated", left)?;
+            let rest = count_down(alloc, intact, ASSOCIATED, "associated", left)?;
             Ok(rest.is_some())
         }
         None => Ok(false),
     }
 }
 
-/// What the archive of a store is made from; TooManyPaths where more paths lead to its messages and attachments than its file has
-/// blocks of 64 bytes.
-pub fn export_of<'a>(alloc: Global, verified: Verified<'a>) -> Result<Export<'a>, DocFault>
-    ensures { TellsExport result verified.entry.store }
+/// What an archive is made from: intact nodes of a file of so many bytes, what is told of others, the folders among these nodes that
+/// the root folder reaches (`reach_among`), and what is told of all that is broken, where something is. TooManyPaths where more paths
+/// lead to the messages and attachments than the file has blocks of 64 bytes.
+#[tactic(auto, using(crate::proofs::StoreLemmas::told_few, crate::proofs::StoreLemmas::told_many))]
+pub fn export_of<'a>(
+    alloc: Global,
+    size: u64,
+    intact: Intact<'a>,
+    lost: Lost<'a>,
+    reached: Vec<Reach>,
+    damage: Option<Vec<u8>>,
+) -> Result<Export<'a>, DocFault>
+    requires reached { reached.items ≡ reaches_of (table_of_intact intact) (nodes_of_intact intact) }
+    requires rise { Rises 0 None (map reach_nid reached.items) }
+    ensures { let i = intact.entry in let broken = option_map (λ t. t.items) damage in
+        TellsDoc archive_in result
+        (export_told size broken (table_of_intact i) (nodes_of_intact i) (lost_in lost.entry)) }
 {
-    let store = verified.store;
-    let size = store.ndb().image().len();
-    if !are_few(alloc, &store, size / BLOCK)? {
+    if !are_few(alloc, &intact, size / BLOCK)? {
         return Err(DocFault::TooManyPaths);
     }
-    let index = names_index(alloc, &Intact::of(&store))?;
-    Ok(Export { verified, index })
+    let index = names_index(alloc, &intact)?;
+    Ok(Export {
+        intact,
+        lost,
+        damage,
+        reached,
+        index,
+    })
+}
+
+// Writes the files of the nodes, and those that stand before them.
+#[tactic(auto, using(crate::proofs::StoreLemmas::message_kind, crate::proofs::StoreLemmas::associated_kind))]
+fn write_nodes<W: Write>(
+    alloc: Global,
+    number: &mut u64,
+    export: &Export,
+    out: &mut W,
+) -> Result<(), ExportFault>
+    ensures all { let e = export.now in let t = table_of_intact e.intact in let nodes = nodes_of_intact e.intact in
+        let files = files_with (store_name t nodes) t nodes (lost_in e.lost) in
+        OnOk result (Adds (W.contents out.old) (W.contents out.new) number.old number.new files) }
+    ensures front { let e = export.now in let t = table_of_intact e.intact in let nodes = nodes_of_intact e.intact in
+        let files = files_with (store_name t nodes) t nodes (lost_in e.lost) in
+        AddsFront (W.contents out.old) (W.contents out.new) number.old files }
+{
+    let intact = export.intact;
+    let names = names_in(&intact, &export.index);
+    write_front(alloc, number, export, out)?;
+    write_folders(alloc, number, names, &intact, out)?;
+    write_messages(alloc, number, names, &intact, MESSAGE, "messages", out)?;
+    write_messages(alloc, number, names, &intact, ASSOCIATED, "associated", out)?;
+    Ok(())
 }
 
 // Writes all files.
-#[tactic(auto, using(crate::proofs::StoreLemmas::message_kind, crate::proofs::StoreLemmas::associated_kind))]
 fn write_files<W: Write>(
     alloc: Global,
     number: &mut u64,
     export: &Export,
     out: &mut W,
 ) -> Result<(), ExportFault>
-    ensures all { let ndb = ndb_of_store (store_of export.now) in
-        let files = store_files (table_of_ndb ndb) (nodes_of ndb) in
+    ensures all { let e = export.now in
+        let files = all_files (damage_in e) (table_of_intact e.intact) (nodes_of_intact e.intact)
+        (lost_in e.lost) in
         OnOk result (Adds (W.contents out.old) (W.contents out.new) number.old number.new files) }
-    ensures front { let ndb = ndb_of_store (store_of export.now) in
-        let files = store_files (table_of_ndb ndb) (nodes_of ndb) in
+    ensures front { let e = export.now in
+        let files = all_files (damage_in e) (table_of_intact e.intact) (nodes_of_intact e.intact)
+        (lost_in e.lost) in
         AddsFront (W.contents out.old) (W.contents out.new) number.old files }
 {
-    let store = export.verified.store;
-    let intact = Intact::of(&store);
-    let names = names_in(&intact, &export.index);
-    write_front(alloc, number, export, out)?;
-    write_folders(alloc, number, names, &export.verified, out)?;
-    write_messages(alloc, number, names, &store, MESSAGE, "messages", out)?;
-    write_messages(alloc, number, names, &store, ASSOCIATED, "associated", out)?;
+    write_damage(alloc, number, export, out)?;
+    write_nodes(alloc, number, export, out)?;
     Ok(())
 }
 

@@ -1,135 +1,25 @@
-//! The files of a store itself, and of its folders.
+//! The files of folders.
 
-ghost use Rattle.std.specs.Prelude.{◌≡◌, ◌≢◌, false, IfOk, OnOk, [], ◌∷◌, codes, string_bytes};
+ghost use Rattle.std.specs.Prelude.{◌≡◌, IfOk, OnOk, [], ◌∷◌, codes, string_bytes};
+ghost use Rattle.pst_ndb.specs.NodeTable.{table_of_nodes};
 ghost use Rattle.pst_ndb.specs.Roots.{all_roots};
-ghost use Rattle.pst_ndb.specs.Views.{table_of_ndb, nodes_of};
 ghost use Rattle.pst_value_json.specs.Props.{names_told};
-ghost use Rattle.pst_json.specs.pst_whole.Lost.{nothing_lost};
-ghost use Rattle.pst_json.specs.Folders.{folders_line as line_of_folders};
-ghost use Rattle.pst_json.specs.Node.{props_line as line_of_props};
-ghost use Rattle.pst_json.specs.Messages.{messages_text as text_of_messages};
+ghost use Rattle.pst_intact.specs.View.{intact_beside, intact_roots, table_of_intact, nodes_of_intact};
 ghost use Rattle.pst_verify.specs.pst_msg.Values.{is_folder};
-ghost use Rattle.pst_verify.specs.pst_msg.View.{ndb_of_folder, folder_roots};
 ghost use Rattle.pst_verify.specs.pst_store.Kind.{of_kind};
-ghost use Rattle.pst_verify.specs.pst_store.View.{ndb_of_store};
 ghost use Rattle.pst_export.specs.Files.{path_of};
 ghost use Rattle.pst_export.specs.Held.{folder_in as folder_called};
-ghost use Rattle.pst_export.specs.Store.{file_of, folder_file, folder_files, front_files, store_file};
-ghost use Rattle.pst_export.specs.Export.{store_of};
+ghost use Rattle.pst_export.specs.Store.{folder_file, folder_files};
 ghost use Rattle.pst_export.specs.Written.{Adds, AddsFront};
 
-use crate::export::Export;
 use crate::fault::ExportFault;
 use crate::files::write_bytes;
 use crate::walk::folder_in;
-use pst_json::{DocFault, Intact, Lost, folders_line, messages_text, node_line, props_line};
-use pst_msg::{NameMap, STORE};
-use pst_verify::{Folder, Verified};
+use pst_intact::{Intact, IntactFolder};
+use pst_json::node_line;
+use pst_msg::NameMap;
 use std::alloc::{AllocError, Global};
 use std::io::Write;
-
-// Whether there is no document for another reason than that memory was refused.
-fn unless_memory(fault: DocFault) -> Result<(), AllocError>
-    ensures { OnOk result (fault ≢ DocFault.Memory) }
-{
-    if fault == DocFault::Memory {
-        return Err(AllocError);
-    }
-    Ok(())
-}
-
-// Writes the properties of the store.
-#[tactic(auto, using(crate::proofs::FileLemmas::store_there, crate::proofs::FileLemmas::store_none, crate::proofs::WriteLemmas::front_none))]
-fn write_store<W: Write>(
-    alloc: Global,
-    number: &mut u64,
-    export: &Export,
-    out: &mut W,
-) -> Result<(), ExportFault>
-    ensures all { let ndb = ndb_of_store (store_of export.now) in
-        let line = line_of_props false (table_of_ndb ndb) (nodes_of ndb) (STORE ∷ []) in
-        OnOk result (Adds (W.contents out.old) (W.contents out.new) number.old number.new
-        (store_file line)) }
-    ensures front { let ndb = ndb_of_store (store_of export.now) in
-        let line = line_of_props false (table_of_ndb ndb) (nodes_of ndb) (STORE ∷ []) in
-        AddsFront (W.contents out.old) (W.contents out.new) number.old (store_file line) }
-{
-    let intact = Intact::of(&export.verified.store);
-    match props_line(alloc, &intact, &export.index, &[STORE], false) {
-        Ok(line) => {
-            write_bytes(alloc, number, b"store.json", 0, &line, out)?;
-            Ok(())
-        }
-        Err(fault) => {
-            unless_memory(fault)?;
-            Ok(())
-        }
-    }
-}
-
-// Writes the folders of the store as a document.
-fn write_list<W: Write>(
-    alloc: Global,
-    number: &mut u64,
-    verified: &Verified,
-    out: &mut W,
-) -> Result<(), ExportFault>
-    ensures all { let ndb = ndb_of_store verified.now.store in
-        let text = line_of_folders (table_of_ndb ndb) (nodes_of ndb) nothing_lost in
-        let files = file_of (codes "folders.json") text ∷ [] in
-        OnOk result (Adds (W.contents out.old) (W.contents out.new) number.old number.new files) }
-    ensures front { let ndb = ndb_of_store verified.now.store in
-        let text = line_of_folders (table_of_ndb ndb) (nodes_of ndb) nothing_lost in
-        let files = file_of (codes "folders.json") text ∷ [] in
-        AddsFront (W.contents out.old) (W.contents out.new) number.old files }
-{
-    verified.is_sound();
-    let intact = Intact::of(&verified.store);
-    let line = folders_line(alloc, &intact, &Lost::Nothing, &verified.report.reached)?;
-    write_bytes(alloc, number, b"folders.json", 0, &line, out)?;
-    Ok(())
-}
-
-// Writes the messages of the store in short.
-fn write_summaries<W: Write>(
-    alloc: Global,
-    number: &mut u64,
-    verified: &Verified,
-    out: &mut W,
-) -> Result<(), ExportFault>
-    ensures all { let ndb = ndb_of_store verified.now.store in
-        let text = text_of_messages (table_of_ndb ndb) (nodes_of ndb) in
-        let files = file_of (codes "messages.jsonl") text ∷ [] in
-        OnOk result (Adds (W.contents out.old) (W.contents out.new) number.old number.new files) }
-    ensures front { let ndb = ndb_of_store verified.now.store in
-        let text = text_of_messages (table_of_ndb ndb) (nodes_of ndb) in
-        let files = file_of (codes "messages.jsonl") text ∷ [] in
-        AddsFront (W.contents out.old) (W.contents out.new) number.old files }
-{
-    let text = messages_text(alloc, &Intact::of(&verified.store))?;
-    write_bytes(alloc, number, b"messages.jsonl", 0, &text, out)?;
-    Ok(())
-}
-
-/// Writes the files of a store itself: its properties, its folders, and its messages in short.
-pub(crate) fn write_front<W: Write>(
-    alloc: Global,
-    number: &mut u64,
-    export: &Export,
-    out: &mut W,
-) -> Result<(), ExportFault>
-    ensures all { let ndb = ndb_of_store (store_of export.now) in
-        let files = front_files (table_of_ndb ndb) (nodes_of ndb) nothing_lost in
-        OnOk result (Adds (W.contents out.old) (W.contents out.new) number.old number.new files) }
-    ensures front { let ndb = ndb_of_store (store_of export.now) in
-        let files = front_files (table_of_ndb ndb) (nodes_of ndb) nothing_lost in
-        AddsFront (W.contents out.old) (W.contents out.new) number.old files }
-{
-    write_store(alloc, number, export, out)?;
-    write_list(alloc, number, &export.verified, out)?;
-    write_summaries(alloc, number, &export.verified, out)?;
-    Ok(())
-}
 
 // The name of the file of a folder.
 fn folder_path(alloc: Global, nid: u32) -> Result<String, AllocError>
@@ -148,15 +38,15 @@ fn write_folder<W: Write>(
     alloc: Global,
     number: &mut u64,
     names: Option<NameMap>,
-    folder: Folder,
+    folder: IntactFolder,
     out: &mut W,
 ) -> Result<(), ExportFault>
-    ensures all { let told = names_told names.entry in let t = table_of_ndb (ndb_of_folder folder.entry) in
-        let file = folder_file told t (folder_roots folder.entry) in
+    ensures all { let told = names_told names.entry in let t = table_of_nodes (intact_beside folder.entry) in
+        let file = folder_file told t (intact_roots folder.entry) in
         OnOk result (Adds (W.contents out.old) (W.contents out.new) number.old number.new
         (file ∷ [])) }
-    ensures front { let told = names_told names.entry in let t = table_of_ndb (ndb_of_folder folder.entry) in
-        let file = folder_file told t (folder_roots folder.entry) in
+    ensures front { let told = names_told names.entry in let t = table_of_nodes (intact_beside folder.entry) in
+        let file = folder_file told t (intact_roots folder.entry) in
         AddsFront (W.contents out.old) (W.contents out.new) number.old (file ∷ []) }
 {
     folder.is_sound();
@@ -171,17 +61,17 @@ pub(crate) fn write_folders<W: Write>(
     alloc: Global,
     number: &mut u64,
     names: Option<NameMap>,
-    verified: &Verified,
+    intact: &Intact,
     out: &mut W,
 ) -> Result<(), ExportFault>
-    ensures all { let told = names_told names.entry in let ndb = ndb_of_store verified.now.store in
-        let files = folder_files told (table_of_ndb ndb) (of_kind is_folder (all_roots (nodes_of ndb))) in
+    ensures all { let told = names_told names.entry in let i = intact.now in
+        let files = folder_files told (table_of_intact i) (of_kind is_folder (all_roots (nodes_of_intact i))) in
         OnOk result (Adds (W.contents out.old) (W.contents out.new) number.old number.new files) }
-    ensures front { let told = names_told names.entry in let ndb = ndb_of_store verified.now.store in
-        let files = folder_files told (table_of_ndb ndb) (of_kind is_folder (all_roots (nodes_of ndb))) in
+    ensures front { let told = names_told names.entry in let i = intact.now in
+        let files = folder_files told (table_of_intact i) (of_kind is_folder (all_roots (nodes_of_intact i))) in
         AddsFront (W.contents out.old) (W.contents out.new) number.old files }
 {
-    for folder in verified.store.folders() {
+    for folder in intact.folders() {
         write_folder(alloc, number, names, folder, out)?;
     }
     Ok(())

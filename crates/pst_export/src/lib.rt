@@ -1,10 +1,10 @@
-//! All that a store has, as a tar archive of files.
+//! All that a store has, or what is whole of a damaged one, as a tar archive of files.
 //!
 //! `export_of` gathers what an archive is made from, or says that there would be too many files; `emit_export` writes it. The bytes
 //! of values go from the file's own memory to the output, piece by piece:
 //!
 //! ```
-//! let export = export_of(alloc, verified)?;
+//! let export = export_of(alloc, size, intact, lost, reached, None)?;
 //! emit_export(alloc, &export, &mut out)?;
 //! ```
 #![tactic(auto)]
@@ -15,8 +15,11 @@ mod export;
 mod fault;
 mod files;
 mod folders;
+mod front;
 mod held;
+mod laws;
 mod messages;
+mod text;
 mod time;
 mod utf8;
 mod walk;
@@ -24,3 +27,4 @@ mod walk;
 pub use emit::{emit_export, export_of};
 pub use export::Export;
 pub use fault::ExportFault;
+pub use laws::{names_are_safe, values_are_whole};

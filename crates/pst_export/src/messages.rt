@@ -1,12 +1,12 @@
-//! The files of the messages of a store.
+//! The files of messages.
 
 ghost use Rattle.std.specs.Prelude.{◌≡◌, ℕ, true, OnOk};
-ghost use Rattle.pst_ndb.specs.Views.{table_of_ndb, nodes_of, table_of_node, nid_of, top_of};
+ghost use Rattle.pst_ndb.specs.Views.{table_of_node, nid_of, top_of};
+ghost use Rattle.pst_intact.specs.View.{table_of_intact, nodes_of_intact};
 ghost use Rattle.pst_value_json.specs.Props.{names_told};
 ghost use Rattle.pst_verify.specs.pst_msg.Nid.{is_type as is_of_type};
 ghost use Rattle.pst_verify.specs.pst_msg.Values.{is_message};
 ghost use Rattle.pst_verify.specs.pst_msg.View.{node_of_message, message_roots};
-ghost use Rattle.pst_verify.specs.pst_store.View.{ndb_of_store};
 ghost use Rattle.pst_export.specs.Store.{message_files, messages_files, of_type};
 ghost use Rattle.pst_export.specs.Written.{Adds, AddsFront};
 
@@ -14,8 +14,8 @@ use crate::fault::ExportFault;
 use crate::held::write_item;
 use crate::time::received;
 use crate::walk::Walk;
+use pst_json::Intact;
 use pst_msg::{Message, NameMap, is_type};
-use pst_verify::Store;
 use std::alloc::Global;
 use std::io::Write;
 
@@ -51,20 +51,20 @@ pub(crate) fn write_messages<W: Write>(
     alloc: Global,
     number: &mut u64,
     names: Option<NameMap>,
-    store: &Store,
+    intact: &Intact,
     kind: u32,
     name: &str,
     out: &mut W,
 ) -> Result<(), ExportFault>
     requires { (nid : ℕ) → is_of_type kind nid ≡ true → is_message nid ≡ true }
-    ensures all { let told = names_told names.entry in let ndb = ndb_of_store store.now in
-        let files = messages_files told (table_of_ndb ndb) name.now (of_type kind (nodes_of ndb)) in
+    ensures all { let told = names_told names.entry in let i = intact.now in
+        let files = messages_files told (table_of_intact i) name.now (of_type kind (nodes_of_intact i)) in
         OnOk result (Adds (W.contents out.old) (W.contents out.new) number.old number.new files) }
-    ensures front { let told = names_told names.entry in let ndb = ndb_of_store store.now in
-        let files = messages_files told (table_of_ndb ndb) name.now (of_type kind (nodes_of ndb)) in
+    ensures front { let told = names_told names.entry in let i = intact.now in
+        let files = messages_files told (table_of_intact i) name.now (of_type kind (nodes_of_intact i)) in
         AddsFront (W.contents out.old) (W.contents out.new) number.old files }
 {
-    for message in store.messages() {
+    for message in intact.messages() {
         if is_type(kind, message.nid()) {
             write_message(alloc, number, names, name, message, out)?;
         }

@@ -11,7 +11,7 @@ use Rattle.pst_fault.proofs.GeneralLemmas.{or_true}
 use Rattle.pst_ndb.specs.Roots.{Roots}
 use Rattle.pst_ndb.specs.Alike.{Alike}
 use Rattle.pst_msg.specs.declared.keys.Keys.{Keys}
-use Rattle.pst_msg.specs.Keys.{Key, key, list_key, pair_cmp, key_cmp, keys_in, holds, has, IsPut}
+use Rattle.pst_msg.specs.Keys.{Key, key, data_key, list_key, pair_cmp, key_cmp, keys_in, holds, has, IsPut}
 use Rattle.pst_msg.proofs.AloneLemmas.{held_alone, held_other}
 use Rattle.pst_msg.proofs.InsertLemmas.{inserted_any, inserted_length}
 use Rattle.pst_msg.proofs.KeyOrderLemmas.{keys_exact}
@@ -20,6 +20,9 @@ use Rattle.pst_msg.proofs.KeyOrderLemmas.{keys_exact}
 
 pub alike_of_key : (n m : ℕ) (r s : Roots) → key n r ≡ key m s → (n ≡ m) × Alike r s
 alike_of_key n m r s e = (ap (λ (k : Key). k.1) e, (ap (λ (k : Key). k.0.0) e, ap (λ (k : Key). k.0.1) e))
+
+pub same_data : (n m : ℕ) (r s : Roots) → data_key n r ≡ data_key m s → (n ≡ m) × (bid_key r.bid_data ≡ bid_key s.bid_data)
+same_data n m r s e = (ap (λ (k : Key). k.1) e, ap (λ (k : Key). k.0.0) e)
 
 pub same_list : (r s : Roots) → list_key r ≡ list_key s → bid_key r.bid_sub ≡ bid_key s.bid_sub
 same_list r s e = ap (λ (k : Key). k.0.1) e

@@ -25,6 +25,10 @@ key_cmp x y = ordering_then (pair_cmp x.0 y.0) (nat_cmp x.1 y.1)
 abbrev pub key : ℕ → Roots → Key
 key n r = ((bid_key r.bid_data, bid_key r.bid_sub), n)
 
+-- of its data alone, with a number
+abbrev pub data_key : ℕ → Roots → Key
+data_key n r = ((bid_key r.bid_data, 0), n)
+
 -- of its list of subnodes alone
 abbrev pub list_key : Roots → Key
 list_key r = ((0, bid_key r.bid_sub), 0)

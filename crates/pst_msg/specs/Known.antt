@@ -18,7 +18,7 @@ use Rattle.pst_msg.specs.declared.object.Object.{Object}
 use Rattle.pst_msg.specs.declared.role.Role.{Role}
 use Rattle.pst_msg.specs.declared.role.Role.TheVariants.{Properties, Listed, Recipients, Attachments}
 use Rattle.pst_msg.specs.Asked.{AreAskedTrue}
-use Rattle.pst_msg.specs.Keys.{holds, has, list_key}
+use Rattle.pst_msg.specs.Keys.{holds, has, data_key, list_key}
 use Rattle.pst_msg.specs.ListIndex.{IsIndexIn}
 use Rattle.pst_msg.specs.Indexes.{AreIndexes}
 use Rattle.pst_msg.specs.Roles.{role_number, role_fault}
@@ -50,10 +50,10 @@ ListsAreTrue t keys =
     (s : Roots) → ListIn keys s → sub_fault t LISTS s.bid_sub ≡ None → held_fault t (below_message t LISTS) s ≡ None
 
 -- Of the tables of folders, the rows: all of them name nodes that belong there. They are remembered apart, since this depends on
--- the nodes of the file.
+-- the nodes of the file; and by the data of the table alone, in which all that the rows name stands.
 abbrev pub ListingsAreTrue : Table → List NodeEntry → Keys → Type 0
 ListingsAreTrue t nodes keys =
-    (items : Items) (s : Roots) → has keys (role_number (Listed items)) s ≡ true →
+    (items : Items) (s : Roots) → holds keys (data_key (role_number (Listed items)) s) ≡ true →
     first_of (listed_item_fault nodes items s.bid_data) (tc_rows t s) ≡ None
 
 -- ---- all that lies one step below a message, and below an attachment

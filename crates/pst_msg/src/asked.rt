@@ -8,6 +8,7 @@ ghost use Rattle.pst_msg.specs.Roles.{role_fault};
 
 use crate::keys::{Key, cleared};
 use crate::role::{Role, role_number};
+use pst_datatree::is_internal;
 use pst_fault::Fault;
 use pst_ndb::Node;
 use pst_pc::known_pc;
@@ -16,7 +17,7 @@ use pst_value::Asks;
 use std::alloc::Global;
 use std::collections::BTreeMap;
 
-// Properties whose data has no more bytes are gone through again in less time than it takes to remember them.
+// Properties whose data has no more bytes, in one block, are gone through again in less time than it takes to remember them.
 const SMALL: u64 = 2048;
 
 // So few subnodes are looked up without an index of their list.
@@ -57,7 +58,7 @@ fn is_worth(role: Role, node: Node) -> bool {
         return false;
     }
     match role {
-        Role::Properties => node.spans().size() > SMALL,
+        Role::Properties => node.spans().size() > SMALL || is_internal(node.bid_data()),
         Role::Listed(_) | Role::Recipients | Role::Attachments => true,
     }
 }

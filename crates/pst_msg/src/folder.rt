@@ -1,6 +1,6 @@
 //! The check of a folder.
 
-ghost use Rattle.std.specs.Prelude.{◌≡◌, Some, None, OnOk, length, nat_lt};
+ghost use Rattle.std.specs.Prelude.{◌≡◌, Some, None, OnOk};
 ghost use Rattle.pst_fault.specs.Each.{first_of};
 ghost use Rattle.pst_fault.specs.First.{Tells};
 ghost use Rattle.pst_ndb.specs.Roots.{Roots};
@@ -9,7 +9,6 @@ ghost use Rattle.pst_tc.specs.Fault.{tc_fault};
 ghost use Rattle.pst_tc.specs.Tc.{node_of_tc};
 ghost use Rattle.pst_tc.specs.Values.{tc_rows};
 ghost use Rattle.pst_tc.specs.View.{row_parts};
-ghost use Rattle.pst_msg.specs.declared.folder.TheConstants.{FEW};
 ghost use Rattle.pst_msg.specs.declared.nid.TheConstants.{FOLDER};
 ghost use Rattle.pst_msg.specs.declared.role.Role.TheVariants.{Listed};
 ghost use Rattle.pst_msg.specs.Counts.{IsNode};
@@ -20,7 +19,7 @@ ghost use Rattle.pst_msg.specs.Values.{listing_of};
 
 use crate::context::once;
 use crate::items::{Items, listing_nid, may_list};
-use crate::keys::{Keys, key_of};
+use crate::keys::{Keys, key_of_data};
 use crate::known::Known;
 use crate::nid::named;
 use crate::role::{Role, role_number};
@@ -58,26 +57,7 @@ fn check_items(ndb: &Ndb, items: Items, bid: u64, table: Tc) -> Result<(), Fault
     Ok(())
 }
 
-// A table of at most so many rows is looked at wherever it is named; only a longer one is remembered.
-const FEW: u64 = 16;
-
-// Whether a table has more rows than those.
-fn is_long(table: Tc) -> bool
-    ensures { let node = node_of_tc table.entry in
-        result ≡ nat_lt FEW (length (tc_rows (table_of_node node) (roots_of node))) }
-{
-    let mut count = 0;
-    for row in table.rows() {
-        let _id = row.id();
-        if count == FEW {
-            return true;
-        }
-        count += 1;
-    }
-    false
-}
-
-// All rows of a table, unless they are remembered.
+// All rows of a table, unless they are remembered: by its data, whatever its list, since no row is named there.
 fn check_rows(ndb: &Ndb, items: Items, table: Node, listings: &mut Keys) -> Result<(), Fault>
     requires table { table_of_node table ≡ table_of_ndb ndb.now }
     requires sound { tc_fault (table_of_node table) (roots_of table) ≡ None }
@@ -87,15 +67,12 @@ fn check_rows(ndb: &Ndb, items: Items, table: Node, listings: &mut Keys) -> Resu
         let rows = tc_rows (table_of_node table.entry) r in
         Tells result (first_of (listed_item_fault (nodes_of ndb.now) items r.bid_data) rows) tt }
 {
-    let taken = key_of(role_number(Role::Listed(items)), table);
+    let taken = key_of_data(role_number(Role::Listed(items)), table);
     if listings.has(taken) {
         return Ok(());
     }
     let rows = known_tc(table);
     check_items(ndb, items, table.bid_data(), rows)?;
-    if !is_long(rows) {
-        return Ok(());
-    }
     listings.put(taken)
 }
 

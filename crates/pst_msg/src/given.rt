@@ -2,6 +2,10 @@
 
 ghost use Rattle.pst_pc.specs.LookUps.{GivesProp, GivesProps};
 ghost use Rattle.pst_names.specs.LookUps.{GivesNameOf};
+ghost use Rattle.pst_ndb.specs.Views.{table_of_node, roots_of};
+ghost use Rattle.pst_tc.specs.Tc.{node_of_tc};
+ghost use Rattle.pst_tc.specs.Values.{IsFirstColumn};
+ghost use Rattle.pst_tc.specs.View.{column_of, tc_of_row};
 ghost use Rattle.pst_tc.specs.LookUps.{GivesColumns, GivesRows, GivesRowCount, GivesRow, GivesCell};
 ghost use Rattle.pst_msg.specs.declared.items.Items.TheVariants.{Subfolders, Messages, Associated};
 ghost use Rattle.pst_msg.specs.NodeLookUps.{GivesBytes, GivesSub};
@@ -15,7 +19,7 @@ use pst_datatree::Value;
 use pst_names::{Name, NameMap};
 use pst_ndb::Node;
 use pst_pc::{Pc, Prop, Props};
-use pst_tc::{Columns, Row, Rows, Tc};
+use pst_tc::{Column, Columns, Row, Rows, Tc};
 
 /// What a node gives: its bytes, and the subnode with an identifier.
 pub fn node_gives<'a>(node: &Node<'a>, nid: u32) -> (Value<'a>, Option<Node<'a>>)
@@ -55,6 +59,15 @@ pub fn row_gives<'a>(row: &Row<'a>, tag: u32) -> Option<Value<'a>>
     ensures { GivesCell row.now tag result }
 {
     row.cell(tag)
+}
+
+/// What a row gives: the value of its cell in a column, which is the first of its table with that tag.
+pub fn column_gives<'a>(row: &Row<'a>, column: Column) -> Option<Value<'a>>
+    requires { let node = node_of_tc (tc_of_row row.now) in
+        IsFirstColumn (table_of_node node) (roots_of node) (column_of column) }
+    ensures { GivesCell row.now (column_of column).tag result }
+{
+    row.cell_in(column)
 }
 
 /// What a folder gives: the tables of its subfolders, of its messages and of those that belong to the folder itself.

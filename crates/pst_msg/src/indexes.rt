@@ -5,6 +5,7 @@ ghost use Rattle.pst_subnode.specs.List.{subs_of};
 ghost use Rattle.pst_ndb.specs.Counts.{capped};
 ghost use Rattle.pst_ndb.specs.Views.{table_of_node, sub_bid_of};
 
+use crate::keys::cleared;
 use crate::list_index::ListIndex;
 use pst_fault::Fault;
 use pst_ndb::Node;
@@ -18,6 +19,9 @@ const FEW: u64 = 340;
 // at the second row, behind which so many are left.
 const FEW_ROWS: u32 = 198;
 
+// Where the entries do not rise each look-up goes through them, and so few take as long as to make an index.
+const SOME_ROWS: u32 = 6;
+
 /// An index of a list of subnodes, and how many entries the list has.
 #[derive(Drop)]
 pub(crate) struct HeldIndex {
@@ -30,6 +34,8 @@ pub(crate) struct HeldIndex {
 #[derive(Drop)]
 pub(crate) struct Indexes {
     held: Vec<HeldIndex>,
+    // The list that was found to rise last, 0 where none was.
+    risen: u64,
 }
 
 // How many subnodes a node has.
@@ -61,13 +67,25 @@ fn is_long(node: Node) -> bool
     false
 }
 
-// Whether so many rows are left that an index is worth its making.
-fn are_many(rows: &Rows) -> bool {
+// How many rows are left; no more than these are looked at.
+fn count_left(rows: &Rows, most: u32) -> u32 {
     let mut rest = *rows;
-    for _ in 0..FEW_ROWS {
+    for count in 0..most {
         if rest.next().is_none() {
+            return count;
+        }
+    }
+    most
+}
+
+// Whether the identifiers of a node's subnodes rise in its list: each is found there by halving.
+fn do_rise(node: Node) -> bool {
+    let mut last = 0;
+    for sub in node.subs() {
+        if sub.nid < last {
             return false;
         }
+        last = sub.nid;
     }
     true
 }
@@ -87,6 +105,7 @@ impl Indexes {
     {
         Indexes {
             held: Vec::new(alloc),
+            risen: 0,
         }
     }
 
@@ -116,6 +135,36 @@ impl Indexes {
         }
     }
 
+    // Whether the list of a node rises. It is gone through once, as long as no other is.
+    #[tactic(auto, using(crate::proofs::HeldLemmas::same_held))]
+    fn is_risen(&mut self, node: Node) -> bool
+        ensures { (t : Table) → AreIndexes t self.old → AreIndexes t self.new }
+    {
+        let list = cleared(node.bid_sub());
+        if list == self.risen {
+            return true;
+        }
+        if !do_rise(node) {
+            return false;
+        }
+        self.risen = list;
+        true
+    }
+
+    // Whether so many rows are left that an index of a node's list is worth its making: many, or some where the list does not rise.
+    fn pays(&mut self, node: Node, rows: &Rows) -> bool
+        ensures { (t : Table) → AreIndexes t self.old → AreIndexes t self.new }
+    {
+        let left = count_left(rows, FEW_ROWS);
+        if left == FEW_ROWS {
+            return true;
+        }
+        if left < SOME_ROWS {
+            return false;
+        }
+        !self.is_risen(node)
+    }
+
     /// Makes the index of a node's list, where that is long and many rows are left to be looked up there; unless it is there
     /// already. The rows are looked at only where the list is long: behind the last one there may be leaves without rows, which
     /// have to be passed to see that none is left. It is made at the expense of those of lists with fewer than twice as many
@@ -125,7 +174,10 @@ impl Indexes {
         ensures index { AreIndexes (table_of_node node.entry) self.new }
         ensures memory { IfErr result (λ f. f ≡ no_memory) }
     {
-        if self.of_list(node).is_some() || !is_long(node) || !are_many(rows) {
+        if self.of_list(node).is_some() || !is_long(node) {
+            return Ok(());
+        }
+        if !self.pays(node, rows) {
             return Ok(());
         }
         let entries = entries_of(node);

@@ -5,7 +5,7 @@ ghost use Rattle.std.specs.List.Sorted.{IsStrictlySortedBy};
 ghost use Rattle.pst_fault.specs.Fault.{no_memory};
 ghost use Rattle.pst_block.specs.Block.{bid_key};
 ghost use Rattle.pst_ndb.specs.Views.{roots_of};
-ghost use Rattle.pst_msg.specs.Keys.{Key as SpecKey, key, list_key, key_cmp, keys_in, holds, IsPut};
+ghost use Rattle.pst_msg.specs.Keys.{Key as SpecKey, key, data_key, list_key, key_cmp, keys_in, holds, IsPut};
 
 use crate::rising::RisingSet;
 use pst_fault::Fault;
@@ -36,6 +36,13 @@ pub(crate) fn key_of(number: u64, node: Node) -> Key
     ensures { result ≡ key number (roots_of node.entry) }
 {
     ((cleared(node.bid_data()), cleared(node.bid_sub())), number)
+}
+
+/// The key of a node's data alone, with a number.
+pub(crate) fn key_of_data(number: u64, node: Node) -> Key
+    ensures { result ≡ data_key number (roots_of node.entry) }
+{
+    ((cleared(node.bid_data()), 0), number)
 }
 
 /// The key of a node's list of subnodes alone.

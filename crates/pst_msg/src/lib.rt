@@ -52,8 +52,8 @@ pub use check::check_messaging;
 pub use checker::Checker;
 pub use folder_view::Folder;
 pub use given::{
-    attachment_gives, folder_gives, message_gives, names_gives, node_gives, pc_gives, row_gives,
-    tc_gives,
+    attachment_gives, column_gives, folder_gives, message_gives, names_gives, node_gives, pc_gives,
+    row_gives, tc_gives,
 };
 pub use items::{Items, listing_nid, may_list};
 pub use kinds::{is_folder, is_message};

@@ -9,11 +9,17 @@ use std::alloc::Global;
 // A node whose data has more bytes than these may have so many values in subnodes that an index of them pays.
 const FEW: u64 = 512;
 
+// So many nodes with fewer bytes, one after another, ask the same list without an index.
+const OFTEN: u32 = 8;
+
 /// An index of a list of subnodes, by the identifier of its block with bit 0 cleared.
 #[derive(Drop)]
 pub(crate) struct ListIndex {
     list: u64,
     index: SubIndex,
+    // The list that was asked without an index last, and by how many nodes, one after another.
+    asked: u64,
+    times: u32,
 }
 
 impl ListIndex {
@@ -32,6 +38,8 @@ impl ListIndex {
         ListIndex {
             list: 0,
             index: SubIndex::none(),
+            asked: 0,
+            times: 0,
         }
     }
 
@@ -45,6 +53,8 @@ impl ListIndex {
         Ok(ListIndex {
             list: cleared(node.bid_sub()),
             index,
+            asked: 0,
+            times: 0,
         })
     }
 
@@ -57,7 +67,21 @@ impl ListIndex {
         self.list == cleared(node.bid_sub())
     }
 
-    /// Makes the index of a node's list, where there is one and the node has long data; unless it is that one already.
+    // Whether a list, which a node with few bytes asks, was asked so often that an index of it pays.
+    #[tactic(auto, unfolding(crate::specs::ListIndex::IsIndexIn))]
+    fn is_often_asked(&mut self, list: u64) -> bool
+        ensures { (t : Table) → IsIndexIn t self.old → IsIndexIn t self.new }
+    {
+        if self.asked != list {
+            self.asked = list;
+            self.times = 0;
+        }
+        self.times = self.times.saturating_add(1);
+        self.times > OFTEN
+    }
+
+    /// Makes the index of a node's list, where there is one and the node has long data, or many nodes asked it one after another;
+    /// unless it is that one already.
     #[tactic(auto, using(crate::proofs::IndexLemmas::index_of_list))]
     pub(crate) fn turn(&mut self, alloc: Global, node: Node) -> Result<(), Fault>
         requires { IsIndexIn (table_of_node node) self.old }
@@ -65,7 +89,10 @@ impl ListIndex {
         ensures memory { IfErr result (λ f. f ≡ no_memory) }
     {
         let list = cleared(node.bid_sub());
-        if list == 0 || self.is_of(node) || node.spans().size() <= FEW {
+        if list == 0 || self.is_of(node) {
+            return Ok(());
+        }
+        if node.spans().size() <= FEW && !self.is_often_asked(list) {
             return Ok(());
         }
         *self = ListIndex::of(alloc, node)?;

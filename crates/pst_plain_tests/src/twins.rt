@@ -1,8 +1,9 @@
 //! Plain twins of small stores, good and bad.
 
 use crate::told::{holds, holds_at, is, is_at};
+use pst_block::{BlockEntry, block_size};
 use pst_make::*;
-use pst_plain::{Codec, Decoding, Method, plain};
+use pst_plain::{Codec, Decoder, Decoding, Method, decode_data, plain};
 use sha2::{Digest, Sha256};
 use std::alloc::{AllocError, Global};
 use std::test::Fail;
@@ -44,6 +45,16 @@ fn encode_bodies(
         Change::Block(block.1, block.2).apply(image)?;
     }
     Ok(())
+}
+
+// Decodes a block, if it is a data block; how many were decoded.
+fn decode_body(image: &mut [u8], decoder: &Decoder, (bid, ib, cb): Place) -> Result<u64, Fail> {
+    let len = image.len() as u64;
+    let size = block_size(cb);
+    if ib > len || size > len - ib {
+        return Err("no block".into());
+    }
+    Ok(decode_data(decoder, &[BlockEntry { bid, ib, cb }], image))
 }
 
 // Makes bCryptMethod another number, and the header's check values anew.
@@ -125,6 +136,31 @@ fn three_blocks(rt: HostRuntime) -> Result<(), Fail> {
             method,
             has_twin(alloc, &image, &store, Some(method), 3)?,
         );
+    }
+    Ok(())
+}
+
+// Block by block, whatever the header says, with the check values; a block whose identifier is an internal one stays.
+#[test]
+fn blocks_one_by_one(rt: HostRuntime) -> Result<(), Fail> {
+    let alloc = rt.alloc();
+    for method in [Method::Permute, Method::Cyclic] {
+        let store = m1(alloc)?;
+        let mut image = m1(alloc)?;
+        encode_bodies(alloc, &mut image, method, &M1)?;
+        let decoder = Decoder::new(alloc, method, image.len())?;
+        let [_, (_, ib, cb), _] = M1;
+        is_at(
+            &rt,
+            method,
+            decode_body(&mut image, &decoder, (10, ib, cb))?,
+            0,
+        );
+        holds_at(&rt, method, image.as_slice() != store.as_slice());
+        for place in M1 {
+            is_at(&rt, method, decode_body(&mut image, &decoder, place)?, 1);
+        }
+        holds_at(&rt, method, image.as_slice() == store.as_slice());
     }
     Ok(())
 }

@@ -6,7 +6,9 @@ ghost use Rattle.pst_value_json.specs.Rows.{PutsNext};
 use crate::refused::{Refused, holds};
 use crate::remains::{damaged, remains_of};
 use pst_bytes::Image;
-use pst_export::{emit_export, export_of};
+use pst_damage::damage_beside;
+use pst_damage_json::damage_line;
+use pst_export::{Export, emit_export, export_of};
 use pst_header::read_header;
 use pst_json::{
     Intact, Lost, check_doc, check_line, contents_doc, contents_line, find_whole, folders_doc,
@@ -120,14 +122,40 @@ pub(crate) fn whole(alloc: Global, bytes: &[u8]) -> Result<(), Refused> {
     Ok(())
 }
 
-/// The archive of the store, in memory: of whole blocks.
-pub(crate) fn archive(alloc: Global, bytes: &[u8]) -> Result<(), Refused> {
-    let export = export_of(alloc, verify(alloc, bytes)?)?;
+// An archive, in memory: of whole blocks.
+fn is_archive(alloc: Global, export: &Export) -> Result<(), Refused> {
     let mut out = Vec::new(alloc);
-    match emit_export(alloc, &export, &mut out) {
+    match emit_export(alloc, export, &mut out) {
         Ok(()) => holds(out.len() > 1024 && out.len() % 512 == 0),
         Err(_) => Err(Refused::Memory),
     }
+}
+
+/// The archive of the store.
+pub(crate) fn archive(alloc: Global, bytes: &[u8]) -> Result<(), Refused> {
+    let verified = verify(alloc, bytes)?;
+    let intact = Intact::of(&verified.store);
+    let reached = reach_among(alloc, &intact)?;
+    let size = bytes.len() as u64;
+    let export = export_of(alloc, size, intact, Lost::Nothing, reached, None)?;
+    is_archive(alloc, &export)
+}
+
+/// The archive of what is whole of a damaged file, before which it is told what is broken.
+pub(crate) fn archive_of_whole(alloc: Global, bytes: &[u8]) -> Result<(), Refused> {
+    let damaged = damaged(alloc, bytes)?;
+    let line = damage_line(
+        alloc,
+        &damage_beside(alloc, remains_of(alloc, &damaged)?)?,
+        None,
+    )?;
+    let whole = find_whole(alloc, remains_of(alloc, &damaged)?)?;
+    let pages = whole.pages(alloc)?;
+    let (intact, lost) = (whole.intact(), whole.lost(&pages));
+    let reached = reach_among(alloc, &intact)?;
+    let size = damaged.len() as u64;
+    let export = export_of(alloc, size, intact, lost, reached, Some(line))?;
+    is_archive(alloc, &export)
 }
 
 // Puts the next row behind a text; where memory is refused within the row, no byte of the text is lost.

@@ -36,12 +36,13 @@ enum Calls {
     Values,
     Whole,
     Archive,
+    ArchiveOfWhole,
     Images,
     Load,
     Run,
 }
 
-const ALL: [Calls; 14] = [
+const ALL: [Calls; 15] = [
     Calls::Layers,
     Calls::Database,
     Calls::Remains,
@@ -53,6 +54,7 @@ const ALL: [Calls; 14] = [
     Calls::Values,
     Calls::Whole,
     Calls::Archive,
+    Calls::ArchiveOfWhole,
     Calls::Images,
     Calls::Load,
     Calls::Run,
@@ -71,6 +73,7 @@ fn made(alloc: Global, calls: Calls, bytes: &[u8]) -> Result<(), Refused> {
         Calls::Values => documents::values(alloc, bytes),
         Calls::Whole => documents::whole(alloc, bytes),
         Calls::Archive => documents::archive(alloc, bytes),
+        Calls::ArchiveOfWhole => documents::archive_of_whole(alloc, bytes),
         Calls::Images => whole::images(alloc),
         Calls::Load => whole::loads(alloc, bytes),
         Calls::Run => whole::run_of(alloc, bytes),

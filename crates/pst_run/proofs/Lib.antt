@@ -1,5 +1,4 @@
 pub mod AnswerLemmas
-pub mod ArchiveLemmas
 pub mod LineLemmas
 pub mod Loading
 pub mod OutsideLemmas

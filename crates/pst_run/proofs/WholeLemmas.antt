@@ -1,5 +1,5 @@
 -- Of a store all is whole, so what is read of what is whole of it is read of it.
-use Rattle.std.proofs.Common.{◌≡◌, ℕ, Bool, true, false, List, Option, Some, None, refl, sym, ap, subst, ◌∙◌}
+use Rattle.std.proofs.Common.{◌≡◌, ℕ, Bool, true, false, List, length, Option, Some, None, refl, sym, ap, subst, ◌∙◌}
 use Rattle.std.specs.Prelude.{if◌then◌else◌, ◌&&◌}
 use Rattle.std.specs.List.{All}
 use Rattle.pst_fault.specs.declared.fault.Fault.{Fault}
@@ -14,14 +14,18 @@ use Rattle.pst_json.specs.pst_whole.Laws.{IsAllWhole}
 use Rattle.pst_json.specs.pst_whole.Lost.{lost_of, nothing_lost}
 use Rattle.pst_json.specs.pst_whole.Nodes.{whole_nodes}
 use Rattle.pst_whole.proofs.WholeLaws.{store_whole_law, decoded_store_law}
+use Rattle.pst_damage.specs.Damage.{DamageParts, damage_in, damage_of}
+use Rattle.pst_damage.specs.Laws.{IsUntold}
+use Rattle.pst_damage.proofs.DamageLaws.{decoded_nothing_law, nothing_broken_law}
 use Rattle.pst_intact.proofs.pst_store.StoreLaws.{store_law}
 use Rattle.pst_encoding.specs.declared.method.Method.{Method}
 use Rattle.pst_encoding.specs.Tables.{IsByte}
 use Rattle.pst_plain.specs.Twin.{method_of, twin_of}
+use Rattle.pst_plain.proofs.LawLemmas.{places_law}
 use Rattle.pst_remains.specs.Decoded.{decoded_remains_of}
 use Rattle.pst_remains.specs.Remains.{RemainsParts, remains_of}
 use Rattle.pst_ask.specs.Ask.{Asked, Wanted, report, damage, head, nodes, folders, contents, messages, props, value, export}
-use Rattle.pst_run.specs.Answer.{Told, answer_to, answer_with, bytes_for, decoded_damage, digest_for, is_decoded_damage, method_for, of_store, read_left, read_of_store, read_with, reads, table_of_file, entries_of_file, whole_by}
+use Rattle.pst_run.specs.Answer.{Told, answer_to, answer_with, broken_for, bytes_for, decoded_damage, digest_for, is_whole, is_decoded_damage, method_for, of_store, read_left, read_of_store, read_with, reads, table_of_file, entries_of_file, whole_by}
 use Rattle.pst_run.specs.Laws.{WholeLaw}
 use Rattle.pst_run.specs.Outside.{if_outside, outside_fault}
 
@@ -34,21 +38,47 @@ inside : (I : List ℕ) → store_fault I ≡ None → outside_fault I ≡ None
 unfolding store_fault ndb_fault outside_fault
 inside I none = ap if_outside (first_none (header_fault I) _ (first_none (header_fault I then file_fault I (fields I)) _ none))
 
--- what is read where all is whole
-all_read : (ask : Wanted) (I : List ℕ) (r : RemainsParts) → IsAllWhole r (table_in I (store_in I)) (entries_in I (store_in I)) → store_fault I ≡ None
-    → read_left ask r ≡ read_of_store ask I
-all_read ask I r all none =
-    ap (λ t. read_with ask t (whole_nodes r.table r.nodes r.broken) (lost_of r.table r.nodes r.broken)) all.blocks
-    ∙ ap (λ e. read_with ask (table_of_file I) e (lost_of r.table r.nodes r.broken)) all.entries
-    ∙ ap (read_with ask (table_of_file I) (entries_of_file I)) all.told
-    ∙ sym (ap (λ o. of_store o (read_with ask (table_of_file I) (entries_of_file I) nothing_lost)) none)
+-- ---- where nothing is broken, nothing is told of it
+
+nothing_told : (d : DamageParts) → IsUntold d → is_whole d ≡ true
+nothing_told d un = rw (un.header, un.maps, un.pages, un.blocks, un.nodes) refl
+
+broken_none : (ask : Wanted) (d : DamageParts) → is_whole d ≡ true → broken_for ask d ≡ None
+broken_none (report strict digested) d is = refl
+broken_none (damage digested) d is = refl
+broken_none head d is = refl
+broken_none nodes d is = refl
+broken_none folders d is = refl
+broken_none (contents nid) d is = refl
+broken_none messages d is = refl
+broken_none (props places paths) d is = refl
+broken_none (value text path id) d is = refl
+broken_none export d is = rw is refl
+
+-- what is read where all is whole, of so many bytes
+all_read : (ask : Wanted) (size : ℕ) (I : List ℕ) (r : RemainsParts) → IsAllWhole r (table_in I (store_in I)) (entries_in I (store_in I)) → IsUntold (damage_in r) → size ≡ length I
+    → store_fault I ≡ None → read_left ask size r ≡ read_of_store ask I
+all_read ask size I r all un long none =
+    let nodes = whole_nodes r.table r.nodes r.broken in
+    let lost = lost_of r.table r.nodes r.broken in
+    ap (λ n. read_with ask n (broken_for ask (damage_in r)) r.table nodes lost) long
+    ∙ ap (λ b. read_with ask (length I) b r.table nodes lost) (broken_none ask (damage_in r) (nothing_told (damage_in r) un))
+    ∙ ap (λ t. read_with ask (length I) None t nodes lost) all.blocks
+    ∙ ap (λ e. read_with ask (length I) None (table_of_file I) e lost) all.entries
+    ∙ ap (read_with ask (length I) None (table_of_file I) (entries_of_file I)) all.told
+    ∙ sym (ap (λ o. of_store o (read_with ask (length I) None (table_of_file I) (entries_of_file I) nothing_lost)) none)
+
+-- nothing of a store is broken
+store_untold : (I : List ℕ) (s : StoreParts) → IsStore I s → IsUntold (damage_in (remains_of I))
+unfolding damage_of
+store_untold I s is = ((nothing_broken_law I s).0 is).1
 
 stored : (ask : Wanted) (I : List ℕ) (s : StoreParts) → IsStore I s → whole_by None ask I ≡ read_of_store ask I
 stored ask I s is =
     let there = (store_law I s).0 is in
     let all : IsAllWhole (remains_of I) (table_in I (store_in I)) (entries_in I (store_in I)) =
     subst (λ p. IsAllWhole (remains_of I) (table_in I p) (entries_in I p)) there.1 (store_whole_law I s is) in
-    ap (λ o. of_store o (read_left ask (remains_of I))) (inside I there.0) ∙ all_read ask I (remains_of I) all there.0
+    ap (λ o. of_store o (read_left ask (length I) (remains_of I))) (inside I there.0) ∙ all_read ask (length I) I (remains_of I) all (store_untold I s is) refl there.0
 
 decoded : (ask : Wanted) (I : List ℕ) (method : Method) (s : StoreParts) → All IsByte I → method_of I ≡ Some method → IsStore (twin_of I) s
     → whole_by (Some method) ask I ≡ read_of_store ask (twin_of I)
@@ -58,7 +88,7 @@ decoded ask I method s bytes encoded is =
     let r = decoded_remains_of method I in
     let all : IsAllWhole r (table_in T (store_in T)) (entries_in T (store_in T)) =
     subst (λ p. IsAllWhole r (table_in T p) (entries_in T p)) there.1 (decoded_store_law I method s bytes encoded is) in
-    all_read ask T r all there.0
+    all_read ask (length I) T r all ((decoded_nothing_law I method s bytes encoded).0 is).0 (sym (places_law I bytes).length_same) there.0
 
 -- with a method or without
 by_method : (ask : Wanted) (I : List ℕ) (s : StoreParts) (o : Option Method) → All IsByte I → method_of I ≡ o → IsStore (twin_of I) s → whole_by o ask I ≡ read_of_store ask (twin_of I)
@@ -85,7 +115,7 @@ as_read (contents nid) digest I is = refl
 as_read messages digest I is = refl
 as_read (props places paths) digest I is = refl
 as_read (value text path id) digest I is = refl
-as_read export digest I is = absurd cc
+as_read export digest I is = refl
 
 pub whole_law : WholeLaw
 whole_law a bytes s all is = ap (λ t. if is_decoded_damage a then decoded_damage (method_of bytes) (digest_for a.ask bytes) bytes else t) (by_reads (reads a.ask) refl)

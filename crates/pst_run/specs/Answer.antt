@@ -17,9 +17,8 @@ use Rattle.pst_json.specs.pst_verify.Counts.{count_of}
 use Rattle.pst_json.specs.pst_whole.Lost.{LostParts, lost_of, nothing_lost}
 use Rattle.pst_json.specs.pst_whole.Nodes.{whole_nodes}
 use Rattle.pst_json.specs.declared.fault.DocFault.{DocFault}
-use Rattle.pst_json.specs.declared.fault.DocFault.TheVariants.{TooManyPaths}
 use Rattle.pst_export.specs.Export.{archive_in}
-use Rattle.pst_export.specs.Store.{archive_text, has_too_many}
+use Rattle.pst_export.specs.Store.{export_told}
 use Rattle.pst_json.specs.Check.{ReportParts, check_line}
 use Rattle.pst_json.specs.Contents.{contents_line, unless_fault}
 use Rattle.pst_json.specs.Folders.{folders_line}
@@ -148,11 +147,10 @@ unfoldable pub lines_of_paths : (List ℕ → Result (List ℕ) DocFault) → Li
 lines_of_paths line [] = Ok (plain [])
 lines_of_paths line (path ∷ rest) = in_front (line_at path (line path)) (lines_of_paths line rest)
 
--- the archive of a store in a file of so many bytes, or that there are too many paths
-abbrev pub archive_told : ℕ → Table → List NodeEntry → Result Told Refused
-archive_told size t entries =
-    if has_too_many size t entries then Err (document [] TooManyPaths)
-    else Ok (record { text = archive_text t entries; fails = false; streamed = true })
+-- an archive, or why there is none
+abbrev pub archive_told : Result (List ℕ) DocFault → Result Told Refused
+archive_told (Ok text) = Ok (record { text = text; fails = false; streamed = true })
+archive_told (Err f) = Err (refusal_for [] f)
 
 -- ---- of intact nodes, over these blocks, where this is told of others
 
@@ -177,24 +175,27 @@ reads (contents nid) = true
 reads messages = true
 reads (props places paths) = true
 reads (value text path id) = true
+reads export = true
 reads (report strict digested) = false
 reads (damage digested) = false
 reads head = false
 reads nodes = false
-reads export = false
 
--- what each of them shows; of the others nothing is said here
-unfoldable pub read_with : Wanted → Table → List NodeEntry → LostParts → Result Told Refused
-read_with folders t entries lost = Ok (plain (folders_line t entries lost))
-read_with (contents nid) t entries lost = contents_read t entries lost nid
-read_with messages t entries lost = Ok (plain (messages_text t entries))
-read_with (props places paths) t entries lost = props_read places t entries lost paths
-read_with (value text path id) t entries lost = value_read text t entries lost path id
-read_with ask t entries lost = Ok (plain [])
+-- what each of them shows; of the others nothing is said here. An archive is of a file of so many bytes, and has what is told of all
+-- that is broken, where something is.
+unfoldable pub read_with : Wanted → ℕ → Option (List ℕ) → Table → List NodeEntry → LostParts → Result Told Refused
+read_with folders size broken t entries lost = Ok (plain (folders_line t entries lost))
+read_with (contents nid) size broken t entries lost = contents_read t entries lost nid
+read_with messages size broken t entries lost = Ok (plain (messages_text t entries))
+read_with (props places paths) size broken t entries lost = props_read places t entries lost paths
+read_with (value text path id) size broken t entries lost = value_read text t entries lost path id
+read_with export size broken t entries lost = archive_told (export_told size broken t entries lost)
+read_with ask size broken t entries lost = Ok (plain [])
 
--- of a store, all of whose nodes are intact: nothing is told of others
+-- of a store, all of whose nodes are intact: nothing is told of others, and nothing is broken
 abbrev pub read_of_store : Wanted → List ℕ → Result Told Refused
-read_of_store ask I = of_store (store_fault I) (read_with ask (table_of_file I) (entries_of_file I) nothing_lost)
+read_of_store ask I =
+    of_store (store_fault I) (read_with ask (length I) None (table_of_file I) (entries_of_file I) nothing_lost)
 
 -- ---- all of them
 
@@ -212,7 +213,7 @@ answer_with messages digest I = read_of_store messages I
 answer_with (contents nid) digest I = read_of_store (contents nid) I
 answer_with (props places paths) digest I = read_of_store (props places paths) I
 answer_with (value text path id) digest I = read_of_store (value text path id) I
-answer_with export digest I = of_store (store_fault I) (archive_told (length I) (table_of_file I) (entries_of_file I))
+answer_with export digest I = read_of_store export I
 
 -- All that is broken of an encoded file: it is judged as it is stored, and then its blocks without fault are decoded, and the
 -- nodes looked at. A file that is not encoded is answered as it is.
@@ -230,15 +231,26 @@ is_decoded_damage a = is_damage a.ask && a.decode
 
 -- ---- of what is whole of a damaged file
 
+-- the line of `damage`, where something is broken
+abbrev pub broken_told : DamageParts → Option (List ℕ)
+broken_told d = if is_whole d then None else Some (damage_line d None)
+
+-- what an archive has of it; the other commands have nothing
+abbrev pub broken_for : Wanted → DamageParts → Option (List ℕ)
+broken_for export d = broken_told d
+broken_for ask d = None
+
 -- The nodes that are left of it and have no fault, over the blocks without fault; of the others their fault is told, and of what lies
 -- behind a broken page that of the page.
-abbrev pub read_left : Wanted → RemainsParts → Result Told Refused
-read_left ask r = read_with ask r.table (whole_nodes r.table r.nodes r.broken) (lost_of r.table r.nodes r.broken)
+abbrev pub read_left : Wanted → ℕ → RemainsParts → Result Told Refused
+read_left ask size r =
+    read_with ask size (broken_for ask (damage_in r)) r.table (whole_nodes r.table r.nodes r.broken)
+    (lost_of r.table r.nodes r.broken)
 
 -- An encoded file is judged as it is stored, and then its blocks without fault are decoded.
 abbrev pub whole_by : Option Method → Wanted → List ℕ → Result Told Refused
-whole_by None ask I = of_store (outside_fault I) (read_left ask (remains_of I))
-whole_by (Some method) ask I = read_left ask (decoded_remains_of method I)
+whole_by None ask I = of_store (outside_fault I) (read_left ask (length I) (remains_of I))
+whole_by (Some method) ask I = read_left ask (length I) (decoded_remains_of method I)
 
 -- how a file is to be decoded, where that is asked for
 abbrev pub method_for : Bool → List ℕ → Option Method

@@ -5,12 +5,11 @@ ghost use Rattle.pst_ask.specs.Ask.{report, head, nodes, folders, contents, mess
 ghost use Rattle.pst_run.specs.Answer.{Gives, answer_with};
 
 use crate::damaged::damage_answer;
-use crate::read::{contents_shown, props_shown, value_shown};
+use crate::read::{archive_shown, contents_shown, props_shown, value_shown};
 use crate::refusal::Refusal;
 use crate::shown::{Shown, Text};
 use pst_ask::{Ask, Path};
 use pst_bytes::Image;
-use pst_export::export_of;
 use pst_header::read_header;
 use pst_json::{
     Intact, Lost, check_line, folders_line, head_line, messages_text, nodes_line, read_nodes,
@@ -129,19 +128,17 @@ fn value_answer<'p, 'a>(
 }
 
 // `export`: all files of a store, in an archive.
-#[tactic(auto, unfolding(crate::specs::Answer::answer_with))]
+#[tactic(auto, unfolding(crate::specs::Answer::answer_with, crate::specs::Answer::read_with))]
 fn export_answer<'a>(alloc: Global, bytes: &'a [u8]) -> Result<Shown<'a>, Refusal<'static>>
     ensures { (digest : Option (List ℕ)) → Gives result (answer_with export digest bytes.now) }
 {
     let verified = verify(alloc, bytes)?;
     verified.store.is_sound();
-    match export_of(alloc, verified) {
-        Ok(export) => Ok(Shown {
-            text: Text::Archive(export),
-            fails: false,
-        }),
-        Err(fault) => Err(Refusal::of_document(&[], fault)),
-    }
+    verified.is_sound();
+    let intact = Intact::of(&verified.store);
+    let reached = verified.report.reached;
+    let size = bytes.len() as u64;
+    archive_shown(alloc, size, None, &intact, &Lost::Nothing, reached)
 }
 
 /// What a command shows of a file with these bytes, and with this digest where it shows one; or why it refuses them. The fault

@@ -1,19 +1,24 @@
 //! What `damage` answers to the bytes of a file.
 
-ghost use Rattle.std.specs.Prelude.{◌≡◌, Bool, IfOk};
-ghost use Rattle.pst_ask.specs.Ask.{damage};
+ghost use Rattle.std.specs.Prelude.{◌≡◌, Bool, IfErr, IfOk, option_map};
+ghost use Rattle.pst_ask.specs.Ask.{damage, wanted_of};
+ghost use Rattle.pst_damage.specs.Damage.{damage_in};
 ghost use Rattle.pst_damage.specs.View.{damage_parts};
+ghost use Rattle.pst_fault.specs.Fault.{no_memory};
 ghost use Rattle.pst_plain.specs.Twin.{method_of as method_in};
-ghost use Rattle.pst_run.specs.Answer.{Gives, answer_with, damage_told, decoded_damage as answer_decoded, is_whole as whole, told_in};
+ghost use Rattle.pst_remains.specs.View.{parts_in};
+ghost use Rattle.pst_run.specs.Answer.{Gives, answer_with, broken_for, broken_told as told_broken, damage_told, decoded_damage as answer_decoded, is_whole as whole, told_in};
 
 use crate::outside::check_inside;
 use crate::refusal::Refusal;
 use crate::shown::{Shown, Text};
+use pst_ask::Ask;
 use pst_bytes::Image;
-use pst_damage::{Damage, damage_beside, find_damage};
+use pst_damage::{Damage, damage_beside, find_damage, judge_nodes};
 use pst_damage_json::damage_line;
+use pst_fault::Fault;
 use pst_plain::method_of;
-use pst_remains::find_decoded_remains;
+use pst_remains::{Remains, find_decoded_remains};
 use std::alloc::{AllocError, Global};
 
 // Whether nothing is broken.
@@ -75,4 +80,51 @@ pub fn decoded_damage(
     let found = damage_beside(alloc, remains)?;
     let shown = shown_damage(alloc, &found, digest)?;
     Ok(shown)
+}
+
+// All that is broken of a file of which this remains.
+#[tactic(auto, unfolding(pst_damage::specs::Damage::damage_in))]
+fn damage_left(alloc: Global, remains: &Remains) -> Result<Damage, Fault>
+    ensures value { IfOk result (λ d. damage_parts d ≡ damage_in (parts_in remains.now)) }
+    ensures err { IfErr result (λ f. f ≡ no_memory) }
+{
+    let (blocks, nodes) = (remains.good_blocks(), remains.node_list());
+    let judged = judge_nodes(alloc, blocks, nodes, &remains.broken)?;
+    Ok(Damage {
+        header: remains.header,
+        pages: remains.pages.clone()?,
+        blocks: remains.blocks.clone()?,
+        maps: remains.maps,
+        nodes: judged.broken,
+        whole: judged.whole,
+    })
+}
+
+// What is told of all that is broken, where something is.
+fn broken_told(alloc: Global, found: &Damage) -> Result<Option<Vec<u8>>, AllocError>
+    ensures { IfOk result (λ t. option_map (λ v. v.items) t ≡ told_broken (damage_parts found.now)) }
+{
+    if is_whole(found) {
+        return Ok(None);
+    }
+    Ok(Some(damage_line(alloc, found, None)?))
+}
+
+/// What an archive tells of all that is broken of a file of which this remains, where something is. Other commands tell nothing.
+pub(crate) fn broken_if(
+    alloc: Global,
+    ask: &Ask,
+    remains: &Remains,
+) -> Result<Option<Vec<u8>>, Fault>
+    ensures value { let broken = broken_for (wanted_of ask.now) (damage_in (parts_in remains.now)) in
+        IfOk result (λ t. option_map (λ v. v.items) t ≡ broken) }
+    ensures err { IfErr result (λ f. f ≡ no_memory) }
+{
+    match ask {
+        Ask::Export => {
+            let found = damage_left(alloc, remains)?;
+            Ok(broken_told(alloc, &found)?)
+        }
+        _ => Ok(None),
+    }
 }

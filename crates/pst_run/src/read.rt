@@ -1,24 +1,41 @@
 //! What commands read of intact nodes: of a store, or of what is whole of a damaged file.
 
-ghost use Rattle.std.specs.Prelude.{◌≡◌, ◌++◌, true, map, IfOk};
+ghost use Rattle.std.specs.Prelude.{◌≡◌, ◌++◌, None, true, map, option_map, IfOk};
+ghost use Rattle.pst_btree.specs.Order.{Rises};
 ghost use Rattle.pst_ask.specs.Ask.{nids_of, wanted_of};
+ghost use Rattle.pst_export.specs.Store.{export_told};
 ghost use Rattle.pst_json.specs.NamesIndex.{IsNamesIndex};
 ghost use Rattle.pst_json.specs.pst_intact.View.{table_of_intact, nodes_of_intact};
+ghost use Rattle.pst_json.specs.pst_verify.pst_reach.Levels.{reaches_of};
+ghost use Rattle.pst_json.specs.pst_verify.pst_reach.Path.{reach_nid};
 ghost use Rattle.pst_json.specs.pst_pc.View.{property_of};
 ghost use Rattle.pst_json.specs.pst_whole.View.{lost_in};
+ghost use Rattle.pst_json.specs.Folders.{folders_line as line_of_folders};
 ghost use Rattle.pst_json.specs.Property.{written_of};
 ghost use Rattle.pst_json.specs.Told.{TellsDoc};
-ghost use Rattle.pst_run.specs.Answer.{Gives, contents_read, lines_of_paths, path_read, plain, props_read, read_with, reads, told_in, value_read};
+ghost use Rattle.pst_run.specs.Answer.{Gives, archive_told, contents_read, lines_of_paths, path_read, plain, props_read, read_with, reads, told_in, value_read};
 
 use crate::refusal::Refusal;
 use crate::shown::{Shown, Text};
 use pst_ask::{Ask, Path};
+use pst_export::export_of;
 use pst_json::{
-    DocFault, Intact, Lost, NameIndex, Prop, TEXT, contents_line, folders_line, lost_at,
+    DocFault, Intact, Lost, NameIndex, Prop, Reach, TEXT, contents_line, folders_line, lost_at,
     messages_text, names_index, property_at, props_line, reach_among, text_of,
 };
 use std::alloc::{AllocError, Global};
 use std::slice;
+
+// The folders.
+fn folders_shown(alloc: Global, intact: &Intact, lost: &Lost) -> Result<Shown<'static>, AllocError>
+    ensures { let t = table_of_intact intact.now in let nodes = nodes_of_intact intact.now in
+        IfOk result (λ s. told_in s ≡ plain (line_of_folders t nodes (lost_in lost.now))) }
+{
+    let (here, told) = (*intact, *lost);
+    let reached = reach_among(alloc, &here)?;
+    let text = folders_line(alloc, &here, &told, &reached)?;
+    Ok(Shown::made(text))
+}
 
 /// The messages of a folder.
 pub(crate) fn contents_shown<'p, 'a>(
@@ -141,34 +158,68 @@ pub(crate) fn value_shown<'p, 'a>(
     }
 }
 
+/// All of intact nodes of a file of so many bytes as an archive, where these folders among them are reached, and this is told of all that
+/// is broken.
+pub(crate) fn archive_shown<'a>(
+    alloc: Global,
+    size: u64,
+    damage: Option<Vec<u8>>,
+    intact: &Intact<'a>,
+    lost: &Lost<'a>,
+    reached: Vec<Reach>,
+) -> Result<Shown<'a>, Refusal<'static>>
+    requires reached { let i = intact.now in
+        reached.items ≡ reaches_of (table_of_intact i) (nodes_of_intact i) }
+    requires rise { Rises 0 None (map reach_nid reached.items) }
+    ensures { let t = table_of_intact intact.now in let nodes = nodes_of_intact intact.now in
+        let broken = option_map (λ v. v.items) damage in
+        Gives result (archive_told (export_told size broken t nodes (lost_in lost.now))) }
+{
+    match export_of(alloc, size, *intact, *lost, reached, damage) {
+        Ok(export) => Ok(Shown {
+            text: Text::Archive(export),
+            fails: false,
+        }),
+        Err(fault) => Err(Refusal::of_document(&[], fault)),
+    }
+}
+
 /// Whether a command reads nodes, so that it may be asked of what is whole of a damaged file.
 pub fn reads_nodes(ask: &Ask) -> bool
     ensures { result ≡ reads (wanted_of ask.now) }
 {
     matches!(
         ask,
-        Ask::Folders | Ask::Contents(_) | Ask::Messages | Ask::Props { .. } | Ask::Value { .. }
+        Ask::Folders
+            | Ask::Contents(_)
+            | Ask::Messages
+            | Ask::Props { .. }
+            | Ask::Value { .. }
+            | Ask::Export
     )
 }
 
-/// What such a command shows of intact nodes, where this is told of others.
+/// What such a command shows of intact nodes of a file of so many bytes, where this is told of others, and of all that is broken.
 #[tactic(auto, unfolding(crate::specs::Answer::read_with))]
 pub(crate) fn read_answer<'p, 'a>(
     alloc: Global,
     ask: &'p Ask,
+    size: u64,
+    damage: Option<Vec<u8>>,
     intact: &Intact<'a>,
     lost: &Lost<'a>,
 ) -> Result<Shown<'a>, Refusal<'p>>
     requires { reads (wanted_of ask.now) ≡ true }
     ensures { let t = table_of_intact intact.now in let nodes = nodes_of_intact intact.now in
-        Gives result (read_with (wanted_of ask.now) t nodes (lost_in lost.now)) }
+        let broken = option_map (λ v. v.items) damage in
+        Gives result (read_with (wanted_of ask.now) size broken t nodes (lost_in lost.now)) }
 {
+    if let Ask::Export = ask {
+        let reached = reach_among(alloc, intact)?;
+        return archive_shown(alloc, size, damage, intact, lost, reached);
+    }
     match ask {
-        Ask::Folders => {
-            let reached = reach_among(alloc, intact)?;
-            let text = folders_line(alloc, intact, lost, &reached)?;
-            Ok(Shown::made(text))
-        }
+        Ask::Folders => Ok(folders_shown(alloc, intact, lost)?),
         Ask::Contents(nid) => contents_shown(alloc, nid, intact, lost),
         Ask::Messages => Ok(Shown::made(messages_text(alloc, intact)?)),
         Ask::Props { places, paths } => props_shown(alloc, *places, paths, intact, lost),

@@ -7,6 +7,7 @@ ghost use Rattle.pst_remains.specs.View.{parts_in};
 ghost use Rattle.pst_run.specs.Answer.{is_of_whole as whole_wanted, read_left, reads, whole_by};
 ghost use Rattle.pst_run.specs.Run.{Ends};
 
+use crate::damaged::broken_if;
 use crate::outside::check_inside;
 use crate::read::{read_answer, reads_nodes};
 use crate::refusal::Refusal;
@@ -26,21 +27,24 @@ pub fn is_of_whole(request: &Request) -> bool
     request.whole && reads_nodes(&request.ask)
 }
 
-// Writes what a command shows of the nodes without fault that are left of a file, and tells whether the run fails all the same.
+// Writes what a command shows of the nodes without fault that are left of a file of so many bytes, and tells whether the run fails all the same.
 #[tactic(auto, using(crate::proofs::RunLemmas::ends_written))]
 fn write_left<'p, W: Write>(
     alloc: Global,
     ask: &'p Ask,
+    size: u64,
     remains: Remains<'_>,
     out: &mut W,
 ) -> Result<bool, Refusal<'p>>
     requires { reads (wanted_of ask.now) ≡ true }
-    ensures { Ends result (read_left (wanted_of ask.now) (parts_in remains.entry))
+    ensures { Ends result (read_left (wanted_of ask.now) size (parts_in remains.entry))
         (W.contents out.old) (W.contents out.new) }
 {
+    let damage = broken_if(alloc, ask, &remains)?;
     let whole = find_whole(alloc, remains)?;
     let pages = whole.pages(alloc)?;
-    let shown = read_answer(alloc, ask, &whole.intact(), &whole.lost(&pages))?;
+    let (intact, lost) = (whole.intact(), whole.lost(&pages));
+    let shown = read_answer(alloc, ask, size, damage, &intact, &lost)?;
     emit_text(alloc, &shown.text, out)?;
     Ok(shown.fails)
 }
@@ -58,7 +62,8 @@ pub fn write_whole<'p, W: Write>(
 {
     let image = Image::new(bytes);
     check_inside(image)?;
-    write_left(alloc, ask, find_remains(alloc, image)?, out)
+    let size = bytes.len() as u64;
+    write_left(alloc, ask, size, find_remains(alloc, image)?, out)
 }
 
 /// The same of a file that may be encoded. It is judged as it is stored, and then its blocks without fault are decoded, in place. A file
@@ -76,5 +81,7 @@ pub fn write_decoded_whole<'p, W: Write>(
     let Some(method) = method_of(Image::new(bytes)) else {
         return write_whole(alloc, ask, bytes, out);
     };
-    write_left(alloc, ask, find_decoded_remains(alloc, method, bytes)?, out)
+    let size = bytes.len() as u64;
+    let remains = find_decoded_remains(alloc, method, bytes)?;
+    write_left(alloc, ask, size, remains, out)
 }

@@ -15,6 +15,7 @@ pub mod GuessLemmas
 pub mod IndexLemmas
 pub mod ScanLemmas
 pub mod HeightLemmas
+pub mod FaultLemmas
 pub mod MarkLemmas
 pub mod LeafLemmas
 pub mod ReachLemmas

@@ -121,6 +121,12 @@ given_up t a frames f fault s h new up put ranges grows =
     let w : AreWaiting t a (f ∷ reverse frames) up.bid up.limit up.seen up.heights = (rw last_first at up.waits) in
     below_given_up t a frames f fault up.bid up.limit up.seen up.heights s h new w up.refused put ranges grows
 
+-- the fault of a list is that of the frame that waits for it
+pub given_up_first : (t : Table) (a : Start) (frames : List Frame) (f : Frame) (fault : Fault) (s : Seen) (h : Heights) → IsGivingUp t a (frames ++ (f ∷ [])) fault s h → IsFirst (sub_fault t f.limit f.bid) fault
+given_up_first t a frames f fault s h up =
+    let w : AreWaiting t a (f ∷ reverse frames) up.bid up.limit up.seen up.heights = (rw last_first at up.waits) in
+    elim up.refused.exact [ inl memory ↦ inl memory | inr is ↦ inr (w.4.refuses fault is) ]
+
 -- the list below it is opened, and no memory is left for the stack
 pub both_given_up : (t : Table) (a : Start) (frames : List Frame) (f g : Frame) (fault : Fault) (bid limit : ℕ) (s : Seen) (h h' mid new : Heights) → AreWaiting t a (f ∷ reverse frames) bid limit s h → IsOpened t bid limit g s h h' → fault ≡ no_memory → IsPut h' mid g.bid None → mid.ranges ≡ h'.ranges → list_expansions h' ≤ list_expansions mid → IsPut mid new f.bid None → new.ranges ≡ mid.ranges → list_expansions mid ≤ list_expansions new → IsGivingUp t a frames fault s new
 both_given_up t a frames f g fault bid limit s h h' mid new w opened memory first first_ranges first_grows put ranges grows =

@@ -8,6 +8,7 @@ pub mod Numbers
 pub mod Ranges
 pub mod States
 pub mod Heights
+pub mod Faults
 pub mod Marks
 pub mod Reach
 pub mod Known

@@ -8,10 +8,12 @@ ghost use Rattle.pst_subnode.specs.declared.sub.Sub.{Sub};
 ghost use Rattle.pst_subnode.specs.List.{subs_of};
 ghost use Rattle.pst_subnode.specs.Tree.{sub_fault, sub_height, at_top};
 ghost use Rattle.pst_subnode.specs.Reach.{Leads};
+ghost use Rattle.pst_subnode.specs.Faults.{AreSubFaultsTrue};
 ghost use Rattle.pst_subnode.specs.Known.{Adds, AreBothTrue, IsKnownList};
 ghost use Rattle.pst_subnode.specs.Walk.{CountsGrow, KeepsCounts};
 ghost use Rattle.pst_subnode.specs.Relation.{HasSubs};
 
+use crate::faults::SubFaults;
 use crate::heights::Heights;
 use crate::walk::height_of;
 use pst_block::Blocks;
@@ -92,7 +94,51 @@ pub fn check_sub(
     ensures grows { CountsGrow seen.old heights.old seen.new heights.new }
     ensures counts { OnOk result (KeepsCounts seen.old heights.old seen.new heights.new) }
 {
-    match height_of(alloc, blocks, bid, LISTS as u16, seen, heights) {
+    let mut faults = SubFaults::new(alloc);
+    check_sub_with(alloc, blocks, bid, nid, seen, heights, &mut faults)
+}
+
+/// The same as `check_sub`, which passes over what is known of the faults below lists, and remembers the one that it finds: for
+/// whoever goes on behind a fault.
+pub fn check_sub_with(
+    alloc: Global,
+    blocks: &Blocks,
+    bid: u64,
+    nid: u32,
+    seen: &mut Seen,
+    heights: &mut Heights,
+    faults: &mut SubFaults,
+) -> Result<u32, Fault>
+    // What is known is true, and stays so; no list is left marked.
+    requires known { AreBothTrue (table_of blocks.now) seen.old heights.old }
+    requires faults { AreSubFaultsTrue (table_of blocks.now) faults.old }
+    ensures known { AreBothTrue (table_of blocks.now) seen.new heights.new }
+    ensures faults { AreSubFaultsTrue (table_of blocks.now) faults.new }
+
+    // The height, or the first fault; or that memory ran out.
+    ensures exact { Tells result (option_map (at_top bid nid)
+        (sub_fault (table_of blocks.now) LISTS bid)) (sub_height (table_of blocks.now) LISTS bid) }
+    ensures small { IfOk result (λ h. h ≤ LISTS) }
+    ensures none { OnOk result (sub_fault (table_of blocks.now) LISTS bid ≡ None) }
+
+    // The identifier has the list of this height, as the format says.
+    ensures found { IfOk result (λ h.
+        HasSubs (table_of blocks.now) bid h (subs_of (table_of blocks.now) bid)) }
+
+    // Where it has a list whose height is within the limit, only memory is refused.
+    ensures only { (h : ℕ) (list : List Sub) → HasSubs (table_of blocks.now) bid h list →
+        h ≤ LISTS → IfErr result (λ f. f ≡ no_memory) }
+
+    // Chains from the identifier lead to all that is known since; where there is no fault, the list is known.
+    ensures adds { let t = table_of blocks.now in
+        Adds t (λ from. Leads t from bid) seen.old heights.old seen.new heights.new }
+    ensures there { OnOk result (IsKnownList (table_of blocks.now) heights.new bid) }
+
+    // What is counted never falls; where there is no fault, what was expanded is what is known.
+    ensures grows { CountsGrow seen.old heights.old seen.new heights.new }
+    ensures counts { OnOk result (KeepsCounts seen.old heights.old seen.new heights.new) }
+{
+    match height_of(alloc, blocks, bid, LISTS as u16, seen, heights, faults) {
         Ok(height) => Ok(u32::from(height)),
         Err(fault) => Err(fault_at_top(fault, bid, nid)),
     }

@@ -79,12 +79,12 @@ pub struct Subs<'a> {
 }
 
 impl<'a> Subs<'a> {
-    ghost use Rattle.std.specs.Prelude.{◌≡◌, ◌+◌, ◌<◌, [], ◌∷◌};
+    ghost use Rattle.std.specs.Prelude.{◌≡◌, ◌+◌, ◌<◌, true, false, [], ◌∷◌};
     ghost use Rattle.pst_block.specs.Table.{IsWithin, entry_of};
     ghost use Rattle.pst_block.specs.Blocks.{table_of};
     ghost use Rattle.pst_fault.specs.First.{join_below};
     ghost use Rattle.pst_subnode.specs.List.{subs_at, slblock_subs, leaf_subs, block_subs, subs_of};
-    ghost use Rattle.pst_subnode.specs.Body.{sub_in, subs_in};
+    ghost use Rattle.pst_subnode.specs.Body.{subs_in};
     ghost use Rattle.pst_subnode.specs.Left.{subs_left};
 
     // No entries.
@@ -214,17 +214,27 @@ impl<'a> Subs<'a> {
         subs
     }
 
-    // The entries behind the first one, which is in the open SLBLOCK.
-    fn behind_first(self) -> Subs<'a>
-        requires { 0 < self.entries.left }
-        ensures { subs_left self.entry ≡
-            sub_in (bytes_of self.entry.entries.body) self.entry.entries.next ∷ subs_left result }
+    // Whether an entry is left. The first one is in the open SLBLOCK from then on.
+    fn has_first(&mut self) -> bool
+        ensures same { subs_left self.new ≡ subs_left self.old }
+        ensures some { result ≡ true → 0 < self.new.entries.left }
+        ensures none { result ≡ false → subs_left self.new ≡ [] }
     {
-        Subs {
-            blocks: self.blocks,
-            entries: self.entries.behind(),
-            leaves: self.leaves,
+        if self.entries.left > 0 {
+            return true;
         }
+        *self = self.opened();
+        self.entries.left > 0
+    }
+
+    // The first entry, which is in the open SLBLOCK, is taken.
+    fn take_first(&mut self) -> Sub
+        requires { 0 < self.old.entries.left }
+        ensures { subs_left self.old ≡ result ∷ subs_left self.new }
+    {
+        let sub = sub_at(self.entries.body, self.entries.next);
+        self.entries = self.entries.behind();
+        sub
     }
 }
 
@@ -240,12 +250,9 @@ impl<'a> Iterator for Subs<'a> {
     ghost remaining = { item_count subs_left };
 
     fn next(&mut self) -> Option<Sub> {
-        let open = self.opened();
-        if open.entries.left == 0 {
+        if !self.has_first() {
             return None;
         }
-        let sub = sub_at(open.entries.body, open.entries.next);
-        *self = open.behind_first();
-        Some(sub)
+        Some(self.take_first())
     }
 }

@@ -2,7 +2,8 @@
 //! once and then looked up.
 //!
 //! Begin with `check_sub`, which answers how many lists nest, or the first fault of the subnodes of a node. A `Seen` of
-//! pst_datatree and a `Heights` remember what was found without fault. In a list without fault `find_sub` finds a
+//! pst_datatree and a `Heights` remember what was found without fault; whoever goes on behind a fault takes `check_sub_with`, which
+//! remembers faults as well (`SubFaults`). In a list without fault `find_sub` finds a
 //! subnode, and `subs` goes through all of them, and neither takes memory. A `SubIndex` is for many look-ups:
 //!
 //! ```
@@ -20,6 +21,7 @@ mod check;
 mod check_list;
 mod enter;
 mod entries;
+mod faults;
 mod find;
 mod frame;
 mod guess;
@@ -37,8 +39,9 @@ mod steps;
 mod sub;
 mod walk;
 
-pub use check::{LISTS, check_sub};
+pub use check::{LISTS, check_sub, check_sub_with};
 pub use entries::Subs;
+pub use faults::SubFaults;
 pub use find::{find_sub, subs};
 pub use heights::Heights;
 pub use index::{SubIndex, find_sub_by};

@@ -4,6 +4,7 @@ use Rattle.std.proofs.lemmas.Bool.{eq-eqb, ne_eqb}
 use Rattle.pst_bytes.specs.declared.span.Span.{Span}
 use Rattle.pst_btree.specs.Entries.{first_with}
 use Rattle.pst_tc.specs.Info.{column_count, column_place, columns_from, column_places, column_tag}
+use Rattle.pst_tc.specs.Values.{ColumnParts, tag_of_column}
 
 -- the first of those that are left
 left_step : (s : Span) (i n : ℕ) → i < n → columns_from s i (n - i) ≡ column_place s i ∷ columns_from s (i + 1) (n - (i + 1))
@@ -45,3 +46,8 @@ found_numbered I s tag i (suc n) c e = by_test (eqb (column_tag I (column_place 
 
 pub found_place : (I : List ℕ) (s : Span) (tag c : ℕ) → first_with (column_tag I) tag (column_places I s) ≡ Some c → (j : ℕ) × (j < column_count I s) × (c ≡ column_place s j)
 found_place I s tag c e = let w = found_numbered I s tag 0 (column_count I s) c e in (w.0, omega (arith, w.2), w.3)
+
+-- a column before which none stands is the first with its tag
+pub first_named : (all rest : List ColumnParts) (c : ColumnParts) → all ≡ c ∷ rest → first_with tag_of_column c.tag all ≡ Some c
+unfolding first_with
+first_named all rest c is = rw (is, eq-eqb c.tag c.tag refl) refl

@@ -1,7 +1,8 @@
 -- What is known of a table context without fault, down to its cells.
-use Rattle.std.proofs.Common.{◌≡◌, ℕ, ◌+◌, ◌*◌, ◌≤◌, true, List, Option, Some, None, refl, ap, ◌∙◌}
+use Rattle.std.proofs.Common.{◌≡◌, ℕ, ◌+◌, ◌*◌, ◌≤◌, Bool, true, false, cond, eqb, List, [], ◌∷◌, length, map, Option, Some, None, refl, ap, ◌∙◌, arith}
 use Rattle.std.specs.Prelude.{option_map, is_some}
 use Rattle.pst_bytes.specs.declared.span.Span.{Span}
+use Rattle.pst_bytes.specs.Image.{IsInside}
 use Rattle.pst_fault.specs.declared.fault.Fault.{Fault}
 use Rattle.pst_fault.specs.Each.{first_of, there_or}
 use Rattle.pst_fault.proofs.FirstLemmas.{none_then, none_below}
@@ -16,10 +17,10 @@ use Rattle.pst_bth.proofs.RecordLemmas.{found_span, found_part, found_made, noth
 use Rattle.pst_value.specs.Values.{hnid_spans}
 use Rattle.pst_value.specs.Fault.{value_fault}
 use Rattle.pst_value.proofs.ValueLaws.{place_law}
-use Rattle.pst_tc.specs.Info.{column_count, column_place, column_places, column_tag, column_kind, cell_span, index_place, index_hid, matrix_hnid, is_present, is_typed}
-use Rattle.pst_tc.specs.Values.{tc_sizes, tc_records, info_of, row_of_record, row_parts_at, row_id_of, tc_rows}
+use Rattle.pst_tc.specs.Info.{column_count, column_place, column_places, column_tag, column_kind, cell_span, index_place, index_hid, matrix_hnid, is_column, is_present, is_typed}
+use Rattle.pst_tc.specs.Values.{ColumnParts, tag_of_column, column_parts_at, tc_columns, IsFirstColumn, tc_sizes, tc_records, info_of, row_of_record, row_parts_at, row_id_of, tc_rows}
 use Rattle.pst_tc.specs.Fault.{info_fault, matrix_fault, no_fault, row_record_fault, row_fault, bad_row, cells_fault, cell_fault, tc_body_fault}
-use Rattle.pst_tc.proofs.InfoLemmas.{sound_room}
+use Rattle.pst_tc.proofs.InfoLemmas.{sound_room, sound_column}
 use Rattle.pst_tc.proofs.ColumnLemmas.{found_place}
 
 pub record BodyFacts (t : Table) (r : Roots) (s : Span) : Type 0 where
@@ -78,6 +79,38 @@ pub cell_sound : (t : Table) (r : Roots) (s : Span) (row c : ℕ) → cell_fault
 unfolding cell_fault
 cell_sound t r s row c none p y =
     place_law t r (column_kind t.image c) (cell_span t.image row c).at 0 (cell_span t.image row c) (rw (p, y) at none)
+
+-- ---- the cell of a column that is the first with its tag
+
+-- the first of what is told of columns is told of the first of these
+told_first_column : (I : List ℕ) (tag : ℕ) (places : List ℕ) (c : ColumnParts) → first_with tag_of_column tag (map (column_parts_at I) places) ≡ Some c → first_with (column_tag I) tag places ≡ Some c.place
+unfolding first_with
+told_first_column I tag [] c e = absurd cc
+told_first_column I tag (p ∷ rest) c e = by_test (eqb (column_tag I p) tag) (λ h. told_first_column I tag rest c h) e
+  where
+    by_test : (b : Bool) → (first_with tag_of_column tag (map (column_parts_at I) rest) ≡ Some c → first_with (column_tag I) tag rest ≡ Some c.place)
+        → cond b (Some (column_parts_at I p)) (first_with tag_of_column tag (map (column_parts_at I) rest)) ≡ Some c → cond b (Some p) (first_with (column_tag I) tag rest) ≡ Some c.place
+    by_test true later e = let same : column_parts_at I p ≡ c = cc in ap (λ (q : ColumnParts). Some q.place) same
+    by_test false later e = later e
+
+pub first_place : (t : Table) (r : Roots) (c : ColumnParts) → IsFirstColumn t r c → first_with (column_tag t.image) c.tag (column_places t.image (info_of t r)) ≡ Some c.place
+unfolding tc_columns
+first_place t r c first = told_first_column t.image c.tag (column_places t.image (info_of t r)) c first
+
+pub first_inside : (t : Table) (r : Roots) (s : Span) (c : ColumnParts) → s ≡ info_of t r → IsFirstColumn t r c → IsInside t.image s → info_fault t.image s ≡ None → c.place + 8 ≤ length t.image
+first_inside t r s c is first inside none =
+    let found : first_with (column_tag t.image) c.tag (column_places t.image s) ≡ Some c.place = rw is (first_place t r c first) in
+    let w = found_place t.image s c.tag c.place found in
+    omega (arith, w.1, w.2, inside, sound_room t.image s none)
+
+pub first_good : (t : Table) (r : Roots) (s : Span) (c : ColumnParts) → s ≡ info_of t r → IsFirstColumn t r c → info_fault t.image s ≡ None → is_column t.image s c.place ≡ true
+first_good t r s c is first none =
+    let found : first_with (column_tag t.image) c.tag (column_places t.image s) ≡ Some c.place = rw is (first_place t r c first) in
+    let w = found_place t.image s c.tag c.place found in
+    sound_column t.image s w.0 c.place none w.1 w.2
+
+pub first_sound : (t : Table) (r : Roots) (s : Span) (row : ℕ) (c : ColumnParts) → s ≡ info_of t r → IsFirstColumn t r c → cells_fault t r s row ≡ None → cell_fault t r s row c.place ≡ None
+first_sound t r s row c is first none = found_cell t r s row c.tag c.place none (rw is (first_place t r c first))
 
 -- ---- a row that is found
 

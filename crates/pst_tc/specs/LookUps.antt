@@ -56,7 +56,8 @@ pub record TcLookUps (file : Image) (t : Table) (r : Roots) (tc : Tc) : Type 0 w
   -- `row`: the row with an identifier; None exactly where the table has none
   pub row : (id : ℕ) (found : Option Row) → GivesRow tc id found →
       (option_map row_parts found ≡ first_with row_id_of id (tc_rows t r)) × IfSome found (λ row. tc_of_row row ≡ tc)
-  -- `cell`: the value of a row's cell in the first column with a tag, lent from the file; None exactly where it has none
+  -- `cell`, and `cell_in` for the tag of its column: the value of a row's cell in the first column with a tag, lent from the file;
+  -- None exactly where it has none
   pub cell : (row : Row) (tag : ℕ) (found : Option Value) → tc_of_row row ≡ tc → GivesCell row tag found →
       IsValueOf file (tc_cell t r (row_parts row).place.at tag) found
 

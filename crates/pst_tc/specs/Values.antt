@@ -1,7 +1,7 @@
 -- What a table context holds ([MS-PST] 2.3.4): a heap with the client signature 0x7C, whose user root names TCINFO; the row index,
 -- a BTH of the numbers of rows under their identifiers; and the row matrix: none, an item of the heap, or the data of a subnode,
 -- each of whose blocks has as many whole rows as fit into 8,176 bytes (2.3.4.4).
-use Rattle.std.specs.Prelude.{ℕ, ◌+◌, ◌-◌, ◌*◌, ◌/◌, ◌%◌, nat_le, List, map, Option, Some, None, slice_get, if◌then◌else◌}
+use Rattle.std.specs.Prelude.{◌≡◌, ℕ, ◌+◌, ◌-◌, ◌*◌, ◌/◌, ◌%◌, nat_le, List, map, Option, Some, None, slice_get, if◌then◌else◌}
 use Rattle.pst_bytes.specs.declared.span.Span.{Span}
 use Rattle.pst_bytes.specs.Image.{num}
 use Rattle.pst_block.specs.Table.{Table}
@@ -78,20 +78,30 @@ row_of_record t r s x = row_of_matrix t r (matrix_hnid t.image s) (row_size t.im
 
 -- ---- the columns
 
--- what is told of one: its tag, where its cells begin in a row, how many bytes they have, and which bit says that they are there
+-- what is told of one: its tag, where its cells begin in a row, how many bytes they have, which bit says that they are there, and
+-- where the column stands in the file
 pub record ColumnParts : Type 0 where
   pub tag : ℕ
   pub at : ℕ
   pub width : ℕ
   pub bit : ℕ
+  pub place : ℕ
+
+abbrev pub tag_of_column : ColumnParts → ℕ
+tag_of_column c = c.tag
 
 -- of the column at a place
 abbrev pub column_parts_at : List ℕ → ℕ → ColumnParts
-column_parts_at I c = record { tag = column_tag I c; at = column_start I c; width = column_width I c; bit = column_bit I c }
+column_parts_at I c =
+    record { tag = column_tag I c; at = column_start I c; width = column_width I c; bit = column_bit I c; place = c }
 
 -- all columns, in order
 unfoldable pub tc_columns : Table → Roots → List ColumnParts
 tc_columns t r = map (column_parts_at t.image) (column_places t.image (info_of t r))
+
+-- of the columns with its tag it is the first
+abbrev pub IsFirstColumn : Table → Roots → ColumnParts → Type 0
+IsFirstColumn t r c = first_with tag_of_column c.tag (tc_columns t r) ≡ Some c
 
 -- ---- the rows
 

@@ -8,7 +8,7 @@ use Rattle.pst_tc.specs.Front.{front_tc, front_item}
 
 -- what is told of a column
 abbrev pub column_of : Column → ColumnParts
-column_of c = record { tag = c.tag; at = c.at; width = c.width; bit = c.bit }
+column_of c = record { tag = c.tag; at = c.at; width = c.width; bit = c.bit; place = c.place }
 
 -- what is told of a row
 abbrev pub row_parts : Row → RowParts

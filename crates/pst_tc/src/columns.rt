@@ -20,6 +20,8 @@ pub struct Column {
     pub width: u8,
     /// Which bit of a row says that it has a cell (iBit).
     pub bit: u8,
+    /// Where it stands in the file.
+    pub place: u64,
 }
 
 /// The columns of a table that are left, in order. No memory is taken.
@@ -77,6 +79,7 @@ impl<'a> Iterator for Columns<'a> {
             at: image.number16(place + 4),
             width: image.number8(place + 6),
             bit: image.number8(place + 7),
+            place,
         };
         *self = Columns {
             image,

@@ -9,7 +9,7 @@ ghost use Rattle.pst_tc.specs.Tc.{node_of_tc};
 ghost use Rattle.pst_tc.specs.Front.{front_tc, front_item};
 
 use crate::cell::{is_present, is_typed};
-use crate::columns::find_column;
+use crate::columns::{Column, find_column};
 use crate::front::Front;
 use pst_bytes::Span;
 use pst_datatree::{Value, value_at};
@@ -35,11 +35,11 @@ impl<'a> Row<'a> {
     ghost use Rattle.pst_ndb.specs.Views.{image_of_node, table_of_node, roots_of};
     ghost use Rattle.pst_value.specs.View.{IsValue, IsValueOf};
     ghost use Rattle.pst_tc.specs.Info.{row_size, is_column, is_present as present};
-    ghost use Rattle.pst_tc.specs.Values.{cell_spans, tc_cell};
+    ghost use Rattle.pst_tc.specs.Values.{IsFirstColumn, cell_spans, present_spans, tc_cell};
     ghost use Rattle.pst_tc.specs.Fault.{cell_fault, cells_fault};
     ghost use Rattle.pst_tc.specs.Tc.{node_of_tc};
     ghost use Rattle.pst_tc.specs.Front.{front_tc, front_item};
-    ghost use Rattle.pst_tc.specs.View.{row_parts, tc_of_row, row_item};
+    ghost use Rattle.pst_tc.specs.View.{column_of, row_parts, tc_of_row, row_item};
 
     // The row at a place, whose cells have no fault.
     pub(crate) fn of(front: Front<'a>, id: u32, at: u64, place: Span) -> Row<'a>
@@ -102,9 +102,32 @@ impl<'a> Row<'a> {
         known_value(&self.front.heap(), kind, cell)
     }
 
+    // The value of its cell in a column; None exactly where it has none there.
+    #[tactic(auto, using(crate::proofs::RowLemmas::body_info, crate::proofs::RowLemmas::body_room))]
+    fn cell_at(&self, column: u64) -> Option<Value<'a>>
+        requires column { let t = table_of_node (node_of_tc (tc_of_row self.now)) in
+            column + 8 ≤ length t.image }
+        requires good { let t = table_of_node (node_of_tc (tc_of_row self.now)) in
+            is_column t.image (row_item self.now) column ≡ true }
+        requires sound { let node = node_of_tc (tc_of_row self.now) in
+            let row = (row_parts self.now).place.at in
+            cell_fault (table_of_node node) (roots_of node) (row_item self.now) row column ≡ None }
+        ensures { let node = node_of_tc (tc_of_row self.now) in
+            let row = (row_parts self.now).place.at in
+            let found = present_spans (table_of_node node) (roots_of node) row column in
+            IsValueOf (image_of_node node) found result }
+    {
+        self.front.is_sound();
+        let image = self.front.image();
+        if !is_present(image, self.front.item(), self.place, column) {
+            return None;
+        }
+        Some(self.value(column))
+    }
+
     /// The value of the cell in the first column with a tag; None exactly where there is no such column, or the row has no cell in
     /// it. The columns are gone through; the value is looked up, as an item of the heap or as a subnode, whose pieces are not.
-    #[tactic(auto, unfolding(crate::specs::Values::tc_cell), using(crate::proofs::RowLemmas::body_info, crate::proofs::RowLemmas::body_room, crate::proofs::RowLemmas::found_cell))]
+    #[tactic(auto, unfolding(crate::specs::Values::tc_cell), using(crate::proofs::RowLemmas::body_info, crate::proofs::RowLemmas::found_cell))]
     pub fn cell(&self, tag: u32) -> Option<Value<'a>>
         ensures { let node = node_of_tc (tc_of_row self.now) in
             let row = (row_parts self.now).place.at in
@@ -113,13 +136,25 @@ impl<'a> Row<'a> {
     {
         self.front.is_sound();
         let image = self.front.image();
-        let item = self.front.item();
-        let Some(column) = find_column(image, item, tag) else {
-            return None;
-        };
-        if !is_present(image, item, self.place, column) {
-            return None;
+        match find_column(image, self.front.item(), tag) {
+            Some(column) => self.cell_at(column),
+            None => None,
         }
-        Some(self.value(column))
+    }
+
+    /// The value of the cell in a column of its table, the first one with that tag: what `cell` answers for the tag, and no column
+    /// is gone through. So the cells of a row are had by one pass over the columns.
+    #[tactic(auto, unfolding(crate::specs::Values::tc_cell), using(crate::proofs::RowLemmas::first_place))]
+    pub fn cell_in(&self, column: Column) -> Option<Value<'a>>
+        requires { let node = node_of_tc (tc_of_row self.now) in
+            IsFirstColumn (table_of_node node) (roots_of node) (column_of column) }
+        ensures { let node = node_of_tc (tc_of_row self.now) in
+            let row = (row_parts self.now).place.at in
+            let tag = (column_of column).tag in
+            let found = tc_cell (table_of_node node) (roots_of node) row tag in
+            IsValueOf (image_of_node node) found result }
+    {
+        self.front.is_sound();
+        self.cell_at(column.place)
     }
 }

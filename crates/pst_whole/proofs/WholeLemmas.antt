@@ -13,15 +13,15 @@ use Rattle.pst_block.specs.Table.{Table}
 use Rattle.pst_ndb.specs.Fault.{node_fault, nodes_fault}
 use Rattle.pst_ndb.specs.Roots.{Roots, entry_roots, node_in, all_roots}
 use Rattle.pst_remains.specs.declared.pages.Broken.{Broken}
-use Rattle.pst_pc.specs.Fault.{pc_fault}
+use Rattle.pst_intact.specs.pst_msg.pst_pc.Fault.{pc_fault}
 use Rattle.pst_tc.specs.Fault.{tc_fault}
-use Rattle.pst_names.specs.declared.name_map.TheConstants.{NAME_MAP}
-use Rattle.pst_msg.specs.declared.items.Items.{Items}
-use Rattle.pst_msg.specs.declared.items.Items.TheVariants.{Subfolders, Messages, Associated}
-use Rattle.pst_msg.specs.declared.nid.TheConstants.{STORE, FOLDER, SEARCH_FOLDER}
-use Rattle.pst_msg.specs.Fault.{message_fault, name_map_fault}
-use Rattle.pst_msg.specs.Nid.{is_type, with_type}
-use Rattle.pst_msg.specs.Values.{is_message, listing_of, type_of_items}
+use Rattle.pst_intact.specs.pst_msg.pst_names.declared.name_map.TheConstants.{NAME_MAP}
+use Rattle.pst_intact.specs.pst_msg.declared.items.Items.{Items}
+use Rattle.pst_intact.specs.pst_msg.declared.items.Items.TheVariants.{Subfolders, Messages, Associated}
+use Rattle.pst_intact.specs.pst_msg.declared.nid.TheConstants.{STORE, FOLDER, SEARCH_FOLDER}
+use Rattle.pst_intact.specs.pst_msg.Fault.{message_fault, name_map_fault}
+use Rattle.pst_intact.specs.pst_msg.Nid.{is_type, with_type}
+use Rattle.pst_intact.specs.pst_msg.Values.{is_message, listing_of, type_of_items}
 use Rattle.pst_damage.specs.Folder.{items_damage, table_damage, folder_damage, asked_damage}
 use Rattle.pst_damage.specs.Judged.{Judged, kept_node, sound_by, sound_nodes}
 use Rattle.pst_damage.specs.Nodes.{node_damage}

@@ -263,6 +263,12 @@ fn what_is_whole_is_asked_for(rt: HostRuntime) -> Result<(), Fail> {
             Ask::Messages,
             true,
         ),
+        (&["export", "--whole", "a.pst"], Ask::Export, false),
+        (
+            &["export", "a.pst", "--whole", "--decode"],
+            Ask::Export,
+            true,
+        ),
         (
             &["contents", "--whole", "a.pst", "0x8082"],
             Ask::Contents(0x8082),

@@ -205,10 +205,8 @@ Usage: pst_show check [OPTIONS] <FILE>
 ",
     ),
     (
-        &["export", "--whole", "a.pst"],
-        "error: unexpected argument '--whole' found
-
-  tip: to pass '--whole' as a value, use '-- --whole'
+        &["export", "--whole", "--whole", "a.pst"],
+        "error: the argument '--whole' cannot be used multiple times
 
 Usage: pst_show export [OPTIONS] <FILE>
 ",

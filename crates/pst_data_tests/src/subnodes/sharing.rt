@@ -117,3 +117,82 @@ fn slblocks_are_shared(rt: HostRuntime) -> Result<(), Fail> {
     known.keys_rise();
     Ok(())
 }
+
+fn told_at(kind: Kind, bid: u64, nid: u32) -> Result<u32, Fault> {
+    let place = Place { at: 0, bid, nid };
+    Err(Fault { kind, place })
+}
+
+// Block 0x100 is missing below a node's list.
+fn missing_below(nid: u32) -> Result<u32, Fault> {
+    told_at(Kind::BlockMissing, 0x100, nid)
+}
+
+// List 0x10000002 nests too deep, as the list of a node.
+fn too_deep(nid: u32) -> Result<u32, Fault> {
+    told_at(Kind::Nesting, 0x1000_0002, nid)
+}
+
+// Two lists above a third, below which data is missing; and one with the same data.
+const BROKEN: [(u64, Body); 5] = [
+    (6, List(0, 1, &[0x21, 0, 14])),
+    (10, List(0, 2, &[0x21, 0, 0, 0x41, 0, 15])),
+    (14, List(0, 2, &[0x21, 0, 0, 0x41, 0, 18])),
+    (18, List(0, 1, &[0x21, 0x100, 0])),
+    (22, List(0, 1, &[0x21, 0x100, 0])),
+];
+
+// What is broken is told of each node, and expanded for the first: the third list by each of its two identifiers.
+#[test]
+fn broken_lists_are_shared(rt: HostRuntime) -> Result<(), Fail> {
+    let alloc = rt.alloc();
+    let bytes = store(alloc, &BROKEN)?;
+    let mut met = Met::read(alloc, Image::new(&bytes))?;
+    is(&rt, met.check(alloc, 6, 0x41), missing_below(0x41));
+    is(&rt, met.expansions(), 3);
+    is(&rt, met.check(alloc, 6, 0x61), missing_below(0x61));
+    is(&rt, met.check(alloc, 14, 0x81), missing_below(0x81));
+    is(&rt, met.expansions(), 3);
+    is(&rt, met.check(alloc, 10, 0xa1), missing_below(0xa1));
+    is(&rt, met.check(alloc, 10, 0xc1), missing_below(0xc1));
+    is(&rt, met.expansions(), 5);
+    is(&rt, met.check(alloc, 22, 0xe1), missing_below(0xe1));
+    is(&rt, met.expansions(), 6);
+    Ok(())
+}
+
+// 256 lists may nest, but not below another list, though that was asked first.
+#[test]
+fn nesting_is_told_where_it_is(rt: HostRuntime) -> Result<(), Fail> {
+    let alloc = rt.alloc();
+    let mut plan = chain(alloc, 256)?;
+    add(&mut plan, 0x1000_0002, list(alloc, 0, 1, &[0x31, 0, 6])?)?;
+    let bytes = image_of(alloc, plan)?;
+    let mut met = Met::read(alloc, Image::new(&bytes))?;
+    is(&rt, met.check(alloc, 0x1000_0002, 0x41), too_deep(0x41));
+    is(&rt, met.check(alloc, 0x1000_0002, 0x61), too_deep(0x61));
+    is(&rt, met.check(alloc, 6, 0x81), Ok(256));
+    is(&rt, met.check(alloc, 0x1000_0002, 0xa1), too_deep(0xa1));
+    Ok(())
+}
+
+// Below the last of 256 lists data is missing. It is not reached below another list, whichever is asked first.
+#[test]
+fn a_fault_too_deep(rt: HostRuntime) -> Result<(), Fail> {
+    let alloc = rt.alloc();
+    let mut plan = chain(alloc, 255)?;
+    let below = 4 * 255 + 6;
+    add(&mut plan, below, list(alloc, 0, 1, &[0x21, 0x100, 0])?)?;
+    let Some(last) = plan.get_mut(254) else {
+        return Err(Fail::from("no list"));
+    };
+    last.body = list(alloc, 0, 1, &[0x671, 0, below])?;
+    add(&mut plan, 0x1000_0002, list(alloc, 0, 1, &[0x31, 0, 6])?)?;
+    let bytes = image_of(alloc, plan)?;
+    let mut met = Met::read(alloc, Image::new(&bytes))?;
+    is(&rt, met.check(alloc, 6, 0x41), missing_below(0x41));
+    is(&rt, met.check(alloc, 0x1000_0002, 0x41), too_deep(0x41));
+    is(&rt, met.check(alloc, 6, 0x61), missing_below(0x61));
+    is(&rt, met.check(alloc, 0x1000_0002, 0x61), too_deep(0x61));
+    Ok(())
+}

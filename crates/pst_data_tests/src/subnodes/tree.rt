@@ -61,6 +61,61 @@ impl<'a> Known<'a> {
     }
 }
 
+/// The same, and the faults that were met: for whoever goes on behind one.
+#[derive(Drop)]
+pub(crate) struct Met<'a> {
+    blocks: Blocks<'a>,
+    seen: Seen,
+    heights: Heights,
+    faults: SubFaults,
+}
+
+impl<'a> Met<'a> {
+    ghost use Rattle.std.specs.Prelude.{IfOk};
+    ghost use Rattle.pst_block.specs.Blocks.{table_of};
+    ghost use Rattle.pst_subnode.specs.Faults.{AreSubFaultsTrue};
+    ghost use Rattle.pst_subnode.specs.Known.{AreBothTrue};
+
+    /// Nothing yet.
+    pub(crate) fn read(alloc: Global, image: Image<'a>) -> Result<Met<'a>, Fail>
+        ensures { IfOk result (λ k. AreBothTrue (table_of k.blocks) k.seen k.heights
+            × AreSubFaultsTrue (table_of k.blocks) k.faults) }
+    {
+        let Ok(blocks) = blocks_in(alloc, image) else {
+            return Err(Fail::from("no blocks"));
+        };
+        Ok(Met {
+            blocks,
+            seen: Seen::new(alloc),
+            heights: Heights::new(alloc),
+            faults: SubFaults::new(alloc),
+        })
+    }
+
+    /// What the check of a node's list answers.
+    pub(crate) fn check(&mut self, alloc: Global, bid: u64, nid: u32) -> Result<u32, Fault>
+        requires { AreBothTrue (table_of self.old.blocks) self.old.seen self.old.heights
+            × AreSubFaultsTrue (table_of self.old.blocks) self.old.faults }
+        ensures { AreBothTrue (table_of self.new.blocks) self.new.seen self.new.heights
+            × AreSubFaultsTrue (table_of self.new.blocks) self.new.faults }
+    {
+        check_sub_with(
+            alloc,
+            &self.blocks,
+            bid,
+            nid,
+            &mut self.seen,
+            &mut self.heights,
+            &mut self.faults,
+        )
+    }
+
+    /// How many lists have been expanded.
+    pub(crate) fn expansions(&self) -> u64 {
+        self.heights.expansions()
+    }
+}
+
 /// A list without fault, and the blocks that it stands in.
 #[derive(Clone, Copy)]
 pub(crate) struct Tree<'a> {

@@ -90,3 +90,31 @@ fn tables_by_lists_of_their_own(rt: HostRuntime) -> Result<(), Fail> {
     let line = "no: 25 Table at 0x4d44 bid 0x14 nid 0x200064";
     is_answered(&rt, alloc, &sharing_a_table(alloc, 0x41, 24, true)?, line)
 }
+
+// Folders that share the data of a table of one subfolder, whose row matrix is subnode 0x41, each under a list of its own: in the
+// second one that has this data.
+fn sharing_a_listing(alloc: Global, data: u64) -> Result<Plan, Fail> {
+    let mut subfolders = table(alloc, &[0x142])?;
+    change_all(&mut subfolders, &[Change::Set(26, &[0x41])])?;
+    let row = Vec::from_slice(alloc, &[0x42, 1, 0, 0, 0x80])?;
+    let other = Vec::from_slice(alloc, &[0x43, 1, 0, 0, 0x80])?;
+    let mut plan = m0_plan(alloc)?;
+    add_block(&mut plan, 12, subfolders)?;
+    add_block(&mut plan, 16, row)?;
+    add_block(&mut plan, 20, other)?;
+    add_block(&mut plan, 30, list(alloc, &[(0x41, 16, 0)])?)?;
+    add_block(&mut plan, 34, list(alloc, &[(0x41, data, 0)])?)?;
+    add_node(&mut plan, 0x12d, 12, 30)?;
+    add_node(&mut plan, 0x142, 8, 0)?;
+    add_node(&mut plan, 0x14d, 12, 34)?;
+    Ok(plan)
+}
+
+#[test]
+fn listings_by_lists_of_their_own(rt: HostRuntime) -> Result<(), Fail> {
+    let alloc = rt.alloc();
+    is_answered(&rt, alloc, &sharing_a_listing(alloc, 16)?, "yes 4")?;
+    // The second list has another matrix, whose row is not that of the record.
+    let line = "no: 25 Table at 0x4cb7 bid 0xc nid 0x14d";
+    is_answered(&rt, alloc, &sharing_a_listing(alloc, 20)?, line)
+}

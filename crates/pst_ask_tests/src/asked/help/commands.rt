@@ -264,6 +264,7 @@ Arguments:
   <FILE>  The file to read, or - for standard input
 
 Options:
+      --whole   Reads what is whole of a damaged store
       --decode  Decodes an encoded file first, in memory
   -h, --help    Print help
 
@@ -272,7 +273,8 @@ messages and props print of the store, its folders and its messages, and of each
 its headers, its texts, its attachments and the messages that they embed as files, whose
 bytes are the values. Their names are words of the program and identifiers of the file:
 messages/0x200024/body.txt. `pst_show export FILE | tar x` makes them below the folder
-where it runs.
+where it runs. With --whole those of a damaged store in which nothing is broken, and
+before them, in damage.json, what damage prints.
 
 Exit status:
   0  The archive is written

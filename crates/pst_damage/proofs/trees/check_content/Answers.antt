@@ -17,5 +17,5 @@ returns-clause-known c =
     record {
       whole = search rules;
       content = c.keep.ensures.known at_node (data_part t) (data_keep t part c.args.entry.nid c.check_data-answer.result c.check_data-answer.ensures.exact) c.requires.content;
-      lists = c.requires.lists;
+      below = c.requires.below;
     }

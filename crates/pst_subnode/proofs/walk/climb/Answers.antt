@@ -13,8 +13,8 @@ use Rattle.pst_subnode.proofs.walk.climb.Goals as goal
 pub enter-requires-clause-come : goal.enter-requires-clause-come
 enter-requires-clause-come c = come_rank (table_of c.args.blocks.now) c.args.heights.now c.args.bid c.args.limit c.requires.begun.come
 
-pub returns-in_err-turn : goal.returns-in_err-turn
-returns-in_err-turn c =
+pub returns-in_err-turn-clause-ends : goal.returns-in_err-turn-clause-ends
+returns-in_err-turn-clause-ends c =
     let p = err_from_is_err_and c.from_residual.result c.from_residual.ensures.1 in
     let t = table_of c.args.blocks.now in
     let start : Start = record { bid = c.args.bid; limit = c.args.limit; seen = c.args.seen.now; heights = c.args.heights.now } in
@@ -24,10 +24,10 @@ pub loop-turn-init : goal.loop-turn-init
 loop-turn-init c =
     let t = table_of c.args.blocks.now in
     let start : Start = record { bid = c.args.bid; limit = c.args.limit; seen = c.args.seen.now; heights = c.args.heights.now } in
-    record { turn = entered t start c.args.stack.now.items c.args.bid c.args.limit c.args.seen.now c.args.heights.now c.enter.new.heights (Ok c.in_ok-turn.turn) (starts t start c.args.stack.now.items c.requires.empty) (c.in_ok-turn.ensures.enters c.args.seen.now c.requires.begun.trees) }
+    record { faults = c.enter.ensures.faults; turn = entered t start c.args.stack.now.items c.args.bid c.args.limit c.args.seen.now c.args.heights.now c.enter.new.heights (Ok c.in_ok-turn.turn) (starts t start c.args.stack.now.items c.requires.empty) (c.in_ok-turn.ensures.enters c.args.seen.now c.requires.begun.trees) }
 
-pub run-requires : goal.run-requires
-run-requires c =
+pub run-requires-clause-at : goal.run-requires-clause-at
+run-requires-clause-at c =
     let start : Start = record { bid = c.args.bid; limit = c.args.limit; seen = c.args.seen.now; heights = c.args.heights.now } in
     (start, rw c.in-Expands.is at c.loop-turn.invariant.turn)
 
@@ -46,4 +46,4 @@ loop-turn-preserved c =
     let answered : IsAnswering t start c.loop-turn.stack.items c.in-Answers.height c.loop-turn.seen c.loop-turn.heights = (rw c.in-Answers.is at c.loop-turn.invariant.turn) in
     let up : IsAnswering t start (c.pop.new.self.items ++ (c.in-Some.frame ∷ [])) c.in-Answers.height c.loop-turn.seen c.loop-turn.heights = (rw c.in-Some.ensures.items at answered) in
     let on = c.with_height.ensures in
-    record { turn = resumed t start c.pop.new.self.items c.in-Some.frame c.with_height.result c.in-Answers.height c.loop-turn.seen c.loop-turn.heights up on.bid on.limit on.most on.below }
+    record { faults = c.loop-turn.invariant.faults; turn = resumed t start c.pop.new.self.items c.in-Some.frame c.with_height.result c.in-Answers.height c.loop-turn.seen c.loop-turn.heights up on.bid on.limit on.most on.below }

@@ -1,4 +1,4 @@
-use Rattle.std.proofs.Common.{◌≡◌, ◌+◌, ◌<◌, Ok, Err, arith, refl, ap, ◌∙◌}
+use Rattle.std.proofs.Common.{◌≡◌, ◌+◌, ◌<◌, Ok, Err, arith, refl, ap, ◌∙◌, inl, inr}
 use Rattle.std.specs.Prelude.{reverse}
 use Rattle.pst_subnode.specs.declared.frame.Turn.TheVariants.{Expands, Answers}
 use Rattle.pst_subnode.specs.Stack.{IsAnswered, IsOpened, IsRefused}
@@ -46,6 +46,9 @@ returns-in-Err-push-clause-next c = λ t a bid limit s h waits enters.
     let second = c.forget-in-Err-push.ensures in
     rw (c.in-Err-push.ensures.items, c.from.ensures) (both_given_up t a c.args.stack.now.items c.args.frame c.in-Expands.opened no_memory bid limit s h c.args.heights.now c.forget.new.self c.forget-in-Err-push.new.self waits opened refl first.put first.ranges (omega (arith, first.counts)) second.put second.ranges (omega (arith, second.counts)))
 
+pub returns-in-Err-push-clause-exact : goal.returns-in-Err-push-clause-exact
+returns-in-Err-push-clause-exact c = λ t bid limit s h waiting enters. inl c.from.ensures
+
 -- it has a fault
 pub returns-in-Err-clause-next : goal.returns-in-Err-clause-next
 returns-in-Err-clause-next c = λ t a bid limit s h waits enters.
@@ -53,3 +56,8 @@ returns-in-Err-clause-next c = λ t a bid limit s h waits enters.
     let refused : IsRefused t bid limit c.in-Err.fault s h s c.args.heights.now = (rw is at enters) in
     let put = c.forget-in-Err.ensures in
     below_given_up t a c.args.stack.now.items c.args.frame c.in-Err.fault bid limit s h s c.args.heights.now c.forget-in-Err.new.self waits refused put.put put.ranges (omega (arith, put.counts))
+
+pub returns-in-Err-clause-exact : goal.returns-in-Err-clause-exact
+returns-in-Err-clause-exact c = λ t bid limit s h waiting enters.
+    let refused : IsRefused t bid limit c.in-Err.fault s h s c.args.heights.now = (rw c.in-Err.is at enters) in
+    elim refused.exact [ inl memory ↦ inl memory | inr is ↦ inr (waiting.refuses c.in-Err.fault is) ]

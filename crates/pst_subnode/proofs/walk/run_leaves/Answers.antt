@@ -68,6 +68,16 @@ returns-in_default-clause-falls c =
     let light = c.go_below.ensures.falls (unit_weight (2 * f.limit + 1)) c.enter_leaf-entered.ensures.light in
     IfOk-weaker c.go_below.result _ _ (λ turn less. omega (arith, rw rank at taken, same, c.loop-rest.invariant.light, less)) light
 
+pub returns-in_default-clause-exact : goal.returns-in_default-clause-exact
+returns-in_default-clause-exact c =
+    let t = table_of c.args.blocks.now in
+    let f = c.args.frame in
+    let now = c.loop-rest.invariant.goes c.requires.at.0 c.requires.at.1 in
+    let same : c.bid_at-bid.result ≡ leaf_bid_in (body_of t c.loop-rest.rest.holder) c.loop-rest.rest.next = c.bid_at-bid.ensures ∙ ap (λ b. leaf_bid_in b c.loop-rest.rest.next) c.body_in.ensures in
+    let waits = leaf_waits t c.requires.at.0 c.args.stack.now.items (left_of f c.loop-rest.most (Leaves c.loop-rest.rest)) c.loop-rest.rest c.args.seen.now c.loop-rest.heights now refl c.loop-rest-test.true in
+    let told = c.go_below.ensures.exact t c.bid_at-bid.result f.limit c.args.seen.now c.loop-rest.heights (rw (c.left_with-waits.ensures, c.behind-rest.ensures, same) waits.4) (c.enter_leaf-entered.ensures.enters c.args.seen.now now.since.walked.trees) in
+    (rw c.left_with-waits.ensures at told)
+
 pub loop-rest-preserved : goal.loop-rest-preserved
 loop-rest-preserved c =
     let t = table_of c.args.blocks.now in
@@ -92,6 +102,11 @@ returns-in_err-settle-clause-next c = λ a up.
     let now = c.loop-rest.invariant.goes a up in
     let put = c.in_err-settle.ensures in
     rw (p.1, p.2, c.loop-rest.invariant.same) (own_given_up (table_of c.args.blocks.now) a c.args.stack.now.items c.args.frame _ now.seen now.heights c.args.seen.now c.loop-rest.heights c.settle.new.self now.waits now.since (inl put.memory) put.forgotten put.ranges put.grows)
+
+pub returns-in_err-settle-clause-exact : goal.returns-in_err-settle-clause-exact
+returns-in_err-settle-clause-exact c =
+    let p = err_from_is_err_and c.from_residual.result c.from_residual.ensures.1 in
+    rw (p.1, p.2) (inl c.in_err-settle.ensures.memory)
 
 pub returns-clause-next : goal.returns-clause-next
 returns-clause-next c = λ a up.

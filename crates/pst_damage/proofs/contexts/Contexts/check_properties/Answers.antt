@@ -1,7 +1,7 @@
 use Rattle.std.proofs.Common.{inr}
 use Rattle.pst_fault.specs.Fault.{at_node}
 use Rattle.pst_ndb.specs.Views.{table_of_node, roots_of}
-use Rattle.pst_pc.specs.Fault.{pc_fault}
+use Rattle.pst_msg.specs.pst_pc.Fault.{pc_fault}
 use Rattle.pst_damage.specs.Contexts.{properties_part}
 use Rattle.pst_damage.proofs.FaultsLemmas.{properties_keep, told_of_node}
 use Rattle.pst_damage.proofs.contexts.Contexts.check_properties.Goals as goal

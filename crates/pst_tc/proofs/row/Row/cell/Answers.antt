@@ -6,9 +6,9 @@ use Rattle.pst_tc.specs.Tc.{node_of_tc}
 use Rattle.pst_tc.proofs.RowLemmas.{found_cell}
 use Rattle.pst_tc.proofs.row.Row.cell.Goals as goal
 
-pub value-requires-clause-sound : goal.value-requires-clause-sound
-value-requires-clause-sound c =
+pub cell_at-requires-clause-sound : goal.cell_at-requires-clause-sound
+cell_at-requires-clause-sound c =
     let t = table_of_node (node_of_tc c.args.self.now.front.tc) in
     let r = roots_of (node_of_tc c.args.self.now.front.tc) in
-    let found : Some c.in-Some.column ≡ first_with (column_tag t.image) c.args.tag (column_places t.image c.args.self.now.front.item) = rw (c.image-image.ensures.bytes, c.item-item.ensures) at c.in-Some.ensures.value in
+    let found : Some c.in-Some.column ≡ first_with (column_tag t.image) c.args.tag (column_places t.image c.args.self.now.front.item) = rw (c.image-image.ensures.bytes, c.item.ensures) at c.in-Some.ensures.value in
     found_cell t r c.args.self.now.front.item c.args.self.now.place.at c.args.tag c.in-Some.column c.args.self.now.sound (sym found)
