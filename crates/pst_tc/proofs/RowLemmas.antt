@@ -1,10 +1,10 @@
 -- What is known of a table context without fault, down to its cells.
 use Rattle.std.proofs.Common.{◌≡◌, ℕ, ◌+◌, ◌*◌, ◌≤◌, Bool, true, false, cond, eqb, List, [], ◌∷◌, length, map, Option, Some, None, refl, ap, ◌∙◌, arith}
-use Rattle.std.specs.Prelude.{option_map, is_some}
+use Rattle.std.specs.Prelude.{option_map}
 use Rattle.pst_bytes.specs.declared.span.Span.{Span}
 use Rattle.pst_bytes.specs.Image.{IsInside}
 use Rattle.pst_fault.specs.declared.fault.Fault.{Fault}
-use Rattle.pst_fault.specs.Each.{first_of, there_or}
+use Rattle.pst_fault.specs.Each.{first_of}
 use Rattle.pst_fault.proofs.FirstLemmas.{none_then, none_below}
 use Rattle.pst_block.specs.Table.{Table}
 use Rattle.pst_btree.specs.Entries.{first_with}
@@ -14,12 +14,11 @@ use Rattle.pst_bth.specs.Values.{record_key, record_span}
 use Rattle.pst_bth.specs.Fault.{bth_fault}
 use Rattle.pst_bth.proofs.BthLaws.{name_law}
 use Rattle.pst_bth.proofs.RecordLemmas.{found_span, found_part, found_made, nothing_made}
-use Rattle.pst_value.specs.Values.{hnid_spans}
 use Rattle.pst_value.specs.Fault.{value_fault}
 use Rattle.pst_value.proofs.ValueLaws.{place_law}
-use Rattle.pst_tc.specs.Info.{column_count, column_place, column_places, column_tag, column_kind, cell_span, index_place, index_hid, matrix_hnid, is_column, is_present, is_typed}
+use Rattle.pst_tc.specs.Info.{column_count, column_place, column_places, column_tag, column_kind, cell_span, index_place, index_hid, is_column, is_present, is_typed}
 use Rattle.pst_tc.specs.Values.{ColumnParts, tag_of_column, column_parts_at, tc_columns, IsFirstColumn, tc_sizes, tc_records, info_of, row_of_record, row_parts_at, row_id_of, tc_rows}
-use Rattle.pst_tc.specs.Fault.{info_fault, matrix_fault, no_fault, row_record_fault, row_fault, bad_row, cells_fault, cell_fault, tc_body_fault}
+use Rattle.pst_tc.specs.Fault.{info_fault, matrix_fault, row_record_fault, row_fault, bad_row, cells_fault, cell_fault, tc_body_fault}
 use Rattle.pst_tc.proofs.InfoLemmas.{sound_room, sound_column}
 use Rattle.pst_tc.proofs.ColumnLemmas.{found_place}
 
@@ -45,14 +44,6 @@ body_room t r s none = sound_room t.image s (body_info t r s none)
 
 pub body_index : (t : Table) (r : Roots) (s : Span) → tc_body_fault t r s ≡ None → bth_fault (heap_at t r) tc_sizes 0 (index_hid t.image s) ≡ None
 body_index t r s none = name_law (heap_at t r) tc_sizes (index_place s) 0 (index_hid t.image s) (BodyFacts.index (body_facts t r s none))
-
-there_is : (o : Option (List Span)) (f : Fault) → there_or f no_fault o ≡ None → is_some o ≡ true
-there_is None f e = absurd cc
-there_is (Some x) f e = refl
-
-pub body_matrix : (t : Table) (r : Roots) (s : Span) → tc_body_fault t r s ≡ None → is_some (hnid_spans t r (matrix_hnid t.image s)) ≡ true
-unfolding matrix_fault
-body_matrix t r s none = there_is (hnid_spans t r (matrix_hnid t.image s)) _ (BodyFacts.matrix (body_facts t r s none))
 
 pub body_rows : (t : Table) (r : Roots) (s : Span) → tc_body_fault t r s ≡ None → first_of (row_record_fault t r s) (tc_records t r s) ≡ None
 body_rows t r s none = BodyFacts.rows (body_facts t r s none)

@@ -194,13 +194,9 @@ impl<'a> Tc<'a> {
         front.is_sound();
         let heap = front.heap();
         let mut asks = Asks::of_matrix(alloc, matrix_ask(&heap, front.item()));
-        ask_rows(
-            &heap,
-            front.item(),
-            front.matrix(),
-            &front.index(),
-            &mut asks,
-        )?;
+        let mut matrix = Matrix::Nothing;
+        front.put_matrix(&mut matrix);
+        ask_rows(&heap, front.item(), matrix, &front.index(), &mut asks)?;
         Ok(asks)
     }
 }

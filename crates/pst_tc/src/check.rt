@@ -13,12 +13,13 @@ ghost use Rattle.pst_tc.specs.Info.{row_size, is_column, matrix_hnid};
 ghost use Rattle.pst_tc.specs.Values.{tc_sizes, row_of_matrix};
 ghost use Rattle.pst_tc.specs.Fault.{info_fault, cell_fault, cells_fault, row_record_fault, matrix_fault, tc_body_fault, tc_fault};
 ghost use Rattle.pst_tc.specs.Grammar.{IsTc};
-ghost use Rattle.pst_tc.specs.Matrix.{matrix_row, LiesIn};
+ghost use Rattle.pst_tc.specs.declared.matrix.Matrix.TheVariants.{Nothing};
+ghost use Rattle.pst_tc.specs.Matrix.{matrix_row, LiesIn, HasRowsOf};
 ghost use Rattle.pst_tc.specs.Tc.{node_of_tc};
 
 use crate::cell::{is_present, is_typed};
 use crate::info::{check_info, column_count, size_of};
-use crate::matrix::{Matrix, matrix_item, open_matrix, row_of};
+use crate::matrix::{Matrix, matrix_item, put_matrix, row_of};
 use crate::tc::Tc;
 use pst_bth::{Bth, check_bth_at};
 use pst_bytes::Span;
@@ -149,25 +150,26 @@ fn check_front(heap: &Heap, info: Span) -> Result<(), Fault>
     }
 }
 
-// The row matrix.
+// The row matrix, which is put in the place of none.
+#[inline(always)]
 #[tactic(auto, unfolding(crate::specs::Fault::matrix_fault), using(crate::proofs::InfoLemmas::sound_room, crate::proofs::TcLemmas::matrix_there, crate::proofs::TcLemmas::matrix_missing))]
-fn check_matrix<'a>(heap: &Heap<'a>, info: Span) -> Result<Matrix<'a>, Fault>
+fn check_matrix<'a>(heap: &Heap<'a>, info: Span, matrix: &mut Matrix<'a>) -> Result<(), Fault>
     requires info { IsInside (data_of heap.now).image info }
     requires room { 22 ≤ info.len }
+    requires none { matrix.old ≡ Nothing }
     ensures exact { let node = node_of heap.now in let r = roots_of node in
         Checks result (option_map (told_under r) (matrix_fault (table_of_node node) r info)) }
-    ensures inside { IfOk result (LiesIn (data_of heap.now).image) }
+    ensures inside { LiesIn (data_of heap.now).image matrix.new }
     ensures rows { let node = node_of heap.now in let t = table_of_node node in
-        let hnid = matrix_hnid t.image info in (size n : ℕ) →
-        IfOk result (λ m. matrix_row m size n ≡ row_of_matrix t (roots_of node) hnid size n) }
+        HasRowsOf t (roots_of node) (matrix_hnid t.image info) matrix.new }
 {
     let image = heap.image();
     let named = info.at + 14;
     let hnid = image.number32(named);
-    match open_matrix(heap, hnid) {
-        Some(matrix) => Ok(matrix),
-        None => Err(told_of(&heap.node(), missing_at(named, hnid))),
+    if put_matrix(heap, hnid, matrix) {
+        return Ok(());
     }
+    Err(told_of(&heap.node(), missing_at(named, hnid)))
 }
 
 // The row matrix wherever it lies, and the rows of all records. It may be many bytes, so this stands apart.
@@ -183,7 +185,8 @@ fn check_any_matrix(heap: &Heap, info: Span, bth: &Bth) -> Result<(), Fault>
         let rows = first_of (row_record_fault t r info) (records_of bth.now) in
         Checks result (option_map (told_under r) (matrix_fault t r info then rows)) }
 {
-    let matrix = check_matrix(heap, info)?;
+    let mut matrix = Matrix::Nothing;
+    check_matrix(heap, info, &mut matrix)?;
     check_rows(heap, info, matrix, bth)
 }
 

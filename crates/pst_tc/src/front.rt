@@ -10,7 +10,7 @@ ghost use Rattle.pst_tc.specs.Tc.{node_of_tc};
 use crate::columns::Columns;
 use crate::grid::Grid;
 use crate::info::column_count;
-use crate::matrix::{Matrix, open_matrix};
+use crate::matrix::{Matrix, put_matrix};
 use crate::tc::Tc;
 use pst_bth::{Bth, known_bth};
 use pst_bytes::{Image, Span};
@@ -36,6 +36,7 @@ impl<'a> Front<'a> {
     ghost use Rattle.pst_tc.specs.Info.{matrix_hnid, column_places};
     ghost use Rattle.pst_tc.specs.Values.{info_of, tc_sizes, tc_records, column_parts_at};
     ghost use Rattle.pst_tc.specs.Fault.{tc_body_fault};
+    ghost use Rattle.pst_tc.specs.declared.matrix.Matrix.TheVariants.{Nothing};
     ghost use Rattle.pst_tc.specs.Matrix.{LiesIn, HasRowsOf};
     ghost use Rattle.pst_tc.specs.Tc.{node_of_tc};
     ghost use Rattle.pst_tc.specs.Front.{front_tc, front_item};
@@ -93,31 +94,32 @@ impl<'a> Front<'a> {
             records_of result ≡ tc_records (table_of_node node) (roots_of node)
             (front_item self.now) }
     {
-        let heap = self.heap();
-        let image = heap.image();
-        known_bth(&heap, image.number32(self.item.at + 10), 4, 4)
+        let heap = &self.tc.heap;
+        let hid = heap.image().number32(self.item.at + 10);
+        known_bth(heap, hid, 4, 4)
     }
 
-    /// The row matrix.
-    #[tactic(auto, using(crate::proofs::RowLemmas::body_room, crate::proofs::RowLemmas::body_matrix))]
-    pub(crate) fn matrix(&self) -> Matrix<'a>
-        ensures inside { LiesIn (table_of_node (node_of_tc (front_tc self.now))).image result }
+    /// Puts the row matrix in the place of none.
+    #[inline(always)]
+    #[tactic(auto, using(crate::proofs::RowLemmas::body_room))]
+    pub(crate) fn put_matrix(&self, matrix: &mut Matrix<'a>)
+        requires { matrix.old ≡ Nothing }
+        ensures inside { LiesIn (table_of_node (node_of_tc (front_tc self.now))).image matrix.new }
         ensures rows { let node = node_of_tc (front_tc self.now) in let t = table_of_node node in
-            HasRowsOf t (roots_of node) (matrix_hnid t.image (front_item self.now)) result }
+            HasRowsOf t (roots_of node) (matrix_hnid t.image (front_item self.now)) matrix.new }
     {
-        let heap = self.heap();
-        let image = heap.image();
-        match open_matrix(&heap, image.number32(self.item.at + 14)) {
-            Some(matrix) => matrix,
-            None => unreachable!(),
-        }
+        let heap = &self.tc.heap;
+        let hnid = heap.image().number32(self.item.at + 14);
+        let _is_there = put_matrix(heap, hnid, matrix);
     }
 
     /// TCINFO with the row matrix.
     pub(crate) fn grid(self) -> Grid<'a>
         ensures { grid_front result ≡ self.entry }
     {
-        Grid::of(self)
+        let mut matrix = Matrix::Nothing;
+        self.put_matrix(&mut matrix);
+        Grid::of(self, matrix)
     }
 
     /// All columns.

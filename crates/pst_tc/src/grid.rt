@@ -32,20 +32,24 @@ impl<'a> Grid<'a> {
     ghost use Rattle.std.specs.Prelude.{◌≡◌, ◌≤◌, None};
     ghost use Rattle.pst_bytes.specs.Image.{IsInside};
     ghost use Rattle.pst_ndb.specs.Views.{table_of_node, roots_of};
+    ghost use Rattle.pst_tc.specs.Info.{matrix_hnid};
     ghost use Rattle.pst_tc.specs.Values.{row_parts_at};
     ghost use Rattle.pst_tc.specs.Fault.{row_record_fault};
+    ghost use Rattle.pst_tc.specs.Matrix.{LiesIn, HasRowsOf};
     ghost use Rattle.pst_tc.specs.Tc.{node_of_tc};
+    ghost use Rattle.pst_tc.specs.Front.{front_tc, front_item};
     ghost use Rattle.pst_tc.specs.Grid.{grid_front, grid_tc, grid_item};
     ghost use Rattle.pst_tc.specs.View.{row_parts, tc_of_row};
 
-    /// That of TCINFO.
-    pub(crate) fn of(front: Front<'a>) -> Grid<'a>
+    /// TCINFO with its row matrix.
+    #[inline(always)]
+    pub(crate) fn of(front: Front<'a>, matrix: Matrix<'a>) -> Grid<'a>
+        requires inside { LiesIn (table_of_node (node_of_tc (front_tc front))).image matrix }
+        requires rows { let node = node_of_tc (front_tc front) in let t = table_of_node node in
+            HasRowsOf t (roots_of node) (matrix_hnid t.image (front_item front)) matrix }
         ensures { grid_front result ≡ front.entry }
     {
-        Grid {
-            front,
-            matrix: front.matrix(),
-        }
+        Grid { front, matrix }
     }
 
     /// The row of a record of the row index.

@@ -6,8 +6,10 @@ ghost use Rattle.pst_ndb.specs.Views.{table_of_node, roots_of};
 ghost use Rattle.pst_heap.specs.View.{node_of, data_of};
 ghost use Rattle.pst_value.specs.declared.hnid.Hnid.TheVariants.{Subnode};
 ghost use Rattle.pst_value.specs.Values.{hnid_spans, spans_under};
-ghost use Rattle.pst_tc.specs.Values.{row_of_span as span_row, row_of_matrix as named_row, row_under};
-ghost use Rattle.pst_tc.specs.Matrix.{matrix_row, LiesIn};
+ghost use Rattle.pst_tc.specs.declared.matrix.Matrix.TheVariants.{Nothing};
+ghost use Rattle.pst_tc.specs.Blocks.{blocks_node, matrix_spans};
+ghost use Rattle.pst_tc.specs.Values.{row_of_span as span_row, row_of_blocks, row_of_matrix as named_row, row_under};
+ghost use Rattle.pst_tc.specs.Matrix.{matrix_row, LiesIn, HasRowsOf};
 
 use crate::blocks::Blocks;
 use pst_bytes::{Image, Span};
@@ -61,38 +63,49 @@ pub(crate) fn matrix_item(heap: &Heap, hnid: u32) -> Option<Span>
 
 // The blocks of a subnode. They are many bytes, so this stands apart from matrices that are an item.
 #[inline(never)]
-fn open_blocks<'a>(heap: &Heap<'a>, nid: u32) -> Option<Matrix<'a>>
+fn subnode_blocks<'a>(heap: &Heap<'a>, nid: u32) -> Option<Blocks<'a>>
     ensures there { let node = node_of heap.now in is_some result ≡
         is_some (spans_under (table_of_node node) (roots_of node) (Subnode nid)) }
-    ensures inside { IfSome result (LiesIn (data_of heap.now).image) }
+    ensures inside { IfSome result (λ b.
+        (table_of_node (blocks_node b)).image ≡ (data_of heap.now).image) }
     ensures rows { let node = node_of heap.now in let t = table_of_node node in
-        (size n : ℕ) → IfSome result (λ m.
-        matrix_row m size n ≡ row_under t (roots_of node) size n (Subnode nid)) }
+        (size n : ℕ) → IfSome result (λ b.
+        row_of_blocks size n (matrix_spans b) ≡ row_under t (roots_of node) size n (Subnode nid)) }
 {
     match heap.node().sub(nid) {
-        Some(sub) => Some(Matrix::Blocks(Blocks::of(sub))),
+        Some(sub) => Some(Blocks::of(sub)),
         None => None,
     }
 }
 
-/// The matrix that an HNID names; None exactly where it names nothing.
-#[inline]
+/// Puts the matrix that an HNID names in the place of none, and tells whether it names one; else there are no rows. It is many
+/// bytes, all of which would be copied wherever it is handed on, so whoever keeps it has it put there.
+#[inline(always)]
 #[tactic(auto, unfolding(crate::specs::Values::row_of_matrix, pst_value::specs::Values::hnid_spans))]
-pub(crate) fn open_matrix<'a>(heap: &Heap<'a>, hnid: u32) -> Option<Matrix<'a>>
+pub(crate) fn put_matrix<'a>(heap: &Heap<'a>, hnid: u32, matrix: &mut Matrix<'a>) -> bool
+    requires { matrix.old ≡ Nothing }
     ensures there { let node = node_of heap.now in
-        is_some result ≡ is_some (hnid_spans (table_of_node node) (roots_of node) hnid) }
-    ensures inside { IfSome result (LiesIn (data_of heap.now).image) }
-    ensures rows { let node = node_of heap.now in let t = table_of_node node in
-        (size n : ℕ) →
-        IfSome result (λ m. matrix_row m size n ≡ named_row t (roots_of node) hnid size n) }
+        result ≡ is_some (hnid_spans (table_of_node node) (roots_of node) hnid) }
+    ensures inside { LiesIn (data_of heap.now).image matrix.new }
+    ensures rows { let node = node_of heap.now in
+        HasRowsOf (table_of_node node) (roots_of node) hnid matrix.new }
 {
     match hnid_of(hnid) {
-        Hnid::Nothing => Some(Matrix::Nothing),
+        Hnid::Nothing => true,
         Hnid::Item(hid) => match heap.item_span(hid) {
-            Some(item) => Some(Matrix::Item(item)),
-            None => None,
+            Some(item) => {
+                *matrix = Matrix::Item(item);
+                true
+            }
+            None => false,
         },
-        Hnid::Subnode(nid) => open_blocks(heap, nid),
+        Hnid::Subnode(nid) => match subnode_blocks(heap, nid) {
+            Some(blocks) => {
+                *matrix = Matrix::Blocks(blocks);
+                true
+            }
+            None => false,
+        },
     }
 }
 

@@ -13,6 +13,7 @@ ghost use Rattle.pst_tc.specs.Grid.{grid_tc, grid_item};
 
 use crate::front::Front;
 use crate::grid::Grid;
+use crate::matrix::Matrix;
 use crate::row::Row;
 use pst_bth::Records;
 
@@ -37,7 +38,7 @@ impl<'a> Rows<'a> {
     ghost use Rattle.pst_tc.specs.Front.{front_tc};
     ghost use Rattle.pst_tc.specs.Left.{tc_left, row_records_left};
 
-    // All rows.
+    // All rows. The matrix is a variable, which is put where it is kept by one copy: an answer would be copied several times.
     #[tactic(auto, using(crate::proofs::RowLemmas::body_rows))]
     pub(crate) fn all(front: Front<'a>) -> Rows<'a>
         ensures records { let node = node_of_tc (front_tc front.entry) in
@@ -47,8 +48,10 @@ impl<'a> Rows<'a> {
         ensures tc { tc_left result ≡ front_tc front.entry }
     {
         front.is_sound();
+        let mut matrix = Matrix::Nothing;
+        front.put_matrix(&mut matrix);
         Rows {
-            grid: front.grid(),
+            grid: Grid::of(front, matrix),
             rest: front.index().records(),
         }
     }

@@ -16,7 +16,7 @@ use pst_ndb::{Node, SubIndex};
 /// A table context without fault ([MS-PST] 2.3.4): columns, and a finite map from identifiers to rows.
 #[derive(Clone, Copy)]
 pub struct Tc<'a> {
-    heap: Heap<'a>,
+    pub(crate) heap: Heap<'a>,
     ghost sound: { tc_fault (table_of_node (node_of heap)) (roots_of (node_of heap)) ≡ None },
 }
 
@@ -86,8 +86,7 @@ impl<'a> Tc<'a> {
         ensures sound { let node = node_of_tc self.now in
             tc_body_fault (table_of_node node) (roots_of node) result ≡ None }
     {
-        let heap = self.heap();
-        match heap.item_span(heap.user_root()) {
+        match self.heap.item_span(self.heap.user_root()) {
             Some(info) => info,
             None => unreachable!(),
         }

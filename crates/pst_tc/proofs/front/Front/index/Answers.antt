@@ -9,5 +9,5 @@ pub known_bth-requires-clause-sound : goal.known_bth-requires-clause-sound
 known_bth-requires-clause-sound c =
     let t = table_of_node (node_of_tc c.args.self.now.tc) in
     let r = roots_of (node_of_tc c.args.self.now.tc) in
-    let hid : c.number32.result ≡ index_hid t.image c.args.self.now.item = rw (c.image-image.ensures.bytes, c.heap-heap.ensures) at c.number32.ensures in
-    rw (c.heap-heap.ensures, hid) (body_index t r c.args.self.now.item c.args.self.now.sound)
+    let hid : c.number32-hid.result ≡ index_hid t.image c.args.self.now.item = rw c.image.ensures.bytes at c.number32-hid.ensures in
+    rw hid (body_index t r c.args.self.now.item c.args.self.now.sound)

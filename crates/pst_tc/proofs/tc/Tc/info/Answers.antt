@@ -12,14 +12,12 @@ pub unreachable-requires : goal.unreachable-requires
 unreachable-requires c =
     let t = table_of_node (node_of_tc c.args.self.now) in
     let r = roots_of (node_of_tc c.args.self.now) in
-    let root : c.user_root.result ≡ user_root_of (heap_at t r) = rw c.heap-heap.ensures at c.user_root.ensures in
-    let is : None ≡ item_of (heap_at t r) (user_root_of (heap_at t r)) = rw (c.heap-heap.ensures, root) at c.in-None.ensures.value in
+    let is : None ≡ item_of (heap_at t r) (user_root_of (heap_at t r)) = rw c.user_root.ensures at c.in-None.ensures.value in
     info_there t r c.args.self.now.sound is
 
 pub returns-clause-sound : goal.returns-clause-sound
 returns-clause-sound c =
     let t = table_of_node (node_of_tc c.args.self.now) in
     let r = roots_of (node_of_tc c.args.self.now) in
-    let root : c.user_root.result ≡ user_root_of (heap_at t r) = rw c.heap-heap.ensures at c.user_root.ensures in
-    let is : Some c.in-Some.info ≡ item_of (heap_at t r) (user_root_of (heap_at t r)) = rw (c.heap-heap.ensures, root) at c.in-Some.ensures.value in
+    let is : Some c.in-Some.info ≡ item_of (heap_at t r) (user_root_of (heap_at t r)) = rw c.user_root.ensures at c.in-Some.ensures.value in
     table_sound t r c.in-Some.info c.args.self.now.sound is
