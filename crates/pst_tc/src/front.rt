@@ -44,13 +44,11 @@ impl<'a> Front<'a> {
     ghost use Rattle.pst_tc.specs.Left.{columns_left};
 
     /// That of a table context.
-    pub(crate) fn of(tc: Tc<'a>) -> Front<'a>
-        ensures { front_tc result ≡ tc.entry }
+    pub(crate) fn of(tc: &Tc<'a>) -> Front<'a>
+        ensures { front_tc result ≡ tc.now }
     {
-        Front {
-            tc,
-            item: tc.info(),
-        }
+        let item = tc.info();
+        Front { tc: *tc, item }
     }
 
     /// What is known of it: which item it is, where that lies, and that nothing that it names is at fault.

@@ -48,11 +48,12 @@ impl<'a> Rows<'a> {
         ensures tc { tc_left result ≡ front_tc front.entry }
     {
         front.is_sound();
+        let rest = front.index().records();
         let mut matrix = Matrix::Nothing;
         front.put_matrix(&mut matrix);
         Rows {
             grid: Grid::of(front, matrix),
-            rest: front.index().records(),
+            rest,
         }
     }
 }
