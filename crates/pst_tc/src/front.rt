@@ -112,12 +112,12 @@ impl<'a> Front<'a> {
     }
 
     /// TCINFO with the row matrix.
-    pub(crate) fn grid(self) -> Grid<'a>
-        ensures { grid_front result ≡ self.entry }
+    pub(crate) fn grid(&self) -> Grid<'a>
+        ensures { grid_front result ≡ self.now }
     {
         let mut matrix = Matrix::Nothing;
         self.put_matrix(&mut matrix);
-        Grid::of(self, matrix)
+        Grid::of(self, &matrix)
     }
 
     /// All columns.

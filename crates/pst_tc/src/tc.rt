@@ -108,7 +108,7 @@ impl<'a> Tc<'a> {
             tc_rows_left result ≡ tc_rows (table_of_node node) (roots_of node) }
         ensures tc { tc_left result ≡ self.now }
     {
-        Rows::all(Front::of(self))
+        Rows::all(&Front::of(self))
     }
 
     /// How many rows there are. The row index is gone through leaf by leaf, and the matrix is not.
