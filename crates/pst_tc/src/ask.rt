@@ -190,7 +190,7 @@ impl<'a> Tc<'a> {
             IfOk result (λ asks. HoldsWith t (roots_of node) asks (tc_fault t)) }
         ensures memory { IfErr result (λ f. f ≡ no_memory) }
     {
-        let front = Front::of(*self);
+        let front = Front::of(self);
         front.is_sound();
         let heap = front.heap();
         let mut asks = Asks::of_matrix(alloc, matrix_ask(&heap, front.item()));

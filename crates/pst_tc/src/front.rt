@@ -44,13 +44,11 @@ impl<'a> Front<'a> {
     ghost use Rattle.pst_tc.specs.Left.{columns_left};
 
     /// That of a table context.
-    pub(crate) fn of(tc: Tc<'a>) -> Front<'a>
-        ensures { front_tc result ≡ tc.entry }
+    pub(crate) fn of(tc: &Tc<'a>) -> Front<'a>
+        ensures { front_tc result ≡ tc.now }
     {
-        Front {
-            tc,
-            item: tc.info(),
-        }
+        let item = tc.info();
+        Front { tc: *tc, item }
     }
 
     /// What is known of it: which item it is, where that lies, and that nothing that it names is at fault.
@@ -114,12 +112,12 @@ impl<'a> Front<'a> {
     }
 
     /// TCINFO with the row matrix.
-    pub(crate) fn grid(self) -> Grid<'a>
-        ensures { grid_front result ≡ self.entry }
+    pub(crate) fn grid(&self) -> Grid<'a>
+        ensures { grid_front result ≡ self.now }
     {
         let mut matrix = Matrix::Nothing;
         self.put_matrix(&mut matrix);
-        Grid::of(self, matrix)
+        Grid::of(self, &matrix)
     }
 
     /// All columns.

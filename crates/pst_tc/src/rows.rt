@@ -40,19 +40,20 @@ impl<'a> Rows<'a> {
 
     // All rows. The matrix is a variable, which is put where it is kept by one copy: an answer would be copied several times.
     #[tactic(auto, using(crate::proofs::RowLemmas::body_rows))]
-    pub(crate) fn all(front: Front<'a>) -> Rows<'a>
-        ensures records { let node = node_of_tc (front_tc front.entry) in
+    pub(crate) fn all(front: &Front<'a>) -> Rows<'a>
+        ensures records { let node = node_of_tc (front_tc front.now) in
             let t = table_of_node node in
             let r = roots_of node in
             row_records_left result ≡ tc_records t r (info_of t r) }
-        ensures tc { tc_left result ≡ front_tc front.entry }
+        ensures tc { tc_left result ≡ front_tc front.now }
     {
         front.is_sound();
+        let rest = front.index().records();
         let mut matrix = Matrix::Nothing;
         front.put_matrix(&mut matrix);
         Rows {
-            grid: Grid::of(front, matrix),
-            rest: front.index().records(),
+            grid: Grid::of(front, &matrix),
+            rest,
         }
     }
 }

@@ -98,7 +98,7 @@ impl<'a> Tc<'a> {
         ensures { let node = node_of_tc self.now in
             columns_left result ≡ tc_columns (table_of_node node) (roots_of node) }
     {
-        Front::of(*self).columns()
+        Front::of(self).columns()
     }
 
     /// All rows, in order of their identifiers, each once. The row matrix is looked up once.
@@ -108,7 +108,7 @@ impl<'a> Tc<'a> {
             tc_rows_left result ≡ tc_rows (table_of_node node) (roots_of node) }
         ensures tc { tc_left result ≡ self.now }
     {
-        Rows::all(Front::of(*self))
+        Rows::all(&Front::of(self))
     }
 
     /// How many rows there are. The row index is gone through leaf by leaf, and the matrix is not.
@@ -117,7 +117,7 @@ impl<'a> Tc<'a> {
         ensures { let node = node_of_tc self.now in
             result ≡ length (tc_rows (table_of_node node) (roots_of node)) }
     {
-        let front = Front::of(*self);
+        let front = Front::of(self);
         front.is_sound();
         front.index().count()
     }
@@ -130,7 +130,7 @@ impl<'a> Tc<'a> {
             option_map row_parts result ≡ first_with row_id_of id rows }
         ensures tc { IfSome result (λ row. tc_of_row row ≡ self.now) }
     {
-        let front = Front::of(*self);
+        let front = Front::of(self);
         front.is_sound();
         let Some(number) = front.index().find(id) else {
             return None;
