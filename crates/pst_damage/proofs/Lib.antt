@@ -7,4 +7,5 @@ pub mod NodeLaws
 pub mod OrderLemmas
 pub mod PagesLemmas
 pub mod RiseLemmas
+pub mod SoundLemmas
 pub mod WholeLemmas

@@ -3,20 +3,23 @@
 ghost use Rattle.std.specs.Prelude.{◌≡◌, None};
 ghost use Rattle.pst_fault.specs.Each.{first_of};
 ghost use Rattle.pst_fault.specs.First.{Tells};
+ghost use Rattle.pst_ndb.specs.Fault.{node_fault};
+ghost use Rattle.pst_ndb.specs.Roots.{entry_roots};
 ghost use Rattle.pst_ndb.specs.Views.{table_of_node, roots_of};
 ghost use Rattle.pst_tc.specs.Fault.{tc_fault};
 ghost use Rattle.pst_tc.specs.Tc.{node_of_tc};
 ghost use Rattle.pst_tc.specs.Values.{tc_rows};
 ghost use Rattle.pst_tc.specs.View.{row_parts};
-ghost use Rattle.pst_damage.specs.Folder.{row_damage, table_damage, folder_damage};
+ghost use Rattle.pst_damage.specs.Folder.{row_damage, items_damage, table_damage, folder_damage};
 ghost use Rattle.pst_damage.specs.Known.{IsKnownOf};
 ghost use Rattle.pst_damage.specs.Left.{left_table, left_nodes, left_pages};
 ghost use Rattle.pst_damage.specs.Listings.{AreListingsTrue, items_number};
 
 use crate::faults::Part;
 use crate::known::Known;
-use crate::left::Left;
+use crate::left::{Left, node_of};
 use crate::listings::{Listings, number_of};
+use pst_btree::NodeEntry;
 use pst_fault::{Fault, Kind};
 use pst_msg::{Items, Tc, listing_nid, may_list, named};
 use pst_ndb::Node;
@@ -113,8 +116,26 @@ fn check_all(left: &Left, items: Items, table: Node, known: &mut Known) -> Resul
     known.rows.keep(part, answer)
 }
 
+// The table of an entry: its context, then its rows.
+#[tactic(auto, unfolding(crate::specs::Folder::items_damage))]
+fn check_items(left: &Left, items: Items, entry: NodeEntry, known: &mut Known) -> Result<(), Fault>
+    requires sound { node_fault (left_table left.now) entry ≡ None }
+    requires known { let nodes = left_nodes left.now in
+        IsKnownOf (left_table left.now) nodes (left_pages left.now) known.old }
+    ensures known { let nodes = left_nodes left.now in
+        IsKnownOf (left_table left.now) nodes (left_pages left.now) known.new }
+    ensures exact { let t = left_table left.now in
+        Tells result (items_damage t (left_nodes left.now) (left_pages left.now) items
+        (entry_roots entry.entry)) tt }
+{
+    let list = [entry];
+    let table = node_of(left.blocks, entry, &list);
+    known.contexts.check_listing(items, table)?;
+    check_all(left, items, table, known)
+}
+
 // A table of a folder, where its node is sound.
-#[tactic(auto, unfolding(crate::specs::Folder::table_damage, crate::specs::Folder::items_damage))]
+#[tactic(auto, unfolding(crate::specs::Folder::table_damage, pst_ndb::specs::Roots::node_in), using(crate::proofs::SoundLemmas::found_none))]
 fn check_table(left: &Left, items: Items, nid: u32, known: &mut Known) -> Result<(), Fault>
     requires known { let nodes = left_nodes left.now in
         IsKnownOf (left_table left.now) nodes (left_pages left.now) known.old }
@@ -123,11 +144,8 @@ fn check_table(left: &Left, items: Items, nid: u32, known: &mut Known) -> Result
     ensures exact { let nodes = left_nodes left.now in
         Tells result (table_damage (left_table left.now) nodes (left_pages left.now) items nid) tt }
 {
-    match left.sound.node(listing_nid(nid, items)) {
-        Some(table) => {
-            known.contexts.check_listing(items, table)?;
-            check_all(left, items, table, known)
-        }
+    match left.sound(listing_nid(nid, items)) {
+        Some(entry) => check_items(left, items, entry, known),
         None => Ok(()),
     }
 }
