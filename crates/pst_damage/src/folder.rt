@@ -59,10 +59,13 @@ fn check_each(left: &Left, items: Items, bid: u64, table: Tc) -> Result<(), Faul
     Ok(())
 }
 
-// A table of at most so many rows is looked at wherever it is named; only a longer one is remembered.
+// A table of at most so many rows whose data has at most so many bytes is looked at wherever it is named; only a longer one is
+// remembered. (Of few rows may be many leaves, which have none.)
 const FEW: u64 = 16;
 
-// All rows of a table, unless they are remembered.
+const SMALL: u64 = 2048;
+
+// All rows of a table, unless they are remembered: by its data, whatever its list, since no row is named there.
 fn check_rows(left: &Left, items: Items, table: Node, listings: &mut Listings) -> Result<(), Fault>
     requires table { table_of_node table ≡ left_table left.now }
     requires sound { tc_fault (table_of_node table) (roots_of table) ≡ None }
@@ -80,19 +83,18 @@ fn check_rows(left: &Left, items: Items, table: Node, listings: &mut Listings) -
     }
     let rows = known_tc(table);
     check_each(left, items, table.bid_data(), rows)?;
-    if rows.row_count() > FEW {
+    if table.spans().size() > SMALL || rows.row_count() > FEW {
         listings.put(items, table)?;
     }
     Ok(())
 }
 
-// The rows of a table that lists these, as a part.
+// The rows of a table that lists these, as a part: all that they name stands in its data.
 fn rows_of(items: Items, table: Node) -> Part
     ensures content { result.0.0 ≡ (roots_of table.entry).bid_data }
-    ensures list { result.0.1 ≡ (roots_of table.entry).bid_sub }
     ensures items { result.1 ≡ items_number items }
 {
-    ((table.bid_data(), table.bid_sub()), number_of(items))
+    ((table.bid_data(), 0), number_of(items))
 }
 
 // All rows of a table, whose fault is remembered.
