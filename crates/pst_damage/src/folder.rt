@@ -128,7 +128,7 @@ fn check_items(left: &Left, items: Items, entry: NodeEntry, known: &mut Known) -
         IsKnownOf (left_table left.now) nodes (left_pages left.now) known.new }
     ensures exact { let t = left_table left.now in
         Tells result (items_damage t (left_nodes left.now) (left_pages left.now) items
-        (entry_roots entry.entry)) tt }
+        (entry_roots entry)) tt }
 {
     let list = [entry];
     let table = node_of(left.blocks, entry, &list);

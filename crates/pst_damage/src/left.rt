@@ -50,7 +50,7 @@ pub(crate) fn node_of<'a>(blocks: Blocks<'a>, entry: NodeEntry, list: &'a [NodeE
     requires list { list.now ≡ entry ∷ [] }
     requires sound { node_fault (table_of blocks) entry ≡ None }
     ensures table { table_of_node result ≡ table_of blocks.entry }
-    ensures roots { roots_of result ≡ entry_roots entry.entry }
+    ensures roots { roots_of result ≡ entry_roots entry }
 {
     match NodeTable::known(blocks, NodeList::of(list)).node(entry.nid) {
         Some(node) => node,
