@@ -109,7 +109,7 @@ found_none t nodes nid e found = none_of_found (node_fault t) nid (sound_nodes t
 -- ---- a list of one node
 
 pub one_rises : (list : List NodeEntry) (e : NodeEntry) → list ≡ e ∷ [] → Rises 0 None (map node_key list)
-one_rises list e is = rw is (omega arith, tt, tt)
+one_rises list e is = rw is (omega arith, refl, tt)
 
 pub one_sound : (t : Table) (list : List NodeEntry) (e : NodeEntry) → list ≡ e ∷ [] → node_fault t e ≡ None → nodes_fault t list ≡ None
 unfolding first_of
