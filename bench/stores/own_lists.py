@@ -122,4 +122,22 @@ def nested_lists(store, levels=127, count=60_000, rows=300):
     store.node(0x200024, message, below)
 
 
-MAKERS = (own_records, own_tables, own_contents, own_attachments, own_values, own_embedded, turning_lists, nested_lists)
+def own_holders(store, messages=2000, count=20_000, levels=1):
+    """MESSAGES COUNT LEVELS: messages with a list of their own each and one attachment, which they share; it embeds a
+    message with one attachment, and so on, LEVELS in all. The last message has so many attachments, which are one
+    context but for the last."""
+    roots(store)
+    message, held, row = small_message(store), embedding_context(store), identifiers(1, 5)[0]
+    made = table(store, [], [(row, {})])
+    *entries, (last, *_) = attachment_entries(store, count)
+    below = subnode_list(store, entries + [(last, small_message(store, 1), 0)])
+    for _ in range(levels - 1):
+        inner = leaf_list(store, [(EMBEDDED_MESSAGE, message, below)])
+        below = leaf_list(store, [(ATTACHMENTS, *made), (row, held, inner)])
+    inner = leaf_list(store, [(EMBEDDED_MESSAGE, message, below)])
+    for node in identifiers(messages, 4):
+        store.node(node, message, leaf_list(store, [(ATTACHMENTS, *made), (row, held, inner)]))
+
+
+MAKERS = (own_records, own_tables, own_contents, own_attachments, own_values, own_embedded, own_holders, turning_lists,
+          nested_lists)

@@ -19,7 +19,7 @@ use Rattle.pst_msg.specs.pst_pc.Fault.{untold_pc_fault, pc_fault}
 use Rattle.pst_msg.proofs.pst_pc.AlikeLaws.{alike_pc_law}
 use Rattle.pst_tc.specs.Fault.{untold_tc_fault, tc_fault}
 use Rattle.pst_tc.specs.Values.{tc_rows}
-use Rattle.pst_tc.proofs.AlikeLaws.{alike_tc_law, rows_alike}
+use Rattle.pst_tc.proofs.AlikeLaws.{alike_tc_law}
 use Rattle.pst_msg.specs.declared.items.Items.{Items}
 use Rattle.pst_msg.specs.declared.items.Items.TheVariants.{Subfolders, Messages, Associated}
 use Rattle.pst_msg.specs.Keys.{Key, key_cmp}
@@ -31,6 +31,7 @@ use Rattle.pst_damage.specs.Listings.{items_number}
 use Rattle.pst_damage.specs.Rows.{as_it_is, items_with, rows_part}
 use Rattle.pst_damage.specs.Faults.{Parts, Retelling, IsFaultOf, fault_kept, AreFaultsOf, IsTold}
 use Rattle.pst_damage.specs.Trees.{data_part}
+use Rattle.pst_damage.proofs.RowsLemmas.{rows_of_data}
 
 -- ---- none, one more, and as before
 
@@ -118,24 +119,24 @@ items_again Subfolders = refl
 items_again Messages = refl
 items_again Associated = refl
 
-rows_again : (t : Table) (nodes : List NodeEntry) (broken : List Broken) (items : Items) (r : Roots) (q : Key) (nid : ℕ) → q.0.0 ≡ r.bid_data → q.0.1 ≡ r.bid_sub → q.1 ≡ items_number items
+rows_again : (t : Table) (nodes : List NodeEntry) (broken : List Broken) (items : Items) (r : Roots) (q : Key) (nid : ℕ) → q.0.0 ≡ r.bid_data → q.1 ≡ items_number items
     → rows_part t nodes broken q nid ≡ first_of (row_damage nodes broken items r.bid_data) (tc_rows t r)
-rows_again t nodes broken items r q nid content list number =
+rows_again t nodes broken items r q nid content number =
     ap (λ (i : Items). first_of (row_damage nodes broken i q.0.0) (tc_rows t (roots_at q nid))) (ap items_with number ∙ items_again items)
     ∙ ap (λ (b : ℕ). first_of (row_damage nodes broken items b) (tc_rows t (roots_at q nid))) content
-    ∙ ap (first_of (row_damage nodes broken items r.bid_data)) (rows_alike t (roots_at q nid) r (ap bid_key content, ap bid_key list))
+    ∙ rows_of_data t nodes broken items r.bid_data (roots_at q nid) r (ap bid_key content)
 
-pub rows_retold : (t : Table) (nodes : List NodeEntry) (broken : List Broken) (items : Items) (r : Roots) (q : Key) (f : Fault) → q.0.0 ≡ r.bid_data → q.0.1 ≡ r.bid_sub → q.1 ≡ items_number items
+pub rows_retold : (t : Table) (nodes : List NodeEntry) (broken : List Broken) (items : Items) (r : Roots) (q : Key) (f : Fault) → q.0.0 ≡ r.bid_data → q.1 ≡ items_number items
     → first_of (row_damage nodes broken items r.bid_data) (tc_rows t r) ≡ Some f → IsFaultOf as_it_is (rows_part t nodes broken) q f
-rows_retold t nodes broken items r q f content list number is nid = rows_again t nodes broken items r q nid content list number ∙ is
+rows_retold t nodes broken items r q f content number is nid = rows_again t nodes broken items r q nid content number ∙ is
 
-pub rows_kept : (t u : Table) (nodes : List NodeEntry) (broken : List Broken) (items : Items) (r : Roots) (q : Key) (faults : Faults) (f : Fault) → u ≡ t → q.0.0 ≡ r.bid_data → q.0.1 ≡ r.bid_sub → q.1 ≡ items_number items
+pub rows_kept : (t u : Table) (nodes : List NodeEntry) (broken : List Broken) (items : Items) (r : Roots) (q : Key) (faults : Faults) (f : Fault) → u ≡ t → q.0.0 ≡ r.bid_data → q.1 ≡ items_number items
     → AreFaultsOf as_it_is (rows_part t nodes broken) faults → Some f ≡ fault_kept faults q → first_of (row_damage nodes broken items r.bid_data) (tc_rows u r) ≡ Some f
-rows_kept t u nodes broken items r q faults f same content list number are is =
-    rw same (sym (rows_again t nodes broken items r q 0 content list number) ∙ told_kept as_it_is (rows_part t nodes broken) faults q f 0 are is)
+rows_kept t u nodes broken items r q faults f same content number are is =
+    rw same (sym (rows_again t nodes broken items r q 0 content number) ∙ told_kept as_it_is (rows_part t nodes broken) faults q f 0 are is)
 
-pub rows_keep : (t u : Table) (nodes : List NodeEntry) (broken : List Broken) (items : Items) (r : Roots) (q : Key) (answer : Result (Unit {0}) Fault) → u ≡ t → q.0.0 ≡ r.bid_data → q.0.1 ≡ r.bid_sub → q.1 ≡ items_number items
+pub rows_keep : (t u : Table) (nodes : List NodeEntry) (broken : List Broken) (items : Items) (r : Roots) (q : Key) (answer : Result (Unit {0}) Fault) → u ≡ t → q.0.0 ≡ r.bid_data → q.1 ≡ items_number items
     → Tells answer (first_of (row_damage nodes broken items r.bid_data) (tc_rows u r)) tt → (f : Fault) → answer ≡ Err f → IsTold f → IsFaultOf as_it_is (rows_part t nodes broken) q f
-rows_keep t u nodes broken items r q answer same content list number tells f e told =
+rows_keep t u nodes broken items r q answer same content number tells f e told =
     let is : first_of (row_damage nodes broken items r.bid_data) (tc_rows t r) ≡ Some f = rw (← same) (told_some answer (first_of (row_damage nodes broken items r.bid_data) (tc_rows u r)) f tells e told) in
-    rows_retold t nodes broken items r q f content list number is
+    rows_retold t nodes broken items r q f content number is

@@ -7,4 +7,6 @@ pub mod NodeLaws
 pub mod OrderLemmas
 pub mod PagesLemmas
 pub mod RiseLemmas
+pub mod RowsLemmas
+pub mod SoundLemmas
 pub mod WholeLemmas

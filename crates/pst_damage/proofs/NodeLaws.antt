@@ -172,16 +172,16 @@ told_behind part nid low (e ∷ rest) lt r = by_fault (part e) (told_behind part
         other : (a b : ℕ) → b < a → nat_eq a b ≡ false
         other a b lt = grind (arith, nat_tests, lt)
 
-with_by_test : (nid : ℕ) (e : NodeEntry) (rest : List NodeEntry) (v : Bool) → nat_eq e.nid nid ≡ v → node_with nid (e ∷ rest) ≡ cond v (Some e) (node_with nid rest)
+pub with_by_test : (nid : ℕ) (e : NodeEntry) (rest : List NodeEntry) (v : Bool) → nat_eq e.nid nid ≡ v → node_with nid (e ∷ rest) ≡ cond v (Some e) (node_with nid rest)
 unfolding first_with
 with_by_test nid e rest true h = rw h refl
 with_by_test nid e rest false h = rw h refl
 
-none_with : (nid : ℕ) → node_with nid [] ≡ None
+pub none_with : (nid : ℕ) → node_with nid [] ≡ None
 unfolding first_with
 none_with nid = refl
 
-told_among : (part : Judged) (nid low : ℕ) (nodes : List NodeEntry) → Rises low None (map node_key nodes) → fault_told nid (told_by part nodes) ≡ if_there part (node_with nid nodes)
+pub told_among : (part : Judged) (nid low : ℕ) (nodes : List NodeEntry) → Rises low None (map node_key nodes) → fault_told nid (told_by part nodes) ≡ if_there part (node_with nid nodes)
 unfolding told_by
 told_among part nid low [] r = none_told nid ∙ ap (if_there part) (sym (none_with nid))
 told_among part nid low (e ∷ rest) r = by_test (nat_eq e.nid nid) refl (part e) refl (told_among part nid (e.nid + 1) rest r.2)
@@ -230,7 +230,7 @@ passes_required nodes nid other told differ = by_found (node_with other nodes) r
     by_found None e = ap (fault_told nid) (required_lacks nodes other told e) ∙ told_of_other nid (missing other) told differ
     by_found (Some x) e = ap (fault_told nid) (required_there nodes other told x e)
 
-same_nid : (nid : ℕ) → nat_eq nid nid ≡ true
+pub same_nid : (nid : ℕ) → nat_eq nid nid ≡ true
 same_nid nid = grind (arith, nat_tests)
 
 -- what is told of a node that has to be there
@@ -255,7 +255,7 @@ found_nid nid (x ∷ rest) e found = by_test (nat_eq x.nid nid) refl (sym (with_
     by_test true h is later = let same : x ≡ e = cc in let at : x.nid ≡ nid = grind (arith, nat_tests, h) in ap (λ (y : NodeEntry). y.nid) (sym same) ∙ at
     by_test false h is later = later is
 
-none_of_found : (part : Judged) (nid : ℕ) (nodes : List NodeEntry) (e : NodeEntry) → first_of part nodes ≡ None → node_with nid nodes ≡ Some e → part e ≡ None
+pub none_of_found : (part : Judged) (nid : ℕ) (nodes : List NodeEntry) (e : NodeEntry) → first_of part nodes ≡ None → node_with nid nodes ≡ Some e → part e ≡ None
 unfolding first_of
 none_of_found part nid [] e none found = absurd (lacks (sym (none_with nid) ∙ found))
   where

@@ -1,23 +1,20 @@
--- Nodes whose identifiers rise, and those of them that are sound or told.
+-- Nodes whose identifiers rise, and those of them that are told.
 use Rattle.std.proofs.Common.{◌≡◌, ℕ, zero, suc, ◌+◌, ◌<◌, ◌≤◌, true, false, List, [], ◌∷◌, length, map, drop, get_or, Option, Some, None, refl, sym, ap, ◌∙◌, arith}
-use Rattle.std.specs.Prelude.{nat_eq, slice_get, option_map}
-use Rattle.std.specs.List.{Contains}
+use Rattle.std.specs.Prelude.{nat_eq, slice_get}
 use Rattle.std.proofs.lemmas.List.{drop_more}
 use Rattle.std.proofs.lemmas.Bool.Decides.{nat_tests}
 use Rattle.pst_fault.specs.declared.fault.Fault.{Fault}
-use Rattle.pst_fault.specs.Each.{first_of}
 use Rattle.pst_fault.proofs.FirstLemmas.{then_none}
 use Rattle.pst_page.specs.declared.entry.NodeEntry.{NodeEntry}
 use Rattle.pst_btree.specs.Entries.{node_key}
 use Rattle.pst_btree.specs.Order.{Rises}
-use Rattle.pst_btree.proofs.EntryLemmas.{contains_with}
 use Rattle.pst_block.specs.Table.{Table}
-use Rattle.pst_ndb.specs.Fault.{node_fault, nodes_fault}
-use Rattle.pst_ndb.specs.Roots.{Roots, entry_roots, node_in}
+use Rattle.pst_ndb.specs.Fault.{node_fault}
+use Rattle.pst_ndb.specs.Roots.{Roots, entry_roots}
 use Rattle.pst_remains.specs.declared.pages.Broken.{Broken}
 use Rattle.pst_damage.specs.declared.broken.BrokenNode.{BrokenNode}
 use Rattle.pst_damage.specs.Folder.{asked_damage}
-use Rattle.pst_damage.specs.Judged.{Judged, kept_node, told_node, sound_by, told_by, sound_nodes, own_of, place_after}
+use Rattle.pst_damage.specs.Judged.{Judged, told_node, told_by, own_of, place_after}
 use Rattle.pst_damage.specs.Nodes.{node_damage}
 use Rattle.pst_damage.proofs.JudgedLemmas.{told_first}
 
@@ -30,52 +27,6 @@ pub rises_drop : (low : ℕ) (nodes : List NodeEntry) (i : ℕ) → Rises low No
 rises_drop low nodes zero r = lower low 0 nodes (omega arith) r
 rises_drop low [] (suc i) r = tt
 rises_drop low (e ∷ rest) (suc i) r = rises_drop (e.nid + 1) rest i r.2
-
--- ---- the sound ones
-
-sound_rises : (part : Judged) (low : ℕ) (nodes : List NodeEntry) → Rises low None (map node_key nodes) → Rises low None (map node_key (sound_by part nodes))
-unfolding sound_by
-sound_rises part low [] r = tt
-sound_rises part low (e ∷ rest) r = kept (part e) (sound_rises part (e.nid + 1) rest r.2)
-  where
-    kept : (o : Option Fault) → Rises (e.nid + 1) None (map node_key (sound_by part rest)) → Rises low None (map node_key (kept_node o e (sound_by part rest)))
-    kept None more = (r.0, r.1, more)
-    kept (Some f) more = lower (e.nid + 1) low (sound_by part rest) (omega (arith, r.0)) more
-
-pub sound_rise : (t : Table) (nodes : List NodeEntry) → Rises 0 None (map node_key nodes) → Rises 0 None (map node_key (sound_nodes t nodes))
-sound_rise t nodes r = sound_rises (node_fault t) 0 nodes r
-
-pub sound_none : (t : Table) (nodes : List NodeEntry) → nodes_fault t (sound_nodes t nodes) ≡ None
-unfolding sound_by first_of
-sound_none t [] = refl
-sound_none t (e ∷ rest) = kept (node_fault t e) refl (sound_none t rest)
-  where
-    kept : (o : Option Fault) → node_fault t e ≡ o → nodes_fault t (sound_nodes t rest) ≡ None → nodes_fault t (kept_node o e (sound_nodes t rest)) ≡ None
-    kept None is more = then_none (node_fault t e) (nodes_fault t (sound_nodes t rest)) is ∙ more
-    kept (Some f) is more = more
-
--- one that is sound stands among them
-sound_at : (part : Judged) (e : NodeEntry) (nodes : List NodeEntry) (k : ℕ) → k < length nodes → get_or nodes k e ≡ e → part e ≡ None → Contains (sound_by part nodes) e
-unfolding sound_by
-sound_at part e [] k lt is none = absurd (omega (arith, lt))
-sound_at part e (x ∷ rest) zero lt is none = rw (is, none) (0, omega arith, refl)
-sound_at part e (x ∷ rest) (suc k) lt is none = kept (part x) (sound_at part e rest k (omega (arith, lt)) is none)
-  where
-    kept : (o : Option Fault) → Contains (sound_by part rest) e → Contains (kept_node o x (sound_by part rest)) e
-    kept None w = (suc w.0, omega (arith, w.1), w.2)
-    kept (Some f) w = w
-
-pub sound_found : (t : Table) (nodes : List NodeEntry) (e : NodeEntry) → Rises 0 None (map node_key nodes) → Contains nodes e → node_fault t e ≡ None → node_in (sound_nodes t nodes) e.nid ≡ Some (entry_roots e)
-unfolding node_in
-sound_found t nodes e r w none =
-    let there = sound_at (node_fault t) e nodes w.0 w.1 w.2 none in
-    ap (option_map entry_roots) (contains_with node_key (sound_nodes t nodes) 0 None e.nid e there.0 (sound_rise t nodes r) there.1 there.2 refl)
-
-pub is_there : (t : Table) (nodes : List NodeEntry) (e : NodeEntry) → Rises 0 None (map node_key nodes) → Contains nodes e → None ≡ node_fault t e → None ≡ node_in (sound_nodes t nodes) e.nid → ⊥
-is_there t nodes e r w none lacks = let found = sound_found t nodes e r w (sym none) in absurd cc
-
-pub is_asked : (t : Table) (nodes : List NodeEntry) (e : NodeEntry) (r : Roots) → Rises 0 None (map node_key nodes) → Contains nodes e → None ≡ node_fault t e → Some r ≡ node_in (sound_nodes t nodes) e.nid → r ≡ entry_roots e
-is_asked t nodes e r rises w none found = let is = sound_found t nodes e rises w (sym none) in cc
 
 -- ---- the next one that is told
 

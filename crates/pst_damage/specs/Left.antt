@@ -2,14 +2,14 @@
 use Rattle.std.specs.Prelude.{List}
 use Rattle.pst_page.specs.declared.entry.NodeEntry.{NodeEntry}
 use Rattle.pst_btree.specs.Lists.{listed_nodes}
+use Rattle.pst_block.specs.Blocks.{table_of}
 use Rattle.pst_block.specs.Table.{Table}
-use Rattle.pst_ndb.specs.NodeTable.{table_of_nodes}
 use Rattle.pst_remains.specs.declared.pages.Broken.{Broken}
 use Rattle.pst_damage.specs.declared.left.Left.{Left}
 use Rattle.pst_damage.specs.BrokenPages.{pages_in}
 
 abbrev pub left_table : Left → Table
-left_table l = table_of_nodes l.sound
+left_table l = table_of l.blocks
 
 abbrev pub left_nodes : Left → List NodeEntry
 left_nodes l = listed_nodes l.nodes

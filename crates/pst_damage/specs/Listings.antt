@@ -9,18 +9,18 @@ use Rattle.pst_remains.specs.declared.pages.Broken.{Broken}
 use Rattle.pst_tc.specs.Values.{tc_rows}
 use Rattle.pst_msg.specs.declared.items.Items.{Items}
 use Rattle.pst_msg.specs.declared.items.Items.TheVariants.{Subfolders, Messages, Associated}
-use Rattle.pst_msg.specs.Keys.{Key, key, key_cmp}
+use Rattle.pst_msg.specs.Keys.{Key, data_key, key_cmp}
 use Rattle.pst_damage.specs.declared.listings.Listings.{Listings}
 use Rattle.pst_damage.specs.Folder.{row_damage}
 
--- a table that lists these, by the blocks of its data and of its subnodes
+-- a table that lists these, by its data alone, in which all that the rows name stands
 abbrev pub items_number : Items → ℕ
 items_number Subfolders = 0
 items_number Messages = 1
 items_number Associated = 2
 
 abbrev pub listing_key : Items → Roots → Key
-listing_key items r = key (items_number items) r
+listing_key items r = data_key (items_number items) r
 
 unfoldable pub is_listed : Listings → Key → Bool
 is_listed l q = contains key_cmp l.tables q

@@ -1,7 +1,6 @@
 //! What messaging asks of the nodes of a damaged file.
 
 ghost use Rattle.std.specs.Prelude.{◌≡◌, None, IfOk, IfErr};
-ghost use Rattle.std.specs.List.{Contains};
 ghost use Rattle.pst_fault.specs.Fault.{no_memory};
 ghost use Rattle.pst_fault.specs.First.{Tells};
 ghost use Rattle.pst_ndb.specs.Fault.{node_fault};
@@ -14,7 +13,7 @@ ghost use Rattle.pst_damage.specs.Nodes.{node_damage};
 use crate::broken::found;
 use crate::folder::check_folder;
 use crate::known::Known;
-use crate::left::Left;
+use crate::left::{Left, node_of};
 use pst_btree::NodeEntry;
 use pst_fault::Fault;
 use pst_msg::{FOLDER, NAME_MAP, SEARCH_FOLDER, STORE, is_message, is_type};
@@ -53,14 +52,13 @@ fn check_asked(left: &Left, node: Node, known: &mut Known) -> Result<(), Fault>
 
 /// The first fault of a node: that of its own trees, where there is one, else what is asked of it. NoMemory where memory is
 /// refused.
-#[tactic(auto, unfolding(crate::specs::Nodes::node_damage), using(crate::proofs::RiseLemmas::is_there, crate::proofs::RiseLemmas::is_asked))]
+#[tactic(auto, unfolding(crate::specs::Nodes::node_damage))]
 pub(crate) fn fault_of(
     left: &Left,
     entry: NodeEntry,
     own: Option<Fault>,
     known: &mut Known,
 ) -> Result<Option<Fault>, Fault>
-    requires listed { Contains (left_nodes left.now) entry }
     requires own { own ≡ node_fault (left_table left.now) entry }
     requires known { let nodes = left_nodes left.now in
         IsKnownOf (left_table left.now) nodes (left_pages left.now) known.old }
@@ -73,9 +71,7 @@ pub(crate) fn fault_of(
     if let Some(fault) = own {
         return Ok(Some(fault));
     }
-    left.nodes.nids_rise();
-    match left.sound.node(entry.nid) {
-        Some(node) => found(check_asked(left, node, known)),
-        None => unreachable!(),
-    }
+    let list = [entry];
+    let node = node_of(left.blocks, entry, &list);
+    found(check_asked(left, node, known))
 }

@@ -1,10 +1,12 @@
 //! A node that is broken, and what is answered of a check where a fault is no refusal.
 
-ghost use Rattle.std.specs.Prelude.{◌≡◌, ◌<◌, ◌++◌, [], length, IfOk, IfErr, OnOk, IsSome, Option, slice_get};
+ghost use Rattle.std.specs.Prelude.{◌≡◌, ◌<◌, ◌++◌, [], length, map, None, IfOk, IfErr, OnOk, IsSome, Option, slice_get};
 ghost use Rattle.pst_fault.specs.declared.fault.Fault.{Fault as SpecFault};
 ghost use Rattle.pst_fault.specs.Fault.{no_memory};
 ghost use Rattle.pst_fault.specs.First.{Tells};
+ghost use Rattle.pst_btree.specs.Order.{Rises};
 ghost use Rattle.pst_damage.specs.Judged.{told_node, own_of, place_after};
+ghost use Rattle.pst_damage.specs.Laws.{told_nid, fault_told};
 
 use pst_fault::{Fault, Kind};
 use pst_page::NodeEntry;
@@ -70,4 +72,21 @@ pub(crate) fn take_told(told: &[BrokenNode], place: &mut usize, nid: u32) -> Opt
         *place += 1;
     }
     fault
+}
+
+/// The fault that is told of a node: of n broken ones in about log n steps.
+pub(crate) fn find_told(told: &[BrokenNode], nid: u32) -> Option<Fault>
+    requires { Rises 0 None (map told_nid told.now) }
+    ensures { result ≡ fault_told nid told.now }
+{
+    let place = told.partition_point(|node| node.nid < nid);
+    if place == told.len() {
+        return None;
+    }
+    let node = told[place];
+    if node.nid == nid {
+        Some(node.fault)
+    } else {
+        None
+    }
 }

@@ -3,20 +3,23 @@
 ghost use Rattle.std.specs.Prelude.{◌≡◌, None};
 ghost use Rattle.pst_fault.specs.Each.{first_of};
 ghost use Rattle.pst_fault.specs.First.{Tells};
+ghost use Rattle.pst_ndb.specs.Fault.{node_fault};
+ghost use Rattle.pst_ndb.specs.Roots.{entry_roots};
 ghost use Rattle.pst_ndb.specs.Views.{table_of_node, roots_of};
 ghost use Rattle.pst_tc.specs.Fault.{tc_fault};
 ghost use Rattle.pst_tc.specs.Tc.{node_of_tc};
 ghost use Rattle.pst_tc.specs.Values.{tc_rows};
 ghost use Rattle.pst_tc.specs.View.{row_parts};
-ghost use Rattle.pst_damage.specs.Folder.{row_damage, table_damage, folder_damage};
+ghost use Rattle.pst_damage.specs.Folder.{row_damage, items_damage, table_damage, folder_damage};
 ghost use Rattle.pst_damage.specs.Known.{IsKnownOf};
 ghost use Rattle.pst_damage.specs.Left.{left_table, left_nodes, left_pages};
 ghost use Rattle.pst_damage.specs.Listings.{AreListingsTrue, items_number};
 
 use crate::faults::Part;
 use crate::known::Known;
-use crate::left::Left;
+use crate::left::{Left, node_of};
 use crate::listings::{Listings, number_of};
+use pst_btree::NodeEntry;
 use pst_fault::{Fault, Kind};
 use pst_msg::{Items, Tc, listing_nid, may_list, named};
 use pst_ndb::Node;
@@ -56,10 +59,13 @@ fn check_each(left: &Left, items: Items, bid: u64, table: Tc) -> Result<(), Faul
     Ok(())
 }
 
-// A table of at most so many rows is looked at wherever it is named; only a longer one is remembered.
+// A table of at most so many rows whose data has at most so many bytes is looked at wherever it is named; only a longer one is
+// remembered. (Of few rows may be many leaves, which have none.)
 const FEW: u64 = 16;
 
-// All rows of a table, unless they are remembered.
+const SMALL: u64 = 2048;
+
+// All rows of a table, unless they are remembered: by its data, whatever its list, since no row is named there.
 fn check_rows(left: &Left, items: Items, table: Node, listings: &mut Listings) -> Result<(), Fault>
     requires table { table_of_node table ≡ left_table left.now }
     requires sound { tc_fault (table_of_node table) (roots_of table) ≡ None }
@@ -77,19 +83,18 @@ fn check_rows(left: &Left, items: Items, table: Node, listings: &mut Listings) -
     }
     let rows = known_tc(table);
     check_each(left, items, table.bid_data(), rows)?;
-    if rows.row_count() > FEW {
+    if table.spans().size() > SMALL || rows.row_count() > FEW {
         listings.put(items, table)?;
     }
     Ok(())
 }
 
-// The rows of a table that lists these, as a part.
+// The rows of a table that lists these, as a part: all that they name stands in its data.
 fn rows_of(items: Items, table: Node) -> Part
     ensures content { result.0.0 ≡ (roots_of table.entry).bid_data }
-    ensures list { result.0.1 ≡ (roots_of table.entry).bid_sub }
     ensures items { result.1 ≡ items_number items }
 {
-    ((table.bid_data(), table.bid_sub()), number_of(items))
+    ((table.bid_data(), 0), number_of(items))
 }
 
 // All rows of a table, whose fault is remembered.
@@ -113,8 +118,26 @@ fn check_all(left: &Left, items: Items, table: Node, known: &mut Known) -> Resul
     known.rows.keep(part, answer)
 }
 
+// The table of an entry: its context, then its rows.
+#[tactic(auto, unfolding(crate::specs::Folder::items_damage))]
+fn check_items(left: &Left, items: Items, entry: NodeEntry, known: &mut Known) -> Result<(), Fault>
+    requires sound { node_fault (left_table left.now) entry ≡ None }
+    requires known { let nodes = left_nodes left.now in
+        IsKnownOf (left_table left.now) nodes (left_pages left.now) known.old }
+    ensures known { let nodes = left_nodes left.now in
+        IsKnownOf (left_table left.now) nodes (left_pages left.now) known.new }
+    ensures exact { let t = left_table left.now in
+        Tells result (items_damage t (left_nodes left.now) (left_pages left.now) items
+        (entry_roots entry)) tt }
+{
+    let list = [entry];
+    let table = node_of(left.blocks, entry, &list);
+    known.contexts.check_listing(items, table)?;
+    check_all(left, items, table, known)
+}
+
 // A table of a folder, where its node is sound.
-#[tactic(auto, unfolding(crate::specs::Folder::table_damage, crate::specs::Folder::items_damage))]
+#[tactic(auto, unfolding(crate::specs::Folder::table_damage, pst_ndb::specs::Roots::node_in), using(crate::proofs::SoundLemmas::found_none))]
 fn check_table(left: &Left, items: Items, nid: u32, known: &mut Known) -> Result<(), Fault>
     requires known { let nodes = left_nodes left.now in
         IsKnownOf (left_table left.now) nodes (left_pages left.now) known.old }
@@ -123,11 +146,8 @@ fn check_table(left: &Left, items: Items, nid: u32, known: &mut Known) -> Result
     ensures exact { let nodes = left_nodes left.now in
         Tells result (table_damage (left_table left.now) nodes (left_pages left.now) items nid) tt }
 {
-    match left.sound.node(listing_nid(nid, items)) {
-        Some(table) => {
-            known.contexts.check_listing(items, table)?;
-            check_all(left, items, table, known)
-        }
+    match left.sound(listing_nid(nid, items)) {
+        Some(entry) => check_items(left, items, entry, known),
         None => Ok(()),
     }
 }

@@ -4,7 +4,6 @@ ghost use Rattle.std.specs.Prelude.{◌≡◌, IfOk, IfErr, OnOk};
 ghost use Rattle.pst_fault.specs.Fault.{no_memory};
 ghost use Rattle.pst_btree.specs.Lists.{listed_nodes};
 ghost use Rattle.pst_block.specs.Blocks.{table_of};
-ghost use Rattle.pst_ndb.specs.Fault.{node_fault};
 ghost use Rattle.pst_damage.specs.Judged.{told_by};
 ghost use Rattle.pst_damage.specs.Left.{left_table, left_nodes, left_pages};
 ghost use Rattle.pst_damage.specs.Nodes.{node_damage, with_required as with_missing, nodes_damage, whole_left};
@@ -21,7 +20,6 @@ use pst_block::Blocks;
 use pst_btree::NodeList;
 use pst_fault::{Fault, Kind};
 use pst_msg::{ROOT, STORE, named};
-use pst_ndb::NodeTable;
 use pst_remains::Broken;
 use std::alloc::{AllocError, Global};
 
@@ -35,8 +33,7 @@ pub struct JudgedNodes {
 }
 
 // Each node that is left, in order; those whose own trees have a fault are told already.
-fn judge_each(alloc: Global, left: &Left, own: &[BrokenNode]) -> Result<Vec<BrokenNode>, Fault>
-    requires { own.now ≡ told_by (node_fault (left_table left.now)) (left_nodes left.now) }
+fn judge_each(alloc: Global, left: &Left) -> Result<Vec<BrokenNode>, Fault>
     ensures told { let t = left_table left.now in let nodes = left_nodes left.now in
         IfOk result (λ v. v.items ≡ told_by (node_damage t nodes (left_pages left.now)) nodes) }
     ensures err { IfErr result (λ f. f ≡ no_memory) }
@@ -46,7 +43,7 @@ fn judge_each(alloc: Global, left: &Left, own: &[BrokenNode]) -> Result<Vec<Brok
     let mut next = 0;
     left.nodes.nids_rise();
     for entry in left.nodes.entries() {
-        let own_fault = take_told(own, &mut next, entry.nid);
+        let own_fault = take_told(left.own, &mut next, entry.nid);
         let fault = fault_of(left, *entry, own_fault, &mut known)?;
         push_told(&mut told, *entry, fault)?;
     }
@@ -67,8 +64,7 @@ fn add_missing(left: &Left, nid: u32, told: &mut Vec<BrokenNode>) -> Result<(), 
 
 // All of them, and what is whole.
 #[tactic(auto, unfolding(crate::specs::Nodes::nodes_damage, crate::specs::Nodes::whole_left))]
-fn judge_left(alloc: Global, left: &Left, own: &[BrokenNode]) -> Result<JudgedNodes, Fault>
-    requires { own.now ≡ told_by (node_fault (left_table left.now)) (left_nodes left.now) }
+fn judge_left(alloc: Global, left: &Left) -> Result<JudgedNodes, Fault>
     ensures broken { let t = left_table left.now in
         IfOk result (λ j. j.broken.items ≡
         nodes_damage t (left_nodes left.now) (left_pages left.now)) }
@@ -76,7 +72,7 @@ fn judge_left(alloc: Global, left: &Left, own: &[BrokenNode]) -> Result<JudgedNo
         IfOk result (λ j. j.whole ≡ whole_left t (left_nodes left.now) (left_pages left.now)) }
     ensures err { IfErr result (λ f. f ≡ no_memory) }
 {
-    let mut broken = judge_each(alloc, left, own)?;
+    let mut broken = judge_each(alloc, left)?;
     let whole = whole_of(left.nodes.entries(), &broken);
     add_missing(left, STORE, &mut broken)?;
     add_missing(left, ROOT, &mut broken)?;
@@ -86,7 +82,6 @@ fn judge_left(alloc: Global, left: &Left, own: &[BrokenNode]) -> Result<JudgedNo
 /// The nodes that are left of a damaged file, over the blocks without fault, where these pages of the node B-tree have a fault,
 /// in the order in which they are looked at: each node by the rules of `find_damage`. NoMemory where memory is refused; nothing
 /// else is refused.
-#[tactic(auto, using(crate::proofs::RiseLemmas::sound_rise, crate::proofs::RiseLemmas::sound_none))]
 pub fn judge_nodes(
     alloc: Global,
     blocks: Blocks,
@@ -99,14 +94,13 @@ pub fn judge_nodes(
         IfOk result (λ j. j.whole ≡ whole_left t (listed_nodes nodes.entry) pages.now) }
     ensures err { IfErr result (λ f. f ≡ no_memory) }
 {
-    let trees = judge_trees(alloc, &blocks, nodes.entries())?;
+    let own = judge_trees(alloc, &blocks, nodes.entries())?;
     let pages = BrokenPages::of(alloc, pages)?;
-    nodes.nids_rise();
-    let sound = NodeTable::known(blocks, NodeList::of(&trees.sound));
     let left = Left {
+        blocks,
         nodes,
-        sound,
+        own: &own,
         pages: &pages,
     };
-    judge_left(alloc, &left, &trees.broken)
+    judge_left(alloc, &left)
 }

@@ -11,7 +11,7 @@ use pst_page::PageKind;
 use std::alloc::{AllocError, Global};
 use std::collections::BTreeSet;
 
-// The identifiers of the blocks of a table's data and of its subnodes, with bit 0 cleared, and a number for what it lists.
+// The identifier of the block of a table's data, with bit 0 cleared, 0 for its subnodes, and a number for what it lists.
 type Key = ((u64, u64), u64);
 
 // The identifier of a block without its bit 0.
@@ -36,14 +36,11 @@ pub(crate) fn number_of(items: Items) -> u64
 fn key_of(items: Items, table: Node) -> Key
     ensures { result ≡ listing_key items (roots_of table.entry) }
 {
-    (
-        (cleared(table.bid_data()), cleared(table.bid_sub())),
-        number_of(items),
-    )
+    ((cleared(table.bid_data()), 0), number_of(items))
 }
 
-/// Tables of folders whose rows were found without fault: long ones, so that rows that many folders share are gone through
-/// once.
+/// Tables of folders whose rows were found without fault, by their data, whatever their lists: long ones, so that rows that many
+/// folders share are gone through once.
 #[derive(Drop)]
 pub(crate) struct Listings {
     tables: BTreeSet<Key>,

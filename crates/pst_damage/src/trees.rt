@@ -8,7 +8,7 @@ ghost use Rattle.pst_datatree.specs.Data.{data_fault};
 ghost use Rattle.pst_subnode.specs.declared.check.TheConstants.{LISTS};
 ghost use Rattle.pst_subnode.specs.Tree.{sub_fault, at_top};
 ghost use Rattle.pst_ndb.specs.Fault.{node_fault};
-ghost use Rattle.pst_damage.specs.Judged.{sound_nodes, told_by};
+ghost use Rattle.pst_damage.specs.Judged.{told_by};
 ghost use Rattle.pst_damage.specs.Trees.{AreTreesKnown};
 
 use crate::broken::{BrokenNode, found, push_told};
@@ -18,16 +18,7 @@ use pst_datatree::{Seen, check_data};
 use pst_fault::Fault;
 use pst_page::NodeEntry;
 use pst_subnode::{Heights, SubFaults, check_sub_with};
-use std::alloc::{AllocError, Global};
-
-/// The nodes by their own trees.
-#[derive(Drop)]
-pub(crate) struct Trees {
-    /// Those whose data and subnodes have no fault.
-    pub(crate) sound: Vec<NodeEntry>,
-    /// The others, each with the first fault of its data and of its subnodes.
-    pub(crate) broken: Vec<BrokenNode>,
-}
+use std::alloc::Global;
 
 // What is known of the trees that were looked at. What has no fault is passed over where it is met again; of the data of a node,
 // and of each list and data below it, that have one it is remembered.
@@ -116,46 +107,22 @@ fn check_trees(
     check_subs(alloc, blocks, entry, known)
 }
 
-impl Trees {
-    ghost use Rattle.std.specs.Prelude.{◌≡◌, ◌++◌, [], OnOk};
-    ghost use Rattle.pst_damage.specs.Judged.{kept_node, told_node};
-
-    // One more node, with what was found of it.
-    fn put(&mut self, entry: NodeEntry, fault: Option<Fault>) -> Result<(), AllocError>
-        ensures sound { OnOk result
-            (self.new.sound.items ≡ self.old.sound.items ++ kept_node fault entry []) }
-        ensures broken { OnOk result
-            (self.new.broken.items ≡ self.old.broken.items ++ told_node fault entry []) }
-    {
-        match fault {
-            None => self.sound.push(entry)?,
-            Some(_) => push_told(&mut self.broken, entry, fault)?,
-        }
-        Ok(())
-    }
-}
-
-/// Each node that is left, by its own trees: its data, then its subnodes. NoMemory where memory is refused; nothing else is
-/// refused.
+/// The nodes that are left whose own trees have a fault, each with the first one of its data and of its subnodes. NoMemory where
+/// memory is refused; nothing else is refused.
 pub(crate) fn judge_trees(
     alloc: Global,
     blocks: &Blocks,
     nodes: &[NodeEntry],
-) -> Result<Trees, Fault>
-    ensures sound { IfOk result (λ s.
-        s.sound.items ≡ sound_nodes (table_of blocks.now) nodes.now) }
-    ensures broken { IfOk result (λ s.
-        s.broken.items ≡ told_by (node_fault (table_of blocks.now)) nodes.now) }
+) -> Result<Vec<BrokenNode>, Fault>
+    ensures broken { IfOk result (λ v.
+        v.items ≡ told_by (node_fault (table_of blocks.now)) nodes.now) }
     ensures err { IfErr result (λ f. f ≡ no_memory) }
 {
     let mut known = Known::new(alloc);
-    let mut trees = Trees {
-        sound: Vec::new(alloc),
-        broken: Vec::new(alloc),
-    };
+    let mut broken = Vec::new(alloc);
     for entry in nodes {
         let fault = found(check_trees(alloc, blocks, *entry, &mut known))?;
-        trees.put(*entry, fault)?;
+        push_told(&mut broken, *entry, fault)?;
     }
-    Ok(trees)
+    Ok(broken)
 }

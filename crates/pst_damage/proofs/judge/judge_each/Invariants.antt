@@ -12,7 +12,7 @@ invariant-loop-entry l =
     let part = node_damage (left_table l.left) (left_nodes l.left) (left_pages l.left) in
     record {
       known : IsKnownOf (left_table l.left) (left_nodes l.left) (left_pages l.left) l.known;
-      own : drop l.next l.own ≡ told_by (node_fault (left_table l.left)) (drop l.entry-index l.entry-items);
+      own : drop l.next l.left.own.now ≡ told_by (node_fault (left_table l.left)) (drop l.entry-index l.entry-items);
       items : l.entry-items ≡ left_nodes l.left;
       told : l.told.items ++ told_by part (drop l.entry-index l.entry-items) ≡ told_by part (left_nodes l.left);
     }
