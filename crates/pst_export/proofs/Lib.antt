@@ -1,7 +1,12 @@
 pub mod AsciiLemmas
+pub mod BesideLemmas
+pub mod DistinctLaws
 pub mod FileLemmas
+pub mod IntactLaws
 pub mod NameLaws
+pub mod NestLemmas
 pub mod SafeLaws
+pub mod SlotLemmas
 pub mod StoreLemmas
 pub mod TextLemmas
 pub mod ValueLaws

@@ -1,10 +1,20 @@
 -- What whoever extracts an archive may rest on.
-use Rattle.std.specs.Prelude.{◌≡◌, ℕ, Bool, ◌&&◌, ◌||◌, not, true, false, nat_eq, nat_le, Option, Some, None, List, [], ◌∷◌, codes}
-use Rattle.std.specs.List.{All, Contains, list_all}
+use Rattle.std.specs.Prelude.{◌≡◌, ◌≢◌, ◌<◌, ◌^◌, ℕ, Bool, ◌&&◌, ◌||◌, not, true, false, nat_eq, nat_le, Option, Some, None, List, [], ◌∷◌, map, codes}
+use Rattle.std.specs.List.{All, AllPairs, Contains, list_all}
+use Rattle.pst_encoding.specs.declared.method.Method.{Method}
+use Rattle.pst_encoding.specs.Tables.{IsByte}
+use Rattle.pst_plain.specs.Twin.{method_of, twin_of}
 use Rattle.pst_page.specs.declared.entry.NodeEntry.{NodeEntry}
 use Rattle.pst_block.specs.Table.{Table}
-use Rattle.pst_btree.specs.Entries.{first_with}
+use Rattle.pst_btree.specs.Entries.{first_with, node_key}
+use Rattle.pst_btree.specs.Order.{Rises}
 use Rattle.pst_ndb.specs.Roots.{Roots}
+use Rattle.pst_remains.specs.Decoded.{decoded_remains_of}
+use Rattle.pst_remains.specs.Remains.{RemainsParts, remains_of}
+use Rattle.pst_store.specs.Grammar.{IsStore}
+use Rattle.pst_store.specs.Parts.{StoreParts, entries_in, table_in}
+use Rattle.pst_intact.specs.Fault.{intact_fault}
+use Rattle.pst_whole.specs.Nodes.{whole_nodes}
 use Rattle.pst_value_json.specs.declared.filed.TheConstants.{HEADERS, BODY, HTML, RTF, CONTENT}
 use Rattle.pst_value_json.specs.Value.{utf8_of}
 use Rattle.pst_value_json.specs.pst_names.Name.{NameParts}
@@ -12,7 +22,7 @@ use Rattle.pst_value_json.specs.pst_pc.Values.{Property, id_of, props_of}
 use Rattle.pst_json.specs.pst_whole.Lost.{LostParts}
 use Rattle.pst_json.specs.Path.{Place, message, attachment}
 use Rattle.pst_tar.specs.Archive.{Member}
-use Rattle.pst_export.specs.Files.{member_in, place_files}
+use Rattle.pst_export.specs.Files.{member_in, path_of, place_files}
 use Rattle.pst_export.specs.Store.{all_files}
 
 -- ---- the names of files
@@ -44,6 +54,49 @@ IsSafelyNamed m = IsSafe m.name
 -- store are, no file leads out of the folder in which it is made.
 abbrev pub SafeLaw : Type 0
 SafeLaw = (damage : Option (List ℕ)) (t : Table) (nodes : List NodeEntry) (lost : LostParts) → All IsSafelyNamed (all_files damage t nodes lost)
+
+-- ---- files beside one another
+
+-- a name is that of a folder in which another lies
+abbrev pub IsFolderOf : List ℕ → List ℕ → Type 0
+IsFolderOf folder name = (rest : List ℕ) × (name ≡ path_of folder rest)
+
+-- two files have two names, and neither is the folder of the other
+pub record IsBeside (a b : Member) : Type 0 where
+  pub names : a.name ≢ b.name
+  pub inside : IsFolderOf a.name b.name → ⊥
+  pub around : IsFolderOf b.name a.name → ⊥
+
+-- What is known of intact nodes of a file: its bytes are bytes; the identifiers of the nodes are numbers of 32 bits, and rise; and no
+-- node has a fault.
+pub record AreIntact (t : Table) (nodes : List NodeEntry) : Type 0 where
+  pub bytes : All IsByte t.image
+  pub nids : All (λ (e : NodeEntry). e.nid < 2 ^ 32) nodes
+  pub rise : Rises 0 None (map node_key nodes)
+  pub sound : intact_fault t nodes ≡ None
+
+-- The names of all files are distinct, and none is the folder of another: whoever extracts them writes none over another. What stands
+-- in an archive before a file that has a long name is no file, and not among them.
+abbrev pub BesideLaw : Type 0
+BesideLaw = (damage : Option (List ℕ)) (t : Table) (nodes : List NodeEntry) (lost : LostParts) → AreIntact t nodes → AllPairs IsBeside (all_files damage t nodes lost)
+
+-- Such are the nodes of each store, also of one that is encoded, its blocks decoded.
+abbrev pub StoreIntactLaw : Type 0
+StoreIntactLaw = (I : List ℕ) (s : StoreParts) → All IsByte I → IsStore I s → AreIntact (table_in I s) (entries_in I s)
+
+abbrev pub DecodedIntactLaw : Type 0
+DecodedIntactLaw = (I : List ℕ) (method : Method) (s : StoreParts) → All IsByte I → method_of I ≡ Some method → IsStore (twin_of I) s →
+    AreIntact (table_in (twin_of I) s) (entries_in (twin_of I) s)
+
+-- And such are those nodes that are whole of what remains of a file, whatever its bytes are.
+abbrev pub IsWholeIntact : RemainsParts → Type 0
+IsWholeIntact r = AreIntact r.table (whole_nodes r.table r.nodes r.broken)
+
+abbrev pub WholeIntactLaw : Type 0
+WholeIntactLaw = (I : List ℕ) → All IsByte I → IsWholeIntact (remains_of I)
+
+abbrev pub DecodedWholeIntactLaw : Type 0
+DecodedWholeIntactLaw = (I : List ℕ) (method : Method) → All IsByte I → method_of I ≡ Some method → IsWholeIntact (decoded_remains_of method I)
 
 -- ---- the bytes of files
 
