@@ -62,8 +62,9 @@ fn told_at(told: &[BrokenNode], place: usize, nid: u32) -> Option<Fault>
     }
 }
 
-/// The fault of a node, where the one at a place of those that are told is this one; and then the place is that of the next.
-pub(crate) fn take_told(told: &[BrokenNode], place: &mut usize, nid: u32) -> Option<Fault>
+/// The fault of the node with an identifier, where the one at a place of those that are told is this one; and then the place is that
+/// of the next. So nodes that are gone through in order find what is told of them by one step each.
+pub fn take_told(told: &[BrokenNode], place: &mut usize, nid: u32) -> Option<Fault>
     ensures value { result ≡ own_of nid (slice_get told.now place.old) }
     ensures next { place.new ≡ place_after result place.old }
 {
@@ -74,8 +75,9 @@ pub(crate) fn take_told(told: &[BrokenNode], place: &mut usize, nid: u32) -> Opt
     fault
 }
 
-/// The fault that is told of a node: of n broken ones in about log n steps.
-pub(crate) fn find_told(told: &[BrokenNode], nid: u32) -> Option<Fault>
+/// The fault that is told of the node with an identifier, where these are told in the order of their identifiers: of n broken nodes
+/// in about log n steps.
+pub fn find_told(told: &[BrokenNode], nid: u32) -> Option<Fault>
     requires { Rises 0 None (map told_nid told.now) }
     ensures { result ≡ fault_told nid told.now }
 {

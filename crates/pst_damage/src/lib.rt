@@ -30,7 +30,7 @@ mod order;
 mod trees;
 mod whole;
 
-pub use broken::BrokenNode;
+pub use broken::{BrokenNode, find_told, take_told};
 pub use broken_pages::BrokenPages;
 pub use damage::Damage;
 pub use find::{damage_beside, find_damage};

@@ -6,10 +6,9 @@ ghost use Rattle.pst_block.specs.Blocks.{table_of};
 ghost use Rattle.pst_damage.specs.BrokenPages.{pages_in};
 ghost use Rattle.pst_whole.specs.Nodes.{broken_nodes};
 
-use crate::told::find_told;
 use pst_block::Blocks;
 use pst_btree::NodeList;
-use pst_damage::{BrokenNode, BrokenPages};
+use pst_damage::{BrokenNode, BrokenPages, find_told};
 use pst_fault::Fault;
 
 /// The nodes that are left of a damaged file, those of them that are broken, and the pages with a fault, behind which others may
