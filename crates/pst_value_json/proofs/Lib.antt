@@ -1,4 +1,5 @@
 pub mod CellLemmas
+pub mod ColumnLemmas
 pub mod DigitLemmas
 pub mod EscapeLemmas
 pub mod GuidLemmas

@@ -3,7 +3,7 @@ use Rattle.std.proofs.Common.{◌≡◌, ℕ, ◌+◌, ◌-◌, ◌*◌, ◌<◌
 use Rattle.std.proofs.lemmas.Bool.{lt-leb, le-leb, lt-ltb, le-ltb}
 use Rattle.std.proofs.lemmas.List.{drop_more}
 use Rattle.std.proofs.lemmas.Str.Ascii.{encode_ascii}
-use Rattle.std.specs.Prelude.{◌/◌, ◌%◌, Bool, false, ◌&&◌, ◌⊎◌, Option, encode_utf8_all, Some, None}
+use Rattle.std.specs.Prelude.{◌/◌, ◌%◌, false, ◌⊎◌, Option, encode_utf8_all, Some, None}
 use Rattle.std.proofs.lemmas.Grind.{flat_map-append}
 use Rattle.std.specs.Option.{unwrap_or}
 use Rattle.std.specs.Char.{encode_utf8}

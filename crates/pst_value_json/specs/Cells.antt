@@ -1,6 +1,5 @@
 -- The rows of a table as a document, with the cells that they have ([MS-PST] 2.3.4).
-use Rattle.std.specs.Prelude.{ℕ, Bool, ◌%◌, nat_eq, List, [], ◌∷◌, ◌++◌, Option, Some, None, option_map, map, codes, if◌then◌else◌}
-use Rattle.std.specs.List.{list_any}
+use Rattle.std.specs.Prelude.{ℕ, Bool, ◌%◌, List, [], ◌∷◌, ◌++◌, Option, Some, None, option_map, map, codes, if◌then◌else◌}
 use Rattle.serde_json.specs.Data.{Data, string, object, member, no_members}
 use Rattle.pst_block.specs.Table.{Table}
 use Rattle.pst_ndb.specs.Roots.{Roots}
@@ -11,29 +10,12 @@ use Rattle.pst_tc.specs.Left.{tc_left, tc_rows_left}
 use Rattle.pst_tc.specs.Tc.{node_of_tc}
 use Rattle.pst_tc.specs.View.{column_of}
 use Rattle.pst_tc.specs.Values.{ColumnParts, RowParts, tc_cell, tc_columns}
-use Rattle.pst_value_json.specs.declared.cells.TableRows.{TableRows}
+use Rattle.pst_value_json.specs.declared.shown_rows.TableRows.{TableRows}
+use Rattle.pst_value_json.specs.Columns.{distinct_columns}
 use Rattle.pst_value_json.specs.Names.{nid_data, tag_text}
 use Rattle.pst_value_json.specs.Parts.{list_data}
 use Rattle.pst_value_json.specs.Places.{Content, content_of, places_data, if_asked, member_if}
 use Rattle.pst_value_json.specs.Value.{value_data, hex_data}
-
--- ---- the columns that are shown
-
--- a column with this tag is among them
-abbrev pub has_tag : ℕ → List ColumnParts → Bool
-has_tag tag columns = list_any (λ c. nat_eq c.tag tag) columns
-
--- one more, unless an earlier one has its tag
-abbrev pub with_column : List ColumnParts → ColumnParts → List ColumnParts
-with_column shown c = if has_tag c.tag shown then shown else shown ++ c ∷ []
-
-abbrev pub with_columns : List ColumnParts → List ColumnParts → List ColumnParts
-with_columns shown [] = shown
-with_columns shown (c ∷ rest) = with_columns (with_column shown c) rest
-
--- all columns in order, but for those whose tag an earlier one has
-unfoldable pub distinct_columns : List ColumnParts → List ColumnParts
-distinct_columns columns = with_columns [] columns
 
 -- ---- cells
 

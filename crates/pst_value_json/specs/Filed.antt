@@ -1,5 +1,5 @@
 -- Which values of properties have files of their own, beside the document of what has them ([MS-PST] 2.4.5, 2.4.6).
-use Rattle.std.specs.Prelude.{ℕ, Bool, ◌&&◌, nat_eq, Option, Some, None, option_map, List, ◌++◌, codes, if◌then◌else◌}
+use Rattle.std.specs.Prelude.{ℕ, ◌&&◌, nat_eq, Option, Some, None, option_map, List, ◌++◌, codes, if◌then◌else◌}
 use Rattle.pst_value_json.specs.declared.filed.Filed.{Filed}
 use Rattle.pst_value_json.specs.declared.filed.Filed.TheVariants.{Nothing, Message, Attachment}
 use Rattle.pst_value_json.specs.declared.filed.TheConstants.{HEADERS, BODY, HTML, RTF, CONTENT, TEXT, BINARY}

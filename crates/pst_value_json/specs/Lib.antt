@@ -9,6 +9,7 @@ pub mod Time
 pub mod Places
 pub mod Filed
 pub mod Props
+pub mod Columns
 pub mod Cells
 pub mod Laws
 pub mod Rows

@@ -5,20 +5,20 @@ ghost use Rattle.serde_json.specs.View.{view};
 ghost use Rattle.pst_ndb.specs.Views.{table_of_node, roots_of};
 ghost use Rattle.pst_tc.specs.Left.{columns_left};
 ghost use Rattle.pst_tc.specs.Tc.{node_of_tc};
-ghost use Rattle.pst_tc.specs.Values.{tc_rows};
+ghost use Rattle.pst_tc.specs.Values.{IsFirstColumn, tc_rows};
 ghost use Rattle.pst_tc.specs.View.{column_of, row_parts, tc_of_row};
-ghost use Rattle.pst_value_json.specs.Cells.{has_tag, distinct_columns, cell_with, cell_in, cell_content, cell_value, cell_data, cells_of, row_data, table_row_data, table_rows_left};
+ghost use Rattle.pst_value_json.specs.Cells.{cell_with, cell_in, cell_content, cell_value, cell_data, cells_of, row_data, table_row_data, table_rows_left};
+ghost use Rattle.pst_value_json.specs.Columns.{has_tag, distinct_columns, AreShown};
 ghost use Rattle.pst_value_json.specs.Parts.{list_data};
 ghost use Rattle.pst_value_json.specs.Places.{content_in};
 
-use crate::compact::put_comma;
-use crate::listing::{self, list_doc};
+use crate::listing::list_doc;
 use crate::names::{nid_text, tag_text};
 use crate::places::places_doc;
-use crate::put_cells::put_table_row;
+use crate::shown_rows::TableRows;
 use crate::value::{hex_doc, value_doc};
 use pst_datatree::Value;
-use pst_tc::{Column, Columns, Row, Rows, Tc};
+use pst_tc::{Column, Columns, Row, Tc};
 use pst_value::PropType;
 use serde_json::{Map, Value as Doc, json, put};
 use std::alloc::{AllocError, Global};
@@ -36,7 +36,7 @@ fn is_among(columns: &[Column], tag: u32) -> bool
 }
 
 // All columns in order, but for those whose tag an earlier one has.
-#[tactic(auto, unfolding(crate::specs::Cells::distinct_columns))]
+#[tactic(auto, unfolding(crate::specs::Columns::distinct_columns))]
 fn shown_columns(alloc: Global, columns: Columns) -> Result<Vec<Column>, AllocError>
     ensures { IfOk result (λ v.
         map column_of v.items ≡ distinct_columns (columns_left columns.entry)) }
@@ -80,14 +80,16 @@ fn cell_doc(alloc: Global, column: Column, value: Value, places: bool) -> Result
     Ok(Doc::from(map))
 }
 
-/// The value of the cell that a row has in the first column with a tag.
+/// The value of the cell that a row has in a column, the first one with its tag. No column is gone through.
 #[tactic(auto, using(crate::proofs::PlaceLemmas::value_content))]
-pub(crate) fn cell_at<'a>(row: Row<'a>, tag: u32) -> Option<Value<'a>>
+pub(crate) fn cell_at<'a>(row: Row<'a>, column: Column) -> Option<Value<'a>>
+    requires { let node = node_of_tc (tc_of_row row) in
+        IsFirstColumn (table_of_node node) (roots_of node) (column_of column) }
     ensures { let node = node_of_tc (tc_of_row row.entry) in
         option_map content_in result ≡ cell_content (table_of_node node) (roots_of node)
-        (row_parts row.entry).place.at tag }
+        (row_parts row.entry).place.at (column_of column).tag }
 {
-    row.cell(tag)
+    row.cell_in(column)
 }
 
 // Puts the cell of a column behind others, where the row has it.
@@ -109,8 +111,8 @@ fn push_cell(
 }
 
 // The cells that a row has in these columns, as a list of objects.
-#[tactic(auto, using(crate::proofs::CellLemmas::cells_at, crate::proofs::CellLemmas::cells_past))]
 fn cells_doc(alloc: Global, row: Row, columns: &[Column], places: bool) -> Result<Doc, AllocError>
+    requires { AreShown (tc_of_row row) columns.now }
     ensures { let node = node_of_tc (tc_of_row row.entry) in
         let cells = cells_of (table_of_node node) (roots_of node) (row_parts row.entry).place.at
         (map column_of columns.now) in
@@ -118,14 +120,20 @@ fn cells_doc(alloc: Global, row: Row, columns: &[Column], places: bool) -> Resul
 {
     let mut docs = Vec::new(alloc);
     for column in columns {
-        push_cell(alloc, *column, cell_at(row, column.tag), places, &mut docs)?;
+        push_cell(alloc, *column, cell_at(row, *column), places, &mut docs)?;
     }
     Ok(Doc::from(docs))
 }
 
-// A row as an object.
+/// A row as an object, of the columns that are shown of its table.
 #[tactic(auto, unfolding(crate::specs::Cells::row_data))]
-fn row_doc(alloc: Global, row: Row, columns: &[Column], places: bool) -> Result<Doc, AllocError>
+pub(crate) fn row_doc(
+    alloc: Global,
+    row: Row,
+    columns: &[Column],
+    places: bool,
+) -> Result<Doc, AllocError>
+    requires { AreShown (tc_of_row row) columns.now }
     ensures { let node = node_of_tc (tc_of_row row.entry) in
         IfOk result (λ d. view d ≡ row_data places (table_of_node node) (roots_of node)
         (map column_of columns.now) (row_parts row.entry)) }
@@ -133,14 +141,6 @@ fn row_doc(alloc: Global, row: Row, columns: &[Column], places: bool) -> Result<
     let cells = cells_doc(alloc, row, columns, places)?;
     let id = nid_text(alloc, row.id())?;
     json!(in alloc; {"cells": cells, "row": id})
-}
-
-/// The rows of a table that are left, with the columns that are shown of each, and whether with the places of their cells.
-#[derive(Drop)]
-pub struct TableRows<'a> {
-    rows: Rows<'a>,
-    columns: Vec<Column>,
-    places: bool,
 }
 
 /// All rows of a table; with the places of their cells where these are asked for.
@@ -151,38 +151,7 @@ pub fn table_rows<'a>(alloc: Global, tc: &Tc<'a>, places: bool) -> Result<TableR
         table_rows_left rows ≡ map (table_row_data places t r) (tc_rows t r)) }
 {
     let columns = shown_columns(alloc, tc.columns())?;
-    Ok(TableRows {
-        rows: tc.rows(),
-        columns,
-        places,
-    })
-}
-
-#[tactic(auto, unfolding(crate::specs::Cells::table_rows_left), using(crate::proofs::CellLemmas::row_has_none))]
-impl listing::Rows for TableRows<'_> {
-    ghost left = { table_rows_left };
-
-    fn next_doc(&mut self, alloc: Global) -> Result<Option<Doc>, AllocError> {
-        match self.rows.next() {
-            Some(row) => Ok(Some(row_doc(alloc, row, &self.columns, self.places)?)),
-            None => Ok(None),
-        }
-    }
-
-    // A row goes to the text cell by cell, without a tree.
-    fn put_next(
-        &mut self,
-        alloc: Global,
-        later: bool,
-        text: &mut Vec<u8>,
-    ) -> Result<bool, AllocError> {
-        let Some(row) = self.rows.next() else {
-            return Ok(false);
-        };
-        put_comma(later, text)?;
-        put_table_row(alloc, row, &self.columns, self.places, text)?;
-        Ok(true)
-    }
+    Ok(TableRows::of(tc.rows(), columns, places))
 }
 
 /// The rows of a table as a JSON array of objects, in order of their identifiers, each with its cells, in order of the

@@ -6,6 +6,7 @@ ghost use Rattle.pst_ndb.specs.Views.{table_of_node, roots_of};
 ghost use Rattle.pst_tc.specs.Tc.{node_of_tc};
 ghost use Rattle.pst_tc.specs.View.{column_of, row_parts, tc_of_row};
 ghost use Rattle.pst_value_json.specs.Cells.{cell_with, cell_in, cell_value, cell_data, cells_of, row_data};
+ghost use Rattle.pst_value_json.specs.Columns.{AreShown};
 ghost use Rattle.pst_value_json.specs.Object.{first_member_text};
 ghost use Rattle.pst_value_json.specs.Parts.{list_data};
 ghost use Rattle.pst_value_json.specs.Places.{content_in, places_in, places_data, if_asked};
@@ -108,7 +109,7 @@ fn put_cell_of(
     Ok(true)
 }
 
-// Puts the cells that a row has in these columns behind a text, as a list of objects.
+// Puts the cells that a row has in these columns behind a text, as a list of objects: one pass over the columns.
 fn put_cells(
     alloc: Global,
     row: Row,
@@ -116,6 +117,7 @@ fn put_cells(
     places: bool,
     text: &mut Vec<u8>,
 ) -> Result<(), AllocError>
+    requires { AreShown (tc_of_row row) columns.now }
     ensures put { let node = node_of_tc (tc_of_row row.entry) in
         let cells = cells_of (table_of_node node) (roots_of node) (row_parts row.entry).place.at
         (map column_of columns.now) in
@@ -126,14 +128,14 @@ fn put_cells(
     text.push(b'[')?;
     let mut later = false;
     for column in columns {
-        let value = cell_at(row, column.tag);
+        let value = cell_at(row, *column);
         later = put_cell_of(alloc, *column, &value, places, later, text)?;
     }
     text.push(b']')?;
     Ok(())
 }
 
-/// Puts a row behind a text, as an object.
+/// Puts a row behind a text, as an object, of the columns that are shown of its table.
 #[tactic(auto, unfolding(crate::specs::Cells::row_data))]
 pub(crate) fn put_table_row(
     alloc: Global,
@@ -142,6 +144,7 @@ pub(crate) fn put_table_row(
     places: bool,
     text: &mut Vec<u8>,
 ) -> Result<(), AllocError>
+    requires { AreShown (tc_of_row row) columns.now }
     ensures put { let node = node_of_tc (tc_of_row row.entry) in
         let shown = row_data places (table_of_node node) (roots_of node)
         (map column_of columns.now) (row_parts row.entry) in

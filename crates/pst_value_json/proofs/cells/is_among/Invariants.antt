@@ -1,6 +1,6 @@
 use Rattle.std.proofs.Common.{◌≡◌, map, drop}
 use Rattle.pst_tc.specs.View.{column_of}
-use Rattle.pst_value_json.specs.Cells.{has_tag}
+use Rattle.pst_value_json.specs.Columns.{has_tag}
 use Rattle.pst_value_json.proofs.cells.is_among.Given as goal
 
 -- none of those before has the tag

@@ -1,7 +1,7 @@
 use Rattle.std.proofs.Common.{◌≡◌, [], map}
 use Rattle.pst_tc.specs.Left.{columns_left}
 use Rattle.pst_tc.specs.View.{column_of}
-use Rattle.pst_value_json.specs.Cells.{with_columns}
+use Rattle.pst_value_json.specs.Columns.{with_columns}
 use Rattle.pst_value_json.proofs.cells.shown_columns.Given as goal
 
 -- those that stand there, with what is left, are all

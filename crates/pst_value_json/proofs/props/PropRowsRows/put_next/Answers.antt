@@ -1,4 +1,3 @@
-use Rattle.std.proofs.Common.{◌∙◌}
 use Rattle.pst_pc.specs.View.{property_of}
 use Rattle.pst_value_json.specs.Places.{places_in, if_asked}
 use Rattle.pst_value_json.specs.Props.{names_told, filed_prop_data, prop_rows_left}
