@@ -12,7 +12,7 @@ use Rattle.pst_ask.specs.declared.words.NoOrder.TheVariants.{Lacks}
 use Rattle.pst_explain.specs.Text.{explanation}
 use Rattle.pst_fault.specs.declared.kind.Kind.{Kind}
 use Rattle.pst_run.specs.declared.refusal.Refusal.{Refusal}
-use Rattle.pst_run.specs.Answer.{GivesNone, Told, answer_to}
+use Rattle.pst_run.specs.Answer.{GivesNone, ToldText, answer_to}
 use Rattle.pst_run.specs.Refusal.{Refused, input, memory, output, line_of_text, refusal_text, refused_of, status_of}
 use Rattle.pst_run.specs.Run.{MatchNone, lack_text, shown_status}
 use Rattle.pst_answer.specs.declared.answer.Answer.{Answer}
@@ -38,7 +38,7 @@ Refuses memory a = IsMemory a
 Refuses r a = HasLine (status_of r) (refusal_text r) a
 
 -- what a command shows, or why it refuses
-abbrev pub AnswersCommand : Result Told Refused → Answer → Type 0
+abbrev pub AnswersCommand : Result ToldText Refused → Answer → Type 0
 AnswersCommand (Ok told) a = Is (shown_status told.fails) told.text [] a ⊎ IsMemory a
 AnswersCommand (Err r) a = HasLine (status_of r) (refusal_text r) a
 
@@ -96,6 +96,6 @@ refused_in_memory (output f) = memory
 refused_in_memory r = r
 
 -- what is shown of a file, or why it is refused, unless memory ran out
-abbrev pub Yields : Result (Vec ℕ Global × Bool) Refusal → Result Told Refused → Type 0
+abbrev pub Yields : Result (Vec ℕ Global × Bool) Refusal → Result ToldText Refused → Type 0
 Yields (Ok shown) told = (streamed : Bool) × (told ≡ Ok (record { text = shown.0.items; fails = shown.1; streamed = streamed }))
 Yields (Err r) told = GivesNone (refused_of r) told

@@ -7,7 +7,7 @@ ghost use Rattle.pst_plain.specs.Twin.{method_of as method_in};
 ghost use Rattle.pst_run.specs.Answer.{answer_to, answer_with, bytes_for, bytes_shown, decoded_damage as answer_decoded, is_decoded_damage as damage_wanted, is_of_whole as whole_wanted, method_for, whole_by};
 ghost use Rattle.pst_run.specs.Export.{archive_in};
 ghost use Rattle.pst_run.specs.Refusal.{refused_of};
-ghost use Rattle.pst_run.specs.Run.{Ends};
+ghost use Rattle.pst_run.specs.Run.{EndsShowing};
 ghost use Rattle.pst_answer.specs.Answer.{Yields, refused_in_memory};
 
 use crate::decoded::decoded_if;
@@ -98,7 +98,7 @@ fn write_whole_of<'p>(
     text: &mut Vec<u8>,
 ) -> Result<bool, Refusal<'p>>
     requires { whole_wanted (request_of request.now) ≡ true }
-    ensures { Ends result (whole_by (method_for request.now.decode bytes.now) (wanted_of request.now.ask) bytes.now)
+    ensures { EndsShowing result (whole_by (method_for request.now.decode bytes.now) (wanted_of request.now.ask) bytes.now)
         (Some text.old.items) (Some text.new.items) }
 {
     if !request.decode || method_of(Image::new(bytes)).is_none() {

@@ -20,7 +20,7 @@ use Rattle.pst_json.specs.declared.fault.DocFault.TheVariants.{NoFolder, NoNode,
 use Rattle.pst_json.specs.Told.{TellsDoc}
 use Rattle.pst_run.specs.declared.refusal.Refusal.{Refusal}
 use Rattle.pst_run.specs.Refusal.{Refused, fault, is_memory, memory, refusal_for, refusal_of, refused_of}
-use Rattle.pst_run.specs.Answer.{GivesNone, Told, answer_to, answer_with, behind, bytes_for, decoded_damage, digest_for, in_front, is_decoded_damage, is_of_whole, line_at, lines_of_paths, method_for, of_store, plain, report_in, report_told, whole_by}
+use Rattle.pst_run.specs.Answer.{GivesNone, ToldText, answer_to, answer_with, behind, bytes_for, decoded_damage, digest_for, in_front, is_decoded_damage, is_of_whole, line_at, lines_of_paths, method_for, of_store, plain, report_in, report_told, whole_by}
 
 report_is : (I : List ℕ) (r : Report) → IsReportOf I (store_in I) r → report_parts r ≡ report_in I
 report_is I r is =
@@ -41,21 +41,21 @@ check_refused I strict digested digest f some = ap (λ g. of_store g (Ok (report
 
 -- ---- lines, one after another
 
-behind_behind : (text line : List ℕ) (r : Result Told Refused) → behind text (behind line r) ≡ behind (text ++ line) r
+behind_behind : (text line : List ℕ) (r : Result ToldText Refused) → behind text (behind line r) ≡ behind (text ++ line) r
 behind_behind text line (Ok told) = ap (λ l. Ok (record told { text = l })) (sym (append_assoc text line told.text))
 behind_behind text line (Err r) = refl
 
 -- nothing is told yet
-pub line_first : (r : Result Told Refused) → r ≡ behind [] r
+pub line_first : (r : Result ToldText Refused) → r ≡ behind [] r
 line_first (Ok told) = refl
 line_first (Err r) = refl
 
 -- the lines of the paths from one on
-abbrev pub lines_left : (List ℕ → Result (List ℕ) DocFault) → List Path → Result Told Refused
+abbrev pub lines_left : (List ℕ → Result (List ℕ) DocFault) → List Path → Result ToldText Refused
 lines_left line paths = lines_of_paths line (map nids_of paths)
 
 -- the next line
-pub line_more : (line : List ℕ → Result (List ℕ) DocFault) (paths : List Path) (i : ℕ) (d : Path) (text this : List ℕ) (whole : Result Told Refused) → i < length paths
+pub line_more : (line : List ℕ → Result (List ℕ) DocFault) (paths : List Path) (i : ℕ) (d : Path) (text this : List ℕ) (whole : Result ToldText Refused) → i < length paths
     → line (nids_of (get_or paths i d)) ≡ Ok this → whole ≡ behind text (lines_left line (drop i paths)) → whole ≡ behind (text ++ this) (lines_left line (drop (i + 1) paths))
 unfolding lines_of_paths
 line_more line paths i d text this whole inside there is =
@@ -64,7 +64,7 @@ line_more line paths i d text this whole inside there is =
     ∙ ap (λ l. behind text (in_front (line_at (nids_of (get_or paths i d)) l) rest)) there ∙ behind_behind text this rest
 
 -- a path that has none
-line_none : (line : List ℕ → Result (List ℕ) DocFault) (paths : List Path) (i : ℕ) (d : Path) (text : List ℕ) (f : DocFault) (whole : Result Told Refused) → i < length paths
+line_none : (line : List ℕ → Result (List ℕ) DocFault) (paths : List Path) (i : ℕ) (d : Path) (text : List ℕ) (f : DocFault) (whole : Result ToldText Refused) → i < length paths
     → line (nids_of (get_or paths i d)) ≡ Err f → whole ≡ behind text (lines_left line (drop i paths)) → whole ≡ Err (refusal_for (nids_of (get_or paths i d)) f)
 unfolding lines_of_paths
 line_none line paths i d text f whole inside there is =
@@ -73,7 +73,7 @@ line_none line paths i d text f whole inside there is =
     ∙ ap (λ l. behind text (in_front (line_at (nids_of (get_or paths i d)) l) rest)) there
 
 -- no path is left
-pub lines_end : (line : List ℕ → Result (List ℕ) DocFault) (paths : List Path) (i : ℕ) (text : List ℕ) (whole : Result Told Refused) → length paths ≤ i
+pub lines_end : (line : List ℕ → Result (List ℕ) DocFault) (paths : List Path) (i : ℕ) (text : List ℕ) (whole : Result ToldText Refused) → length paths ≤ i
     → whole ≡ behind text (lines_left line (drop i paths)) → whole ≡ Ok (plain text)
 unfolding lines_of_paths
 lines_end line paths i text whole outside is =
@@ -81,12 +81,12 @@ lines_end line paths i text whole outside is =
 
 -- ---- a refusal for a path
 
-gives_fault : (f : Fault) (is : Bool) (whole : Result Told Refused) → whole ≡ Err (if is then memory else fault f) → GivesNone (if is then memory else fault f) whole
+gives_fault : (f : Fault) (is : Bool) (whole : Result ToldText Refused) → whole ≡ Err (if is then memory else fault f) → GivesNone (if is then memory else fault f) whole
 gives_fault f true whole e = tt
 gives_fault f false whole e = e
 
 -- what is told of a line that there is not is the refusal for it
-gives_for : {Y : Type 0} (shown : Y → List ℕ) (path : List ℕ) (f : DocFault) (whole : Result Told Refused) (line : Result (List ℕ) DocFault) → TellsDoc shown (Err f) line
+gives_for : {Y : Type 0} (shown : Y → List ℕ) (path : List ℕ) (f : DocFault) (whole : Result ToldText Refused) (line : Result (List ℕ) DocFault) → TellsDoc shown (Err f) line
     → (line ≡ Err f → whole ≡ Err (refusal_for path f)) → GivesNone (refusal_for path f) whole
 gives_for shown path NoFolder whole line tells is = is tells
 gives_for shown path NoNode whole line tells is = is tells
@@ -96,7 +96,7 @@ gives_for shown path (Bad f) whole line tells is = gives_fault f (is_memory f.ki
 gives_for shown path Memory whole line tells is = tt
 
 pub line_refused : {Y : Type 0} (shown : Y → List ℕ) (line : List ℕ → Result (List ℕ) DocFault) (paths : List Path) (i : ℕ) (d : Path) (given told text : List ℕ) (f : DocFault)
-    (r : Refusal) (whole : Result Told Refused) → i < length paths → given ≡ nids_of (get_or paths i d) → told ≡ nids_of (get_or paths i d) → TellsDoc shown (Err f) (line given)
+    (r : Refusal) (whole : Result ToldText Refused) → i < length paths → given ≡ nids_of (get_or paths i d) → told ≡ nids_of (get_or paths i d) → TellsDoc shown (Err f) (line given)
     → refused_of r ≡ refusal_for told f → whole ≡ behind text (lines_left line (drop i paths)) → GivesNone (refused_of r) whole
 line_refused shown line paths i d given told text f r whole inside this same tells is so_far =
     let path = nids_of (get_or paths i d) in

@@ -11,9 +11,9 @@ use Rattle.pst_run.specs.declared.ending.Ending.{Ending}
 use Rattle.pst_export.specs.declared.fault.ExportFault.{ExportFault}
 use Rattle.pst_export.specs.declared.fault.ExportFault.TheVariants.{Output, Memory}
 use Rattle.pst_json.specs.Output.{AppendsFront}
-use Rattle.pst_run.specs.Answer.{Told}
+use Rattle.pst_run.specs.Answer.{ToldText}
 use Rattle.pst_run.specs.Refusal.{Refused, fault, document, input, output, memory, fault_of, status_of, written_for}
-use Rattle.pst_run.specs.Run.{Answers, CarriesOut, EndsAs, EndsWith, IsStatusOf, MatchNone, Outputs, Says, Shows, TellsFault, fault_in}
+use Rattle.pst_run.specs.Run.{Answers, CarriesOut, EndsAs, EndsWith, IsStatusOf, MatchNone, Outputs, Says, Shows, TellsFault, fault_of_answer}
 
 -- words ask for one thing: what is done for it is done for all that they ask for
 pub done_as_asked : (words : List Text) (done : Asked → Type 0) (this : Asked) → IsAsked words (show this) → done this → (a : Asked) → IsAsked words (show a) → done a
@@ -38,21 +38,21 @@ carried a known ending old new (inl (bytes, are, answers, told)) = inl (bytes, a
 carried a known ending old new (inr (unread, none)) = inr unread
 
 -- a text is shown
-pub tells_shown : (answer : Result Told Refused) (fails : Bool) (old new : Option (List ℕ)) (ending : Ending) → Shows answer fails old new → ending.fault ≡ None
+pub tells_shown : (answer : Result ToldText Refused) (fails : Bool) (old new : Option (List ℕ)) (ending : Ending) → Shows answer fails old new → ending.fault ≡ None
     → TellsFault answer ending
-tells_shown answer fails old new ending (told, is, all, written) none = (λ _. none ∙ sym (ap fault_in is), λ _. none)
+tells_shown answer fails old new ending (told, is, all, written) none = (λ _. none ∙ sym (ap fault_of_answer is), λ _. none)
 
 -- nothing is shown for a reason
-pub tells_refused : (answer : Result Told Refused) (r : Refused) (old new : Option (List ℕ)) (ending : Ending) → EndsWith r answer old new → ending.status ≡ status_of r
+pub tells_refused : (answer : Result ToldText Refused) (r : Refused) (old new : Option (List ℕ)) (ending : Ending) → EndsWith r answer old new → ending.status ≡ status_of r
     → ending.fault ≡ fault_of r → TellsFault answer ending
-tells_refused answer (fault f) old new ending ends is told = (λ _. told ∙ sym (ap fault_in ends.0), λ other. absurd (other is))
-tells_refused answer (document path f) old new ending ends is told = (λ _. told ∙ sym (ap fault_in ends.0), λ _. told)
+tells_refused answer (fault f) old new ending ends is told = (λ _. told ∙ sym (ap fault_of_answer ends.0), λ other. absurd (other is))
+tells_refused answer (document path f) old new ending ends is told = (λ _. told ∙ sym (ap fault_of_answer ends.0), λ _. told)
 tells_refused answer input old new ending ends is told = absurd ends
 tells_refused answer (output f) old new ending ends is told = (λ one. absurd (omega (arith, is, one)), λ _. told)
 tells_refused answer memory old new ending ends is told = (λ one. absurd (omega (arith, is, one)), λ _. told)
 
 -- nothing is shown for a reason, which is said
-pub answers_refused : (answer : Result Told Refused) (r : Refused) (status : ℕ) (old new : Outputs) → EndsWith r answer old.out new.out → status ≡ status_of r
+pub answers_refused : (answer : Result ToldText Refused) (r : Refused) (status : ℕ) (old new : Outputs) → EndsWith r answer old.out new.out → status ≡ status_of r
     → Says r old.err new.err → Answers answer status old new
 answers_refused answer (fault f) status old new ends is said = inr (inl (fault f, ends.0, is, ends.1, said))
 answers_refused answer (document path f) status old new ends is said = inr (inl (document path f, ends.0, is, ends.1, said))
@@ -62,7 +62,7 @@ answers_refused answer memory status old new ends is said = inr (inr (inr (is, e
 
 -- ---- a text that was not written to its end
 
-pub ends_written : (f : ExportFault) (r : Refused) (told : Told) (answer : Result Told Refused) (old new : Option (List ℕ)) → r ≡ written_for f → answer ≡ Ok told
+pub ends_written : (f : ExportFault) (r : Refused) (told : ToldText) (answer : Result ToldText Refused) (old new : Option (List ℕ)) → r ≡ written_for f → answer ≡ Ok told
     → AppendsFront old new told.text → (f ≡ Memory → told.streamed ≡ true) → EndsWith r answer old new
 ends_written (Output e) r told answer old new is shown front why = subst (λ x. EndsWith x answer old new) (sym is) (told, shown, front)
 ends_written Memory r told answer old new is shown front why = subst (λ x. EndsWith x answer old new) (sym is) (inr (told, shown, why refl, front))

@@ -25,8 +25,8 @@ use Rattle.pst_plain.proofs.LawLemmas.{places_law}
 use Rattle.pst_remains.specs.Decoded.{decoded_remains_of}
 use Rattle.pst_remains.specs.Remains.{RemainsParts, remains_of}
 use Rattle.pst_ask.specs.Ask.{Asked, Wanted, report, damage, head, nodes, folders, contents, messages, props, value, export}
-use Rattle.pst_run.specs.Answer.{Told, answer_to, answer_with, broken_for, bytes_for, decoded_damage, digest_for, is_whole, is_decoded_damage, method_for, of_store, read_left, read_of_store, read_with, reads, table_of_file, entries_of_file, whole_by}
-use Rattle.pst_run.specs.Laws.{WholeLaw}
+use Rattle.pst_run.specs.Answer.{ToldText, answer_to, answer_with, broken_for, bytes_for, decoded_damage, digest_for, is_whole, is_decoded_damage, method_for, of_store, read_left, read_of_store, read_with, reads, table_of_file, entries_of_file, whole_by}
+use Rattle.pst_run.specs.Laws.{WholeOptionLaw}
 use Rattle.pst_run.specs.Outside.{if_outside, outside_fault}
 
 first_none : (a b : Option Fault) → (a then b) ≡ None → a ≡ None
@@ -117,7 +117,7 @@ as_read (props places paths) digest I is = refl
 as_read (value text path id) digest I is = refl
 as_read export digest I is = refl
 
-pub whole_law : WholeLaw
+pub whole_law : WholeOptionLaw
 whole_law a bytes s all is = ap (λ t. if is_decoded_damage a then decoded_damage (method_of bytes) (digest_for a.ask bytes) bytes else t) (by_reads (reads a.ask) refl)
   where
     by_reads : (b : Bool) → reads a.ask ≡ b

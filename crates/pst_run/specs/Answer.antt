@@ -59,7 +59,7 @@ digest_for ask bytes = None
 
 -- ---- what is shown: a text, and whether the run ends with status 1 all the same
 
-pub record Told : Type 0 where
+pub record ToldText : Type 0 where
   pub text : List ℕ
   pub fails : Bool
   -- it is made as it is written
@@ -77,23 +77,23 @@ is_streamed (Made text) = false
 is_streamed (Lent lent) = false
 is_streamed (Archive e) = true
 
-abbrev pub told_in : Shown → Told
+abbrev pub told_in : Shown → ToldText
 told_in s = record { text = bytes_shown s.text; fails = s.fails; streamed = is_streamed s.text }
 
-abbrev pub plain : List ℕ → Told
+abbrev pub plain : List ℕ → ToldText
 plain text = record { text = text; fails = false; streamed = false }
 
 -- ---- of the header, and of both trees
 
 -- the line of what a check found, or the fault for which the file is refused
-abbrev pub line_or_fault : {X : Type 0} → (X → List ℕ) → Result X Fault → Result Told Refused
+abbrev pub line_or_fault : {X : Type 0} → (X → List ℕ) → Result X Fault → Result ToldText Refused
 line_or_fault line (Ok x) = Ok (plain (line x))
 line_or_fault line (Err f) = Err (refusal_of f)
 
 -- ---- of a store
 
 -- what is told of bytes that are a store; else their first fault
-abbrev pub of_store : Option Fault → Result Told Refused → Result Told Refused
+abbrev pub of_store : Option Fault → Result ToldText Refused → Result ToldText Refused
 of_store None told = told
 of_store (Some f) told = Err (refusal_of f)
 
@@ -110,7 +110,7 @@ report_in I = let s = store_in I in record {
 }
 
 -- a strict check fails where there are lost runs
-abbrev pub report_told : Bool → Option (List ℕ) → ReportParts → Told
+abbrev pub report_told : Bool → Option (List ℕ) → ReportParts → ToldText
 report_told strict digest r = record { text = check_line r digest; fails = strict && not (length r.lost == 0); streamed = false }
 
 -- its blocks, and the entries of its node B-tree
@@ -125,46 +125,46 @@ abbrev pub is_whole : DamageParts → Bool
 is_whole d = is_none d.header && is_none d.maps && length d.pages == 0 && length d.blocks == 0 && length d.nodes == 0
 
 -- what is told of all that is broken, with the digest of the file where it is asked for; it fails where something is
-abbrev pub damage_told : Option (List ℕ) → DamageParts → Told
+abbrev pub damage_told : Option (List ℕ) → DamageParts → ToldText
 damage_told digest d = record { text = damage_line d digest; fails = not (is_whole d); streamed = false }
 
 -- a line or a value, or that there is none of the folder or at the path with these identifiers
-abbrev pub line_at : List ℕ → Result (List ℕ) DocFault → Result Told Refused
+abbrev pub line_at : List ℕ → Result (List ℕ) DocFault → Result ToldText Refused
 line_at path (Ok line) = Ok (plain line)
 line_at path (Err f) = Err (refusal_for path f)
 
 -- a text before the answer
-abbrev pub behind : List ℕ → Result Told Refused → Result Told Refused
+abbrev pub behind : List ℕ → Result ToldText Refused → Result ToldText Refused
 behind text (Ok told) = Ok (record told { text = text ++ told.text })
 behind text (Err r) = Err r
 
-abbrev pub in_front : Result Told Refused → Result Told Refused → Result Told Refused
+abbrev pub in_front : Result ToldText Refused → Result ToldText Refused → Result ToldText Refused
 in_front (Ok told) rest = behind told.text rest
 in_front (Err r) rest = Err r
 
 -- the lines of paths, one after another; where one has none, the first of these
-unfoldable pub lines_of_paths : (List ℕ → Result (List ℕ) DocFault) → List (List ℕ) → Result Told Refused
+unfoldable pub lines_of_paths : (List ℕ → Result (List ℕ) DocFault) → List (List ℕ) → Result ToldText Refused
 lines_of_paths line [] = Ok (plain [])
 lines_of_paths line (path ∷ rest) = in_front (line_at path (line path)) (lines_of_paths line rest)
 
 -- an archive, or why there is none
-abbrev pub archive_told : Result (List ℕ) DocFault → Result Told Refused
+abbrev pub archive_told : Result (List ℕ) DocFault → Result ToldText Refused
 archive_told (Ok text) = Ok (record { text = text; fails = false; streamed = true })
 archive_told (Err f) = Err (refusal_for [] f)
 
 -- ---- of intact nodes, over these blocks, where this is told of others
 
-abbrev pub contents_read : Table → List NodeEntry → LostParts → ℕ → Result Told Refused
+abbrev pub contents_read : Table → List NodeEntry → LostParts → ℕ → Result ToldText Refused
 contents_read t entries lost nid = line_at (nid ∷ []) (contents_line t entries lost nid)
 
 -- a line, unless something is told of the node with which the path begins
 abbrev pub path_read : Bool → Table → List NodeEntry → LostParts → List ℕ → Result (List ℕ) DocFault
 path_read places t entries lost path = unless_fault (path_told lost path) (props_line places t entries path)
 
-abbrev pub props_read : Bool → Table → List NodeEntry → LostParts → List (List ℕ) → Result Told Refused
+abbrev pub props_read : Bool → Table → List NodeEntry → LostParts → List (List ℕ) → Result ToldText Refused
 props_read places t entries lost paths = lines_of_paths (path_read places t entries lost) paths
 
-abbrev pub value_read : Bool → Table → List NodeEntry → LostParts → List ℕ → ℕ → Result Told Refused
+abbrev pub value_read : Bool → Table → List NodeEntry → LostParts → List ℕ → ℕ → Result ToldText Refused
 value_read text t entries lost path id =
     line_at path (unless_fault (path_told lost path) (told_of (written_of text) (property_at t entries path id)))
 
@@ -183,7 +183,7 @@ reads nodes = false
 
 -- what each of them shows; of the others nothing is said here. An archive is of a file of so many bytes, and has what is told of all
 -- that is broken, where something is.
-unfoldable pub read_with : Wanted → ℕ → Option (List ℕ) → Table → List NodeEntry → LostParts → Result Told Refused
+unfoldable pub read_with : Wanted → ℕ → Option (List ℕ) → Table → List NodeEntry → LostParts → Result ToldText Refused
 read_with folders size broken t entries lost = Ok (plain (folders_line t entries lost))
 read_with (contents nid) size broken t entries lost = contents_read t entries lost nid
 read_with messages size broken t entries lost = Ok (plain (messages_text t entries))
@@ -193,7 +193,7 @@ read_with export size broken t entries lost = archive_told (export_told size bro
 read_with ask size broken t entries lost = Ok (plain [])
 
 -- of a store, all of whose nodes are intact: nothing is told of others, and nothing is broken
-abbrev pub read_of_store : Wanted → List ℕ → Result Told Refused
+abbrev pub read_of_store : Wanted → List ℕ → Result ToldText Refused
 read_of_store ask I =
     of_store (store_fault I) (read_with ask (length I) None (table_of_file I) (entries_of_file I) nothing_lost)
 
@@ -203,7 +203,7 @@ read_of_store ask I =
 -- the fields of a good header, and else answers its first fault. `nodes` shows the nodes of two trees without fault, and else
 -- answers the first fault of the header and of both walks. `damage` shows all that is broken, and answers only that a file is outside
 -- of what it looks at. The others show a store, and else answer the first fault of the bytes as one.
-unfoldable pub answer_with : Wanted → Option (List ℕ) → List ℕ → Result Told Refused
+unfoldable pub answer_with : Wanted → Option (List ℕ) → List ℕ → Result ToldText Refused
 answer_with (report strict digested) digest I = of_store (store_fault I) (Ok (report_told strict digest (report_in I)))
 answer_with (damage digested) digest I = of_store (outside_fault I) (Ok (damage_told digest (damage_of I)))
 answer_with head digest I = line_or_fault head_line (answer (header_fault I) (fields I))
@@ -217,7 +217,7 @@ answer_with export digest I = read_of_store export I
 
 -- All that is broken of an encoded file: it is judged as it is stored, and then its blocks without fault are decoded, and the
 -- nodes looked at. A file that is not encoded is answered as it is.
-abbrev pub decoded_damage : Option Method → Option (List ℕ) → List ℕ → Result Told Refused
+abbrev pub decoded_damage : Option Method → Option (List ℕ) → List ℕ → Result ToldText Refused
 decoded_damage None digest I = of_store (outside_fault I) (Ok (damage_told digest (damage_of I)))
 decoded_damage (Some method) digest I = Ok (damage_told digest (damage_in (decoded_remains_of method I)))
 
@@ -242,13 +242,13 @@ broken_for ask d = None
 
 -- The nodes that are left of it and have no fault, over the blocks without fault; of the others their fault is told, and of what lies
 -- behind a broken page that of the page.
-abbrev pub read_left : Wanted → ℕ → RemainsParts → Result Told Refused
+abbrev pub read_left : Wanted → ℕ → RemainsParts → Result ToldText Refused
 read_left ask size r =
     read_with ask size (broken_for ask (damage_in r)) r.table (whole_nodes r.table r.nodes r.broken)
     (lost_of r.table r.nodes r.broken)
 
 -- An encoded file is judged as it is stored, and then its blocks without fault are decoded.
-abbrev pub whole_by : Option Method → Wanted → List ℕ → Result Told Refused
+abbrev pub whole_by : Option Method → Wanted → List ℕ → Result ToldText Refused
 whole_by None ask I = of_store (outside_fault I) (read_left ask (length I) (remains_of I))
 whole_by (Some method) ask I = read_left ask (length I) (decoded_remains_of method I)
 
@@ -264,7 +264,7 @@ is_of_whole a = a.whole && reads a.ask
 
 -- The same of the bytes of a file, with the digest of the file as it is: of its plain twin where that is asked for, but of all that is
 -- broken, and of what is whole, where the file is judged as it is stored.
-abbrev pub answer_to : Asked → List ℕ → Result Told Refused
+abbrev pub answer_to : Asked → List ℕ → Result ToldText Refused
 answer_to a bytes =
     let digest = digest_for a.ask bytes in
     if is_decoded_damage a then decoded_damage (method_of bytes) digest bytes
@@ -272,7 +272,7 @@ answer_to a bytes =
     else answer_with a.ask digest (bytes_for a.decode bytes)
 
 -- nothing is shown for this reason, which is the answer, unless memory ran out
-abbrev pub GivesNone : Refused → Result Told Refused → Type 0
+abbrev pub GivesNone : Refused → Result ToldText Refused → Type 0
 GivesNone (fault f) answer = answer ≡ Err (fault f)
 GivesNone (document path f) answer = answer ≡ Err (document path f)
 GivesNone input answer = ⊥
@@ -280,6 +280,6 @@ GivesNone (output f) answer = ⊥
 GivesNone memory answer = Unit {0}
 
 -- what is returned is the answer, unless memory ran out
-abbrev pub Gives : Result Shown Refusal → Result Told Refused → Type 0
+abbrev pub Gives : Result Shown Refusal → Result ToldText Refused → Type 0
 Gives (Ok shown) answer = answer ≡ Ok (told_in shown)
 Gives (Err r) answer = GivesNone (refused_of r) answer

@@ -16,7 +16,7 @@ use Rattle.pst_ask.specs.declared.ask.Lack.TheVariants.{Nid, Property, Kind, Not
 use Rattle.pst_ask.specs.declared.words.NoOrder.{NoOrder}
 use Rattle.pst_ask.specs.declared.words.NoOrder.TheVariants.{Words, Lacks}
 use Rattle.pst_run.specs.declared.refusal.Refusal.{Refusal}
-use Rattle.pst_run.specs.Answer.{Told, answer_to}
+use Rattle.pst_run.specs.Answer.{ToldText, answer_to}
 use Rattle.pst_run.specs.declared.ending.Ending.{Ending}
 use Rattle.pst_run.specs.Refusal.{Refused, fault, fault_of, document, input, output, memory, refused_of, line_of_text, refusal_line, status_of}
 
@@ -42,19 +42,19 @@ shown_status true = 1
 shown_status false = 0
 
 -- the answer is a text, which fails so, and all of it is written
-abbrev pub Shows : Result Told Refused → Bool → Option (List ℕ) → Option (List ℕ) → Type 0
-Shows answer fails old new = (told : Told) × (answer ≡ Ok told) × (fails ≡ told.fails) × Appends old new told.text
+abbrev pub Shows : Result ToldText Refused → Bool → Option (List ℕ) → Option (List ℕ) → Type 0
+Shows answer fails old new = (told : ToldText) × (answer ≡ Ok told) × (fails ≡ told.fails) × Appends old new told.text
 
 -- the answer is a text, and a front of it is written
-abbrev pub ShowsFront : Result Told Refused → Option (List ℕ) → Option (List ℕ) → Type 0
-ShowsFront answer old new = (told : Told) × (answer ≡ Ok told) × AppendsFront old new told.text
+abbrev pub ShowsFront : Result ToldText Refused → Option (List ℕ) → Option (List ℕ) → Type 0
+ShowsFront answer old new = (told : ToldText) × (answer ≡ Ok told) × AppendsFront old new told.text
 
 -- nothing is written, or of a text that is made as it is written a front
-abbrev pub LeavesFront : Result Told Refused → Option (List ℕ) → Option (List ℕ) → Type 0
-LeavesFront answer old new = Keeps old new ⊎ ((told : Told) × (answer ≡ Ok told) × (told.streamed ≡ true) × AppendsFront old new told.text)
+abbrev pub LeavesFront : Result ToldText Refused → Option (List ℕ) → Option (List ℕ) → Type 0
+LeavesFront answer old new = Keeps old new ⊎ ((told : ToldText) × (answer ≡ Ok told) × (told.streamed ≡ true) × AppendsFront old new told.text)
 
 -- nothing is shown for this reason: what the output holds then
-abbrev pub EndsWith : Refused → Result Told Refused → Option (List ℕ) → Option (List ℕ) → Type 0
+abbrev pub EndsWith : Refused → Result ToldText Refused → Option (List ℕ) → Option (List ℕ) → Type 0
 EndsWith (fault f) answer old new = (answer ≡ Err (fault f)) × Keeps old new
 EndsWith (document path f) answer old new = (answer ≡ Err (document path f)) × Keeps old new
 EndsWith input answer old new = ⊥
@@ -63,22 +63,22 @@ EndsWith memory answer old new = LeavesFront answer old new
 
 -- How showing an answer ends, and what the output then holds: all of the answer; at a refusal nothing; where the output failed, a
 -- front of the answer; and where memory was refused nothing, or of an archive a front.
-abbrev pub Ends : Result Bool Refusal → Result Told Refused → Option (List ℕ) → Option (List ℕ) → Type 0
-Ends (Ok fails) answer old new = Shows answer fails old new
-Ends (Err r) answer old new = EndsWith (refused_of r) answer old new
+abbrev pub EndsShowing : Result Bool Refusal → Result ToldText Refused → Option (List ℕ) → Option (List ℕ) → Type 0
+EndsShowing (Ok fails) answer old new = Shows answer fails old new
+EndsShowing (Err r) answer old new = EndsWith (refused_of r) answer old new
 
 -- memory was refused, which is said, and nothing is written
 abbrev pub IsOutOfMemory : ℕ → Outputs → Outputs → Type 0
 IsOutOfMemory status old new = (status ≡ 4) × Keeps old.out new.out × Says memory old.err new.err
 
 -- memory was refused, which is said, and nothing is written, or of an archive a front
-abbrev pub WantsMemory : Result Told Refused → ℕ → Outputs → Outputs → Type 0
+abbrev pub WantsMemory : Result ToldText Refused → ℕ → Outputs → Outputs → Type 0
 WantsMemory answer status old new = (status ≡ 4) × LeavesFront answer old.out new.out × Says memory old.err new.err
 
 -- The answer is written, its status is the run's, and nothing is said on the error output; or the answer is a refusal, the
 -- status is its, and its line is said there and nothing written. Only an output that cannot be written (3) and want of memory
 -- (4) give another status, and say so.
-abbrev pub Answers : Result Told Refused → ℕ → Outputs → Outputs → Type 0
+abbrev pub Answers : Result ToldText Refused → ℕ → Outputs → Outputs → Type 0
 Answers answer status old new =
     ((fails : Bool) × (status ≡ shown_status fails) × Shows answer fails old.out new.out × Keeps old.err new.err)
     ⊎ (((r : Refused) × (answer ≡ Err r) × (status ≡ status_of r) × Keeps old.out new.out × Says r old.err new.err)
@@ -97,13 +97,13 @@ CarriesOut a known status old new =
     ⊎ IsUnread status old new
 
 -- the fault for which a file is refused, where an answer is that
-abbrev pub fault_in : Result Told Refused → Option Fault
-fault_in (Ok told) = None
-fault_in (Err r) = fault_of r
+abbrev pub fault_of_answer : Result ToldText Refused → Option Fault
+fault_of_answer (Ok told) = None
+fault_of_answer (Err r) = fault_of r
 
 -- a run that ends with status 1 tells the fault of its answer, where that is one; and each other run none
-abbrev pub TellsFault : Result Told Refused → Ending → Type 0
-TellsFault answer ending = (ending.status ≡ 1 → ending.fault ≡ fault_in answer) × (ending.status ≢ 1 → ending.fault ≡ None)
+abbrev pub TellsFault : Result ToldText Refused → Ending → Type 0
+TellsFault answer ending = (ending.status ≡ 1 → ending.fault ≡ fault_of_answer answer) × (ending.status ≢ 1 → ending.fault ≡ None)
 
 -- `CarriesOut`, and the fault for which those bytes are refused, where that is the answer
 abbrev pub EndsAs : Asked → Option (List ℕ) → Ending → Outputs → Outputs → Type 0
@@ -128,8 +128,8 @@ IsStatusOf kind.DisplayVersion status = (status ≡ 0) ⊎ (status ≡ 3)
 IsStatusOf _ status = status ≡ 2
 
 -- the status where the words are refused, or ask for help: want of memory, or that of a kind that is found
-abbrev pub IsRefused : Kinds → ℕ → Type 0
-IsRefused kinds status = (status ≡ 4) ⊎ ((k : ErrorKind) × IsAmong k kinds × IsStatusOf k status)
+abbrev pub IsWordsStatus : Kinds → ℕ → Type 0
+IsWordsStatus kinds status = (status ≡ 4) ⊎ ((k : ErrorKind) × IsAmong k kinds × IsStatusOf k status)
 
 -- a fact for the error of the words, and one where there is none
 abbrev pub MatchNone : NoOrder → (Error → Type 0) → Type 0 → Type 0

@@ -9,7 +9,7 @@ ghost use Rattle.pst_plain.specs.Twin.{method_of};
 ghost use Rattle.pst_run.specs.Answer.{answer_to, answer_with, bytes_for, decoded_damage as answer_decoded, digest_for, is_decoded_damage as damage_wanted, is_of_whole as whole_wanted, method_for, whole_by};
 ghost use Rattle.pst_run.specs.Refusal.{memory};
 ghost use Rattle.pst_fault.specs.declared.kind.Kind.{Kind as FaultKind};
-ghost use Rattle.pst_run.specs.Run.{Answers, CarriesOut, Ends, EndsAs, Explains, IsLacking, IsOutOfMemory, IsRefused, IsStatusOf, MatchNone, Says, SaysLine, TellsFault, lack_text as text_of_lack, outputs};
+ghost use Rattle.pst_run.specs.Run.{Answers, CarriesOut, EndsShowing, EndsAs, Explains, IsLacking, IsOutOfMemory, IsWordsStatus, IsStatusOf, MatchNone, Says, SaysLine, TellsFault, lack_text as text_of_lack, outputs};
 
 use crate::answers::answer;
 use crate::damaged::decoded_damage;
@@ -63,7 +63,7 @@ fn write_decoded_damage<W: Write>(
     mut bytes: Vec<u8>,
     out: &mut W,
 ) -> Result<bool, Refusal<'static>>
-    ensures { Ends result (answer_decoded (method_of bytes.items) digest bytes.items)
+    ensures { EndsShowing result (answer_decoded (method_of bytes.items) digest bytes.items)
         (W.contents out.old) (W.contents out.new) }
 {
     let shown = decoded_damage(alloc, digest, &mut bytes)?;
@@ -81,7 +81,7 @@ fn write_shown<'a, W: Write>(
     bytes: Vec<u8>,
     out: &mut W,
 ) -> Result<bool, Refusal<'a>>
-    ensures { Ends result (answer_with (wanted_of request.now.ask) digest
+    ensures { EndsShowing result (answer_with (wanted_of request.now.ask) digest
         (bytes_for request.now.decode bytes.items))
         (W.contents out.old) (W.contents out.new) }
 {
@@ -99,7 +99,7 @@ fn write_whole_of<'a, W: Write>(
     out: &mut W,
 ) -> Result<bool, Refusal<'a>>
     requires { whole_wanted (request_of request.now) ≡ true }
-    ensures { Ends result (whole_by (method_for request.now.decode bytes.items) (wanted_of request.now.ask) bytes.items)
+    ensures { EndsShowing result (whole_by (method_for request.now.decode bytes.items) (wanted_of request.now.ask) bytes.items)
         (W.contents out.old) (W.contents out.new) }
 {
     if request.decode {
@@ -116,7 +116,7 @@ fn write_answer<'a, W: Write>(
     bytes: Vec<u8>,
     out: &mut W,
 ) -> Result<bool, Refusal<'a>>
-    ensures { Ends result (answer_to (request_of request.now) bytes.items)
+    ensures { EndsShowing result (answer_to (request_of request.now) bytes.items)
         (W.contents out.old) (W.contents out.new) }
 {
     let digest = digest_if(&request.ask, &bytes);
@@ -275,7 +275,7 @@ pub fn run<R: Read, W: Write, E: Write>(
 
     // Where the words are refused, or ask for help or the version, nothing is read.
     ensures refused { fault_of show_app (texts words.entry.now) ≢ [] →
-        IsRefused (fault_of show_app (texts words.entry.now)) result }
+        IsWordsStatus (fault_of show_app (texts words.entry.now)) result }
     ensures unread { fault_of show_app (texts words.entry.now) ≢ [] → input.new ≡ input.old }
 
     // The same where they are accepted and ask for nothing that can be done, as for a node that no word names.

@@ -5,7 +5,7 @@ ghost use Rattle.pst_ask.specs.Ask.{request_of, wanted_of};
 ghost use Rattle.pst_plain.specs.Twin.{method_of as method_in};
 ghost use Rattle.pst_remains.specs.View.{parts_in};
 ghost use Rattle.pst_run.specs.Answer.{is_of_whole as whole_wanted, read_left, reads, whole_by};
-ghost use Rattle.pst_run.specs.Run.{Ends};
+ghost use Rattle.pst_run.specs.Run.{EndsShowing};
 
 use crate::damaged::broken_if;
 use crate::outside::check_inside;
@@ -37,7 +37,7 @@ fn write_left<'p, W: Write>(
     out: &mut W,
 ) -> Result<bool, Refusal<'p>>
     requires { reads (wanted_of ask.now) ≡ true }
-    ensures { Ends result (read_left (wanted_of ask.now) size (parts_in remains.entry))
+    ensures { EndsShowing result (read_left (wanted_of ask.now) size (parts_in remains.entry))
         (W.contents out.old) (W.contents out.new) }
 {
     let damage = broken_if(alloc, ask, &remains)?;
@@ -57,7 +57,7 @@ pub fn write_whole<'p, W: Write>(
     out: &mut W,
 ) -> Result<bool, Refusal<'p>>
     requires { reads (wanted_of ask.now) ≡ true }
-    ensures { Ends result (whole_by None (wanted_of ask.now) bytes.now)
+    ensures { EndsShowing result (whole_by None (wanted_of ask.now) bytes.now)
         (W.contents out.old) (W.contents out.new) }
 {
     let image = Image::new(bytes);
@@ -75,7 +75,7 @@ pub fn write_decoded_whole<'p, W: Write>(
     out: &mut W,
 ) -> Result<bool, Refusal<'p>>
     requires { reads (wanted_of ask.now) ≡ true }
-    ensures { Ends result (whole_by (method_in bytes.old) (wanted_of ask.now) bytes.old)
+    ensures { EndsShowing result (whole_by (method_in bytes.old) (wanted_of ask.now) bytes.old)
         (W.contents out.old) (W.contents out.new) }
 {
     let Some(method) = method_of(Image::new(bytes)) else {
