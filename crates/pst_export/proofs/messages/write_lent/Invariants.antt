@@ -7,7 +7,7 @@ use Rattle.pst_export.specs.Files.{held_files}
 use Rattle.pst_export.specs.Store.{message_files}
 use Rattle.pst_export.specs.Walk.{IsWalkOver, walk_left}
 use Rattle.pst_export.proofs.WriteLemmas.{Added}
-use Rattle.pst_export.proofs.messages.write_message.Given as goal
+use Rattle.pst_export.proofs.messages.write_lent.Given as goal
 
 -- a front of the files is written, and those of what is left of the message are to come
 abbrev pub invariant-loop-walk : goal.invariant-loop-walk
