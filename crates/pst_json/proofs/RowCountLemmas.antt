@@ -1,4 +1,5 @@
 -- Rows of tables that are counted once: those of tables with the same data, and of messages with the same list of subnodes.
+use Rattle.std.proofs.Props.{props}
 use Rattle.std.proofs.Common.{◌≡◌, ℕ, Bool, true, false, cond, Option, Some, None, length, BTreeMap, refl, sym, ap, ◌∙◌}
 use Rattle.std.specs.Prelude.{option_map}
 use Rattle.std.specs.Ordering.{nat_cmp, eq_by_cmp}
@@ -65,6 +66,15 @@ is_held law t r held list is same =
     λ s e. (is.0 ∙ attachments_alike law t r s (sym (e ∙ same)), is.1 ∙ total_alike law t r s recipient_nid (sym (e ∙ same)))
 
 -- ---- what is known
+
+-- that it is true is a fact, so a struct may keep it
+pub counts_are_known : (t : Table) (c : RowCounts) → IsProp (AreCountsTrue t c)
+unfolding AreCountsTrue
+counts_are_known t c = hlevel props
+
+-- of the same table
+pub counts_of : (t u : Table) (c : RowCounts) → u ≡ t → AreCountsTrue t c → AreCountsTrue u c
+counts_of t u c same are = rw same are
 
 nothing : {X : Type 0} (P : ℕ → X → Type 0) (m : BTreeMap ℕ X) → IsEmpty m → (q : ℕ) (y : X) → get nat_cmp m q ≡ Some y → P q y
 nothing P m empty q y known = absurd (let bad : None ≡ Some y = (rw empty at known) in cc)
