@@ -2,12 +2,13 @@
 
 ghost use Rattle.std.specs.Prelude.{◌≡◌, Some, IfOk};
 ghost use Rattle.pst_ndb.specs.Views.{table_of_node, roots_of};
-ghost use Rattle.pst_verify.specs.pst_msg.View.{node_of_attachment, attachment_shown};
+ghost use Rattle.pst_verify.specs.pst_msg.View.{node_of_attachment, attachment_shown, holder_left};
 ghost use Rattle.pst_value_json.specs.Object.{parts_data, KeysRise};
 ghost use Rattle.pst_value_json.specs.Props.{names_told, prop_rows_left};
+ghost use Rattle.pst_json.specs.LastIndex.{IsLastIndex, IsLastIndex-prop};
 ghost use Rattle.pst_json.specs.Node.{embedded_there, attachment_data, filed_in_list as filed_below, listed_data};
-ghost use Rattle.pst_json.specs.Lists.{attachment_rows_left};
 
+use crate::last_index::LastIndex;
 use pst_value_json::{
     Filed, Made, NameMap, Part, PropRows, Rows, Sink, Tree, prop_rows, put_object,
 };
@@ -35,7 +36,9 @@ pub(crate) fn attachment_parts<'a>(
     names: Option<NameMap<'a>>,
     filed: Filed,
     places: bool,
+    index: &'a LastIndex,
 ) -> Result<Vec<Part<PropRows<'a>>>, AllocError>
+    requires { IsLastIndex (table_of_node (node_of_attachment attachment)) index.now }
     ensures shown { let t = table_of_node (node_of_attachment attachment.entry) in
         let shown = attachment_shown attachment.entry in let told = names_told names.entry in
         IfOk result (λ parts.
@@ -45,7 +48,10 @@ pub(crate) fn attachment_parts<'a>(
     let parts = vec![in alloc;
         Part::Value("embedded", Made::Nid(embedded_nid(attachment))),
         Part::Value("nid", Made::Nid(Some(attachment.nid()))),
-        Part::Rows("props", prop_rows(&attachment.pc(), names, filed, places)),
+        Part::Rows(
+            "props",
+            prop_rows(&index.lend(attachment.pc()), names, filed, places)
+        ),
     ]?;
     Ok(parts)
 }
@@ -68,7 +74,9 @@ fn listed_parts<'a>(
     names: Option<NameMap<'a>>,
     files: bool,
     places: bool,
+    index: &'a LastIndex,
 ) -> Result<Vec<Part<PropRows<'a>>>, AllocError>
+    requires { IsLastIndex (table_of_node (node_of_attachment attachment)) index.now }
     ensures shown { let t = table_of_node (node_of_attachment attachment.entry) in
         let shown = attachment_shown attachment.entry in let told = names_told names.entry in
         IfOk result (λ parts.
@@ -76,27 +84,46 @@ fn listed_parts<'a>(
     ensures keys { IfOk result (λ parts. KeysRise prop_rows_left parts.items) }
 {
     let filed = filed_in_list(files, attachment.nid());
-    attachment_parts(alloc, attachment, names, filed, places)
+    attachment_parts(alloc, attachment, names, filed, places, index)
+}
+
+/// How many subnodes the properties of an attachment may be: no more than its data has records of 8 bytes.
+pub(crate) fn values_of(attachment: Attachment) -> u64 {
+    attachment.node().spans().size() / 8
 }
 
 /// The attachments that are left, the names that their properties are shown with, whether files are told in place of their contents,
-/// and whether with their places.
+/// whether with their places, and the index of the list that they ask.
 #[derive(Drop)]
 pub(crate) struct AttachmentRows<'a> {
     pub(crate) attachments: Attachments<'a>,
     pub(crate) names: Option<NameMap<'a>>,
     pub(crate) files: bool,
     pub(crate) places: bool,
+    pub(crate) index: LastIndex,
+    ghost indexed: { IsLastIndex (table_of_node (holder_left attachments)) index } by { IsLastIndex-prop
+        (table_of_node (holder_left attachments)) index },
 }
 
 #[tactic(auto, using(crate::proofs::NodeLemmas::attachment_has_none, pst_value_json::proofs::RowLemmas::puts_next))]
 impl Rows for AttachmentRows<'_> {
+    ghost use Rattle.pst_json.specs.Lists.{attachment_rows_left};
+
     ghost left = { attachment_rows_left };
 
     fn next_doc(&mut self, alloc: Global) -> Result<Option<Doc>, AllocError> {
         match self.attachments.next() {
             Some(attachment) => {
-                let parts = listed_parts(alloc, attachment, self.names, self.files, self.places)?;
+                self.index
+                    .turn(alloc, attachment.node(), values_of(attachment))?;
+                let parts = listed_parts(
+                    alloc,
+                    attachment,
+                    self.names,
+                    self.files,
+                    self.places,
+                    &self.index,
+                )?;
                 Ok(Some(Tree::object(alloc, parts)?))
             }
             None => Ok(None),
@@ -113,7 +140,16 @@ impl Rows for AttachmentRows<'_> {
         let Some(attachment) = self.attachments.next() else {
             return Ok(false);
         };
-        let parts = listed_parts(alloc, attachment, self.names, self.files, self.places)?;
+        self.index
+            .turn(alloc, attachment.node(), values_of(attachment))?;
+        let parts = listed_parts(
+            alloc,
+            attachment,
+            self.names,
+            self.files,
+            self.places,
+            &self.index,
+        )?;
         put_object(alloc, parts, later, text)?;
         Ok(true)
     }

@@ -16,34 +16,66 @@ ghost use Rattle.pst_verify.specs.pst_msg.Nid.{is_type as is_type_of};
 ghost use Rattle.pst_verify.specs.pst_msg.declared.nid.TheConstants.{FOLDER as FOLDER_KIND};
 ghost use Rattle.pst_ndb.specs.Roots.{node_in};
 ghost use Rattle.pst_verify.specs.pst_msg.Shown.{rows_there, folder_table};
+ghost use Rattle.pst_verify.specs.pst_msg.Values.{is_message};
+ghost use Rattle.pst_verify.specs.pst_store.Kind.{node_of_kind};
 ghost use Rattle.pst_verify.specs.pst_msg.View.{tc_roots, node_of_message, message_roots};
-ghost use Rattle.pst_json.specs.Contents.{text_there, listed_data, told_data, row_data, listed_rows, contents_data, contents_there, contents_of, contents_line as line_of_contents};
+ghost use Rattle.pst_json.specs.Contents.{text_there, listed_data, told_data, row_data, contents_data, contents_there, contents_of, contents_line as line_of_contents};
+ghost use Rattle.pst_json.specs.LastIndex.{IsLastIndex};
 ghost use Rattle.pst_json.specs.Told.{TellsDoc};
 ghost use Rattle.pst_value_json.specs.Kept.{BeginsWith};
 
 use crate::fault::DocFault;
+use crate::last_index::LastIndex;
+use crate::listed_rows::ListedRows;
 use crate::texts::{CLASS, SENDER, SUBJECT, put_text_property, text_property_doc};
 use pst_damage_json::fault_doc;
 use pst_fault::Fault;
 use pst_intact::Intact;
 use pst_msg::{Items, listing_nid};
 use pst_value_json::{
-    Line, Made, Part, Pc, Row, Rows, Sink, Tc, TcRows, Tree, nid_text, put_comma, put_nid, put_null,
+    Line, Made, Part, Pc, Row, Sink, Tc, TcRows, Tree, nid_text, put_nid, put_null,
 };
 use pst_verify::{FOLDER, Message, is_type};
 use pst_whole::Lost;
 use serde_json::{Value as Doc, json};
 use std::alloc::{AllocError, Global};
 
-// The properties of a message, where that is there.
-fn properties_of(message: Option<Message>) -> Option<Pc>
+// How many texts of a message are looked up, each of which may be a subnode.
+const TEXTS: u64 = 3;
+
+// The message that a row names, where that is there. The index of its list is made, where the rows before it asked that often, too.
+fn message_in<'a>(
+    alloc: Global,
+    intact: &Intact<'a>,
+    nid: u32,
+    index: &mut LastIndex,
+) -> Result<Option<Message<'a>>, AllocError>
+    requires { IsLastIndex (table_of_intact intact.now) index.old }
+    ensures index { IsLastIndex (table_of_intact intact.now) index.new }
+    ensures roots { let nodes = nodes_of_intact intact.now in
+        IfOk result (λ m. option_map message_roots m ≡ node_of_kind is_message nodes nid) }
+    ensures table { let t = table_of_intact intact.now in
+        IfOk result (λ m. IfSome m (λ x. table_of_node (node_of_message x) ≡ t)) }
+{
+    match intact.message(nid) {
+        Some(message) => {
+            index.turn(alloc, message.node(), TEXTS)?;
+            Ok(Some(message))
+        }
+        None => Ok(None),
+    }
+}
+
+// The properties of a message, where that is there, whose node is lent the index.
+fn properties_of<'a>(message: Option<Message<'a>>, index: &'a LastIndex) -> Option<Pc<'a>>
+    requires { IfSome message (λ m. IsLastIndex (table_of_node (node_of_message m)) index.now) }
     ensures roots { option_map (λ p. roots_of (node_of_pc p)) result ≡
         option_map message_roots message.entry }
     ensures table { (t : Table) → IfSome message.entry (λ m. table_of_node (node_of_message m) ≡ t)
         → IfSome result (λ p. table_of_node (node_of_pc p) ≡ t) }
 {
     match message {
-        Some(message) => Some(message.pc()),
+        Some(message) => Some(index.lend(message.pc())),
         None => None,
     }
 }
@@ -61,13 +93,21 @@ fn text_of(alloc: Global, pc: Option<Pc>, id: u16) -> Result<Doc, AllocError>
 }
 
 // The message that a row names as an object.
-#[tactic(auto, unfolding(crate::specs::Contents::listed_data))]
-fn listed_doc(alloc: Global, intact: &Intact, row: Row) -> Result<Doc, AllocError>
-    ensures { let t = table_of_intact intact.now in
+#[tactic(auto, unfolding(crate::specs::Contents::listed_data), using(crate::proofs::IndexLemmas::last_there))]
+fn listed_doc(
+    alloc: Global,
+    intact: &Intact,
+    row: Row,
+    index: &mut LastIndex,
+) -> Result<Doc, AllocError>
+    requires { IsLastIndex (table_of_intact intact.now) index.old }
+    ensures index { IsLastIndex (table_of_intact intact.now) index.new }
+    ensures shown { let t = table_of_intact intact.now in
         IfOk result (λ d. view d ≡ listed_data t (nodes_of_intact intact.now)
         (row_parts row.entry)) }
 {
-    let pc = properties_of(intact.message(row.id()));
+    let message = message_in(alloc, intact, row.id(), index)?;
+    let pc = properties_of(message, index);
     let class = text_of(alloc, pc, CLASS)?;
     let nid = nid_text(alloc, row.id())?;
     let sender = text_of(alloc, pc, SENDER)?;
@@ -85,16 +125,24 @@ fn told_doc(alloc: Global, fault: &Fault, nid: u32) -> Result<Doc, AllocError>
     json!(in alloc; {"fault": fault, "nid": nid})
 }
 
-// What a row names as an object: the message, or what is told of it.
+/// What a row names as an object: the message, or what is told of it.
 #[tactic(auto, unfolding(crate::specs::Contents::row_data))]
-fn row_doc(alloc: Global, intact: &Intact, lost: &Lost, row: Row) -> Result<Doc, AllocError>
-    ensures { let t = table_of_intact intact.now in
+pub(crate) fn row_doc(
+    alloc: Global,
+    intact: &Intact,
+    lost: &Lost,
+    row: Row,
+    index: &mut LastIndex,
+) -> Result<Doc, AllocError>
+    requires { IsLastIndex (table_of_intact intact.now) index.old }
+    ensures index { IsLastIndex (table_of_intact intact.now) index.new }
+    ensures shown { let t = table_of_intact intact.now in
         IfOk result (λ d. view d ≡ row_data t (nodes_of_intact intact.now) (lost_in lost.now)
         (row_parts row.entry)) }
 {
     match lost.told(row.id()) {
         Some(fault) => told_doc(alloc, &fault, row.id()),
-        None => listed_doc(alloc, intact, row),
+        None => listed_doc(alloc, intact, row, index),
     }
 }
 
@@ -117,19 +165,23 @@ fn put_text_of(
 }
 
 // Puts the message that a row names behind a text, as an object.
-#[tactic(auto, unfolding(crate::specs::Contents::listed_data))]
+#[tactic(auto, unfolding(crate::specs::Contents::listed_data), using(crate::proofs::IndexLemmas::last_there))]
 fn put_listed(
     alloc: Global,
     intact: &Intact,
     row: Row,
+    index: &mut LastIndex,
     text: &mut Vec<u8>,
 ) -> Result<(), AllocError>
+    requires { IsLastIndex (table_of_intact intact.now) index.old }
+    ensures index { IsLastIndex (table_of_intact intact.now) index.new }
     ensures put { let t = table_of_intact intact.now in
         let shown = listed_data t (nodes_of_intact intact.now) (row_parts row.entry) in
         OnOk result (text.new.items ≡ text.old.items ++ compact_text shown) }
     ensures kept { OnErr result (BeginsWith text.new.items text.old.items) }
 {
-    let pc = properties_of(intact.message(row.id()));
+    let message = message_in(alloc, intact, row.id(), index)?;
+    let pc = properties_of(message, index);
     text.extend_from_slice(b"{\"class\":")?;
     put_text_of(alloc, &pc, CLASS, text)?;
     text.extend_from_slice(b",\"nid\":")?;
@@ -153,15 +205,18 @@ fn put_told(alloc: Global, fault: &Fault, nid: u32, text: &mut Vec<u8>) -> Resul
     text.extend_from_slice(&shown)
 }
 
-// Puts what a row names behind a text, as `row_doc` shows it.
+/// Puts what a row names behind a text, as `row_doc` shows it.
 #[tactic(auto, unfolding(crate::specs::Contents::row_data))]
-fn put_row(
+pub(crate) fn put_row(
     alloc: Global,
     intact: &Intact,
     lost: &Lost,
     row: Row,
+    index: &mut LastIndex,
     text: &mut Vec<u8>,
 ) -> Result<(), AllocError>
+    requires { IsLastIndex (table_of_intact intact.now) index.old }
+    ensures index { IsLastIndex (table_of_intact intact.now) index.new }
     ensures put { let t = table_of_intact intact.now in
         let shown = row_data t (nodes_of_intact intact.now) (lost_in lost.now) (row_parts row.entry) in
         OnOk result (text.new.items ≡ text.old.items ++ compact_text shown) }
@@ -169,7 +224,7 @@ fn put_row(
 {
     match lost.told(row.id()) {
         Some(fault) => put_told(alloc, &fault, row.id(), text),
-        None => put_listed(alloc, intact, row, text),
+        None => put_listed(alloc, intact, row, index, text),
     }
 }
 
@@ -227,51 +282,6 @@ fn contents_table<'a>(
     }
 }
 
-/// The messages that are left of those that a table lists, each as an object.
-#[derive(Drop)]
-pub(crate) struct ListedRows<'a> {
-    intact: Intact<'a>,
-    lost: Lost<'a>,
-    rows: Option<TcRows<'a>>,
-}
-
-#[tactic(auto, using(crate::proofs::FolderLemmas::row_has_none))]
-impl Rows for ListedRows<'_> {
-    ghost left = { listed_rows };
-
-    fn next_doc(&mut self, alloc: Global) -> Result<Option<Doc>, AllocError> {
-        let Some(mut rows) = self.rows else {
-            return Ok(None);
-        };
-        let row = rows.next();
-        self.rows = Some(rows);
-        match row {
-            Some(row) => Ok(Some(row_doc(alloc, &self.intact, &self.lost, row)?)),
-            None => Ok(None),
-        }
-    }
-
-    // A message goes to the text member by member, without a tree.
-    fn put_next(
-        &mut self,
-        alloc: Global,
-        later: bool,
-        text: &mut Vec<u8>,
-    ) -> Result<bool, AllocError> {
-        let Some(mut rows) = self.rows else {
-            return Ok(false);
-        };
-        let row = rows.next();
-        self.rows = Some(rows);
-        let Some(row) = row else {
-            return Ok(false);
-        };
-        put_comma(later, text)?;
-        put_row(alloc, &self.intact, &self.lost, row, text)?;
-        Ok(true)
-    }
-}
-
 // The rows of a table, where it is there.
 fn rows_of(table: Option<Tc>) -> Option<TcRows>
     ensures { (t : Table) → IfSome table.entry (λ x. table_of_node (node_of_tc x) ≡ t)
@@ -299,11 +309,7 @@ fn shown_contents<'a, S: Sink>(
     ensures { let t = table_of_intact intact.now in let nodes = nodes_of_intact intact.now in
         IfOk result (λ out. S.Shows out (contents_data t nodes (lost_in lost.now) nid)) }
 {
-    let messages = ListedRows {
-        intact: *intact,
-        lost: *lost,
-        rows: rows_of(table),
-    };
+    let messages = ListedRows::of(intact, lost, rows_of(table));
     let parts = vec![in alloc;
         Part::Value("folder", Made::Nid(Some(nid))),
         Part::Rows("messages", messages),

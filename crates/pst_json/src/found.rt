@@ -1,18 +1,21 @@
 //! What a path leads to.
 
 ghost use Rattle.std.specs.Prelude.{◌≡◌, IfOk, IfSome, option_map, fold, Some};
-ghost use Rattle.pst_ndb.specs.Views.{image_of_node, table_of_node, roots_of};
+ghost use Rattle.pst_ndb.specs.Views.{image_of_node, table_of_node, nid_of, roots_of};
 ghost use Rattle.pst_intact.specs.View.{image_of_intact, table_of_intact, nodes_of_intact};
 ghost use Rattle.pst_verify.specs.pst_msg.View.{node_of_attachment, node_of_message};
 ghost use Rattle.pst_json.specs.Found.{node_of_reached, place_of, node_of_found, place_of_found};
+ghost use Rattle.pst_json.specs.LastIndex.{IsLastIndex};
 ghost use Rattle.pst_json.specs.Path.{message, attachment, place_of_shown, attachment_with, embedded_with, first_place, found_at, place_at, step, step_from};
 ghost use Rattle.pst_json.specs.Told.{told_of};
 
 use crate::fault::DocFault;
+use crate::last_index::LastIndex;
 use pst_intact::Intact;
 use pst_ndb::Node as NodeView;
 use pst_value_json::{Pc, check_pc};
 use pst_verify::{Attachment, Message, is_message};
+use std::alloc::{AllocError, Global};
 
 // What a path has reached.
 #[derive(Clone, Copy)]
@@ -173,9 +176,56 @@ impl<'a> Found<'a> {
     }
 }
 
-/// What a path leads to that has properties, or why there is none.
+// A node, which is lent the index, where there is one and it is of the node's list.
+fn lent<'a>(node: NodeView<'a>, index: Option<&'a LastIndex>) -> NodeView<'a>
+    requires { IfSome index (λ i. IsLastIndex (table_of_node node) i.now) }
+    ensures roots { roots_of result ≡ roots_of node.entry }
+    ensures image { image_of_node result ≡ image_of_node node.entry }
+    ensures table { table_of_node result ≡ table_of_node node.entry }
+    ensures nid { nid_of result ≡ nid_of node.entry }
+{
+    match index {
+        Some(index) => index.lend_to(node),
+        None => node,
+    }
+}
+
+// The index of the list of a node that is no message, where that may ask it often. It holds nothing where there is no such node.
+fn index_in(alloc: Global, intact: &Intact, nid: u32) -> Result<LastIndex, AllocError>
+    ensures { IfOk result (IsLastIndex (table_of_intact intact.now)) }
+{
+    match intact.node(nid) {
+        Some(node) => {
+            let mut index = LastIndex::none();
+            index.turn(alloc, node, node.spans().size() / 8)?;
+            Ok(index)
+        }
+        None => Ok(LastIndex::none()),
+    }
+}
+
+/// That of the node with which a path begins. It holds nothing of a message.
+pub(crate) fn index_at(
+    alloc: Global,
+    intact: &Intact,
+    path: &[u32],
+) -> Result<LastIndex, AllocError>
+    ensures { IfOk result (IsLastIndex (table_of_intact intact.now)) }
+{
+    match path.first() {
+        Some(nid) if !is_message(*nid) => index_in(alloc, intact, *nid),
+        _ => Ok(LastIndex::none()),
+    }
+}
+
+/// What a path leads to that has properties, or why there is none. A node that is no message is lent the index.
 #[tactic(auto, unfolding(crate::specs::Path::found_at))]
-pub(crate) fn found_in<'a>(intact: &Intact<'a>, path: &[u32]) -> Result<Found<'a>, DocFault>
+pub(crate) fn found_in<'a>(
+    intact: &Intact<'a>,
+    path: &[u32],
+    index: Option<&'a LastIndex>,
+) -> Result<Found<'a>, DocFault>
+    requires { IfSome index (λ i. IsLastIndex (table_of_intact intact.now) i.now) }
     ensures place { let i = intact.now in
         told_of place_of_found result ≡ found_at (table_of_intact i) (nodes_of_intact i) path.now }
     ensures table { let t = table_of_intact intact.now in
@@ -186,7 +236,7 @@ pub(crate) fn found_in<'a>(intact: &Intact<'a>, path: &[u32]) -> Result<Found<'a
     match reached_by(intact, path) {
         Some(Reached::Message(message)) => Ok(Found::Message(message)),
         Some(Reached::Attachment(attachment)) => Ok(Found::Attachment(attachment)),
-        Some(Reached::Node(node)) => match check_pc(node) {
+        Some(Reached::Node(node)) => match check_pc(lent(node, index)) {
             Ok(pc) => Ok(Found::Pc(pc)),
             Err(fault) => Err(DocFault::Bad(fault)),
         },

@@ -15,10 +15,11 @@ ghost use Rattle.pst_json.specs.NamesIndex.{IsNamesIndex};
 ghost use Rattle.pst_json.specs.Node.{recipient_nid, recipients_there, attachment_data, filed_of_message, message_data, node_props_data, place_data, props_told, props_line as line_of_props};
 ghost use Rattle.pst_json.specs.Told.{TellsDoc};
 
-use crate::attachment::{AttachmentRows, attachment_parts};
+use crate::attachment::{AttachmentRows, attachment_parts, values_of};
 use crate::fault::DocFault;
-use crate::found::{Found, found_in};
+use crate::found::{Found, found_in, index_at};
 use crate::index::index_of;
+use crate::last_index::LastIndex;
 use crate::lists::MessageRows;
 use crate::names::names_in;
 use pst_intact::Intact;
@@ -64,6 +65,7 @@ fn shown_lists<'a, S: Sink>(
         names,
         files,
         places,
+        index: LastIndex::none(),
     });
     let filed = filed_of(files);
     let props = MessageRows::Props(prop_rows(&message.pc(), names, filed, places));
@@ -185,10 +187,10 @@ pub(crate) fn shown_attachment<S: Sink>(
         let shown = attachment_shown attachment.entry in let told = names_told names.entry in
         IfOk result (λ out. S.Shows out (attachment_data told filed places t shown)) }
 {
-    S::object(
-        alloc,
-        attachment_parts(alloc, attachment, names, filed, places)?,
-    )
+    let mut index = LastIndex::none();
+    index.turn(alloc, attachment.node(), values_of(attachment))?;
+    let parts = attachment_parts(alloc, attachment, names, filed, places, &index)?;
+    S::object(alloc, parts)
 }
 
 // The document of what has one.
@@ -230,7 +232,8 @@ pub fn props_doc<'a>(
     ensures { let i = intact.now in
         TellsDoc view result (props_told places (table_of_intact i) (nodes_of_intact i) path.now) }
 {
-    let found = found_in(intact, path)?;
+    let lists = index_at(alloc, intact, path)?;
+    let found = found_in(intact, path, Some(&lists))?;
     Ok(shown_found::<Tree>(alloc, found, names_in(intact, index), places)?)
 }
 
@@ -250,6 +253,7 @@ pub fn props_line<'a>(
         let line = line_of_props places (table_of_intact i) (nodes_of_intact i) path.now in
         TellsDoc (λ t. t.items) result line }
 {
-    let found = found_in(intact, path)?;
+    let lists = index_at(alloc, intact, path)?;
+    let found = found_in(intact, path, Some(&lists))?;
     Ok(shown_found::<Line>(alloc, found, names_in(intact, index), places)?)
 }

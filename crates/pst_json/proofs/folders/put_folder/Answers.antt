@@ -25,7 +25,7 @@ returns-clause-put c =
     let all = entries_of_nodes nodes in
     let lost = lost_in c.args.lost.now in
     let top = top_of (intact_node c.args.folder) in
-    let node = node_of_pc c.pc.result in
+    let node = node_of_pc c.properties_of.result in
     let below = nids_data (table_told lost Subfolders top) t (folder_table all Subfolders top) in
     let held = count_data (table_told lost Messages top) t (folder_table all Messages top) in
     let own = count_data (table_told lost Associated top) t (folder_table all Associated top) in
@@ -43,7 +43,7 @@ returns-clause-put c =
     (next_marked (codes "name") (text_property (table_of_node node) (roots_of node) NAME) nid _ _ _ _ refl c.in_ok-extend_from_slice-3.ensures.items c.in_ok-put_text_property.ensures.put
     (next_marked (codes "messages") held name _ _ _ _ refl c.in_ok-extend_from_slice-2.ensures.items c.in_ok-put_count-2.ensures.put
     (first_marked (codes "associated") own messages _ _ _ refl c.in_ok-extend_from_slice.ensures.items c.in_ok-put_count.ensures.put)))))) in
-    rw (c.pc.ensures, c.is_sound.ensures.table, c.nid.ensures.top, c.nid-2.ensures.top) at put
+    rw (c.properties_of.ensures.table, c.properties_of.ensures.roots, c.nid.ensures.top, c.nid-2.ensures.top) at put
 
 pub returns-in_err-put_count-clause-kept : goal.returns-in_err-put_count-clause-kept
 returns-in_err-put_count-clause-kept c = kept_so c.from_residual-in_err-put_count.result _ _ (kept_through _ _ _ (kept_here _ _ _ c.in_ok-extend_from_slice.ensures.items) c.in_err-put_count.ensures.kept)

@@ -16,7 +16,7 @@ use Rattle.pst_json.proofs.messages.put_shown.Goals as goal
 pub returns : goal.returns
 unfolding summary_data
 returns c =
-    let node = node_of_pc c.pc-pc.result in
+    let node = node_of_pc c.lend-pc.result in
     let t = table_of_node node in
     let r = roots_of node in
     let subject : Members = member (codes "subject") (text_property t r SUBJECT) no_members in
@@ -41,4 +41,4 @@ returns c =
     (next_marked (codes "folders") (list_data nid_data c.args.folders.now) nid _ _ _ _ refl c.in_ok-extend_from_slice-3.ensures.items c.in_ok-put_nid_list.ensures.put
     (next_marked (codes "class") (text_property t r CLASS) folders _ _ _ _ refl c.in_ok-extend_from_slice-2.ensures.items c.in_ok-put_text_property.ensures.put
     (first_marked (codes "attachments") (natural c.args.held.attachments) class _ _ _ refl c.in_ok-extend_from_slice.ensures.items c.in_ok-put_natural.ensures.put)))))))))) in
-    rw (c.requires.held.0, c.requires.held.1, c.nid.ensures, c.requires.nid, c.pc-pc.ensures) at put
+    rw (c.requires.held.0, c.requires.held.1, c.nid.ensures, c.requires.nid, c.lend-pc.ensures.table, c.lend-pc.ensures.roots, c.pc.ensures) at put
