@@ -1,8 +1,11 @@
 //! The attachments of a message, each as an object.
 
-ghost use Rattle.std.specs.Prelude.{◌≡◌, Some, IfOk};
+ghost use Rattle.std.specs.Prelude.{◌≡◌, ◌++◌, Some, IfOk, OnOk, OnErr};
+ghost use Rattle.serde_json.specs.View.{view};
 ghost use Rattle.pst_ndb.specs.Views.{table_of_node, roots_of};
 ghost use Rattle.pst_verify.specs.pst_msg.View.{node_of_attachment, attachment_shown, holder_left};
+ghost use Rattle.pst_value_json.specs.Kept.{BeginsWith};
+ghost use Rattle.pst_value_json.specs.Line.{row_text};
 ghost use Rattle.pst_value_json.specs.Object.{parts_data, KeysRise};
 ghost use Rattle.pst_value_json.specs.Props.{names_told, prop_rows_left};
 ghost use Rattle.pst_json.specs.LastIndex.{IsLastIndex, IsLastIndex-prop};
@@ -92,6 +95,50 @@ pub(crate) fn values_of(attachment: Attachment) -> u64 {
     attachment.node().spans().size() / 8
 }
 
+// An attachment in the list of a message as an object. The index of its list is made, where that was asked often.
+fn listed_doc(
+    alloc: Global,
+    attachment: Attachment,
+    names: Option<NameMap>,
+    files: bool,
+    places: bool,
+    index: &mut LastIndex,
+) -> Result<Doc, AllocError>
+    requires { IsLastIndex (table_of_node (node_of_attachment attachment)) index.old }
+    ensures index { IsLastIndex (table_of_node (node_of_attachment attachment.entry)) index.new }
+    ensures shown { let t = table_of_node (node_of_attachment attachment.entry) in
+        let shown = attachment_shown attachment.entry in let told = names_told names.entry in
+        IfOk result (λ d. view d ≡ listed_data told files places t shown) }
+{
+    index.turn(alloc, attachment.node(), values_of(attachment))?;
+    let parts = listed_parts(alloc, attachment, names, files, places, index)?;
+    Tree::object(alloc, parts)
+}
+
+// Puts an attachment in the list of a message behind a text, as `listed_doc` shows it.
+fn put_listed(
+    alloc: Global,
+    attachment: Attachment,
+    names: Option<NameMap>,
+    files: bool,
+    places: bool,
+    index: &mut LastIndex,
+    later: bool,
+    text: &mut Vec<u8>,
+) -> Result<(), AllocError>
+    requires { IsLastIndex (table_of_node (node_of_attachment attachment)) index.old }
+    ensures index { IsLastIndex (table_of_node (node_of_attachment attachment.entry)) index.new }
+    ensures put { let t = table_of_node (node_of_attachment attachment.entry) in
+        let shown = attachment_shown attachment.entry in let told = names_told names.entry in
+        OnOk result (text.new.items
+        ≡ text.old.items ++ row_text (listed_data told files places t shown) later) }
+    ensures kept { OnErr result (BeginsWith text.new.items text.old.items) }
+{
+    index.turn(alloc, attachment.node(), values_of(attachment))?;
+    let parts = listed_parts(alloc, attachment, names, files, places, index)?;
+    put_object(alloc, parts, later, text)
+}
+
 /// The attachments that are left, the names that their properties are shown with, whether files are told in place of their contents,
 /// whether with their places, and the index of the list that they ask.
 #[derive(Drop)]
@@ -114,17 +161,15 @@ impl Rows for AttachmentRows<'_> {
     fn next_doc(&mut self, alloc: Global) -> Result<Option<Doc>, AllocError> {
         match self.attachments.next() {
             Some(attachment) => {
-                self.index
-                    .turn(alloc, attachment.node(), values_of(attachment))?;
-                let parts = listed_parts(
+                let doc = listed_doc(
                     alloc,
                     attachment,
                     self.names,
                     self.files,
                     self.places,
-                    &self.index,
+                    &mut self.index,
                 )?;
-                Ok(Some(Tree::object(alloc, parts)?))
+                Ok(Some(doc))
             }
             None => Ok(None),
         }
@@ -140,17 +185,16 @@ impl Rows for AttachmentRows<'_> {
         let Some(attachment) = self.attachments.next() else {
             return Ok(false);
         };
-        self.index
-            .turn(alloc, attachment.node(), values_of(attachment))?;
-        let parts = listed_parts(
+        put_listed(
             alloc,
             attachment,
             self.names,
             self.files,
             self.places,
-            &self.index,
+            &mut self.index,
+            later,
+            text,
         )?;
-        put_object(alloc, parts, later, text)?;
         Ok(true)
     }
 }
