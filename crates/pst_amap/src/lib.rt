@@ -3,7 +3,7 @@
 //! Begin with `compare`, which answers the `MapReport` of a file, or the first fault of its maps. The claims have to
 //! hold all pages of the two B-trees and all blocks, and so the walks and the check of the blocks come first:
 //!
-//! ```
+//! ```text
 //! let mut claims = Claims::new(alloc, &header)?;
 //! let (tree, entries) = walk_blocks(alloc, image, &header, &mut claims)?;
 //! let nodes = walk_node_tree(alloc, image, &header, &mut claims)?;

@@ -4,7 +4,7 @@
 //! Begin with `sum_blocks`, which gives the `Blocks` of a file and how many were check-summed, or the first fault of one.
 //! Their look-ups cannot fail otherwise than by "there is no such block", take no memory, and lend the file's own bytes:
 //!
-//! ```
+//! ```text
 //! let header = read_header(image)?;
 //! let mut claims = Claims::new(alloc, &header)?;
 //! let (tree, entries) = walk_blocks(alloc, image, &header, &mut claims)?;

@@ -6,7 +6,7 @@
 //! gives the node B-tree (`walk_nodes` gives it with the list of its entries). Both claim the pages of their tree.
 //! Look-ups in a tree take no memory:
 //!
-//! ```
+//! ```text
 //! let header = read_header(image)?;
 //! let mut claims = Claims::new(alloc, &header)?;
 //! let (blocks, entries) = walk_blocks(alloc, image, &header, &mut claims)?;

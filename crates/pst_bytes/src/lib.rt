@@ -4,7 +4,7 @@
 //! number at an offset, and `lend` lends the bytes of a `Span`; they answer None where some byte lies past the end.
 //! `number8` to `number64` and `slice` test nothing, and are for bytes that the caller knows to be there:
 //!
-//! ```
+//! ```text
 //! let image = Image::new(bytes);
 //! let magic = image.u32_at(0)?;
 //! let page = image.lend(Span { at: 0x4800, len: 512 })?;

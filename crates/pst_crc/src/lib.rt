@@ -3,7 +3,7 @@
 //! Begin with `check`, which gives the check value of bytes, and with `signature`, which gives the signature of a page
 //! or block by its offset in the file and its identifier. Neither can fail:
 //!
-//! ```
+//! ```text
 //! let value = pst_crc::check(image.slice(Span { at, len: 496 }));
 //! let wanted = pst_crc::signature(at, bid);
 //! ```

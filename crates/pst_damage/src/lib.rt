@@ -3,7 +3,7 @@
 //!
 //! Begin with `find_damage`:
 //!
-//! ```
+//! ```text
 //! let damage = find_damage(alloc, image)?;
 //! for node in &damage.nodes {
 //!     let (nid, fault) = (node.nid, node.fault);

@@ -1,6 +1,6 @@
 //! All that is broken of a file, as JSON.
 //!
-//! `damage_line` gives the line of the document: the compact text of a JSON object, and a line feed.
+//! Begin with `damage_line`, which gives the line of the document: the compact text of a JSON object, and a line feed.
 //!
 //! ```text
 //! let damage = find_damage(alloc, image)?;

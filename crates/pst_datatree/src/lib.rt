@@ -5,7 +5,7 @@
 //! bytes, in one slice or in pieces, and `leaf` the span with a number. They take no memory, and the bytes are the
 //! file's own:
 //!
-//! ```
+//! ```text
 //! let mut seen = Seen::new(alloc);
 //! check_data(alloc, &blocks, node.bid_data, node.nid, &mut seen)?;
 //! let data = value(&blocks, node.bid_data);

@@ -4,7 +4,7 @@
 //! is told how many bytes the file has: it decodes two bytes at a time where that pays. Then `decode` decodes the body of a block.
 //! It cannot fail, changes how many bytes there are, or takes memory:
 //!
-//! ```
+//! ```text
 //! if let Some(method) = Method::of(image[513]) {
 //!     let decoder = Decoder::new(alloc, method, image.len())?;
 //!     decoder.decode(bid, &mut image[at..end]);

@@ -1,9 +1,9 @@
 //! All that a store has, or what is whole of a damaged one, as a tar archive of files.
 //!
-//! `export_of` gathers what an archive is made from, or says that there would be too many files; `emit_export` writes it. The bytes
-//! of values go from the file's own memory to the output, piece by piece:
+//! Begin with `export_of`, which gathers what an archive is made from, or says that there would be too many files; `emit_export`
+//! writes it. The bytes of values go from the file's own memory to the output, piece by piece:
 //!
-//! ```
+//! ```text
 //! let export = export_of(alloc, size, intact, lost, reached, None)?;
 //! emit_export(alloc, &export, &mut out)?;
 //! ```

@@ -3,7 +3,7 @@
 //! Begin with `read_header`, which gives the `Header` of a file, or its first fault. Its fields name the root pages of
 //! the two B-trees; `end` tells where the mapped part of the file ends:
 //!
-//! ```
+//! ```text
 //! let header = read_header(Image::new(bytes))?;
 //! let root = header.nbt;
 //! let end = header.end();

@@ -3,7 +3,7 @@
 //!
 //! Begin with `Intact`. What it is asked cannot fail any more, takes no memory, and lends the file's own bytes:
 //!
-//! ```
+//! ```text
 //! let intact = Intact::of(&store);
 //! for message in intact.messages() { .. }
 //! ```

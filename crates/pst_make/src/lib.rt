@@ -8,7 +8,7 @@
 //! Begin with `build`, which makes the image of a `Plan`. `m0`, `m1` and `m2` give small images, and `m0_plan`,
 //! `m1_plan` and `m2_plan` their plans. `change_all` does each `Change` of a list to an image, seals among them:
 //!
-//! ```
+//! ```text
 //! let mut plan = m0_plan(alloc)?;
 //! plan.nodes.push(NodePlan { nid: 0x142, bid_data: 8, bid_sub: 0, parent: 0x122 })?;
 //! let mut image = build(alloc, &plan)?;
@@ -17,7 +17,7 @@
 //!
 //! `encode` encodes the data blocks of a store by a method, and says so in its header:
 //!
-//! ```
+//! ```text
 //! encode(alloc, &mut image, &plan, Method::Cyclic)?;
 //! ```
 #![tactic(auto)]

@@ -4,7 +4,7 @@
 //! that it names. Where there is no fault, `Store` of pst_store gives each `Folder` and each `Message`, and what they
 //! are asked cannot fail any more:
 //!
-//! ```
+//! ```text
 //! let checked = check_ndb(alloc, Image::new(bytes))?;
 //! let ndb = checked.ndb;
 //! let mut work = checked.work;

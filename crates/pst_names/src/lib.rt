@@ -3,7 +3,7 @@
 //! Begin with `check_names`, which tells the first fault of the map in the property context of node 0x61. Of a map without fault
 //! `known_names` is the view, which finds the name of a property, without fault and without memory:
 //!
-//! ```
+//! ```text
 //! let context = check_pc(node)?;
 //! check_names(alloc, &context)?;
 //! let names = known_names(&context);

@@ -5,7 +5,7 @@
 //! fault. An `Ndb` finds a node by its identifier, and goes through all of them. A `Node` lends its data, the file's
 //! own bytes, and finds its subnodes. `read_nodes` reads no more than the header and the two B-trees:
 //!
-//! ```
+//! ```text
 //! let checked = check_ndb(alloc, Image::new(bytes))?;
 //! let root = checked.ndb.node(0x122);
 //! for node in checked.ndb.nodes() {

@@ -5,7 +5,7 @@
 //! gives one that does as a `Page`, or its first fault, and counts it. An entry is asked for by its number: `child` gives the
 //! page that one of a branch names, `block_entry` and `node_entry` give one of a leaf:
 //!
-//! ```
+//! ```text
 //! let header = read_header(image)?;
 //! let mut pages = 0;
 //! let span = page_place(&header, header.nbt)?;

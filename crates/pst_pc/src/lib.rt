@@ -3,7 +3,7 @@
 //! Begin with `check_pc`, which answers a `Pc` or the first fault of a node's data as one. What a `Pc` is asked cannot fail any
 //! more, takes no memory, and lends the file's own bytes:
 //!
-//! ```
+//! ```text
 //! let properties = check_pc(node)?;
 //! let name = properties.get(0x3001);
 //! for property in properties.props() { .. }

@@ -3,7 +3,7 @@
 //! Begin with `plain`, which makes it, and tells by which method it decoded how many blocks. A file that is not encoded is
 //! its own twin, and stays as it is:
 //!
-//! ```
+//! ```text
 //! let told = plain(alloc, &mut bytes)?;
 //! let answer = verify(alloc, Image::new(&bytes));
 //! ```

@@ -4,7 +4,7 @@
 //! a way leads to; `unreached` gives what is left of the store's folders, which is lost: it is there, and no program that starts at
 //! the root folder shows it. `path_from_root` follows the parents of a folder up to the root folder:
 //!
-//! ```
+//! ```text
 //! let reached = reach(alloc, &ndb, &mut work)?;
 //! for folder in &reached { .. path_from_root(alloc, &reached, folder.nid)? .. }
 //! for nid in unreached(alloc, &ndb, &reached)? { .. }

@@ -4,7 +4,7 @@
 //! Begin with `find_remains`. Its `Remains` tell the faults, and give the blocks and the nodes that are left as pst_block and
 //! pst_btree give those of a whole file:
 //!
-//! ```
+//! ```text
 //! let remains = find_remains(alloc, image)?;
 //! let blocks = remains.good_blocks();
 //! let nodes = remains.node_list();

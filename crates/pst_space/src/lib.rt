@@ -5,7 +5,7 @@
 //! span of a page or a block, or tells the fault Overlap where a unit of it is claimed already. A span has to be whole
 //! units of the mapped part, as `page_place` of pst_page gives it:
 //!
-//! ```
+//! ```text
 //! let header = read_header(image)?;
 //! let mut claims = Claims::new(alloc, &header)?;
 //! let span = page_place(&header, header.nbt)?;

@@ -3,7 +3,7 @@
 //! Begin with `specs/Grammar.antt`, the page that says what a store is. `Store::known` gives the store of a node database whose
 //! messaging was checked; what a `Store` is asked cannot fail any more, takes no memory, and lends the file's own bytes:
 //!
-//! ```
+//! ```text
 //! let store = Store::known(checked.ndb);
 //! let name = store.root().pc().get(0x3001);
 //! for folder in store.folders() { .. }

@@ -6,7 +6,7 @@
 //! remembers faults as well (`SubFaults`). In a list without fault `find_sub` finds a
 //! subnode, and `subs` goes through all of them, and neither takes memory. A `SubIndex` is for many look-ups:
 //!
-//! ```
+//! ```text
 //! let mut seen = Seen::new(alloc);
 //! let mut heights = Heights::new(alloc);
 //! let height = check_sub(alloc, &blocks, node.bid_sub, node.nid, &mut seen, &mut heights)?;

@@ -3,7 +3,7 @@
 //! Begin with `check_tc_with`, which answers a `Tc` or the first fault of a node's data as one, and remembers for its next calls
 //! which heaps have no fault. What a `Tc` is asked cannot fail any more, takes no memory, and lends the file's own bytes:
 //!
-//! ```
+//! ```text
 //! let mut maps = Maps::new(alloc);
 //! let table = check_tc_with(node, &mut maps)?;
 //! for row in table.rows() {

@@ -4,7 +4,7 @@
 //! where it has none `known_value` gives it. The readers (`as_i32`, `as_guid`, `units16`, `elements_from`, ..) say what the bytes
 //! of a value are. All of them are total in the bytes, in one slice or in pieces, and none takes memory:
 //!
-//! ```
+//! ```text
 //! check_value(&mut items, PropType(0x0003), place, raw)?;
 //! let value = known_value(&heap, PropType(0x0003), raw);
 //! let count = as_i32(value);

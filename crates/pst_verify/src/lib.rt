@@ -4,7 +4,7 @@
 //! the store that bytes are, with what is reported of it, or their first fault; `look_ups_are_of_the_store` says what each later
 //! look-up answers then:
 //!
-//! ```
+//! ```text
 //! let verified = verify(alloc, bytes)?;
 //! let messages = verified.report.messages;
 //! for folder in verified.store.folders() { .. }

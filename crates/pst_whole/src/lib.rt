@@ -3,7 +3,7 @@
 //! Begin with `find_whole`, which judges the nodes that are left of a file. What it gives lends the whole ones as `Intact`, which
 //! answers as a store does, and says of each other identifier why nothing is read under it:
 //!
-//! ```
+//! ```text
 //! let whole = find_whole(alloc, find_remains(alloc, image)?)?;
 //! let pages = whole.pages(alloc)?;
 //! let (intact, lost) = (whole.intact(), whole.lost(&pages));

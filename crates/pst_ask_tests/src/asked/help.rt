@@ -54,7 +54,7 @@ fn help_and_the_version_are_shown(rt: HostRuntime) -> Result<(), Fail> {
         is_answered(&rt, &["help", name], false, help)?;
     }
     for word in ["--version", "-V"] {
-        is_answered(&rt, &[word], false, "pst_show 0.2.0\n")?;
+        is_answered(&rt, &[word], false, "pst_show 1.0.0\n")?;
     }
     Ok(())
 }
