@@ -24,7 +24,7 @@ sys.path.insert(0, os.path.join(ROOT, "report"))
 from trying import chromium  # noqa: E402
 
 KEEP = os.path.join(ROOT, "tools", "keep")
-RT_CI = os.path.join(ROOT, "tools", "rt_ci.py")
+RT = os.path.join(ROOT, "tools", "rt.py")
 PROGRAM = os.path.join(ROOT, "crates", "pst_show", "out", "pst_show")
 CALLS = ["--calls", os.path.join(ROOT, "crates", "pst_refused", "out", "pst_refused")]
 COUNTS = re.compile(r"(\d+) passed, (\d+) failed\s*")
@@ -64,12 +64,12 @@ def lanes():
 
 
 def prove():
-    """Runs `rt ci` (tools/rt_ci.py) and shows what it says, but for the counts that it ends with, which are given; and how long it
+    """Runs `rt ci` (tools/rt.py) and shows what it says, but for the counts that it ends with, which are given; and how long it
     took."""
     counts = (0, 1)
     sources = printed("--sources")
     began, env = time.monotonic(), {"RT_JOBS": str(lanes()), **os.environ}
-    with subprocess.Popen([sys.executable, RT_CI], cwd=ROOT, env=env, stdout=subprocess.PIPE, text=True, errors="replace") as gate:
+    with subprocess.Popen([sys.executable, RT, "ci"], cwd=ROOT, env=env, stdout=subprocess.PIPE, text=True, errors="replace") as gate:
         for line in gate.stdout:
             last = COUNTS.fullmatch(line)
             if last:

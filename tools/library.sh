@@ -54,7 +54,7 @@ tell_library() {
 }
 
 # Proves crates/pst_c, and the crates below it where they are not proved yet, and makes the archive of it.
-make_archive() { (cd "$crates/pst_c" && rt lib --jobs "$(processors)" </dev/null); }
+make_archive() { (cd "$crates/pst_c" && run_rt lib --jobs "$(processors)" </dev/null); }
 
 # The same behind `rt ci`, over what that proved and left.
 make_archive_of_ci() {

@@ -183,12 +183,17 @@ watch() {
     [ ! -t 2 ] || printf '\n' >&2
 }
 
+# The kit's rt, which is a program in Python, as tools/rt.py runs it.
+run_rt() {
+    if command -v python3 >/dev/null 2>&1; then python3 "$root/tools/rt.py" "$@"; else rt "$@"; fi
+}
+
 # Proves the crates, those below first, each with all processors, and then builds the program: only a proved program is
 # built. Most crates stand on the one before, so one with all processors is sooner done than several with one each.
 make_program() {
     names pst_show | while IFS= read -r name; do
-        (cd "$crates/$name" && rt check --jobs "$(processors)" </dev/null) || exit 1
-    done && (cd "$crates/pst_show" && rt run -- --version </dev/null)
+        (cd "$crates/$name" && run_rt check --jobs "$(processors)" </dev/null) || exit 1
+    done && (cd "$crates/pst_show" && run_rt run -- --version </dev/null)
 }
 
 changed_meanwhile='a source was changed while it was proved: try again'

@@ -1,14 +1,14 @@
 #!/usr/bin/env python3
-"""Runs `rt ci` of the kit, with what rt asks of the crates below each crate worked out once.
+"""Runs the kit's rt, with what it asks of the crates below each crate worked out once.
 
-    tools/rt_ci.py [NAME..]
+    tools/rt.py WORD..          as `rt WORD..`
 
 rt works out which crates lie below one, and a sum of all their sources, by every path of crates.txt, each time that it asks:
-there are 690,000 paths below the program. It asks for the first some thousand times before its first proof; the sum it takes
-twice for each library, and would be busy with those of the upper ones for an hour and a half. Here what lies below is remembered,
-since crates.txt does not change while rt runs, and a sum as long as no file has changed of which it was taken. Nothing else of rt
-is touched: each proof, edit, test and program is judged by the kit's own code. Where this rt is made otherwise, it is run as it
-is.
+there are 690,000 paths below the program. For the first it asks some thousand times before its first proof of `rt ci`; the sum it
+takes twice for each library, and would be busy with those of the upper ones for an hour and a half. Here what lies below is
+remembered, since crates.txt does not change while rt runs, and a sum as long as no file has changed of which it was taken.
+Nothing else of rt is touched: each proof, edit, test and program is judged by the kit's own code. Where this rt is made
+otherwise, it is run as it is.
 """
 import importlib.machinery
 import importlib.util
@@ -66,15 +66,15 @@ def remembered_sum(made, files_of):
     return stamp
 
 
-def main(names):
+def main(words):
     sys.dont_write_bytecode = True
     rt = kit_rt()
     if rt is None:
-        os.execvp("rt", ["rt", "ci", *names])
+        os.execvp("rt", ["rt", *words])
     crate = rt.rtlib.Crate
     crate.below = remembered(crate.below)
     crate.stamp = remembered_sum(crate.stamp, rt.rtlib.files_of)
-    status = rt.main(["ci", *names])
+    status = rt.main(words)
     sys.stdout.flush()
     return status
 
