@@ -9,6 +9,7 @@ from stores.lists import BLOCKS_IN_A_LIST, data_of, data_tree, leaf_list, subnod
 from stores.mail import (ATTACHMENT_DATA, ATTACHMENT_METHOD, ATTACHMENTS, EMBEDDED_MESSAGE, NAME_MAP, context, table)
 
 LAST_SET, FIRST_STRING = 32_003, 1_000_000
+HTML = 0x1013  # the body of a message as HTML
 
 
 def sparse_tree(store, bodies):
@@ -65,6 +66,16 @@ def spelt(store, body, spans=BLOCKS_IN_A_LIST, lists=BLOCKS_IN_A_LIST):
     return xxblock(store, [xblock(store, [store.block(body)] * spans, length)] * lists, length * lists)
 
 
+def spelt_bodies(store, messages=20):
+    """MESSAGES: messages that are one context, whose body is a value of 1,021 x 1,021 spans of one byte."""
+    roots(store)
+    made = PropertyContext(store)
+    made.set_raw(HTML, BINARY, made.subnode(spelt(store, b"x")))
+    data, subnodes = made.write()
+    for node in identifiers(messages, 4):
+        store.node(node, data, subnodes)
+
+
 def name_map(store, strings, entries, sets=0):
     """The name map of these streams, given as data trees; of no sets where there is none."""
     made = PropertyContext(store)
@@ -112,4 +123,4 @@ def long_names(store, names=1000, length=20_000):
     named_message(store, names)
 
 
-MAKERS = (sparse_values, sparse_names, sparse_objects, far_sets, crossed_entries, long_names)
+MAKERS = (sparse_values, sparse_names, sparse_objects, spelt_bodies, far_sets, crossed_entries, long_names)
