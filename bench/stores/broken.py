@@ -1,0 +1,63 @@
+"""Damaged stores that are made to be slow for `damage`: what many nodes share is broken at its end. They are no stores,
+so `check` refuses them."""
+from stores.contexts import STRING, text
+from stores.far import full_map
+from stores.hostile import PLAIN, attachment_entries, identifiers, ordered, roots, small_message
+from stores.lists import (BLOCKS_IN_A_LIST, SUBNODES_IN_A_LEAF, leaf_list, leaf_lists, list_over, subnode_list, xblock,
+                          xxblock)
+from stores.mail import SUBJECT, context
+
+NO_BLOCK = 0x7FFF_FFF0  # the identifier of a block that is not there
+
+
+def missing_rows(store, messages=4000, count=4000):
+    """MESSAGES COUNT: messages that are one context under one list, whose table of so many attachments names in its
+    last row one that is not there."""
+    roots(store)
+    shared, message = subnode_list(store, attachment_entries(store, count)[:-1]), small_message(store)
+    for node in identifiers(messages, 4):
+        store.node(node, message, shared)
+
+
+def broken_maps(store, messages=2000):
+    """MESSAGES: messages whose heaps have XXBLOCKs of their own over shared XBLOCKs: one of the first span, and one of
+    1,020 times a span with a page map of some 4,000 items, and of one whose page map is broken."""
+    roots(store)
+    first, = context(store, [(SUBJECT, STRING, text("Page maps"))]).bodies()
+    body, bad = full_map(), b"\xFF" * 66
+    length = (BLOCKS_IN_A_LIST - 1) * len(body) + len(bad)
+    shared = xblock(store, [store.block(body)] * (BLOCKS_IN_A_LIST - 1) + [store.block(bad)], length)
+    front = xblock(store, [store.block(first)], len(first))
+    for node in identifiers(messages, 4):
+        store.node(node, xxblock(store, [front, shared], len(first) + length))
+
+
+def shared_entries(leaves, order):
+    """The entries of so many full SLBLOCKs, which have nothing."""
+    return ordered([(entry, 0, 0) for entry in identifiers(leaves * SUBNODES_IN_A_LEAF, PLAIN)], order)
+
+
+def twice_listed(store, nodes=1000, leaves=100, order="shuffled"):
+    """NODES LEAVES ORDER: nodes with SIBLOCKs of their own, all of which name the same SLBLOCKs, whose identifiers are
+    rising, falling or shuffled, and the first of them once more at the end."""
+    roots(store)
+    shared = leaf_lists(store, shared_entries(leaves, order))
+    for node in identifiers(nodes, PLAIN):
+        store.node(node, 0, list_over(store, shared + shared[:1]))
+
+
+def sunk_lists(store, lists=60, leaves=100, depth=250, order="shuffled"):
+    """LISTS LEAVES DEPTH ORDER: SIBLOCKs over shared SLBLOCKs, whose identifiers are rising, falling or shuffled; the
+    last entry has data that is not there. To each so many nodes lead, each by one list more than the one before."""
+    roots(store)
+    entries = shared_entries(leaves, order)
+    entries[-1] = (entries[-1][0], NO_BLOCK, 0)
+    shared, nodes = leaf_lists(store, entries), iter(identifiers(lists * depth, PLAIN))
+    for _ in range(lists):
+        below = list_over(store, shared)
+        for _ in range(depth):
+            store.node(next(nodes), 0, below)
+            below = leaf_list(store, [(PLAIN, 0, below)])
+
+
+MAKERS = (missing_rows, broken_maps, twice_listed, sunk_lists)
