@@ -52,10 +52,10 @@ pub fn damage_beside(alloc: Global, remains: Remains) -> Result<Damage, Fault>
 /// nor lie behind a page with a fault. And it is counted what is whole.
 ///
 /// What is found without fault is remembered, and passed over where it is met again. Of what has one the fault is remembered by the
-/// blocks of its data and of its subnodes: of the data tree of a node and of each list and data of a subnode below it, of its
-/// properties, and of a table of a folder, of whose rows by its data alone; so each is gone through once, however many nodes lead to
-/// it. What a broken message holds is not, nor an XBLOCK: that is gone through, up to the fault, for each node that leads to it by
-/// blocks of its own. Of a node nothing is kept in memory beside what `find_remains` keeps, and at most 80 bytes where it is broken;
+/// blocks of its data and of its subnodes: of the data tree of a node and of each list and data of a subnode below it, of a context in
+/// each role, of the rows of a folder's table by its data alone, and of what a message holds by its list of subnodes alone, where it
+/// is that of a context; so each is gone through once, however many nodes lead to it. An XBLOCK is gone through, up to the fault, for
+/// each node that leads to it by blocks of its own, and so is a message that names what is missing, or of another type. Of a node nothing is kept in memory beside what `find_remains` keeps, and at most 80 bytes where it is broken;
 /// and some 100 of each fault that is remembered.
 /// NoMemory where memory is refused.
 #[tactic(auto, unfolding(crate::specs::Damage::damage_of))]

@@ -1,6 +1,7 @@
 -- What is remembered is true, and closed.
-use Rattle.std.proofs.Common.{◌≡◌, ℕ, zero, suc, true, false, None, refl, sym, ap, ◌∙◌, ◌⊎◌, inl, inr}
+use Rattle.std.proofs.Common.{◌≡◌, ℕ, true, false, None, refl, sym, ap, ◌∙◌, ◌⊎◌, inl, inr}
 use Rattle.std.proofs.lemmas.Bool.{false≢true}
+use Rattle.pst_fault.specs.Fault.{at_node}
 use Rattle.pst_block.specs.Table.{Table}
 use Rattle.pst_subnode.specs.declared.check.TheConstants.{LISTS}
 use Rattle.pst_subnode.specs.Tree.{sub_fault}
@@ -10,6 +11,7 @@ use Rattle.pst_ndb.specs.Roots.{Roots}
 use Rattle.pst_pc.specs.pst_heap.declared.maps.Maps.{Maps}
 use Rattle.pst_pc.specs.pst_heap.Maps.{AreMapsTrue}
 use Rattle.pst_msg.specs.declared.asked.Asked.{Asked}
+use Rattle.pst_msg.specs.declared.faults.Faults.{Faults}
 use Rattle.pst_msg.specs.declared.items.Items.TheVariants.{Subfolders, Messages, Associated}
 use Rattle.pst_msg.specs.declared.keys.Keys.{Keys}
 use Rattle.pst_msg.specs.declared.known.Known.{Known}
@@ -22,8 +24,10 @@ use Rattle.pst_msg.specs.declared.role.Role.{Role}
 use Rattle.pst_msg.specs.declared.role.Role.TheVariants.{Properties, Listed, Recipients, Attachments}
 use Rattle.pst_ndb.specs.Alike.{Alike}
 use Rattle.pst_msg.specs.Asked.{AreAskedTrue}
+use Rattle.pst_msg.specs.Broken.{context_part, held_part}
+use Rattle.pst_msg.specs.Faults.{AreFaultsOf}
 use Rattle.pst_msg.specs.Keys.{Key, key, list_key, holds, has}
-use Rattle.pst_msg.specs.Roles.{role_number, role_fault}
+use Rattle.pst_msg.specs.Roles.{role_number, role_with, role_fault}
 use Rattle.pst_msg.specs.Fault.{held_fault, below_message, message_at, attachment_at, message_fault, attachment_fault}
 use Rattle.pst_msg.specs.Known.{ListIn, MessagesAreTrue, AttachmentsAreTrue, ListsAreTrue, HeldIn, MessageIn, AttachmentIn, IsTrueOf}
 use Rattle.pst_msg.proofs.AlikeLemmas.{SameList, pc_alike, tc_alike, alike_law, held_alike, subnode_alike, row_alike, embedded_alike}
@@ -39,15 +43,7 @@ Kept old new = (q : Key) → holds old q ≡ true → holds new q ≡ true
 
 -- ---- roles
 
-role_with : ℕ → Role
-role_with zero = Properties
-role_with (suc zero) = Listed Subfolders
-role_with (suc (suc zero)) = Listed Messages
-role_with (suc (suc (suc zero))) = Listed Associated
-role_with (suc (suc (suc (suc zero)))) = Recipients
-role_with (suc (suc (suc (suc (suc n))))) = Attachments
-
-role_back : (role : Role) → role_with (role_number role) ≡ role
+pub role_back : (role : Role) → role_with (role_number role) ≡ role
 unfolding role_with
 role_back Properties = refl
 role_back (Listed Subfolders) = refl
@@ -123,8 +119,8 @@ known_list t keys limit node same holds is sound =
 from_none : (keys : Keys) (P : Type 0) (q : Key) → ((k : Key) → holds keys k ≡ false) → holds keys q ≡ true → P
 from_none keys P q none there = absurd (false≢true (sym (none q) ∙ there))
 
-pub nothing_known : (t : Table) (k : Known) → ((q : Key) → holds k.contexts q ≡ false) → ((q : Key) → holds k.messages q ≡ false) → ((q : Key) → holds k.attachments q ≡ false) → ((q : Key) → holds k.lists q ≡ false) → IsIndexIn t k.index → AreIndexes t k.indexes → AreMapsTrue t k.maps → AreAskedTrue t k.asked → IsTrueOf t k
-nothing_known t k contexts messages attachments lists index indexes maps asked = record {
+pub nothing_known : (t : Table) (k : Known) → ((q : Key) → holds k.contexts q ≡ false) → ((q : Key) → holds k.messages q ≡ false) → ((q : Key) → holds k.attachments q ≡ false) → ((q : Key) → holds k.lists q ≡ false) → IsIndexIn t k.index → AreIndexes t k.indexes → AreMapsTrue t k.maps → AreAskedTrue t k.asked → AreFaultsOf at_node (context_part t) k.broken → AreFaultsOf at_node (held_part t) k.broken_lists → IsTrueOf t k
+nothing_known t k contexts messages attachments lists index indexes maps asked broken broken_lists = record {
   contexts = λ role s there. from_none k.contexts _ _ contexts there;
   messages = λ s there. from_none k.messages _ _ messages there;
   attachments = λ s there. from_none k.attachments _ _ attachments there;
@@ -133,15 +129,17 @@ nothing_known t k contexts messages attachments lists index indexes maps asked =
   indexes = indexes;
   maps = maps;
   asked = asked;
+  broken = broken;
+  broken_lists = broken_lists;
   messages_in = λ s there. from_none k.messages _ _ messages there;
   attachments_in = λ s there. from_none k.attachments _ _ attachments there;
   lists_in = λ s there. from_none k.lists _ _ lists there;
 }
 
--- ---- other indexes, more page maps, and more that was asked
+-- ---- other indexes, more page maps, more that was asked, and more faults
 
-pub aids_turned : (t : Table) (k : Known) (index : ListIndex) (maps : Maps) (asked : Asked) → IsTrueOf t k → IsIndexIn t index → AreMapsTrue t maps → AreAskedTrue t asked → IsTrueOf t (record k { index = index; maps = maps; asked = asked })
-aids_turned t k index maps asked is turned more kept = record {
+pub aids_turned : (t : Table) (k : Known) (index : ListIndex) (maps : Maps) (asked : Asked) (broken : Faults) → IsTrueOf t k → IsIndexIn t index → AreMapsTrue t maps → AreAskedTrue t asked → AreFaultsOf at_node (context_part t) broken → IsTrueOf t (record k { index = index; maps = maps; asked = asked; broken = broken })
+aids_turned t k index maps asked broken is turned more kept faults = record {
   contexts = is.contexts;
   messages = is.messages;
   attachments = is.attachments;
@@ -150,6 +148,8 @@ aids_turned t k index maps asked is turned more kept = record {
   indexes = is.indexes;
   maps = more;
   asked = kept;
+  broken = faults;
+  broken_lists = is.broken_lists;
   messages_in = λ s there. message_later t k _ s (λ q h. h) (λ q h. h) (is.messages_in s there);
   attachments_in = λ s there. attachment_later t k _ s (λ q h. h) (λ q h. h) (is.attachments_in s there);
   lists_in = λ s there. held_later t k _ s (λ q h. h) (λ q h. h) (is.lists_in s there);
@@ -165,6 +165,8 @@ indexes_turned t k indexes is turned = record {
   indexes = turned;
   maps = is.maps;
   asked = is.asked;
+  broken = is.broken;
+  broken_lists = is.broken_lists;
   messages_in = λ s there. message_later t k _ s (λ q h. h) (λ q h. h) (is.messages_in s there);
   attachments_in = λ s there. attachment_later t k _ s (λ q h. h) (λ q h. h) (is.attachments_in s there);
   lists_in = λ s there. held_later t k _ s (λ q h. h) (λ q h. h) (is.lists_in s there);
@@ -188,6 +190,8 @@ context_remembered t role r k new count is none more kept = record {
   indexes = is.indexes;
   maps = is.maps;
   asked = is.asked;
+  broken = is.broken;
+  broken_lists = is.broken_lists;
   messages_in = λ s there. message_later t k _ s kept (λ q h. h) (is.messages_in s there);
   attachments_in = λ s there. attachment_later t k _ s kept (λ q h. h) (is.attachments_in s there);
   lists_in = λ s there. held_later t k _ s kept (λ q h. h) (is.lists_in s there);
@@ -207,6 +211,8 @@ message_remembered t known new limit node same is sound none inside more kept =
       indexes = is.indexes;
       maps = is.maps;
       asked = is.asked;
+      broken = is.broken;
+      broken_lists = is.broken_lists;
       messages_in = λ s in_new. message_later t known _ s (λ q h. h) (λ q h. h) (elim (more (key 0 s) in_new) [ inl was ↦ is.messages_in s was | inr e ↦ message_in_alike t known r s (alike_of_key 0 0 r s e).1 inside ]);
       attachments_in = λ s there. attachment_later t known _ s (λ q h. h) kept (is.attachments_in s there);
       lists_in = λ s there. held_later t known _ s (λ q h. h) (λ q h. h) (is.lists_in s there);
@@ -226,6 +232,8 @@ attachment_remembered t known new limit node same is sound none inside more kept
       indexes = is.indexes;
       maps = is.maps;
       asked = is.asked;
+      broken = is.broken;
+      broken_lists = is.broken_lists;
       messages_in = λ s there. message_later t known _ s (λ q h. h) kept (is.messages_in s there);
       attachments_in = λ s in_new. attachment_later t known _ s (λ q h. h) (λ q h. h) (elim (more (key 0 s) in_new) [ inl was ↦ is.attachments_in s was | inr e ↦ attachment_in_alike t known r s (alike_of_key 0 0 r s e).1 inside ]);
       lists_in = λ s there. held_later t known _ s (λ q h. h) kept (is.lists_in s there);
@@ -245,7 +253,28 @@ list_remembered t known new limit node same is sound none inside more kept =
       indexes = is.indexes;
       maps = is.maps;
       asked = is.asked;
+      broken = is.broken;
+      broken_lists = is.broken_lists;
       messages_in = λ s there. message_later t known _ s (λ q h. h) (λ q h. h) (is.messages_in s there);
       attachments_in = λ s there. attachment_later t known _ s (λ q h. h) (λ q h. h) (is.attachments_in s there);
       lists_in = λ s in_new. held_later t known _ s (λ q h. h) (λ q h. h) (elim (more (list_key s) in_new) [ inl was ↦ is.lists_in s was | inr e ↦ held_in_alike t known r s (same_list r s e) inside ]);
     }
+
+-- ---- one more fault of what messages hold in a list
+
+pub fault_remembered : (t : Table) (k : Known) (broken_lists : Faults) → IsTrueOf t k → AreFaultsOf at_node (held_part t) broken_lists → IsTrueOf t (record k { broken_lists = broken_lists })
+fault_remembered t k broken_lists is faults = record {
+  contexts = is.contexts;
+  messages = is.messages;
+  attachments = is.attachments;
+  lists = is.lists;
+  index = is.index;
+  indexes = is.indexes;
+  maps = is.maps;
+  asked = is.asked;
+  broken = is.broken;
+  broken_lists = faults;
+  messages_in = λ s there. message_later t k _ s (λ q h. h) (λ q h. h) (is.messages_in s there);
+  attachments_in = λ s there. attachment_later t k _ s (λ q h. h) (λ q h. h) (is.attachments_in s there);
+  lists_in = λ s there. held_later t k _ s (λ q h. h) (λ q h. h) (is.lists_in s there);
+}

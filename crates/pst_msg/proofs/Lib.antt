@@ -12,6 +12,8 @@ pub mod KeyLemmas
 pub mod IndexLemmas
 pub mod HeldLemmas
 pub mod KnownLemmas
+pub mod FaultsLemmas
+pub mod RetoldLemmas
 pub mod AskedLemmas
 pub mod ListingLemmas
 pub mod CountLemmas
@@ -19,6 +21,7 @@ pub mod GrowLemmas
 pub mod StepLemmas
 pub mod FrameLemmas
 pub mod OpenLemmas
+pub mod BrokenLemmas
 pub mod NamedLemmas
 pub mod MessagingLemmas
 pub mod NamesLaws

@@ -3,7 +3,7 @@ use Rattle.std.specs.Prelude.{◌≡◌, ℕ, ◌+◌, ◌<◌, ◌≤◌, ◌�
 use Rattle.std.specs.List.{Contains}
 use Rattle.pst_fault.specs.declared.fault.Fault.{Fault}
 use Rattle.pst_fault.specs.Each.{first_of}
-use Rattle.pst_fault.specs.First.{◌then◌}
+use Rattle.pst_fault.specs.First.{◌then◌, IsFirst}
 use Rattle.pst_page.specs.declared.entry.NodeEntry.{NodeEntry}
 use Rattle.pst_block.specs.Table.{Table}
 use Rattle.pst_subnode.specs.declared.check.TheConstants.{LISTS}
@@ -94,6 +94,17 @@ IsStack t root k (f ∷ below) =
     × HasHolder t k f
     × Reaches t root (roots_of f.node)
     × IsBelow t root k (roots_of f.node) f.limit (holder_of f) below
+
+-- what a message holds, and what those hold that wait for it, have this fault
+abbrev pub IsBrokenBy : Table → Fault → Frame → Type 0
+IsBrokenBy t e f = (table_of_node f.node ≡ t) × IsFirst (held_fault t (below_message t LISTS) (roots_of f.node)) e
+
+abbrev pub AreBrokenBy : Table → Fault → List Frame → Type 0
+AreBrokenBy t e stack = (f : Frame) → Contains stack f → IsBrokenBy t e f
+
+-- they have, where it has
+abbrev pub WaitFor : Table → Frame → List Frame → Type 0
+WaitFor t last stack = (e : Fault) → IsFirst (message_at t last.limit (roots_of last.node)) e → AreBrokenBy t e stack
 
 -- ---- what the steps give
 

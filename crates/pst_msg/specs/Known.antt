@@ -1,8 +1,9 @@
 -- What is known of the parts of messages: only what is true. A part is remembered once it was found without fault, so a part
 -- that is passed over is one whose first fault is none: it hides nothing. And all that lies one step below what is remembered
--- is remembered too.
+-- is remembered too. Of a part with a fault that fault is, told of each node that leads to it.
 use Rattle.std.specs.Prelude.{◌≡◌, true, None, Some, List}
 use Rattle.pst_fault.specs.Each.{first_of}
+use Rattle.pst_fault.specs.Fault.{at_node}
 use Rattle.pst_page.specs.declared.entry.NodeEntry.{NodeEntry}
 use Rattle.pst_block.specs.Table.{Table}
 use Rattle.pst_subnode.specs.declared.check.TheConstants.{LISTS}
@@ -18,6 +19,8 @@ use Rattle.pst_msg.specs.declared.object.Object.{Object}
 use Rattle.pst_msg.specs.declared.role.Role.{Role}
 use Rattle.pst_msg.specs.declared.role.Role.TheVariants.{Properties, Listed, Recipients, Attachments}
 use Rattle.pst_msg.specs.Asked.{AreAskedTrue}
+use Rattle.pst_msg.specs.Broken.{context_part, held_part}
+use Rattle.pst_msg.specs.Faults.{AreFaultsOf}
 use Rattle.pst_msg.specs.Keys.{holds, has, data_key, list_key}
 use Rattle.pst_msg.specs.ListIndex.{IsIndexIn}
 use Rattle.pst_msg.specs.Indexes.{AreIndexes}
@@ -87,6 +90,9 @@ pub record IsTrueOf (t : Table) (k : Known) : Type 0 where
   pub indexes : AreIndexes t k.indexes
   pub maps : AreMapsTrue t k.maps
   pub asked : AreAskedTrue t k.asked
+  -- each fault that is remembered is that of its context, or of what a message holds in its list
+  pub broken : AreFaultsOf at_node (context_part t) k.broken
+  pub broken_lists : AreFaultsOf at_node (held_part t) k.broken_lists
   -- it is closed
   pub messages_in : (r : Roots) → WholeIn k.messages r → MessageIn t k r
   pub attachments_in : (r : Roots) → WholeIn k.attachments r → AttachmentIn t k r

@@ -9,6 +9,8 @@ pub mod Roles
 pub mod ListIndex
 pub mod Indexes
 pub mod Asked
+pub mod Faults
+pub mod Broken
 pub mod Known
 pub mod Checker
 pub mod Counts

@@ -2,11 +2,13 @@
 
 ghost use Rattle.std.specs.Prelude.{◌≡◌, true, None, IfOk, IfErr, OnOk};
 ghost use Rattle.pst_block.specs.Block.{bid_key};
-ghost use Rattle.pst_fault.specs.Fault.{no_memory};
+ghost use Rattle.pst_fault.specs.Fault.{at_node, no_memory};
 ghost use Rattle.pst_fault.specs.First.{Tells};
 ghost use Rattle.pst_ndb.specs.Views.{table_of_node, roots_of};
 ghost use Rattle.pst_pc.specs.pst_heap.Maps.{AreMapsTrue};
 ghost use Rattle.pst_msg.specs.Asked.{AreAskedTrue};
+ghost use Rattle.pst_msg.specs.Broken.{context_part};
+ghost use Rattle.pst_msg.specs.Faults.{AreFaultsOf};
 ghost use Rattle.pst_msg.specs.ListIndex.{IsIndexIn};
 ghost use Rattle.pst_msg.specs.Roles.{role_fault, role_number as number_of};
 ghost use Rattle.pst_msg.specs.Known.{ContextIn, IsTrueOf};
@@ -14,6 +16,8 @@ ghost use Rattle.pst_msg.specs.Counts.{Names};
 ghost use Rattle.pst_msg.specs.Growth.{Grows};
 
 use crate::asked::Asked;
+use crate::broken::part_of;
+use crate::faults::Faults;
 use crate::keys::{Key, key_of};
 use crate::known::Known;
 use crate::list_index::ListIndex;
@@ -77,6 +81,35 @@ fn check_by(
     asked.remember(alloc, role, lent)
 }
 
+// Checks the context of a node, unless it is known to have a fault; and one that it has is known from then on.
+fn check_anew(
+    alloc: Global,
+    role: Role,
+    node: Node,
+    index: &mut ListIndex,
+    maps: &mut Maps,
+    asked: &mut Asked,
+    broken: &mut Faults,
+) -> Result<(), Fault>
+    requires index { IsIndexIn (table_of_node node) index.old }
+    requires maps { AreMapsTrue (table_of_node node) maps.old }
+    requires asked { AreAskedTrue (table_of_node node) asked.old }
+    requires broken { AreFaultsOf at_node (context_part (table_of_node node)) broken.old }
+    ensures index { IsIndexIn (table_of_node node.entry) index.new }
+    ensures maps { AreMapsTrue (table_of_node node.entry) maps.new }
+    ensures asked { AreAskedTrue (table_of_node node.entry) asked.new }
+    ensures broken { AreFaultsOf at_node (context_part (table_of_node node.entry)) broken.new }
+    ensures exact { let t = table_of_node node.entry in
+        Tells result (role_fault t role (roots_of node.entry)) tt }
+{
+    let part = part_of(role_number(role), node);
+    if let Some(fault) = broken.get(part) {
+        return Err(fault.at_node(node.top()));
+    }
+    let answer = check_by(alloc, role, node, index, maps, asked);
+    broken.keep(part, answer)
+}
+
 /// Checks the context of a node in a role, and counts it, unless it is remembered in that role.
 pub(crate) fn once(known: &mut Known, role: Role, node: Node) -> Result<(), Fault>
     requires { IsTrueOf (table_of_node node) known.old }
@@ -92,13 +125,14 @@ pub(crate) fn once(known: &mut Known, role: Role, node: Node) -> Result<(), Faul
         return Ok(());
     }
     let alloc = known.alloc;
-    check_by(
+    check_anew(
         alloc,
         role,
         node,
         &mut known.index,
         &mut known.maps,
         &mut known.asked,
+        &mut known.broken,
     )?;
     known.contexts.put(taken)?;
     known.count = known.count.saturating_add(1);

@@ -1,13 +1,14 @@
 //! What is known of the parts of messages.
 
 use crate::asked::Asked;
+use crate::faults::Faults;
 use crate::indexes::Indexes;
 use crate::keys::Keys;
 use crate::list_index::ListIndex;
 use pst_pc::Maps;
 use std::alloc::Global;
 
-/// The contexts, messages and attachments that have no fault.
+/// The contexts, messages and attachments that have no fault; and the faults of contexts and of lists that have one.
 #[derive(Drop)]
 pub(crate) struct Known {
     pub(crate) alloc: Global,
@@ -26,6 +27,10 @@ pub(crate) struct Known {
     pub(crate) maps: Maps,
     /// What contexts asked of their lists of subnodes.
     pub(crate) asked: Asked,
+    /// The faults of contexts, each by the number of its role.
+    pub(crate) broken: Faults,
+    /// The faults of what messages hold in their lists of subnodes, by the list, where they are those of contexts.
+    pub(crate) broken_lists: Faults,
     /// How many contexts were checked, from the first on. It stays at its greatest value once it is there.
     pub(crate) count: u64,
 }
@@ -54,6 +59,8 @@ impl Known {
             indexes: Indexes::new(alloc),
             maps: Maps::new(alloc),
             asked: Asked::new(alloc),
+            broken: Faults::new(alloc),
+            broken_lists: Faults::new(alloc),
             count,
         }
     }

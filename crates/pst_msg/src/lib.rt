@@ -21,9 +21,11 @@
 mod asked;
 mod attachment_view;
 mod attachments;
+mod broken;
 mod check;
 mod checker;
 mod context;
+mod faults;
 mod folder;
 mod folder_view;
 mod frame;
@@ -50,6 +52,7 @@ pub use attachment_view::Attachment;
 pub use attachments::Attachments;
 pub use check::check_messaging;
 pub use checker::Checker;
+pub use faults::{Faults, Part};
 pub use folder_view::Folder;
 pub use given::{
     attachment_gives, column_gives, folder_gives, message_gives, names_gives, node_gives, pc_gives,

@@ -7,15 +7,16 @@ ghost use Rattle.pst_fault.specs.First.{IsFirst, Tells};
 ghost use Rattle.pst_ndb.specs.Views.{table_of_node, roots_of};
 ghost use Rattle.pst_tc.specs.Left.{tc_rows_left};
 ghost use Rattle.pst_msg.specs.Counts.{HasMessage};
-ghost use Rattle.pst_msg.specs.Fault.{message_at, message_fault};
-ghost use Rattle.pst_msg.specs.Frames.{IsFrame, HasHolder, HolderIn, IsWentOn};
+ghost use Rattle.pst_subnode.specs.declared.check.TheConstants.{LISTS};
+ghost use Rattle.pst_msg.specs.Fault.{held_fault, below_message, message_at, message_fault};
+ghost use Rattle.pst_msg.specs.Frames.{IsFrame, HasHolder, HolderIn, AreBrokenBy, WaitFor, IsWentOn};
 ghost use Rattle.pst_msg.specs.Growth.{Grows};
 ghost use Rattle.pst_msg.specs.Known.{WholeIn, IsTrueOf};
 
 use crate::frame::Frame;
 use crate::known::Known;
 use crate::open::{open_message, open_row};
-use crate::remember::{remember_attachment, remember_held};
+use crate::remember::{remember_attachment, remember_broken, remember_held};
 use pst_fault::Fault;
 use pst_ndb::Node;
 use pst_subnode::LISTS;
@@ -85,8 +86,56 @@ fn go_on<'a>(
     Ok(None)
 }
 
+// A fault in what a message holds is that of those which wait for it, too: it is known from then on of each.
+fn remember_all(node: Node, stack: &[Frame], fault: Fault, known: &mut Known) -> Result<(), Fault>
+    requires known { IsTrueOf (table_of_node node) known.old }
+    requires first { let t = table_of_node node in
+        IsFirst (held_fault t (below_message t LISTS) (roots_of node)) fault }
+    requires stack { AreBrokenBy (table_of_node node) fault stack.now }
+    ensures known { IsTrueOf (table_of_node node.entry) known.new }
+    ensures grows { Grows (table_of_node node.entry) (λ nodes. Unit {0}) known.old known.new }
+    ensures memory { IfErr result (λ f. f ≡ no_memory) }
+{
+    remember_broken(node, fault, known)?;
+    for frame in stack {
+        remember_broken(frame.node, fault, known)?;
+    }
+    Ok(())
+}
+
+// Goes on with a message for which these wait. Where it has a fault, that is known from then on of all of them.
+fn go_on_above<'a>(
+    frame: &mut Frame<'a>,
+    before: u32,
+    stack: &[Frame<'a>],
+    known: &mut Known,
+) -> Result<Option<Frame<'a>>, Fault>
+    requires known { IsTrueOf (table_of_node frame.old.node) known.old }
+    requires frame { IsFrame (table_of_node frame.old.node) known.old None None frame.old }
+    requires holder { HasHolder (table_of_node frame.old.node) known.old frame.old }
+    requires stack { WaitFor (table_of_node frame.old.node) frame.old stack.now }
+    ensures known { IsTrueOf (table_of_node frame.old.node) known.new }
+    ensures grows { let t = table_of_node frame.old.node in
+        Grows t (λ nodes. HasMessage t nodes (roots_of frame.old.node)) known.old known.new }
+    ensures refused { let t = table_of_node frame.old.node in
+        IfErr result (IsFirst (message_at t frame.old.limit (roots_of frame.old.node))) }
+    ensures done { IfOk result (λ o. IfNone o (WholeIn known.new.messages (roots_of frame.old.node)
+        × HolderIn known.new frame.old)) }
+    ensures open { let t = table_of_node frame.old.node in
+        IfOk result (λ o. IfSome o (IsWentOn t known.new frame.old frame.new)) }
+{
+    let node = frame.node;
+    match go_on(frame, before, known) {
+        Ok(above) => Ok(above),
+        Err(fault) => {
+            remember_all(node, stack, fault, known)?;
+            Err(fault)
+        }
+    }
+}
+
 /// Checks a message of a checked file, and all that it holds. What is found without fault is remembered, and passed over
-/// where it is met again.
+/// where it is met again; so is a fault of what one of them holds, where it is that of a context.
 pub(crate) fn check_message(node: Node, known: &mut Known) -> Result<(), Fault>
     requires { IsTrueOf (table_of_node node) known.old }
     ensures known { IsTrueOf (table_of_node node.entry) known.new }
@@ -104,7 +153,7 @@ pub(crate) fn check_message(node: Node, known: &mut Known) -> Result<(), Fault>
     let mut gone = 0;
     let mut stack = Vec::new(known.alloc);
     loop {
-        match go_on(&mut last, gone, known)? {
+        match go_on_above(&mut last, gone, &stack, known)? {
             Some(above) => {
                 stack.push(last)?;
                 last = above;

@@ -14,6 +14,7 @@ ghost use Rattle.pst_msg.specs.Growth.{Grows};
 ghost use Rattle.pst_msg.specs.Known.{ContextIn, WholeIn, NamedIn, IsTrueOf};
 ghost use Rattle.pst_msg.specs.Values.{embedded_of};
 
+use crate::broken::part_of_list;
 use crate::context::once;
 use crate::frame::Frame;
 use crate::keys::{key_of, key_of_list};
@@ -21,7 +22,7 @@ use crate::known::Known;
 use crate::nid::{ATTACHMENT, ATTACHMENTS, is_type, named};
 use crate::object::{Object, embedded};
 use crate::recipients::check_recipients;
-use crate::remember::{remember_attachment, remember_held, remember_message};
+use crate::remember::{remember_attachment, remember_broken, remember_held, remember_message};
 use crate::role::Role;
 use pst_fault::{Fault, Kind};
 use pst_ndb::Node;
@@ -68,6 +69,37 @@ fn open_held<'a>(
     }
 }
 
+// What a message holds in its list of subnodes, unless that is known to have a fault; and one that is found is known from then on.
+fn open_list<'a>(
+    node: Node<'a>,
+    limit: u32,
+    holder: Option<Node<'a>>,
+    known: &mut Known,
+) -> Result<Option<Frame<'a>>, Fault>
+    requires sound { sub_fault (table_of_node node) limit (sub_bid_of node) ≡ None }
+    requires known { IsTrueOf (table_of_node node) known.old }
+    requires properties { ContextIn known.old Properties (roots_of node) }
+    ensures known { IsTrueOf (table_of_node node.entry) known.new }
+    ensures grows { let t = table_of_node node.entry in
+        Grows t (λ nodes. HasMessage t nodes (roots_of node.entry)) known.old known.new }
+    ensures refused { let t = table_of_node node.entry in
+        IfErr result (IsFirst (held_fault t (below_message t limit) (roots_of node.entry))) }
+    ensures done { IfOk result (λ o. IfNone o (WholeIn known.new.messages (roots_of node.entry))) }
+    ensures open { let t = table_of_node node.entry in
+        IfOk result (λ o. IfSome o (IsOpened t known.new (roots_of node.entry) limit holder.entry)) }
+{
+    if let Some(fault) = known.broken_lists.get(part_of_list(node)) {
+        return Err(fault.at_node(node.top()));
+    }
+    match open_held(node, limit, holder, known) {
+        Ok(above) => Ok(above),
+        Err(fault) => {
+            remember_broken(node, fault, known)?;
+            Err(fault)
+        }
+    }
+}
+
 /// A message, which this attachment embeds if one does, unless it is remembered: up to the rows of its attachment table.
 #[tactic(auto, unfolding(crate::specs::Fault::message_part), using(crate::proofs::MessageLemmas::message_is))]
 pub(crate) fn open_message<'a>(
@@ -95,7 +127,7 @@ pub(crate) fn open_message<'a>(
         remember_message(node, known)?;
         return Ok(None);
     }
-    open_held(node, limit, holder, known)
+    open_list(node, limit, holder, known)
 }
 
 // The message that an attachment embeds.

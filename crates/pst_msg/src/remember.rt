@@ -1,7 +1,8 @@
-//! What is found without fault is remembered.
+//! What is found without fault is remembered, and the fault of what is not.
 
 ghost use Rattle.std.specs.Prelude.{◌≡◌, None, OnOk, IfErr};
 ghost use Rattle.pst_fault.specs.Fault.{no_memory};
+ghost use Rattle.pst_fault.specs.First.{IsFirst};
 ghost use Rattle.pst_subnode.specs.declared.check.TheConstants.{LISTS};
 ghost use Rattle.pst_ndb.specs.Views.{table_of_node, roots_of};
 ghost use Rattle.pst_msg.specs.declared.role.Role.TheVariants.{Properties};
@@ -9,6 +10,7 @@ ghost use Rattle.pst_msg.specs.Fault.{held_fault, below_message, attachment_faul
 ghost use Rattle.pst_msg.specs.Growth.{Grows};
 ghost use Rattle.pst_msg.specs.Known.{ContextIn, WholeIn, HeldIn, AttachmentIn, IsTrueOf};
 
+use crate::broken::{is_of_a_context, part_of_list};
 use crate::keys::{key_of, key_of_list};
 use crate::known::Known;
 use pst_fault::Fault;
@@ -69,4 +71,19 @@ pub(crate) fn remember_attachment(node: Node, known: &mut Known) -> Result<(), F
     ensures memory { IfErr result (λ f. f ≡ no_memory) }
 {
     known.attachments.put(key_of(0, node))
+}
+
+/// The fault of what a message holds is known from then on, by its list, where it is that of a context.
+pub(crate) fn remember_broken(node: Node, fault: Fault, known: &mut Known) -> Result<(), Fault>
+    requires known { IsTrueOf (table_of_node node) known.old }
+    requires first { let t = table_of_node node in
+        IsFirst (held_fault t (below_message t LISTS) (roots_of node)) fault }
+    ensures known { IsTrueOf (table_of_node node.entry) known.new }
+    ensures grows { Grows (table_of_node node.entry) (λ nodes. Unit {0}) known.old known.new }
+    ensures memory { IfErr result (λ f. f ≡ no_memory) }
+{
+    if is_of_a_context(fault) {
+        known.broken_lists.remember(part_of_list(node), fault)?;
+    }
+    Ok(())
 }

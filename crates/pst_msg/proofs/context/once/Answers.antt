@@ -6,25 +6,25 @@ use Rattle.pst_msg.specs.Roles.{role_number}
 use Rattle.pst_msg.proofs.KnownLemmas.{OneMore, context_remembered, aids_turned}
 use Rattle.pst_msg.proofs.context.once.Goals as goal
 
-pub returns-in_err-check_by-clause-known : goal.returns-in_err-check_by-clause-known
-returns-in_err-check_by-clause-known c =
+pub returns-in_err-check_anew-clause-known : goal.returns-in_err-check_anew-clause-known
+returns-in_err-check_anew-clause-known c =
     let k = c.args.known.now in
-    aids_turned (table_of_node c.args.node) k c.check_by.new.index c.check_by.new.maps c.check_by.new.asked c.requires c.check_by.ensures.index c.check_by.ensures.maps c.check_by.ensures.asked
+    aids_turned (table_of_node c.args.node) k c.check_anew.new.index c.check_anew.new.maps c.check_anew.new.asked c.check_anew.new.broken c.requires c.check_anew.ensures.index c.check_anew.ensures.maps c.check_anew.ensures.asked c.check_anew.ensures.broken
 
 pub returns-in_err-put-clause-known : goal.returns-in_err-put-clause-known
 returns-in_err-put-clause-known c =
     let k = c.args.known.now in
-    let turned : Known = record k { index = c.check_by.new.index; maps = c.check_by.new.maps; asked = c.check_by.new.asked } in
+    let turned : Known = record k { index = c.check_anew.new.index; maps = c.check_anew.new.maps; asked = c.check_anew.new.asked; broken = c.check_anew.new.broken } in
     let is : IsTrueOf (table_of_node c.args.node) turned =
-    aids_turned (table_of_node c.args.node) k c.check_by.new.index c.check_by.new.maps c.check_by.new.asked c.requires c.check_by.ensures.index c.check_by.ensures.maps c.check_by.ensures.asked in
+    aids_turned (table_of_node c.args.node) k c.check_anew.new.index c.check_anew.new.maps c.check_anew.new.asked c.check_anew.new.broken c.requires c.check_anew.ensures.index c.check_anew.ensures.maps c.check_anew.ensures.asked c.check_anew.ensures.broken in
     let more : OneMore k.contexts c.put.new.self (key (role_number c.args.role) (roots_of c.args.node)) = rw (← c.role_number.ensures, ← c.key_of-taken.ensures) c.put.ensures.only in
-    context_remembered (table_of_node c.args.node) c.args.role (roots_of c.args.node) turned c.put.new.self k.count is c.in_ok-check_by.ensures.exact.0 more c.put.ensures.grows
+    context_remembered (table_of_node c.args.node) c.args.role (roots_of c.args.node) turned c.put.new.self k.count is c.in_ok-check_anew.ensures.exact.0 more c.put.ensures.grows
 
 pub returns-clause-known : goal.returns-clause-known
 returns-clause-known c =
     let k = c.args.known.now in
-    let turned : Known = record k { index = c.check_by.new.index; maps = c.check_by.new.maps; asked = c.check_by.new.asked } in
+    let turned : Known = record k { index = c.check_anew.new.index; maps = c.check_anew.new.maps; asked = c.check_anew.new.asked; broken = c.check_anew.new.broken } in
     let is : IsTrueOf (table_of_node c.args.node) turned =
-    aids_turned (table_of_node c.args.node) k c.check_by.new.index c.check_by.new.maps c.check_by.new.asked c.requires c.check_by.ensures.index c.check_by.ensures.maps c.check_by.ensures.asked in
+    aids_turned (table_of_node c.args.node) k c.check_anew.new.index c.check_anew.new.maps c.check_anew.new.asked c.check_anew.new.broken c.requires c.check_anew.ensures.index c.check_anew.ensures.maps c.check_anew.ensures.asked c.check_anew.ensures.broken in
     let more : OneMore k.contexts c.put.new.self (key (role_number c.args.role) (roots_of c.args.node)) = rw (← c.role_number.ensures, ← c.key_of-taken.ensures) c.put.ensures.only in
-    context_remembered (table_of_node c.args.node) c.args.role (roots_of c.args.node) turned c.put.new.self c.saturating_add-known.result is c.in_ok-check_by.ensures.exact.0 more c.put.ensures.grows
+    context_remembered (table_of_node c.args.node) c.args.role (roots_of c.args.node) turned c.put.new.self c.saturating_add-known.result is c.in_ok-check_anew.ensures.exact.0 more c.put.ensures.grows

@@ -18,4 +18,4 @@ pub returns-then-has-2-clause-grows : goal.returns-then-has-2-clause-grows
 returns-then-has-2-clause-grows c = grows_then _ _ _ _ _ (properties_grow _ _ _ _ c.once.ensures.grows) (grows_any _ _ _ _ c.remember_message.ensures.grows)
 
 pub returns-clause-grows : goal.returns-clause-grows
-returns-clause-grows c = grows_then _ _ _ _ _ (properties_grow _ _ _ _ c.once.ensures.grows) c.open_held.ensures.grows
+returns-clause-grows c = grows_then _ _ _ _ _ (properties_grow _ _ _ _ c.once.ensures.grows) c.open_list.ensures.grows

@@ -1,0 +1,35 @@
+//! What is broken, as parts that any node may lead to.
+
+ghost use Rattle.std.specs.Prelude.{◌≡◌};
+ghost use Rattle.pst_ndb.specs.Views.{roots_of};
+ghost use Rattle.pst_msg.specs.Broken.{roots_at, list_part, is_of_a_context as of_a_context};
+
+use crate::faults::Part;
+use pst_fault::{Fault, Kind};
+use pst_ndb::Node;
+
+/// A node as a part, with a number.
+pub(crate) fn part_of(number: u64, node: Node) -> Part
+    ensures roots { roots_at result (roots_of node.entry).top ≡ roots_of node.entry }
+    ensures number { result.1 ≡ number }
+{
+    ((node.bid_data(), node.bid_sub()), number)
+}
+
+/// The list of subnodes of a node as a part, whatever the node's data.
+pub(crate) fn part_of_list(node: Node) -> Part
+    ensures { result ≡ list_part (roots_of node.entry) }
+{
+    ((0, node.bid_sub()), 0)
+}
+
+/// Whether a fault is that of a context: what names none, or another node than it should, is told of what it names.
+pub(crate) fn is_of_a_context(fault: Fault) -> bool
+    ensures { result ≡ of_a_context fault.kind }
+{
+    match fault.kind {
+        Kind::Subnode | Kind::Heap | Kind::HeapId | Kind::Bth | Kind::Property | Kind::Table =>
+            true,
+        _ => false,
+    }
+}
