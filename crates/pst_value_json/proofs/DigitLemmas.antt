@@ -1,10 +1,9 @@
 -- Digits in hexadecimal, which stand for themselves between quotes.
-use Rattle.std.proofs.Common.{◌≡◌, ℕ, zero, suc, ◌+◌, ◌*◌, ◌/◌, ◌%◌, ◌^◌, ◌<◌, ◌≤◌, Bool, true, false, cond, List, [], ◌∷◌, ◌++◌, length, take, drop, set, get_or, refl, sym, ap, ◌∙◌, inl, inr, arith, append_assoc, append-nil, eq-eqb}
-use Rattle.std.proofs.lemmas.Bool.{and_parts, cases_lt, ne_eqb, eqb-true, lt-ltb, le-ltb}
-use Rattle.std.proofs.lemmas.List.{drop_more, drop_all, drop-set, take_more, take_more_set, take_all, take-append-drop, length-set}
+use Rattle.std.proofs.Common.{◌≡◌, ℕ, zero, suc, ◌+◌, ◌/◌, ◌%◌, ◌^◌, ◌<◌, ◌≤◌, Bool, true, false, cond, List, [], ◌∷◌, ◌++◌, length, take, drop, set, get_or, refl, sym, ap, ◌∙◌, inl, inr, arith, append_assoc, append-nil, eq-eqb}
+use Rattle.std.proofs.lemmas.Bool.{and_parts, cases_lt, ne_eqb, lt-ltb, le-ltb}
+use Rattle.std.proofs.lemmas.List.{drop_more, drop_all, drop-set, take-append-drop}
 use Rattle.std.proofs.lemmas.Grind.{flat_map-append}
-use Rattle.std.specs.Prelude.{codes, slice_index, ◌&&◌, ◌==◌}
-use Rattle.std.specs.Char.{digit_char}
+use Rattle.std.specs.Prelude.{codes, slice_index, ◌&&◌}
 use Rattle.std.specs.Fmt.{digits, digits_onto, digit_glyph}
 use Rattle.hex.specs.Hex.{lower_digits, upper_digits, encode_with}
 use Rattle.json.specs.Print.{escape, escape_byte}
@@ -173,51 +172,14 @@ bytes_end t bytes i text whole past so_far = sym (append-nil text) ∙ ap (λ l.
 
 -- ---- bytes by sixteen
 
--- a table has the digits from a number on
-abbrev are_digits : ℕ → List ℕ → Bool
-are_digits n [] = true
-are_digits n (x ∷ xs) = (x == digit_char n) && are_digits (n + 1) xs
-
-digit_in : (t : List ℕ) (n d : ℕ) → are_digits n t ≡ true → d < length t → slice_index t d ≡ digit_char (n + d)
-digit_in [] n d all inside = absurd (omega arith)
-digit_in (x ∷ t) n zero all inside = eqb-true x (digit_char n) (and_parts (x == digit_char n) (are_digits (n + 1) t) all).0 ∙ ap digit_char (omega arith)
-digit_in (x ∷ t) n (suc d) all inside = digit_in t (n + 1) d (and_parts (x == digit_char n) (are_digits (n + 1) t) all).1 (omega arith) ∙ ap digit_char (omega arith)
-
-lower_digit : (d : ℕ) → d < 16 → slice_index lower_digits d ≡ digit_char d
-lower_digit d h = digit_in lower_digits 0 d refl h ∙ ap digit_char (omega arith)
-
--- the digits of one byte more stand in their places
-pub two_digits : (bytes digits : List ℕ) (i : ℕ) → i < length bytes → get_or bytes i 0 < 256 → 2 * i + 1 < length digits
-    → take (2 * i) digits ≡ encode_with lower_digits (take i bytes)
-    → take (2 * (i + 1)) (set (set digits (2 * i) (digit_char (get_or bytes i 0 / 16))) (2 * i + 1) (digit_char (get_or bytes i 0 % 16))) ≡ encode_with lower_digits (take (i + 1) bytes)
-unfolding encode_with
-two_digits bytes digits i inside small room so_far =
-    let b = get_or bytes i 0 in
-    let first = set digits (2 * i) (digit_char (b / 16)) in
-    let long : 2 * i + 1 < length first = omega (arith, length-set digits (2 * i) (digit_char (b / 16))) in
-    let up : 2 * (i + 1) ≡ (2 * i + 1) + 1 = omega arith in
-    ap (λ n. take n (set first (2 * i + 1) (digit_char (b % 16)))) up
-    ∙ take_more_set first (2 * i + 1) (digit_char (b % 16)) long
-    ∙ ap (λ l. l ++ digit_char (b % 16) ∷ []) (take_more_set digits (2 * i) (digit_char (b / 16)) (omega arith) ∙ ap (λ l. l ++ digit_char (b / 16) ∷ []) so_far)
-    ∙ append_assoc (encode_with lower_digits (take i bytes)) (digit_char (b / 16) ∷ []) (digit_char (b % 16) ∷ [])
-    ∙ ap (λ l. encode_with lower_digits (take i bytes) ++ l) (sym (rw (lower_digit (b / 16) (omega arith), lower_digit (b % 16) (omega arith)) refl))
-    ∙ sym (encode_with_append lower_digits (take i bytes) (b ∷ []))
-    ∙ ap (encode_with lower_digits) (sym (take_more bytes i 0 inside))
-
 -- digits in lower case stand for themselves
-lower_escaped : (bytes : List ℕ) → ((k : ℕ) → slice_index bytes k < 256) → escape (encode_with lower_digits bytes) ≡ encode_with lower_digits bytes
+pub lower_escaped : (bytes : List ℕ) → ((k : ℕ) → slice_index bytes k < 256) → escape (encode_with lower_digits bytes) ≡ encode_with lower_digits bytes
 unfolding encode_with
 lower_escaped [] small = refl
 lower_escaped (b ∷ bytes) small =
     byte_first lower_digits b bytes
     ∙ ap (λ l. l ++ escape (encode_with lower_digits bytes)) (sym (byte_plain lower_digits b refl refl (small 0)))
     ∙ ap (λ l. slice_index lower_digits (b / 16) ∷ slice_index lower_digits (b % 16) ∷ l) (lower_escaped bytes (λ k. small (suc k)))
-
--- all digits stand there
-pub all_digits : (bytes digits : List ℕ) → ((k : ℕ) → slice_index bytes k < 256) → length bytes ≡ 16 → length digits ≡ 32
-    → take (2 * 16) digits ≡ encode_with lower_digits (take 16 bytes) → digits ≡ escape (encode_with lower_digits bytes)
-all_digits bytes digits small many long so_far =
-    sym (take_all 32 digits (omega arith)) ∙ so_far ∙ ap (encode_with lower_digits) (take_all 16 bytes (omega arith)) ∙ sym (lower_escaped bytes small)
 
 -- those of the next bytes are put
 pub chunk_next : (left chunk rest digits text put whole : List ℕ) (n : ℕ) → chunk ≡ take n left → rest ≡ drop n left

@@ -5,6 +5,7 @@ pub mod EscapeLemmas
 pub mod GuidLemmas
 pub mod HexLemmas
 pub mod KeptLemmas
+pub mod LaneLemmas
 pub mod MemberLemmas
 pub mod NameLemmas
 pub mod PartLemmas

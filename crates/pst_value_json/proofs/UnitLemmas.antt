@@ -1,5 +1,5 @@
 -- Texts of 16-bit units, character by character.
-use Rattle.std.proofs.Common.{◌≡◌, ℕ, ◌+◌, ◌-◌, ◌*◌, ◌<◌, ◌≤◌, true, List, [], ◌∷◌, ◌++◌, length, drop, get_or, refl, sym, ap, ◌∙◌, arith, append_assoc, append-nil, map, length-drop, inl, inr}
+use Rattle.std.proofs.Common.{◌≡◌, ℕ, zero, suc, ◌+◌, ◌-◌, ◌*◌, ◌<◌, ◌≤◌, true, List, [], ◌∷◌, ◌++◌, length, drop, get_or, refl, sym, ap, ◌∙◌, arith, append_assoc, append-nil, map, length-drop, inl, inr}
 use Rattle.std.proofs.lemmas.Bool.{lt-leb, le-leb, lt-ltb, le-ltb}
 use Rattle.std.proofs.lemmas.List.{drop_more}
 use Rattle.std.proofs.lemmas.Str.Ascii.{encode_ascii}
@@ -62,6 +62,44 @@ pub plain_put : (bytes : List ℕ) (at : ℕ) (text put whole : List ℕ) → at
     → text ++ escape (utf8_of (drop at bytes)) ≡ whole → put ++ escape (utf8_of (drop (at + 2) bytes)) ≡ whole
 plain_put bytes at text put whole inside small none plain now so_far =
     ascii_put bytes at text put whole inside small none (now ∙ ap (λ l. text ++ l) (sym (plain_byte (get_or bytes at 0) plain))) so_far
+
+-- the lower bytes of so many units, from a place on
+abbrev lowers : List ℕ → ℕ → ℕ → List ℕ
+lowers bytes at zero = []
+lowers bytes at (suc n) = lowers bytes at n ++ get_or bytes (at + 2 * n) 0 ∷ []
+
+-- so many that stand for themselves
+plain_units : (n : ℕ) (bytes : List ℕ) (at : ℕ) (text whole : List ℕ) → at + 2 * n ≤ length bytes
+    → ((k : ℕ) → k < n → get_or bytes (at + 2 * k) 0 + 256 * get_or bytes (at + 2 * k + 1) 0 < 128)
+    → ((k : ℕ) → k < n → is_plain (get_or bytes (at + 2 * k) 0 + 256 * get_or bytes (at + 2 * k + 1) 0) ≡ true)
+    → text ++ escape (utf8_of (drop at bytes)) ≡ whole → (text ++ lowers bytes at n) ++ escape (utf8_of (drop (at + 2 * n) bytes)) ≡ whole
+plain_units zero bytes at text whole inside small plain so_far =
+    let here : at + 2 * 0 ≡ at = omega arith in
+    ap (λ l. l ++ escape (utf8_of (drop (at + 2 * 0) bytes))) (append-nil text) ∙ ap (λ i. text ++ escape (utf8_of (drop i bytes))) here ∙ so_far
+plain_units (suc n) bytes at text whole inside small plain so_far =
+    let i = at + 2 * n in
+    let last : n < suc n = omega arith in
+    let none : get_or bytes (i + 1) 0 ≡ 0 = omega (arith, small n last) in
+    let same : get_or bytes i 0 + 256 * get_or bytes (i + 1) 0 ≡ get_or bytes i 0 = omega (arith, none) in
+    let next : at + 2 * suc n ≡ i + 2 = omega arith in
+    let before = plain_units n bytes at text whole (omega (arith, inside)) (λ k lt. small k (omega (arith, lt))) (λ k lt. plain k (omega (arith, lt))) so_far in
+    ap (λ j. (text ++ lowers bytes at (suc n)) ++ escape (utf8_of (drop j bytes))) next
+    ∙ plain_put bytes i (text ++ lowers bytes at n) (text ++ lowers bytes at (suc n)) whole (omega (arith, inside)) (omega (arith, small n last)) none
+    (ap is_plain (sym same) ∙ plain n last) (sym (append_assoc text (lowers bytes at n) (get_or bytes i 0 ∷ []))) before
+
+-- eight that stand for themselves
+pub eight_put : (bytes : List ℕ) (at : ℕ) (low text put : List ℕ) → at + 16 ≤ length bytes
+    → ((k : ℕ) → k < 8 → get_or bytes (at + 2 * k) 0 + 256 * get_or bytes (at + 2 * k + 1) 0 < 128)
+    → ((k : ℕ) → k < 8 → is_plain (get_or bytes (at + 2 * k) 0 + 256 * get_or bytes (at + 2 * k + 1) 0) ≡ true)
+    → low ≡ get_or bytes at 0 ∷ get_or bytes (at + 2) 0 ∷ get_or bytes (at + 4) 0 ∷ get_or bytes (at + 6) 0
+    ∷ get_or bytes (at + 8) 0 ∷ get_or bytes (at + 10) 0 ∷ get_or bytes (at + 12) 0 ∷ get_or bytes (at + 14) 0 ∷ []
+    → put ≡ text ++ low → put ++ escape (utf8_of (drop (at + 16) bytes)) ≡ text ++ escape (utf8_of (drop at bytes))
+eight_put bytes at low text put inside small plain lowest now =
+    let here : at ≡ at + 2 * 0 = omega arith in
+    let byte : ℕ → ℕ = λ i. get_or bytes i 0 in
+    let rest = byte (at + 2) ∷ byte (at + 4) ∷ byte (at + 6) ∷ byte (at + 8) ∷ byte (at + 10) ∷ byte (at + 12) ∷ byte (at + 14) ∷ [] in
+    ap (λ l. l ++ escape (utf8_of (drop (at + 16) bytes))) (now ∙ ap (λ l. text ++ l) (lowest ∙ ap (λ i. byte i ∷ rest) here))
+    ∙ plain_units 8 bytes at text (text ++ escape (utf8_of (drop at bytes))) inside small plain refl
 
 -- ---- characters of several bytes
 

@@ -1,8 +1,8 @@
 //! Numbers in hexadecimal, in the quotes of JSON, put behind a text.
 
-ghost use Rattle.std.specs.Prelude.{◌≡◌, [], ◌∷◌, ◌++◌, OnOk, OnErr};
+ghost use Rattle.std.specs.Prelude.{◌≡◌, ◌/◌, ◌%◌, [], ◌∷◌, ◌++◌, OnOk, OnErr, map, slice_index};
 ghost use Rattle.std.specs.Int.{w16, w32, to_be_bytes};
-ghost use Rattle.hex.specs.Hex.{encode_lower, encode_upper};
+ghost use Rattle.hex.specs.Hex.{encode_lower, encode_upper, lower_digits};
 ghost use Rattle.json.specs.Print.{escape};
 ghost use Rattle.serde_json.specs.Data.{string};
 ghost use Rattle.serde_json.specs.Written.{compact_text};
@@ -14,6 +14,7 @@ ghost use Rattle.pst_value_json.specs.Kept.{BeginsWith};
 use crate::escape::digit;
 use crate::put::put_null;
 use std::alloc::AllocError;
+use std::simd::prelude::*;
 
 // The digits in lower case and in upper case.
 const LOWER: [u8; 16] = *b"0123456789abcdef";
@@ -101,15 +102,29 @@ pub(crate) fn put_tag(tag: u32, text: &mut Vec<u8>) -> Result<(), AllocError>
     Ok(())
 }
 
-// The digits of sixteen bytes, in lower case.
+// The first digits of sixteen bytes, in lower case.
+fn first_digits(bytes: u8x16) -> u8x16
+    ensures { result ≡ map (λ byte. slice_index lower_digits (byte / 16)) bytes }
+{
+    u8x16::from_array(LOWER).swizzle_dyn(bytes >> u8x16::splat(4))
+}
+
+// Their second digits.
+fn second_digits(bytes: u8x16) -> u8x16
+    ensures { result ≡ map (λ byte. slice_index lower_digits (byte % 16)) bytes }
+{
+    u8x16::from_array(LOWER).swizzle_dyn(bytes & u8x16::splat(15))
+}
+
+// The digits of sixteen bytes, in lower case: all first and all second ones side by side, and then by turns.
 fn lower_of(bytes: &[u8; 16]) -> [u8; 32]
     ensures { result ≡ escape (encode_lower bytes.now) }
 {
+    let sixteen = u8x16::from_slice(bytes);
+    let (front, back) = first_digits(sixteen).interleave(second_digits(sixteen));
     let mut digits = [0; 32];
-    for i in 0..16 {
-        digits[2 * i] = digit(bytes[i] / 16);
-        digits[2 * i + 1] = digit(bytes[i] % 16);
-    }
+    front.copy_to_slice(&mut digits[..16]);
+    back.copy_to_slice(&mut digits[16..]);
     digits
 }
 

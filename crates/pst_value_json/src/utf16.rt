@@ -1,6 +1,6 @@
 //! Texts of 16-bit units, put behind a text as they stand between quotes.
 
-ghost use Rattle.std.specs.Prelude.{◌≡◌, ◌++◌, ◌+◌, ◌-◌, ◌*◌, ◌%◌, ◌≤◌, ◌<◌, IsTrue, IfOk, OnErr, OnOk, true, length, drop, slice_index, vec_len, vec_capacity, encode_utf8};
+ghost use Rattle.std.specs.Prelude.{◌≡◌, ℕ, [], ◌∷◌, ◌++◌, ◌+◌, ◌-◌, ◌*◌, ◌%◌, ◌≤◌, ◌<◌, IsTrue, IfOk, OnErr, OnOk, true, length, drop, slice_index, vec_len, vec_capacity, encode_utf8};
 ghost use Rattle.std.specs.List.{concat};
 ghost use Rattle.json.specs.Print.{escape};
 ghost use Rattle.json.specs.Run.{is_plain};
@@ -14,8 +14,8 @@ use pst_datatree::{Pieces, Value};
 use std::alloc::{AllocError, Global};
 use std::cmp::min;
 
-// For how many units room is taken at once.
-const RUN: usize = 256;
+// How many units are looked at together.
+const RUN: usize = 8;
 
 // How many bytes a unit becomes at most, as \u001f.
 const MOST: usize = 6;
@@ -33,29 +33,46 @@ const SECOND: u32 = 0xDC00;
 const BEHIND: u32 = 0xE000;
 
 // Whether a unit is ASCII and stands for itself between quotes.
-fn is_plain_unit(low: u8, high: u8) -> bool
-    ensures ascii { IsTrue result → (low < 0x80) × (high ≡ 0) }
-    ensures plain { IsTrue result → is_plain low ≡ true }
+fn is_plain_unit(unit: u32) -> bool
+    ensures ascii { IsTrue result → unit < 0x80 }
+    ensures plain { IsTrue result → is_plain unit ≡ true }
 {
-    high == 0 && low < 0x80 && low >= 0x20 && low != b'"' && low != b'\\'
+    unit >= 0x20 && unit < 0x80 && unit != 0x22 && unit != 0x5C
 }
 
-// Puts the units that stand for themselves behind a text, from a place on, and says where they end. There is room for all
-// units before the first is put, so that none has to ask for it.
-fn put_plain_units(bytes: &[u8], from: usize, text: &mut Vec<u8>) -> Result<usize, AllocError>
-    requires { from ≤ length bytes.now }
-    ensures within { IfOk result (λ end. (from ≤ end) × (end ≤ length bytes.now)) }
-    ensures put { IfOk result (λ end. text.new.items ++ escape (utf8_of (drop end bytes.now))
-        ≡ text.old.items ++ escape (utf8_of (drop from bytes.now))) }
-    ensures kept { BeginsWith text.new.items text.old.items }
+// How many of the eight units at a place are ASCII and stand for themselves. None is passed over, so that all are looked at side by
+// side.
+fn plain_among(bytes: &[u8], at: usize) -> u32
+    requires { at + 16 ≤ length bytes.now }
+    ensures ascii { result ≡ 8 → (k : ℕ) → k < 8 →
+        slice_index bytes.now (at + 2 * k) + 256 * slice_index bytes.now (at + 2 * k + 1) < 0x80 }
+    ensures plain { result ≡ 8 → (k : ℕ) → k < 8 → is_plain
+        (slice_index bytes.now (at + 2 * k) + 256 * slice_index bytes.now (at + 2 * k + 1)) ≡ true }
 {
-    text.reserve((bytes.len() - from) / 2)?;
-    let mut at = from;
-    while bytes.len() - at >= 2 && is_plain_unit(bytes[at], bytes[at + 1]) {
-        text.push_reserved(bytes[at]);
-        at += 2;
+    let mut count = 0;
+    for i in 0..8 {
+        count += u32::from(is_plain_unit(unit_at(bytes, at + 2 * i)));
     }
-    Ok(at)
+    count
+}
+
+// The lower bytes of the eight units at a place.
+fn lower_bytes(bytes: &[u8], at: usize) -> [u8; 8]
+    requires { at + 16 ≤ length bytes.now }
+    ensures { let byte = slice_index bytes.now in
+        result ≡ byte at ∷ byte (at + 2) ∷ byte (at + 4) ∷ byte (at + 6)
+        ∷ byte (at + 8) ∷ byte (at + 10) ∷ byte (at + 12) ∷ byte (at + 14) ∷ [] }
+{
+    [
+        bytes[at],
+        bytes[at + 2],
+        bytes[at + 4],
+        bytes[at + 6],
+        bytes[at + 8],
+        bytes[at + 10],
+        bytes[at + 12],
+        bytes[at + 14],
+    ]
 }
 
 // The last six bits of a character, as a byte behind its first.
@@ -182,16 +199,33 @@ fn put_run(bytes: &[u8], from: usize, count: usize, text: &mut Vec<u8>) -> usize
     at
 }
 
-// Puts the text of units in one slice behind a text: those at the front that stand for themselves, and then run by run.
+// Puts the next eight characters behind a text, from a place on, or as many as are left, and says where the next one begins. Eight units
+// that stand for themselves go at once.
+fn put_next(bytes: &[u8], at: usize, text: &mut Vec<u8>) -> Result<usize, AllocError>
+    requires { at + 2 ≤ length bytes.now }
+    ensures within { IfOk result (λ end. (at < end) × (end ≤ length bytes.now)) }
+    ensures put { IfOk result (λ end. text.new.items ++ escape (utf8_of (drop end bytes.now))
+        ≡ text.old.items ++ escape (utf8_of (drop at bytes.now))) }
+    ensures kept { BeginsWith text.new.items text.old.items }
+{
+    if bytes.len() - at >= 16 && plain_among(bytes, at) == 8 {
+        text.extend_from_slice(&lower_bytes(bytes, at))?;
+        return Ok(at + 16);
+    }
+    let count = min((bytes.len() - at) / 2, RUN);
+    text.reserve(MOST * count)?;
+    Ok(put_run(bytes, at, count, text))
+}
+
+// Puts the text of units in one slice behind a text. There is room for all units before the first is put.
 fn put_slice(bytes: &[u8], text: &mut Vec<u8>) -> Result<(), AllocError>
     ensures put { OnOk result (text.new.items ≡ text.old.items ++ escape (utf8_of bytes.now)) }
     ensures kept { OnErr result (BeginsWith text.new.items text.old.items) }
 {
-    let mut at = put_plain_units(bytes, 0, text)?;
+    text.reserve(bytes.len() / 2)?;
+    let mut at = 0;
     while bytes.len() - at >= 2 {
-        let count = min((bytes.len() - at) / 2, RUN);
-        text.reserve(MOST * count)?;
-        at = put_run(bytes, at, count, text);
+        at = put_next(bytes, at, text)?;
     }
     Ok(())
 }

@@ -1,0 +1,12 @@
+use Rattle.std.proofs.Common.{◌≡◌, ◌+◌, ◌*◌, ◌<◌, ◌≤◌, ℕ, true}
+use Rattle.std.specs.Prelude.{slice_index}
+use Rattle.json.specs.Run.{is_plain}
+use Rattle.pst_value_json.proofs.utf16.plain_among.Given as goal
+
+-- where all so far were counted, they stand for themselves
+abbrev pub invariant-loop-i : goal.invariant-loop-i
+invariant-loop-i l = record {
+  most : l.count ≤ l.i;
+  ascii : l.count ≡ l.i → (k : ℕ) → k < l.i → slice_index l.bytes (l.at + 2 * k) + 256 * slice_index l.bytes (l.at + 2 * k + 1) < 128;
+  plain : l.count ≡ l.i → (k : ℕ) → k < l.i → is_plain (slice_index l.bytes (l.at + 2 * k) + 256 * slice_index l.bytes (l.at + 2 * k + 1)) ≡ true;
+}
