@@ -27,4 +27,4 @@ mod walk;
 pub use emit::{emit_export, export_of};
 pub use export::Export;
 pub use fault::ExportFault;
-pub use laws::{names_are_distinct, names_are_safe, values_are_whole};
+pub use laws::{files_are_read_back, names_are_distinct, names_are_safe, values_are_whole};
