@@ -17,6 +17,7 @@ mod files;
 mod folders;
 mod front;
 mod held;
+mod index;
 mod laws;
 mod messages;
 mod text;

@@ -8,7 +8,7 @@ use Rattle.pst_export.specs.Store.{message_files}
 use Rattle.pst_export.specs.Time.{time_of}
 use Rattle.pst_export.specs.Walk.{StaysOver, TakesHeld, item_held, walk_left}
 use Rattle.pst_export.proofs.WriteLemmas.{Added, added_all, added_end, added_next, added_none, added_refused, added_still}
-use Rattle.pst_export.proofs.messages.write_message.Goals as goal
+use Rattle.pst_export.proofs.messages.write_lent.Goals as goal
 
 pub loop-walk-init : goal.loop-walk-init
 unfolding message_files
