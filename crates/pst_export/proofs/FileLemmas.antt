@@ -15,7 +15,6 @@ use Rattle.pst_json.specs.Node.{node_props_data}
 use Rattle.pst_json.specs.Told.{TellsDoc}
 use Rattle.pst_value_json.specs.Line.{line_of}
 use Rattle.pst_value_json.specs.pst_names.Name.{NameParts}
-use Rattle.pst_tar.specs.Archive.{Member}
 use Rattle.pst_value_json.specs.pst_pc.Values.{Property, id_of, props_of}
 use Rattle.pst_export.specs.Files.{file_at, named_file, path_of, value_file}
 use Rattle.pst_export.specs.Held.{folder_in}

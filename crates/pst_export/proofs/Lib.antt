@@ -7,6 +7,7 @@ pub mod NameLaws
 pub mod NestLemmas
 pub mod SafeLaws
 pub mod SlotLemmas
+pub mod StorableLaws
 pub mod StoreLemmas
 pub mod TextLemmas
 pub mod ValueLaws

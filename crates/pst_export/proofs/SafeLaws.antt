@@ -1,6 +1,6 @@
 -- The name of each file of an archive is safe.
 use Rattle.std.proofs.Common.{◌≡◌, ℕ, zero, suc, Bool, true, false, List, [], ◌∷◌, ◌++◌, map, refl}
-use Rattle.std.specs.Prelude.{◌&&◌, nat_eq, Option, Some, None, IfSome, Result, Ok, Err, if◌then◌else◌, option_map, codes, flat_map}
+use Rattle.std.specs.Prelude.{◌&&◌, nat_eq, Option, Some, None, IfSome, Result, Ok, Err, if◌then◌else◌, option_map, codes}
 use Rattle.std.specs.List.{All}
 use Rattle.std.proofs.lemmas.List.Elements.{All-append, All-cons, All-nil}
 use Rattle.pst_page.specs.declared.entry.NodeEntry.{NodeEntry}
@@ -24,7 +24,7 @@ use Rattle.pst_verify.specs.pst_msg.Values.{embedded_of, is_folder}
 use Rattle.pst_verify.specs.pst_store.Kind.{of_kind}
 use Rattle.pst_export.specs.declared.walk.TheConstants.{LEVELS}
 use Rattle.pst_export.specs.Files.{file_at, files_at, held_files, place_files, value_file}
-use Rattle.pst_export.specs.Held.{Held, attachment_held, embedded_held, folder_in, held_of, if_there, message_held, nested_held, row_held, rows_held}
+use Rattle.pst_export.specs.Held.{Held, attachment_held, embedded_held, folder_in, held_of, if_there, message_held, nested_held, row_held}
 use Rattle.pst_export.specs.Laws.{IsSafe, IsSafelyNamed, SafeLaw, binary_type, text_type}
 use Rattle.pst_export.specs.Store.{all_files, damage_file, file_of, files_with, folder_file, folder_files, front_files, message_files, messages_files, of_type, store_file}
 use Rattle.pst_export.specs.Time.{time_of}
@@ -32,47 +32,38 @@ use Rattle.pst_export.proofs.NameLaws.{all_flat, all_flat_of, all_mapped, node_s
 
 -- ---- the words of the program
 
-by_test : (b : Bool) (x y : Option (List ℕ)) → IfSome x IsSafe → IfSome y IsSafe → IfSome (if b then x else y) IsSafe
-by_test true x y first second = first
-by_test false x y first second = second
-
-headers_word : IsSafe (codes "headers.txt")
-headers_word = record { letters = refl; relative = refl; dots = refl }
-
-body_word : IsSafe (codes "body.txt")
-body_word = record { letters = refl; relative = refl; dots = refl }
-
-html_word : IsSafe (codes "body.html")
-html_word = record { letters = refl; relative = refl; dots = refl }
-
-rtf_word : IsSafe (codes "body.rtf.lzfu")
-rtf_word = record { letters = refl; relative = refl; dots = refl }
-
-data_word : IsSafe (codes "data")
-data_word = record { letters = refl; relative = refl; dots = refl }
+-- what holds of each of them holds of the one that is taken
+by_test : (P : List ℕ → Type 0) (b : Bool) (x y : Option (List ℕ)) → IfSome x P → IfSome y P → IfSome (if b then x else y) P
+by_test P true x y first second = first
+by_test P false x y first second = second
 
 abbrev nothing : Option (List ℕ)
 nothing = None
 
-no_word : IfSome nothing IsSafe
-no_word = tt
-
-message_words : (id kind : ℕ) → IfSome (message_file id kind) IsSafe
+pub message_words : (P : List ℕ → Type 0) → P (codes "headers.txt") → P (codes "body.txt") → P (codes "body.html") → P (codes "body.rtf.lzfu") → (id kind : ℕ) → IfSome (message_file id kind) P
 unfolding message_file
-message_words id kind =
+message_words P headers_word body_word html_word rtf_word id kind =
     let rtf : Option (List ℕ) = if nat_eq id RTF && nat_eq kind binary_type then Some (codes "body.rtf.lzfu") else nothing in
     let html : Option (List ℕ) = if nat_eq id HTML && nat_eq kind binary_type then Some (codes "body.html") else rtf in
     let text : Option (List ℕ) = if nat_eq id HTML && nat_eq kind text_type then Some (codes "body.html") else html in
     let body : Option (List ℕ) = if nat_eq id BODY && nat_eq kind text_type then Some (codes "body.txt") else text in
-    by_test (nat_eq id HEADERS && nat_eq kind text_type) (Some (codes "headers.txt")) body headers_word
-    (by_test (nat_eq id BODY && nat_eq kind text_type) (Some (codes "body.txt")) text body_word
-    (by_test (nat_eq id HTML && nat_eq kind text_type) (Some (codes "body.html")) html html_word
-    (by_test (nat_eq id HTML && nat_eq kind binary_type) (Some (codes "body.html")) rtf html_word
-    (by_test (nat_eq id RTF && nat_eq kind binary_type) (Some (codes "body.rtf.lzfu")) nothing rtf_word no_word))))
+    by_test P (nat_eq id HEADERS && nat_eq kind text_type) (Some (codes "headers.txt")) body headers_word
+    (by_test P (nat_eq id BODY && nat_eq kind text_type) (Some (codes "body.txt")) text body_word
+    (by_test P (nat_eq id HTML && nat_eq kind text_type) (Some (codes "body.html")) html html_word
+    (by_test P (nat_eq id HTML && nat_eq kind binary_type) (Some (codes "body.html")) rtf html_word
+    (by_test P (nat_eq id RTF && nat_eq kind binary_type) (Some (codes "body.rtf.lzfu")) nothing rtf_word tt))))
 
-attachment_words : (id kind : ℕ) → IfSome (attachment_file id kind) IsSafe
+pub attachment_words : (P : List ℕ → Type 0) → P (codes "data") → (id kind : ℕ) → IfSome (attachment_file id kind) P
 unfolding attachment_file
-attachment_words id kind = by_test (nat_eq id CONTENT && nat_eq kind binary_type) (Some (codes "data")) nothing data_word no_word
+attachment_words P data_word id kind = by_test P (nat_eq id CONTENT && nat_eq kind binary_type) (Some (codes "data")) nothing data_word tt
+
+safe_message_words : (id kind : ℕ) → IfSome (message_file id kind) IsSafe
+safe_message_words =
+    message_words IsSafe (record { letters = refl; relative = refl; dots = refl }) (record { letters = refl; relative = refl; dots = refl })
+    (record { letters = refl; relative = refl; dots = refl }) (record { letters = refl; relative = refl; dots = refl })
+
+safe_attachment_words : (id kind : ℕ) → IfSome (attachment_file id kind) IsSafe
+safe_attachment_words = attachment_words IsSafe (record { letters = refl; relative = refl; dots = refl })
 
 props_word : IsSafe (codes "props.json")
 props_word = record { letters = refl; relative = refl; dots = refl }
@@ -101,10 +92,10 @@ place_safe : (names : ℕ → Option NameParts) (t : Table) (time : ℕ) (folder
 unfolding place_files
 place_safe names t time folder (message nid r) is =
     All-cons IsSafelyNamed _ (files_at message_file t r folder time (HEADERS ∷ BODY ∷ HTML ∷ RTF ∷ [])) (safe_joined folder (codes "props.json") is props_word)
-    (all_flat IsSafelyNamed (file_at message_file t r folder time) (λ id. file_safe message_file t r folder time id is message_words) (HEADERS ∷ BODY ∷ HTML ∷ RTF ∷ []))
+    (all_flat IsSafelyNamed (file_at message_file t r folder time) (λ id. file_safe message_file t r folder time id is safe_message_words) (HEADERS ∷ BODY ∷ HTML ∷ RTF ∷ []))
 place_safe names t time folder (attachment nid r) is =
     All-cons IsSafelyNamed _ (file_at attachment_file t r folder time CONTENT) (safe_joined folder (codes "props.json") is props_word)
-    (file_safe attachment_file t r folder time CONTENT is attachment_words)
+    (file_safe attachment_file t r folder time CONTENT is safe_attachment_words)
 place_safe names t time folder (other nid r) is = All-nil IsSafelyNamed
 
 -- ---- what has a folder of its own

@@ -1,22 +1,19 @@
 -- A file of a value has its bytes, or those of its text.
 use Rattle.std.proofs.Common.{◌≡◌, ℕ, true, List, [], ◌∷◌, ◌++◌, refl, sym, ap, subst, ◌∙◌, arith}
-use Rattle.std.specs.Prelude.{Option, Some, None, codes, flat_map}
+use Rattle.std.specs.Prelude.{Option, Some, codes}
 use Rattle.std.specs.List.{Contains}
 use Rattle.std.proofs.lemmas.List.Elements.{Contains-append_left, Contains-append_right}
 use Rattle.pst_block.specs.Table.{Table}
-use Rattle.pst_btree.specs.Entries.{first_with}
 use Rattle.pst_btree.proofs.EntryLemmas.{with_contains}
 use Rattle.pst_ndb.specs.Roots.{Roots}
 use Rattle.pst_value_json.specs.declared.filed.TheConstants.{HEADERS, BODY, HTML, RTF, CONTENT}
 use Rattle.pst_value_json.specs.Filed.{message_file, attachment_file}
 use Rattle.pst_value_json.specs.Value.{utf8_of}
-use Rattle.pst_value_json.specs.pst_names.Name.{NameParts}
 use Rattle.pst_value_json.specs.pst_pc.Values.{Property, id_of, props_of}
-use Rattle.pst_json.specs.Path.{message, attachment}
 use Rattle.pst_json.specs.Property.{written_of}
 use Rattle.pst_tar.specs.Archive.{Member}
-use Rattle.pst_export.specs.Files.{file_at, files_at, member_in, place_files, value_file}
-use Rattle.pst_export.specs.Laws.{AreBodies, BodiesLaw, ContentLaw, HasFile, IsThere, binary_type, text_type}
+use Rattle.pst_export.specs.Files.{file_at, member_in, place_files, value_file}
+use Rattle.pst_export.specs.Laws.{BodiesLaw, ContentLaw, IsThere, binary_type, text_type}
 
 -- the file of a property, where this is called so and these bytes are written of it
 there : (file : ℕ → ℕ → Option (List ℕ)) (t : Table) (r : Roots) (folder : List ℕ) (time id kind : ℕ) (p : Property) (name bytes : List ℕ) → IsThere t r id kind p

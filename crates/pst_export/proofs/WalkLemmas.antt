@@ -6,7 +6,6 @@ use Rattle.std.proofs.lemmas.Bool.{false≢true}
 use Rattle.std.specs.Global.{Global}
 use Rattle.pst_block.specs.Table.{Table}
 use Rattle.pst_ndb.specs.declared.node.Node.{Node}
-use Rattle.pst_ndb.specs.Roots.{Roots}
 use Rattle.pst_ndb.specs.Views.{table_of_node, nid_of, top_of, roots_of}
 use Rattle.pst_json.specs.Path.{message, attachment}
 use Rattle.pst_verify.specs.pst_msg.declared.attachment_view.Attachment.{Attachment}

@@ -3,7 +3,8 @@ use Rattle.std.specs.Prelude.{◌≡◌, ◌<◌, ◌+◌, ℕ, List, Option, So
 use Rattle.pst_intact.specs.View.{table_of_intact, nodes_of_intact}
 use Rattle.pst_json.specs.pst_whole.View.{lost_in}
 use Rattle.pst_export.specs.declared.export.Export.{Export}
-use Rattle.pst_export.specs.Store.{archive_text}
+use Rattle.pst_tar.specs.Archive.{Member}
+use Rattle.pst_export.specs.Store.{all_files, archive_text}
 
 -- so many are counted down from a number: what is left of it, or that they are more
 abbrev pub CountsDown : ℕ → ℕ → Option ℕ → Type 0
@@ -17,3 +18,7 @@ damage_in e = option_map (λ t. t.items) e.damage
 -- the archive
 abbrev pub archive_in : Export → List ℕ
 archive_in e = archive_text (damage_in e) (table_of_intact e.intact) (nodes_of_intact e.intact) (lost_in e.lost)
+
+-- and its files
+abbrev pub files_in : Export → List Member
+files_in e = all_files (damage_in e) (table_of_intact e.intact) (nodes_of_intact e.intact) (lost_in e.lost)

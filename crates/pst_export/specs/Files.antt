@@ -1,5 +1,5 @@
 -- The files of a message and of an attachment.
-use Rattle.std.specs.Prelude.{ℕ, true, false, Option, Some, None, List, [], ◌∷◌, ◌++◌, map, codes}
+use Rattle.std.specs.Prelude.{ℕ, true, false, Option, Some, None, List, [], ◌∷◌, ◌++◌, codes}
 use Rattle.std.specs.Prelude.{flat_map}
 use Rattle.pst_block.specs.Table.{Table}
 use Rattle.pst_btree.specs.Entries.{first_with}

@@ -1,5 +1,5 @@
 -- What whoever extracts an archive may rest on.
-use Rattle.std.specs.Prelude.{◌≡◌, ◌≢◌, ◌<◌, ◌^◌, ℕ, Bool, ◌&&◌, ◌||◌, not, true, false, nat_eq, nat_le, Option, Some, None, List, [], ◌∷◌, map, codes}
+use Rattle.std.specs.Prelude.{◌≡◌, ◌≢◌, ◌<◌, ◌^◌, ℕ, length, Bool, ◌&&◌, ◌||◌, not, true, false, nat_eq, nat_le, Option, Some, None, List, [], ◌∷◌, map, codes}
 use Rattle.std.specs.List.{All, AllPairs, Contains, list_all}
 use Rattle.pst_encoding.specs.declared.method.Method.{Method}
 use Rattle.pst_encoding.specs.Tables.{IsByte}
@@ -20,10 +20,13 @@ use Rattle.pst_value_json.specs.Value.{utf8_of}
 use Rattle.pst_value_json.specs.pst_names.Name.{NameParts}
 use Rattle.pst_value_json.specs.pst_pc.Values.{Property, id_of, props_of}
 use Rattle.pst_json.specs.pst_whole.Lost.{LostParts}
-use Rattle.pst_json.specs.Path.{Place, message, attachment}
+use Rattle.pst_json.specs.Path.{message, attachment}
 use Rattle.pst_tar.specs.Archive.{Member}
+use Rattle.pst_tar.specs.Laws.{IsStorable}
+use Rattle.pst_tar.specs.Read.{read_archive}
 use Rattle.pst_export.specs.Files.{member_in, path_of, place_files}
-use Rattle.pst_export.specs.Store.{all_files}
+use Rattle.pst_export.specs.Store.{all_files, archive_text}
+use Rattle.pst_export.specs.Written.{HasSize}
 
 -- ---- the names of files
 
@@ -97,6 +100,19 @@ WholeIntactLaw = (I : List ℕ) → All IsByte I → IsWholeIntact (remains_of I
 
 abbrev pub DecodedWholeIntactLaw : Type 0
 DecodedWholeIntactLaw = (I : List ℕ) (method : Method) → All IsByte I → method_of I ≡ Some method → IsWholeIntact (decoded_remains_of method I)
+
+-- ---- an archive, read
+
+-- What tar can say of a file it can say of each that has a size, whatever the store is: its name has no zero and is short, and its
+-- time has eleven octal digits.
+abbrev pub StorableLaw : Type 0
+StorableLaw = (damage : Option (List ℕ)) (t : Table) (nodes : List NodeEntry) (lost : LostParts) → All HasSize (all_files damage t nodes lost) →
+    All IsStorable (all_files damage t nodes lost)
+
+-- So an archive, read by the rules of tar, gives exactly its files, in order, where each has a size and they can be counted.
+abbrev pub ReadBackLaw : Type 0
+ReadBackLaw = (damage : Option (List ℕ)) (t : Table) (nodes : List NodeEntry) (lost : LostParts) → All HasSize (all_files damage t nodes lost) →
+    length (all_files damage t nodes lost) < 2 ^ 64 → read_archive (archive_text damage t nodes lost) ≡ Some (all_files damage t nodes lost)
 
 -- ---- the bytes of files
 

@@ -10,6 +10,7 @@ ghost use Rattle.pst_export.specs.Export.{CountsDown};
 ghost use Rattle.pst_export.specs.Held.{held_of};
 ghost use Rattle.pst_export.specs.Store.{all_held, of_type};
 
+use crate::index::index_of;
 use crate::walk::Walk;
 use pst_json::Intact;
 use pst_msg::{Message, is_type};
@@ -29,7 +30,8 @@ fn count_message(
         IfOk result (CountsDown most (length held)) }
 {
     let mut left = most;
-    let mut walk = Walk::of(alloc, name, message)?;
+    let index = index_of(alloc, message)?;
+    let mut walk = Walk::of(alloc, name, message.indexed(&index))?;
     while let Some(_item) = walk.next()? {
         if left == 0 {
             return Ok(None);

@@ -1,6 +1,6 @@
 //! An archive, from what it is made to its last byte.
 
-ghost use Rattle.std.specs.Prelude.{◌≡◌, ℕ, not, map, None, IfOk, OnOk, nat_lt, option_map};
+ghost use Rattle.std.specs.Prelude.{◌≡◌, ◌<◌, ◌^◌, ℕ, not, map, Some, None, IfOk, OnOk, nat_lt, option_map};
 ghost use Rattle.std.specs.Io.KnownBytes.{Appends};
 ghost use Rattle.pst_btree.specs.Order.{Rises};
 ghost use Rattle.pst_intact.specs.View.{table_of_intact, nodes_of_intact};
@@ -9,7 +9,8 @@ ghost use Rattle.pst_json.specs.Output.{AppendsFront};
 ghost use Rattle.pst_json.specs.Told.{TellsDoc};
 ghost use Rattle.pst_verify.specs.pst_reach.Levels.{reaches_of};
 ghost use Rattle.pst_verify.specs.pst_reach.Path.{reach_nid};
-ghost use Rattle.pst_export.specs.Export.{archive_in, damage_in};
+ghost use Rattle.pst_tar.specs.Read.{read_archive};
+ghost use Rattle.pst_export.specs.Export.{archive_in, damage_in, files_in};
 ghost use Rattle.pst_value_json.specs.pst_names.Name.{store_name};
 ghost use Rattle.pst_export.specs.Store.{all_files, export_told, files_with, path_count};
 ghost use Rattle.pst_export.specs.Written.{Adds, AddsFront};
@@ -121,14 +122,22 @@ fn write_files<W: Write>(
     Ok(())
 }
 
+// A number of 64 bits is less than 2^64.
+fn fits(number: u64)
+    ensures { number < 2 ^ 64 }
+{}
+
 /// Writes the archive. Memory is taken for one document at a time, and none for values. After a fault the writer holds a front of it.
+/// One that is written to its end gives, read by the rules of tar, exactly its files, in order.
 pub fn emit_export<W: Write>(alloc: Global, export: &Export, out: &mut W) -> Result<(), ExportFault>
     ensures all { OnOk result (Appends (W.contents out.old) (W.contents out.new)
         (archive_in export.now)) }
     ensures front { AppendsFront (W.contents out.old) (W.contents out.new) (archive_in export.now) }
+    ensures read { OnOk result (read_archive (archive_in export.now) ≡ Some (files_in export.now)) }
 {
     let mut number = 0;
     write_files(alloc, &mut number, export, out)?;
+    fits(number);
     emit(end(), out)?;
     Ok(())
 }

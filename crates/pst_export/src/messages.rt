@@ -12,6 +12,7 @@ ghost use Rattle.pst_export.specs.Written.{Adds, AddsFront};
 
 use crate::fault::ExportFault;
 use crate::held::write_item;
+use crate::index::index_of;
 use crate::time::received;
 use crate::walk::Walk;
 use pst_json::Intact;
@@ -20,7 +21,7 @@ use std::alloc::Global;
 use std::io::Write;
 
 // Writes the files of a message of a store, in a folder of this name, and of what it holds.
-fn write_message<W: Write>(
+fn write_lent<W: Write>(
     alloc: Global,
     number: &mut u64,
     names: Option<NameMap>,
@@ -44,6 +45,30 @@ fn write_message<W: Write>(
         write_item(alloc, number, names, time, &item, out)?;
     }
     Ok(())
+}
+
+// The same, of one that has been lent no index yet.
+#[tactic(auto, using(crate::proofs::WriteLemmas::front_none))]
+fn write_message<W: Write>(
+    alloc: Global,
+    number: &mut u64,
+    names: Option<NameMap>,
+    name: &str,
+    message: Message,
+    out: &mut W,
+) -> Result<(), ExportFault>
+    requires { nid_of (node_of_message message) ≡ top_of (node_of_message message) }
+    ensures all { let told = names_told names.entry in
+        let t = table_of_node (node_of_message message.entry) in
+        let files = message_files told t name.now (message_roots message.entry) in
+        OnOk result (Adds (W.contents out.old) (W.contents out.new) number.old number.new files) }
+    ensures front { let told = names_told names.entry in
+        let t = table_of_node (node_of_message message.entry) in
+        let files = message_files told t name.now (message_roots message.entry) in
+        AddsFront (W.contents out.old) (W.contents out.new) number.old files }
+{
+    let index = index_of(alloc, message)?;
+    write_lent(alloc, number, names, name, message.indexed(&index), out)
 }
 
 /// Writes the files of the messages of a type, in a folder of this name, and of what they hold.

@@ -1,4 +1,4 @@
-use Rattle.std.proofs.Common.{◌≡◌, List, [], ◌∷◌, ◌++◌}
+use Rattle.std.proofs.Common.{◌≡◌, List, ◌++◌}
 use Rattle.std.specs.Prelude.{codes}
 use Rattle.pst_ndb.specs.Roots.{all_roots}
 use Rattle.pst_intact.specs.View.{table_of_intact, nodes_of_intact}

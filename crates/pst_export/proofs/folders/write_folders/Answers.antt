@@ -1,9 +1,8 @@
-use Rattle.std.proofs.Common.{◌≡◌, ◌∙◌, [], ◌∷◌, map, ap, subst}
+use Rattle.std.proofs.Common.{◌∙◌, [], ◌∷◌, ap}
 use Rattle.pst_ndb.specs.NodeTable.{table_of_nodes}
 use Rattle.pst_intact.specs.View.{folders_beside, intact_folders_left, intact_roots, table_of_intact}
 use Rattle.pst_value_json.specs.Props.{names_told}
 use Rattle.pst_export.specs.Store.{folder_file, folder_files}
-use Rattle.pst_export.specs.Written.{Adds, AddsFront}
 use Rattle.pst_export.proofs.WriteLemmas.{added_end, added_next, added_none, added_refused}
 use Rattle.pst_export.proofs.folders.write_folders.Goals as goal
 

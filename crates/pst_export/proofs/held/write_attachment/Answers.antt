@@ -1,6 +1,6 @@
 use Rattle.std.proofs.Common.{List, [], ◌∷◌, codes}
-use Rattle.std.specs.Prelude.{true, false}
-use Rattle.pst_ndb.specs.Views.{table_of_node, nid_of, roots_of}
+use Rattle.std.specs.Prelude.{false}
+use Rattle.pst_ndb.specs.Views.{table_of_node, roots_of}
 use Rattle.pst_tar.specs.Archive.{Member}
 use Rattle.pst_value_json.specs.Line.{line_of}
 use Rattle.pst_value_json.specs.Props.{names_told}

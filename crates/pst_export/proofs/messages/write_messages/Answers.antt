@@ -1,4 +1,4 @@
-use Rattle.std.proofs.Common.{◌≡◌, ◌∙◌, true, ap, subst, rules}
+use Rattle.std.proofs.Common.{◌≡◌, ◌∙◌, true, ap, rules}
 use Rattle.pst_ndb.specs.Roots.{all_roots}
 use Rattle.pst_ndb.specs.NodeTable.{table_of_nodes}
 use Rattle.pst_ndb.specs.Views.{table_of_node}
@@ -7,8 +7,7 @@ use Rattle.pst_value_json.specs.Props.{names_told}
 use Rattle.pst_verify.specs.pst_msg.Nid.{is_type}
 use Rattle.pst_verify.specs.pst_msg.View.{message_roots, node_of_message}
 use Rattle.pst_verify.specs.pst_store.Kind.{of_kind}
-use Rattle.pst_export.specs.Store.{message_files, messages_files, of_type}
-use Rattle.pst_export.specs.Written.{Adds, AddsFront}
+use Rattle.pst_export.specs.Store.{message_files, messages_files}
 use Rattle.pst_export.proofs.StoreLemmas.{among, kind_next}
 use Rattle.pst_export.proofs.WriteLemmas.{added_end, added_next, added_none, added_refused}
 use Rattle.pst_export.proofs.messages.write_messages.Goals as goal

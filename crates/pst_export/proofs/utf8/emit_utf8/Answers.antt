@@ -1,9 +1,8 @@
-use Rattle.std.proofs.Common.{◌≡◌, ◌++◌, ◌∙◌, [], ap, subst}
-use Rattle.std.specs.Prelude.{encode_utf8_all}
+use Rattle.std.proofs.Common.{◌++◌, ◌∙◌, ap, subst}
 use Rattle.std.specs.Char.Utf16.{utf16_lossy_chars}
 use Rattle.std.specs.Io.KnownBytes.{Appends}
 use Rattle.pst_json.specs.Output.{AppendsFront}
-use Rattle.pst_json.proofs.OutputLemmas.{front_of_all, front_of_none}
+use Rattle.pst_json.proofs.OutputLemmas.{front_of_all}
 use Rattle.pst_value.specs.Units.{units_of}
 use Rattle.pst_value_json.specs.pst_datatree.Shown.{bytes_in}
 use Rattle.pst_value_json.specs.Value.{utf8_of}

@@ -1,4 +1,4 @@
-use Rattle.std.proofs.Common.{◌≡◌, ◌<◌, ◌≤◌, ◌∷◌, ◌∙◌, ap, sym, arith}
+use Rattle.std.proofs.Common.{◌<◌, ◌≤◌, ◌∷◌, ◌∙◌, ap, sym, arith}
 use Rattle.std.specs.Char.Utf16.{utf16_lossy_chars}
 use Rattle.pst_value.specs.Units.{units_of}
 use Rattle.pst_export.specs.Text.{text_bytes}

@@ -1,7 +1,7 @@
 use Rattle.std.proofs.Common.{◌∙◌, ◌≡◌, false, true, sym, subst}
 use Rattle.std.specs.Option.{is_some}
-use Rattle.pst_export.specs.Walk.{IsWalkOver, TakesHeld, walk_left}
-use Rattle.pst_export.proofs.WalkLemmas.{begun_none, begun_some, over_last, over_rest, same_walk, stays_none}
+use Rattle.pst_export.specs.Walk.{TakesHeld, walk_left}
+use Rattle.pst_export.proofs.WalkLemmas.{begun_none, begun_some, over_last, over_rest, stays_none}
 use Rattle.pst_export.proofs.walk.Walk.next.Goals as goal
 
 pub returns-then-is_some-clause-left : goal.returns-then-is_some-clause-left

@@ -1,4 +1,4 @@
-use Rattle.std.proofs.Common.{rules, ◌∙◌, ◌≡◌, ap, sym}
+use Rattle.std.proofs.Common.{rules, ◌∙◌, ap}
 use Rattle.std.specs.Prelude.{option_map}
 use Rattle.pst_ndb.specs.Views.{table_of_node, roots_of}
 use Rattle.pst_verify.specs.pst_msg.Shown.{object_shown}

@@ -7,8 +7,8 @@ use Rattle.pst_export.specs.Files.{held_files}
 use Rattle.pst_export.specs.Store.{message_files}
 use Rattle.pst_export.specs.Time.{time_of}
 use Rattle.pst_export.specs.Walk.{StaysOver, TakesHeld, item_held, walk_left}
-use Rattle.pst_export.proofs.WriteLemmas.{added_end, added_next, added_none, added_refused, added_still}
-use Rattle.pst_export.proofs.messages.write_message.Goals as goal
+use Rattle.pst_export.proofs.WriteLemmas.{Added, added_all, added_end, added_next, added_none, added_refused, added_still}
+use Rattle.pst_export.proofs.messages.write_lent.Goals as goal
 
 pub loop-walk-init : goal.loop-walk-init
 unfolding message_files
@@ -52,3 +52,13 @@ returns-clause-front g c =
     let told = names_told c.args.names in
     let none : walk_left c.loop-walk.walk ≡ [] = search rules in
     added_end _ _ _ _ _ _ (ap (flat_map (held_files told t c.received-time.result)) none) c.loop-walk.invariant.left
+
+pub returns-clause-all : goal.returns-clause-all
+returns-clause-all g c =
+    let t = table_of_node (node_of_message c.args.message) in
+    let told = names_told c.args.names in
+    let files = message_files told t c.args.name.now (message_roots c.args.message) in
+    let none : walk_left c.loop-walk.walk ≡ [] = search rules in
+    let nothing = ap (flat_map (held_files told t c.received-time.result)) none in
+    added_all _ _ _ _ files
+    (subst (Added (g.W.Write.contents c.args.out.now) (g.W.Write.contents c.loop-walk.out) c.args.number.now c.loop-walk.number files) nothing c.loop-walk.invariant.left)

@@ -1,4 +1,4 @@
-use Rattle.std.proofs.Common.{length, map}
+use Rattle.std.proofs.Common.{length}
 use Rattle.std.specs.Prelude.{flat_map}
 use Rattle.pst_ndb.specs.Views.{table_of_node}
 use Rattle.pst_value_json.specs.Props.{names_told}
@@ -7,7 +7,7 @@ use Rattle.pst_export.specs.Files.{held_files}
 use Rattle.pst_export.specs.Store.{message_files}
 use Rattle.pst_export.specs.Walk.{IsWalkOver, walk_left}
 use Rattle.pst_export.proofs.WriteLemmas.{Added}
-use Rattle.pst_export.proofs.messages.write_message.Given as goal
+use Rattle.pst_export.proofs.messages.write_lent.Given as goal
 
 -- a front of the files is written, and those of what is left of the message are to come
 abbrev pub invariant-loop-walk : goal.invariant-loop-walk
