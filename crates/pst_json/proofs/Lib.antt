@@ -2,6 +2,7 @@ pub mod CheckLemmas
 pub mod FolderLemmas
 pub mod FoundLemmas
 pub mod HeadLemmas
+pub mod IndexLemmas
 pub mod ListingLemmas
 pub mod MessageLemmas
 pub mod NameLemmas

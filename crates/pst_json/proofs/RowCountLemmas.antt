@@ -66,6 +66,10 @@ is_held law t r held list is same =
 
 -- ---- what is known
 
+-- of the same table
+pub counts_of : (t u : Table) (c : RowCounts) → u ≡ t → AreCountsTrue t c → AreCountsTrue u c
+counts_of t u c same are = rw same are
+
 nothing : {X : Type 0} (P : ℕ → X → Type 0) (m : BTreeMap ℕ X) → IsEmpty m → (q : ℕ) (y : X) → get nat_cmp m q ≡ Some y → P q y
 nothing P m empty q y known = absurd (let bad : None ≡ Some y = (rw empty at known) in cc)
 

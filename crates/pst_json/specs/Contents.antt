@@ -17,7 +17,7 @@ use Rattle.pst_intact.specs.View.{table_of_intact, nodes_of_intact}
 use Rattle.pst_whole.specs.Lost.{LostParts, told_lost}
 use Rattle.pst_whole.specs.View.{lost_in}
 use Rattle.pst_damage_json.specs.Faults.{fault_data}
-use Rattle.pst_json.specs.declared.contents.ListedRows.{ListedRows}
+use Rattle.pst_json.specs.declared.listed_rows.ListedRows.{ListedRows}
 use Rattle.pst_json.specs.declared.fault.DocFault.{DocFault}
 use Rattle.pst_json.specs.declared.fault.DocFault.TheVariants.{NoFolder, Bad}
 use Rattle.pst_json.specs.declared.texts.TheConstants.{CLASS, SENDER, SUBJECT}

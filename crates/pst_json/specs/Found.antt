@@ -1,13 +1,20 @@
 -- What a path has reached, and what of that has properties.
+use Rattle.std.specs.Prelude.{◌≡◌, ℕ, Some, List}
+use Rattle.pst_page.specs.declared.entry.NodeEntry.{NodeEntry}
+use Rattle.pst_block.specs.Table.{Table}
 use Rattle.pst_ndb.specs.declared.node.Node.{Node as NodeView}
 use Rattle.pst_ndb.specs.Views.{nid_of, roots_of}
+use Rattle.pst_ndb.specs.pst_subnode.declared.index.SubIndex.{SubIndex}
+use Rattle.pst_ndb.specs.pst_subnode.Index.{IsIndexOf}
+use Rattle.pst_ndb.specs.pst_subnode.List.{subs_of}
 use Rattle.pst_value_json.specs.pst_pc.View.{node_of_pc}
 use Rattle.pst_verify.specs.pst_msg.View.{node_of_attachment, node_of_message}
 use Rattle.pst_json.specs.declared.found.Found.{Found}
 use Rattle.pst_json.specs.declared.found.Found.TheVariants as found
 use Rattle.pst_json.specs.declared.found.Reached.{Reached}
 use Rattle.pst_json.specs.declared.found.Reached.TheVariants.{Message, Attachment, Node}
-use Rattle.pst_json.specs.Path.{Place, message, attachment, other}
+use Rattle.pst_json.specs.Path.{Place, message, attachment, other, place_at}
+use Rattle.pst_json.specs.Property.{roots_of_place}
 
 -- ---- what is reached: its node, and as a place
 
@@ -32,3 +39,8 @@ abbrev pub place_of_found : Found → Place
 place_of_found (found.Message m) = let n = node_of_message m in message (nid_of n) (roots_of n)
 place_of_found (found.Attachment a) = let n = node_of_attachment a in attachment (nid_of n) (roots_of n)
 place_of_found (found.Pc p) = let n = node_of_pc p in other (nid_of n) (roots_of n)
+
+-- ---- an index is one of the subnodes of what a path leads to
+
+abbrev pub IsIndexAt : Table → List NodeEntry → List ℕ → SubIndex → Type 0
+IsIndexAt t nodes path index = (place : Place) → place_at t nodes path ≡ Some place → IsIndexOf index (subs_of t (roots_of_place place).bid_sub)

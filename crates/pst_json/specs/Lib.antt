@@ -16,6 +16,7 @@ pub mod Contents
 pub mod Messages
 pub mod Listings
 pub mod RowCounts
+pub mod LastIndex
 pub mod NamesIndex
 pub mod Path
 pub mod Node

@@ -3,6 +3,7 @@
 use Rattle.std.specs.Prelude.{◌≡◌, ℕ, Some, length}
 use Rattle.std.specs.BTreeMap.{get}
 use Rattle.std.specs.Ordering.{nat_cmp}
+use Rattle.std.proofs.Props.{props}
 use Rattle.pst_block.specs.Block.{bid_key}
 use Rattle.pst_block.specs.Table.{Table}
 use Rattle.pst_ndb.specs.Roots.{Roots, subnode_of}
@@ -34,3 +35,8 @@ AreTablesTrue t c = (block count : ℕ) → get nat_cmp c.tables block ≡ Some 
 -- all that is known is true
 unfoldable pub AreCountsTrue : Table → RowCounts → Type 0
 AreCountsTrue t c = AreListsTrue t c × AreTablesTrue t c
+
+-- which has one proof, so a struct may keep it
+pub AreCountsTrue-prop : (t : Table) (c : RowCounts) → IsProp (AreCountsTrue t c)
+unfolding AreCountsTrue
+AreCountsTrue-prop t c = hlevel props

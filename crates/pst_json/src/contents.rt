@@ -4,7 +4,7 @@ ghost use Rattle.std.specs.Prelude.{◌≡◌, ◌++◌, true, Ok, Err, IfOk, On
 ghost use Rattle.serde_json.specs.View.{view};
 ghost use Rattle.serde_json.specs.Written.{compact_text};
 ghost use Rattle.pst_block.specs.Table.{Table};
-ghost use Rattle.pst_ndb.specs.Views.{table_of_node, roots_of};
+ghost use Rattle.pst_ndb.specs.Views.{table_of_node, roots_of, IsIndexedBy};
 ghost use Rattle.pst_intact.specs.View.{table_of_intact, nodes_of_intact};
 ghost use Rattle.pst_whole.specs.View.{lost_in};
 ghost use Rattle.pst_value_json.specs.pst_pc.View.{node_of_pc};
@@ -16,34 +16,69 @@ ghost use Rattle.pst_verify.specs.pst_msg.Nid.{is_type as is_type_of};
 ghost use Rattle.pst_verify.specs.pst_msg.declared.nid.TheConstants.{FOLDER as FOLDER_KIND};
 ghost use Rattle.pst_ndb.specs.Roots.{node_in};
 ghost use Rattle.pst_verify.specs.pst_msg.Shown.{rows_there, folder_table};
+ghost use Rattle.pst_verify.specs.pst_msg.Values.{is_message};
+ghost use Rattle.pst_verify.specs.pst_store.Kind.{node_of_kind};
 ghost use Rattle.pst_verify.specs.pst_msg.View.{tc_roots, node_of_message, message_roots};
-ghost use Rattle.pst_json.specs.Contents.{text_there, listed_data, told_data, row_data, listed_rows, contents_data, contents_there, contents_of, contents_line as line_of_contents};
+ghost use Rattle.pst_json.specs.Contents.{text_there, listed_data, told_data, row_data, contents_data, contents_there, contents_of, contents_line as line_of_contents};
+ghost use Rattle.pst_json.specs.LastIndex.{IsLastIndex, last_in};
 ghost use Rattle.pst_json.specs.Told.{TellsDoc};
 ghost use Rattle.pst_value_json.specs.Kept.{BeginsWith};
 
 use crate::fault::DocFault;
+use crate::last_index::LastIndex;
+use crate::listed_rows::ListedRows;
 use crate::texts::{CLASS, SENDER, SUBJECT, put_text_property, text_property_doc};
 use pst_damage_json::fault_doc;
 use pst_fault::Fault;
 use pst_intact::Intact;
 use pst_msg::{Items, listing_nid};
+use pst_ndb::SubIndex;
 use pst_value_json::{
-    Line, Made, Part, Pc, Row, Rows, Sink, Tc, TcRows, Tree, nid_text, put_comma, put_nid, put_null,
+    Line, Made, Part, Pc, Row, Sink, Tc, TcRows, Tree, nid_text, put_nid, put_null,
 };
 use pst_verify::{FOLDER, Message, is_type};
 use pst_whole::Lost;
 use serde_json::{Value as Doc, json};
 use std::alloc::{AllocError, Global};
 
-// The properties of a message, where that is there.
-fn properties_of(message: Option<Message>) -> Option<Pc>
+// How many texts of a message are looked up, each of which may be a subnode.
+const TEXTS: u64 = 3;
+
+// The message that a row names, where that is there. The index turns to its list.
+fn message_in<'a>(
+    alloc: Global,
+    intact: &Intact<'a>,
+    nid: u32,
+    index: &mut LastIndex,
+) -> Result<Option<Message<'a>>, AllocError>
+    requires { IsLastIndex (table_of_intact intact.now) index.old }
+    ensures known { IsLastIndex (table_of_intact intact.now) index.new }
+    ensures index { IfOk result (λ m.
+        IfSome m (λ x. IsIndexedBy (node_of_message x) (last_in index.new))) }
+    ensures roots { let nodes = nodes_of_intact intact.now in
+        IfOk result (λ m. option_map message_roots m ≡ node_of_kind is_message nodes nid) }
+    ensures table { let t = table_of_intact intact.now in
+        IfOk result (λ m. IfSome m (λ x. table_of_node (node_of_message x) ≡ t)) }
+{
+    match intact.message(nid) {
+        Some(message) => {
+            index.turn(alloc, message.node(), TEXTS)?;
+            Ok(Some(message))
+        }
+        None => Ok(None),
+    }
+}
+
+// The properties of a message, where that is there, which finds its subnodes by an index.
+fn properties_of<'a>(message: Option<Message<'a>>, index: &'a SubIndex) -> Option<Pc<'a>>
+    requires { IfSome message (λ m. IsIndexedBy (node_of_message m) index.now) }
     ensures roots { option_map (λ p. roots_of (node_of_pc p)) result ≡
         option_map message_roots message.entry }
     ensures table { (t : Table) → IfSome message.entry (λ m. table_of_node (node_of_message m) ≡ t)
         → IfSome result (λ p. table_of_node (node_of_pc p) ≡ t) }
 {
     match message {
-        Some(message) => Some(message.pc()),
+        Some(message) => Some(message.indexed(index).pc()),
         None => None,
     }
 }
@@ -62,12 +97,20 @@ fn text_of(alloc: Global, pc: Option<Pc>, id: u16) -> Result<Doc, AllocError>
 
 // The message that a row names as an object.
 #[tactic(auto, unfolding(crate::specs::Contents::listed_data))]
-fn listed_doc(alloc: Global, intact: &Intact, row: Row) -> Result<Doc, AllocError>
-    ensures { let t = table_of_intact intact.now in
+fn listed_doc(
+    alloc: Global,
+    intact: &Intact,
+    row: Row,
+    index: &mut LastIndex,
+) -> Result<Doc, AllocError>
+    requires { IsLastIndex (table_of_intact intact.now) index.old }
+    ensures known { IsLastIndex (table_of_intact intact.now) index.new }
+    ensures shown { let t = table_of_intact intact.now in
         IfOk result (λ d. view d ≡ listed_data t (nodes_of_intact intact.now)
         (row_parts row.entry)) }
 {
-    let pc = properties_of(intact.message(row.id()));
+    let message = message_in(alloc, intact, row.id(), index)?;
+    let pc = properties_of(message, &index.subs);
     let class = text_of(alloc, pc, CLASS)?;
     let nid = nid_text(alloc, row.id())?;
     let sender = text_of(alloc, pc, SENDER)?;
@@ -85,16 +128,24 @@ fn told_doc(alloc: Global, fault: &Fault, nid: u32) -> Result<Doc, AllocError>
     json!(in alloc; {"fault": fault, "nid": nid})
 }
 
-// What a row names as an object: the message, or what is told of it.
+/// What a row names as an object: the message, or what is told of it.
 #[tactic(auto, unfolding(crate::specs::Contents::row_data))]
-fn row_doc(alloc: Global, intact: &Intact, lost: &Lost, row: Row) -> Result<Doc, AllocError>
-    ensures { let t = table_of_intact intact.now in
+pub(crate) fn row_doc(
+    alloc: Global,
+    intact: &Intact,
+    lost: &Lost,
+    row: Row,
+    index: &mut LastIndex,
+) -> Result<Doc, AllocError>
+    requires { IsLastIndex (table_of_intact intact.now) index.old }
+    ensures known { IsLastIndex (table_of_intact intact.now) index.new }
+    ensures shown { let t = table_of_intact intact.now in
         IfOk result (λ d. view d ≡ row_data t (nodes_of_intact intact.now) (lost_in lost.now)
         (row_parts row.entry)) }
 {
     match lost.told(row.id()) {
         Some(fault) => told_doc(alloc, &fault, row.id()),
-        None => listed_doc(alloc, intact, row),
+        None => listed_doc(alloc, intact, row, index),
     }
 }
 
@@ -122,14 +173,18 @@ fn put_listed(
     alloc: Global,
     intact: &Intact,
     row: Row,
+    index: &mut LastIndex,
     text: &mut Vec<u8>,
 ) -> Result<(), AllocError>
+    requires { IsLastIndex (table_of_intact intact.now) index.old }
+    ensures known { IsLastIndex (table_of_intact intact.now) index.new }
     ensures put { let t = table_of_intact intact.now in
         let shown = listed_data t (nodes_of_intact intact.now) (row_parts row.entry) in
         OnOk result (text.new.items ≡ text.old.items ++ compact_text shown) }
     ensures kept { OnErr result (BeginsWith text.new.items text.old.items) }
 {
-    let pc = properties_of(intact.message(row.id()));
+    let message = message_in(alloc, intact, row.id(), index)?;
+    let pc = properties_of(message, &index.subs);
     text.extend_from_slice(b"{\"class\":")?;
     put_text_of(alloc, &pc, CLASS, text)?;
     text.extend_from_slice(b",\"nid\":")?;
@@ -153,15 +208,18 @@ fn put_told(alloc: Global, fault: &Fault, nid: u32, text: &mut Vec<u8>) -> Resul
     text.extend_from_slice(&shown)
 }
 
-// Puts what a row names behind a text, as `row_doc` shows it.
+/// Puts what a row names behind a text, as `row_doc` shows it.
 #[tactic(auto, unfolding(crate::specs::Contents::row_data))]
-fn put_row(
+pub(crate) fn put_row(
     alloc: Global,
     intact: &Intact,
     lost: &Lost,
     row: Row,
+    index: &mut LastIndex,
     text: &mut Vec<u8>,
 ) -> Result<(), AllocError>
+    requires { IsLastIndex (table_of_intact intact.now) index.old }
+    ensures known { IsLastIndex (table_of_intact intact.now) index.new }
     ensures put { let t = table_of_intact intact.now in
         let shown = row_data t (nodes_of_intact intact.now) (lost_in lost.now) (row_parts row.entry) in
         OnOk result (text.new.items ≡ text.old.items ++ compact_text shown) }
@@ -169,7 +227,7 @@ fn put_row(
 {
     match lost.told(row.id()) {
         Some(fault) => put_told(alloc, &fault, row.id(), text),
-        None => put_listed(alloc, intact, row, text),
+        None => put_listed(alloc, intact, row, index, text),
     }
 }
 
@@ -227,51 +285,6 @@ fn contents_table<'a>(
     }
 }
 
-/// The messages that are left of those that a table lists, each as an object.
-#[derive(Drop)]
-pub(crate) struct ListedRows<'a> {
-    intact: Intact<'a>,
-    lost: Lost<'a>,
-    rows: Option<TcRows<'a>>,
-}
-
-#[tactic(auto, using(crate::proofs::FolderLemmas::row_has_none))]
-impl Rows for ListedRows<'_> {
-    ghost left = { listed_rows };
-
-    fn next_doc(&mut self, alloc: Global) -> Result<Option<Doc>, AllocError> {
-        let Some(mut rows) = self.rows else {
-            return Ok(None);
-        };
-        let row = rows.next();
-        self.rows = Some(rows);
-        match row {
-            Some(row) => Ok(Some(row_doc(alloc, &self.intact, &self.lost, row)?)),
-            None => Ok(None),
-        }
-    }
-
-    // A message goes to the text member by member, without a tree.
-    fn put_next(
-        &mut self,
-        alloc: Global,
-        later: bool,
-        text: &mut Vec<u8>,
-    ) -> Result<bool, AllocError> {
-        let Some(mut rows) = self.rows else {
-            return Ok(false);
-        };
-        let row = rows.next();
-        self.rows = Some(rows);
-        let Some(row) = row else {
-            return Ok(false);
-        };
-        put_comma(later, text)?;
-        put_row(alloc, &self.intact, &self.lost, row, text)?;
-        Ok(true)
-    }
-}
-
 // The rows of a table, where it is there.
 fn rows_of(table: Option<Tc>) -> Option<TcRows>
     ensures { (t : Table) → IfSome table.entry (λ x. table_of_node (node_of_tc x) ≡ t)
@@ -303,6 +316,7 @@ fn shown_contents<'a, S: Sink>(
         intact: *intact,
         lost: *lost,
         rows: rows_of(table),
+        index: LastIndex::none(),
     };
     let parts = vec![in alloc;
         Part::Value("folder", Made::Nid(Some(nid))),

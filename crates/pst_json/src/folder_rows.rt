@@ -10,8 +10,12 @@ ghost use Rattle.pst_intact.specs.View.{table_of_intact, nodes_of_intact, folder
 ghost use Rattle.pst_verify.specs.pst_reach.Levels.{reaches_of};
 ghost use Rattle.pst_verify.specs.pst_reach.Path.{reach_nid};
 ghost use Rattle.pst_json.specs.Folders.{is_shown};
+ghost use Rattle.pst_json.specs.LastIndex.{IsLastIndex, IsLastIndex-prop};
+ghost use Rattle.pst_json.specs.RowCounts.{AreCountsTrue, AreCountsTrue-prop};
 
 use crate::folders::{folder_doc, put_folder};
+use crate::last_index::LastIndex;
+use crate::row_counts::RowCounts;
 use pst_intact::{Intact, IntactFolder, IntactFolders};
 use pst_value_json::{Rows, put_comma};
 use pst_verify::{Reach, find_reach};
@@ -67,8 +71,16 @@ pub(crate) struct FolderRows<'a> {
     rest: IntactFolders<'a>,
     // Whether those that the root folder reaches are behind.
     lone: bool,
+    // How many rows their tables have, as far as they were counted.
+    counts: RowCounts,
+    // The index of the list that they ask.
+    index: LastIndex,
     ghost table: { table_of_nodes (folders_beside rest) ≡ table_of_intact intact },
     ghost nodes: { entries_of_nodes (folders_beside rest) ≡ nodes_of_intact intact },
+    ghost known: { AreCountsTrue (table_of_intact intact) counts } by { AreCountsTrue-prop
+        (table_of_intact intact) counts },
+    ghost indexed: { IsLastIndex (table_of_intact intact) index } by { IsLastIndex-prop
+        (table_of_intact intact) index },
     ghost all: { reached.now ≡ reaches_of (table_of_intact intact) (nodes_of_intact intact) },
     ghost rise: { Rises 0 None (map reach_nid reached.now) } by { Rises-prop 0 None
         (map reach_nid reached.now) },
@@ -86,7 +98,12 @@ impl<'a> FolderRows<'a> {
 
     /// All folders among intact nodes, of which the root folder reaches these.
     #[tactic(auto, using(crate::proofs::RowsLemmas::rows_of_all))]
-    pub(crate) fn of(intact: &Intact<'a>, lost: &Lost<'a>, reached: &'a [Reach]) -> FolderRows<'a>
+    pub(crate) fn of(
+        alloc: Global,
+        intact: &Intact<'a>,
+        lost: &Lost<'a>,
+        reached: &'a [Reach],
+    ) -> FolderRows<'a>
         requires reached { let t = table_of_intact intact.now in
             reached.now ≡ reaches_of t (nodes_of_intact intact.now) }
         requires rise { Rises 0 None (map reach_nid reached.now) }
@@ -99,6 +116,8 @@ impl<'a> FolderRows<'a> {
             reached,
             rest: intact.folders(),
             lone: false,
+            counts: RowCounts::new(alloc),
+            index: LastIndex::none(),
         }
     }
 
@@ -126,7 +145,7 @@ impl<'a> FolderRows<'a> {
     }
 }
 
-#[tactic(auto, using(crate::proofs::FolderLemmas::folder_has_none))]
+#[tactic(auto, using(crate::proofs::FolderLemmas::folder_has_none, crate::proofs::RowCountLemmas::counts_of, crate::proofs::IndexLemmas::last_of))]
 impl Rows for FolderRows<'_> {
     ghost use Rattle.pst_json.specs.FolderRows.{folder_rows};
 
@@ -135,7 +154,14 @@ impl Rows for FolderRows<'_> {
     fn next_doc(&mut self, alloc: Global) -> Result<Option<Doc>, AllocError> {
         match self.next_folder() {
             Some(folder) => {
-                let doc = folder_doc(alloc, folder, &self.lost, self.reached)?;
+                let doc = folder_doc(
+                    alloc,
+                    folder,
+                    &self.lost,
+                    self.reached,
+                    &mut self.counts,
+                    &mut self.index,
+                )?;
                 Ok(Some(doc))
             }
             None => Ok(None),
@@ -156,7 +182,15 @@ impl Rows for FolderRows<'_> {
             text.reserve(ROOM.saturating_mul(self.reached.len()))?;
         }
         put_comma(later, text)?;
-        put_folder(alloc, folder, &self.lost, self.reached, text)?;
+        put_folder(
+            alloc,
+            folder,
+            &self.lost,
+            self.reached,
+            &mut self.counts,
+            &mut self.index,
+            text,
+        )?;
         Ok(true)
     }
 }

@@ -15,13 +15,17 @@ ghost use Rattle.pst_intact.specs.View.{table_of_intact, nodes_of_intact, intact
 ghost use Rattle.pst_whole.specs.View.{lost_in};
 ghost use Rattle.pst_verify.specs.pst_reach.Levels.{reaches_of};
 ghost use Rattle.pst_verify.specs.pst_reach.Path.{reach_nid, path_in};
-ghost use Rattle.pst_json.specs.Folders.{row_nid, path_data, count_data, nids_data, table_told, folder_data, folders_data, folders_line as line_of_folders};
+ghost use Rattle.pst_json.specs.Folders.{row_nid, row_total, text_property, path_data, count_data, nids_data, table_told, folder_data, folders_data, folders_line as line_of_folders};
+ghost use Rattle.pst_json.specs.LastIndex.{IsLastIndex};
+ghost use Rattle.pst_json.specs.RowCounts.{AreCountsTrue};
 ghost use Rattle.pst_value_json.specs.Kept.{BeginsWith};
 ghost use Rattle.pst_value_json.specs.Names.{nid_data};
 ghost use Rattle.pst_value_json.specs.Parts.{list_data};
 
 use crate::folder_rows::FolderRows;
+use crate::last_index::LastIndex;
 use crate::nid_lists::{put_nid_list, put_nids_of};
+use crate::row_counts::RowCounts;
 use crate::texts::{NAME, put_text_property, text_property_doc};
 use pst_fault::Fault;
 use pst_intact::{Intact, IntactFolder};
@@ -32,14 +36,17 @@ use pst_whole::Lost;
 use serde_json::{Value as Doc, json};
 use std::alloc::{AllocError, Global};
 
-// How many rows a table has, 0 where it is not there.
-fn count_of(table: Option<Tc>) -> u64
-    ensures { (t : Table) → IfSome table.entry (λ x. table_of_node (node_of_tc x) ≡ t)
-        → result ≡ length (rows_there t (option_map tc_roots table.entry)) }
+// How many rows a table of a folder has, 0 where it is not there; or memory is refused.
+fn count_of(folder: &IntactFolder, items: Items, counts: &mut RowCounts) -> Result<u64, AllocError>
+    requires { AreCountsTrue (table_of_nodes (intact_beside folder.now)) counts.old }
+    ensures known { AreCountsTrue (table_of_nodes (intact_beside folder.now)) counts.new }
+    ensures count { let nodes = intact_beside folder.now in let nid = top_of (intact_node folder.now) in
+        IfOk result (λ n. n ≡ row_total (table_of_nodes nodes)
+        (folder_table (entries_of_nodes nodes) items nid)) }
 {
-    match table {
-        Some(tc) => tc.row_count(),
-        None => 0,
+    match folder.table(items) {
+        Some(table) => counts.rows_in(table),
+        None => Ok(0),
     }
 }
 
@@ -79,14 +86,21 @@ fn told_of_table(lost: &Lost, items: Items, nid: u32) -> Option<Fault>
 }
 
 // How many rows a table of a folder has, 0 where it is not there; null where something is told of it.
-fn count_doc(folder: &IntactFolder, lost: &Lost, items: Items) -> Doc
-    ensures { let nodes = intact_beside folder.now in let nid = top_of (intact_node folder.now) in
-        view result ≡ count_data (table_told (lost_in lost.now) items nid) (table_of_nodes nodes)
-        (folder_table (entries_of_nodes nodes) items nid) }
+fn count_doc(
+    folder: &IntactFolder,
+    lost: &Lost,
+    items: Items,
+    counts: &mut RowCounts,
+) -> Result<Doc, AllocError>
+    requires { AreCountsTrue (table_of_nodes (intact_beside folder.now)) counts.old }
+    ensures known { AreCountsTrue (table_of_nodes (intact_beside folder.now)) counts.new }
+    ensures shown { let nodes = intact_beside folder.now in let nid = top_of (intact_node folder.now) in
+        IfOk result (λ d. view d ≡ count_data (table_told (lost_in lost.now) items nid)
+        (table_of_nodes nodes) (folder_table (entries_of_nodes nodes) items nid)) }
 {
     match told_of_table(lost, items, folder.nid()) {
-        Some(_) => Doc::Null,
-        None => Doc::from(count_of(folder.table(items))),
+        Some(_) => Ok(Doc::Null),
+        None => Ok(Doc::from(count_of(folder, items, counts)?)),
     }
 }
 
@@ -121,6 +135,19 @@ fn path_doc(alloc: Global, reached: &[Reach], nid: u32) -> Result<Doc, AllocErro
     }
 }
 
+// The name of a folder, where it has one; else null. The index turns to the list of its subnodes.
+fn name_doc(alloc: Global, folder: &IntactFolder, index: &mut LastIndex) -> Result<Doc, AllocError>
+    requires { IsLastIndex (table_of_nodes (intact_beside folder.now)) index.old }
+    ensures known { IsLastIndex (table_of_nodes (intact_beside folder.now)) index.new }
+    ensures shown { let t = table_of_nodes (intact_beside folder.now) in
+        IfOk result (λ d. view d ≡ text_property t (intact_roots folder.now) NAME) }
+{
+    folder.is_sound();
+    let pc = folder.pc();
+    index.turn(alloc, pc.node(), 1)?;
+    text_property_doc(alloc, &pc.indexed(&index.subs), NAME)
+}
+
 /// A folder as an object.
 #[tactic(auto, unfolding(crate::specs::Folders::folder_data))]
 pub(crate) fn folder_doc(
@@ -128,16 +155,21 @@ pub(crate) fn folder_doc(
     folder: IntactFolder,
     lost: &Lost,
     reached: &[Reach],
+    counts: &mut RowCounts,
+    index: &mut LastIndex,
 ) -> Result<Doc, AllocError>
     requires rise { Rises 0 None (map reach_nid reached.now) }
-    ensures { let nodes = intact_beside folder.entry in let t = table_of_nodes nodes in
+    requires known { AreCountsTrue (table_of_nodes (intact_beside folder)) counts.old }
+    requires index { IsLastIndex (table_of_nodes (intact_beside folder)) index.old }
+    ensures known { AreCountsTrue (table_of_nodes (intact_beside folder.entry)) counts.new }
+    ensures index { IsLastIndex (table_of_nodes (intact_beside folder.entry)) index.new }
+    ensures shown { let nodes = intact_beside folder.entry in let t = table_of_nodes nodes in
         IfOk result (λ d. view d ≡ folder_data t (entries_of_nodes nodes) (lost_in lost.now)
         reached.now (intact_roots folder.entry)) }
 {
-    folder.is_sound();
-    let associated = count_doc(&folder, lost, Items::Associated);
-    let messages = count_doc(&folder, lost, Items::Messages);
-    let name = text_property_doc(alloc, &folder.pc(), NAME)?;
+    let associated = count_doc(&folder, lost, Items::Associated, counts)?;
+    let messages = count_doc(&folder, lost, Items::Messages, counts)?;
+    let name = name_doc(alloc, &folder, index)?;
     let nid = nid_text(alloc, folder.nid())?;
     let path = path_doc(alloc, reached, folder.nid())?;
     let subfolders = nids_doc(alloc, &folder, lost, Items::Subfolders)?;
@@ -149,6 +181,26 @@ pub(crate) fn folder_doc(
         "path": path,
         "subfolders": subfolders,
     })
+}
+
+// Puts the name of a folder behind a text, as `name_doc` shows it.
+fn put_name(
+    alloc: Global,
+    folder: &IntactFolder,
+    index: &mut LastIndex,
+    text: &mut Vec<u8>,
+) -> Result<(), AllocError>
+    requires { IsLastIndex (table_of_nodes (intact_beside folder.now)) index.old }
+    ensures known { IsLastIndex (table_of_nodes (intact_beside folder.now)) index.new }
+    ensures put { let t = table_of_nodes (intact_beside folder.now) in
+        let shown = text_property t (intact_roots folder.now) NAME in
+        OnOk result (text.new.items ≡ text.old.items ++ compact_text shown) }
+    ensures kept { OnErr result (BeginsWith text.new.items text.old.items) }
+{
+    folder.is_sound();
+    let pc = folder.pc();
+    index.turn(alloc, pc.node(), 1)?;
+    put_text_property(alloc, &pc.indexed(&index.subs), NAME, text)
 }
 
 // Puts the path of a folder behind a text, as `path_doc` shows it.
@@ -174,8 +226,11 @@ fn put_count(
     folder: &IntactFolder,
     lost: &Lost,
     items: Items,
+    counts: &mut RowCounts,
     text: &mut Vec<u8>,
 ) -> Result<(), AllocError>
+    requires { AreCountsTrue (table_of_nodes (intact_beside folder.now)) counts.old }
+    ensures known { AreCountsTrue (table_of_nodes (intact_beside folder.now)) counts.new }
     ensures put { let nodes = intact_beside folder.now in let nid = top_of (intact_node folder.now) in
         let shown = count_data (table_told (lost_in lost.now) items nid) (table_of_nodes nodes)
         (folder_table (entries_of_nodes nodes) items nid) in
@@ -184,7 +239,7 @@ fn put_count(
 {
     match told_of_table(lost, items, folder.nid()) {
         Some(_) => put_null(text),
-        None => put_natural(count_of(folder.table(items)), text),
+        None => put_natural(count_of(folder, items, counts)?, text),
     }
 }
 
@@ -214,22 +269,27 @@ pub(crate) fn put_folder(
     folder: IntactFolder,
     lost: &Lost,
     reached: &[Reach],
+    counts: &mut RowCounts,
+    index: &mut LastIndex,
     text: &mut Vec<u8>,
 ) -> Result<(), AllocError>
     requires rise { Rises 0 None (map reach_nid reached.now) }
+    requires known { AreCountsTrue (table_of_nodes (intact_beside folder)) counts.old }
+    requires index { IsLastIndex (table_of_nodes (intact_beside folder)) index.old }
+    ensures known { AreCountsTrue (table_of_nodes (intact_beside folder.entry)) counts.new }
+    ensures index { IsLastIndex (table_of_nodes (intact_beside folder.entry)) index.new }
     ensures put { let nodes = intact_beside folder.entry in let t = table_of_nodes nodes in
         let shown = folder_data t (entries_of_nodes nodes) (lost_in lost.now) reached.now
         (intact_roots folder.entry) in
         OnOk result (text.new.items ≡ text.old.items ++ compact_text shown) }
     ensures kept { OnErr result (BeginsWith text.new.items text.old.items) }
 {
-    folder.is_sound();
     text.extend_from_slice(b"{\"associated\":")?;
-    put_count(&folder, lost, Items::Associated, text)?;
+    put_count(&folder, lost, Items::Associated, counts, text)?;
     text.extend_from_slice(b",\"messages\":")?;
-    put_count(&folder, lost, Items::Messages, text)?;
+    put_count(&folder, lost, Items::Messages, counts, text)?;
     text.extend_from_slice(b",\"name\":")?;
-    put_text_property(alloc, &folder.pc(), NAME, text)?;
+    put_name(alloc, &folder, index, text)?;
     text.extend_from_slice(b",\"nid\":")?;
     put_nid(folder.nid(), text)?;
     text.extend_from_slice(b",\"path\":")?;
@@ -254,7 +314,9 @@ fn shown_folders<'a, S: Sink>(
     ensures { let t = table_of_intact intact.now in let nodes = nodes_of_intact intact.now in
         IfOk result (λ out. S.Shows out (folders_data t nodes (lost_in lost.now))) }
 {
-    let parts = vec![in alloc; Part::Rows("folders", FolderRows::of(intact, lost, reached))]?;
+    let parts = vec![in alloc;
+        Part::Rows("folders", FolderRows::of(alloc, intact, lost, reached)),
+    ]?;
     S::object(alloc, parts)
 }
 
@@ -279,8 +341,9 @@ pub fn folders_doc<'a>(
 }
 
 /// The line that shows the folders: the compact text of their document, and a line feed. It is made folder by folder: beside the
-/// text, memory is taken for one folder at a time. Room for those that are reached is taken at the start, so that a text whose
-/// names and paths are short need not be moved while it grows.
+/// text, memory is taken for one folder at a time; some 40 bytes for each table of messages of more than 2,048 bytes; and for the
+/// index of one list. Room for those that are reached is taken at the start, so that a text whose names and paths are short need
+/// not be moved while it grows.
 #[tactic(auto, unfolding(crate::specs::Folders::folders_line))]
 pub fn folders_line<'a>(
     alloc: Global,

@@ -1,18 +1,20 @@
 //! What a path leads to.
 
 ghost use Rattle.std.specs.Prelude.{◌≡◌, IfOk, IfSome, option_map, fold, Some};
-ghost use Rattle.pst_ndb.specs.Views.{image_of_node, table_of_node, roots_of};
+ghost use Rattle.pst_ndb.specs.Views.{image_of_node, table_of_node, nid_of, roots_of, IsIndexedBy};
 ghost use Rattle.pst_intact.specs.View.{image_of_intact, table_of_intact, nodes_of_intact};
 ghost use Rattle.pst_verify.specs.pst_msg.View.{node_of_attachment, node_of_message};
-ghost use Rattle.pst_json.specs.Found.{node_of_reached, place_of, node_of_found, place_of_found};
+ghost use Rattle.pst_json.specs.Found.{node_of_reached, place_of, node_of_found, place_of_found, IsIndexAt};
 ghost use Rattle.pst_json.specs.Path.{message, attachment, place_of_shown, attachment_with, embedded_with, first_place, found_at, place_at, step, step_from};
 ghost use Rattle.pst_json.specs.Told.{told_of};
 
 use crate::fault::DocFault;
+use crate::index::index_of;
 use pst_intact::Intact;
-use pst_ndb::Node as NodeView;
+use pst_ndb::{Node as NodeView, SubIndex};
 use pst_value_json::{Pc, check_pc};
 use pst_verify::{Attachment, Message, is_message};
+use std::alloc::{AllocError, Global};
 
 // What a path has reached.
 #[derive(Clone, Copy)]
@@ -173,9 +175,40 @@ impl<'a> Found<'a> {
     }
 }
 
-/// What a path leads to that has properties, or why there is none.
+/// An index of the subnodes of what a path leads to, where that is a node that is no message. Of all else it holds nothing.
+pub(crate) fn index_at(alloc: Global, intact: &Intact, path: &[u32]) -> Result<SubIndex, AllocError>
+    ensures { let i = intact.now in
+        IfOk result (IsIndexAt (table_of_intact i) (nodes_of_intact i) path.now) }
+{
+    match reached_by(intact, path) {
+        Some(Reached::Node(node)) => index_of(alloc, node),
+        _ => Ok(SubIndex::none()),
+    }
+}
+
+// A node, which is lent an index, where there is one.
+fn lent<'a>(node: NodeView<'a>, index: Option<&'a SubIndex>) -> NodeView<'a>
+    requires { IfSome index (λ i. IsIndexedBy node i.now) }
+    ensures roots { roots_of result ≡ roots_of node.entry }
+    ensures image { image_of_node result ≡ image_of_node node.entry }
+    ensures table { table_of_node result ≡ table_of_node node.entry }
+    ensures nid { nid_of result ≡ nid_of node.entry }
+{
+    match index {
+        Some(index) => node.indexed(index),
+        None => node,
+    }
+}
+
+/// What a path leads to that has properties, or why there is none. A node that is no message is lent an index, if one is given.
 #[tactic(auto, unfolding(crate::specs::Path::found_at))]
-pub(crate) fn found_in<'a>(intact: &Intact<'a>, path: &[u32]) -> Result<Found<'a>, DocFault>
+pub(crate) fn found_in<'a>(
+    intact: &Intact<'a>,
+    path: &[u32],
+    index: Option<&'a SubIndex>,
+) -> Result<Found<'a>, DocFault>
+    requires { let i = intact.now in
+        IfSome index (λ x. IsIndexAt (table_of_intact i) (nodes_of_intact i) path.now x.now) }
     ensures place { let i = intact.now in
         told_of place_of_found result ≡ found_at (table_of_intact i) (nodes_of_intact i) path.now }
     ensures table { let t = table_of_intact intact.now in
@@ -186,7 +219,7 @@ pub(crate) fn found_in<'a>(intact: &Intact<'a>, path: &[u32]) -> Result<Found<'a
     match reached_by(intact, path) {
         Some(Reached::Message(message)) => Ok(Found::Message(message)),
         Some(Reached::Attachment(attachment)) => Ok(Found::Attachment(attachment)),
-        Some(Reached::Node(node)) => match check_pc(node) {
+        Some(Reached::Node(node)) => match check_pc(lent(node, index)) {
             Ok(pc) => Ok(Found::Pc(pc)),
             Err(fault) => Err(DocFault::Bad(fault)),
         },

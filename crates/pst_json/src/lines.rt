@@ -9,7 +9,10 @@ ghost use Rattle.pst_value_json.specs.pst_pc.View.{node_of_pc};
 ghost use Rattle.pst_verify.specs.pst_msg.View.{attachment_shown, node_of_attachment, node_of_message};
 ghost use Rattle.pst_json.specs.Node.{attachment_data, message_data, node_props_data};
 
-use crate::node::{indexed_message, indexed_node, shown_attachment};
+use crate::attachment::shown_attachment;
+use crate::index::index_of;
+use crate::last_index::LastIndex;
+use crate::node::{indexed_message, shown_node};
 use pst_value_json::{Filed, Line, NameMap, Pc};
 use pst_verify::{Attachment, Message};
 use std::alloc::{AllocError, Global};
@@ -38,7 +41,15 @@ pub fn attachment_line(
         IfOk result (λ text.
         text.items ≡ line_of (attachment_data told (InAttachment None) false t shown)) }
 {
-    shown_attachment::<Line>(alloc, attachment, names, Filed::Attachment(None), false)
+    let mut index = LastIndex::none();
+    shown_attachment::<Line>(
+        alloc,
+        attachment,
+        names,
+        Filed::Attachment(None),
+        false,
+        &mut index,
+    )
 }
 
 /// The line that shows the properties of a node that is no message.
@@ -51,5 +62,6 @@ pub fn node_line<'a>(
         let shown = node_props_data told false (table_of_node node) (roots_of node) (nid_of node) in
         IfOk result (λ text. text.items ≡ line_of shown) }
 {
-    indexed_node::<Line>(alloc, pc, names, false)
+    let index = index_of(alloc, pc.node())?;
+    shown_node::<Line>(alloc, pc.node().nid(), &pc.indexed(&index), names, false)
 }

@@ -7,10 +7,12 @@ ghost use Rattle.pst_intact.specs.View.{table_of_intact, nodes_of_intact};
 ghost use Rattle.pst_value_json.specs.pst_pc.View.{node_of_pc};
 ghost use Rattle.pst_verify.specs.pst_msg.View.{node_of_message, message_roots};
 ghost use Rattle.pst_value_json.specs.Line.{line_of};
+ghost use Rattle.pst_json.specs.LastIndex.{IsLastIndex};
 ghost use Rattle.pst_json.specs.Listings.{folders_at};
 ghost use Rattle.pst_json.specs.Messages.{time_property, number_property, summary_data, messages_text as text_of_messages};
 ghost use Rattle.pst_json.specs.RowCounts.{AreCountsTrue, IsHeld};
 
+use crate::last_index::LastIndex;
 use crate::listings::{Listings, listings_of};
 use crate::nid_lists::put_nid_list;
 use crate::row_counts::{Held, RowCounts};
@@ -102,6 +104,9 @@ fn put_shown(
     Ok(())
 }
 
+// How many properties of a message are looked up, each of which may be a subnode.
+const VALUES: u64 = 6;
+
 // Puts the line of a message behind a text.
 #[tactic(auto, unfolding(pst_value_json::specs::Line::line_of))]
 fn put_summary(
@@ -109,18 +114,23 @@ fn put_summary(
     message: Message,
     listings: &Listings,
     counts: &mut RowCounts,
+    index: &mut LastIndex,
     text: &mut Vec<u8>,
 ) -> Result<(), AllocError>
     requires nid { nid_of (node_of_message message) ≡ top_of (node_of_message message) }
     requires known { AreCountsTrue (table_of_node (node_of_message message)) counts.old }
+    requires index { IsLastIndex (table_of_node (node_of_message message)) index.old }
     ensures known { AreCountsTrue (table_of_node (node_of_message message.entry)) counts.new }
+    ensures index { IsLastIndex (table_of_node (node_of_message message.entry)) index.new }
     ensures put { let t = table_of_node (node_of_message message.entry) in
         let r = message_roots message.entry in
         OnOk result (text.new.items ≡ text.old.items
         ++ line_of (summary_data t r (folders_at listings.now r.top))) }
 {
     let held = counts.held_by(message)?;
-    put_shown(alloc, message, held, listings.of(message.nid()), text)?;
+    index.turn(alloc, message.node(), VALUES)?;
+    let lent = message.indexed(&index.subs);
+    put_shown(alloc, lent, held, listings.of(message.nid()), text)?;
     text.push(b'\n')?;
     Ok(())
 }
@@ -128,8 +138,8 @@ fn put_summary(
 /// The lines of all messages of a store, of the nodes of type 04 in the order of their identifiers: of each an object with how
 /// many attachments and recipients it has, its class, the folders that list it, its identifier, when it was received and sent,
 /// who sent it, its size, and its subject. A message that no folder lists is there, too. Beside the text, memory is taken for
-/// one message at a time; some 100 bytes for each message that folders list, and up to 8 for each folder that lists it; and some
-/// 60 for each list of subnodes, and 40 for each table of more than 2,048 bytes, that messages name.
+/// one message at a time; some 100 bytes for each message that folders list, and up to 8 for each folder that lists it; some 60
+/// for each list of subnodes, and 40 for each table of more than 2,048 bytes, that messages name; and for the index of one list.
 #[tactic(auto, using(crate::proofs::MessageLemmas::lines_are, crate::proofs::MessageLemmas::line_put, crate::proofs::MessageLemmas::line_passed, crate::proofs::MessageLemmas::lines_end))]
 pub fn messages_text(alloc: Global, intact: &Intact) -> Result<Vec<u8>, AllocError>
     ensures { let i = intact.now in
@@ -137,10 +147,18 @@ pub fn messages_text(alloc: Global, intact: &Intact) -> Result<Vec<u8>, AllocErr
 {
     let listings = listings_of(alloc, intact)?;
     let mut counts = RowCounts::new(alloc);
+    let mut index = LastIndex::none();
     let mut text = Vec::new(alloc);
     for message in intact.messages() {
         if is_type(MESSAGE, message.nid()) {
-            put_summary(alloc, message, &listings, &mut counts, &mut text)?;
+            put_summary(
+                alloc,
+                message,
+                &listings,
+                &mut counts,
+                &mut index,
+                &mut text,
+            )?;
         }
     }
     Ok(text)

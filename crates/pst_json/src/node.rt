@@ -8,24 +8,25 @@ ghost use Rattle.pst_ndb.specs.Views.{table_of_node, nid_of, roots_of};
 ghost use Rattle.pst_intact.specs.View.{table_of_intact, nodes_of_intact};
 ghost use Rattle.pst_value_json.specs.Props.{names_told};
 ghost use Rattle.pst_value_json.specs.pst_pc.View.{node_of_pc};
-ghost use Rattle.pst_verify.specs.pst_msg.View.{node_of_attachment, attachment_shown, node_of_message};
+ghost use Rattle.pst_verify.specs.pst_msg.View.{node_of_message};
 ghost use Rattle.pst_json.specs.Found.{node_of_found, place_of_found};
 ghost use Rattle.pst_json.specs.Lists.{list_left};
 ghost use Rattle.pst_json.specs.NamesIndex.{IsNamesIndex};
-ghost use Rattle.pst_json.specs.Node.{recipient_nid, recipients_there, attachment_data, filed_of_message, message_data, node_props_data, place_data, props_told, props_line as line_of_props};
+ghost use Rattle.pst_json.specs.Node.{recipient_nid, recipients_there, filed_of_message, message_data, node_props_data, place_data, props_told, props_line as line_of_props};
 ghost use Rattle.pst_json.specs.Told.{TellsDoc};
 
-use crate::attachment::{AttachmentRows, attachment_parts};
+use crate::attachment::{AttachmentRows, shown_attachment};
 use crate::fault::DocFault;
-use crate::found::{Found, found_in};
+use crate::found::{Found, found_in, index_at};
 use crate::index::index_of;
+use crate::last_index::LastIndex;
 use crate::lists::MessageRows;
 use crate::names::names_in;
 use pst_intact::Intact;
 use pst_value_json::{
     Filed, Line, Made, NameIndex, NameMap, Part, Pc, Sink, Tree, prop_rows, table_rows,
 };
-use pst_verify::{Attachment, Message};
+use pst_verify::Message;
 use serde_json::Value as Doc;
 use std::alloc::{AllocError, Global};
 
@@ -64,6 +65,7 @@ fn shown_lists<'a, S: Sink>(
         names,
         files,
         places,
+        index: LastIndex::none(),
     });
     let filed = filed_of(files);
     let props = MessageRows::Props(prop_rows(&message.pc(), names, filed, places));
@@ -140,7 +142,7 @@ pub(crate) fn indexed_message<'a, S: Sink>(
 
 // The document of a node that is no message.
 #[tactic(auto, unfolding(crate::specs::Node::node_props_data))]
-fn shown_node<'a, S: Sink>(
+pub(crate) fn shown_node<'a, S: Sink>(
     alloc: Global,
     nid: u32,
     pc: &Pc<'a>,
@@ -158,39 +160,6 @@ fn shown_node<'a, S: Sink>(
     S::object(alloc, parts)
 }
 
-// The same, of one that has been lent no index yet.
-pub(crate) fn indexed_node<'a, S: Sink>(
-    alloc: Global,
-    pc: Pc<'a>,
-    names: Option<NameMap<'a>>,
-    places: bool,
-) -> Result<S::Out, AllocError>
-    ensures { let node = node_of_pc pc.entry in let told = names_told names.entry in
-        IfOk result (λ out. S.Shows out
-        (node_props_data told places (table_of_node node) (roots_of node) (nid_of node))) }
-{
-    let index = index_of(alloc, pc.node())?;
-    shown_node::<S>(alloc, pc.node().nid(), &pc.indexed(&index), names, places)
-}
-
-// The document of an attachment.
-pub(crate) fn shown_attachment<S: Sink>(
-    alloc: Global,
-    attachment: Attachment,
-    names: Option<NameMap>,
-    filed: Filed,
-    places: bool,
-) -> Result<S::Out, AllocError>
-    ensures { let t = table_of_node (node_of_attachment attachment.entry) in
-        let shown = attachment_shown attachment.entry in let told = names_told names.entry in
-        IfOk result (λ out. S.Shows out (attachment_data told filed places t shown)) }
-{
-    S::object(
-        alloc,
-        attachment_parts(alloc, attachment, names, filed, places)?,
-    )
-}
-
 // The document of what has one.
 fn shown_found<'a, S: Sink>(
     alloc: Global,
@@ -204,9 +173,10 @@ fn shown_found<'a, S: Sink>(
     match found {
         Found::Message(message) => { indexed_message::<S>(alloc, message, names, false, places) }
         Found::Attachment(attachment) => {
-            shown_attachment::<S>(alloc, attachment, names, Filed::Nothing, places)
+            let mut index = LastIndex::none();
+            shown_attachment::<S>(alloc, attachment, names, Filed::Nothing, places, &mut index)
         }
-        Found::Pc(pc) => indexed_node::<S>(alloc, pc, names, places),
+        Found::Pc(pc) => shown_node::<S>(alloc, pc.node().nid(), &pc, names, places),
     }
 }
 
@@ -230,7 +200,8 @@ pub fn props_doc<'a>(
     ensures { let i = intact.now in
         TellsDoc view result (props_told places (table_of_intact i) (nodes_of_intact i) path.now) }
 {
-    let found = found_in(intact, path)?;
+    let subs = index_at(alloc, intact, path)?;
+    let found = found_in(intact, path, Some(&subs))?;
     Ok(shown_found::<Tree>(alloc, found, names_in(intact, index), places)?)
 }
 
@@ -250,6 +221,7 @@ pub fn props_line<'a>(
         let line = line_of_props places (table_of_intact i) (nodes_of_intact i) path.now in
         TellsDoc (λ t. t.items) result line }
 {
-    let found = found_in(intact, path)?;
+    let subs = index_at(alloc, intact, path)?;
+    let found = found_in(intact, path, Some(&subs))?;
     Ok(shown_found::<Line>(alloc, found, names_in(intact, index), places)?)
 }

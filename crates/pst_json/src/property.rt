@@ -21,7 +21,7 @@ pub fn property_at<'a>(intact: &Intact<'a>, path: &[u32], id: u16) -> Result<Pro
     ensures lent { let i = intact.now in
         IfOk result (IsLentAt (image_of_intact i) (table_of_intact i) (nodes_of_intact i) path.now id) }
 {
-    match found_in(intact, path)?.pc().get(id) {
+    match found_in(intact, path, None)?.pc().get(id) {
         Some(prop) => Ok(prop),
         None => Err(DocFault::NoProperty(id)),
     }

@@ -1,4 +1,4 @@
-//! How many attachments and recipients messages have: what messages share is gone through once.
+//! How many rows tables have, and how many attachments and recipients messages: what nodes share is gone through once.
 
 ghost use Rattle.std.specs.Prelude.{◌≡◌, IfOk, length};
 ghost use Rattle.pst_block.specs.Table.{Table};
@@ -12,6 +12,7 @@ ghost use Rattle.pst_json.specs.Folders.{row_total};
 ghost use Rattle.pst_json.specs.Node.{recipient_nid};
 ghost use Rattle.pst_json.specs.RowCounts.{AreCountsTrue, IsCountOf, IsHeld, IsHeldBy};
 
+use pst_datatree::is_internal;
 use pst_page::PageKind;
 use pst_value_json::{Tc, tc_is_of_keys};
 use pst_verify::Message;
@@ -25,11 +26,12 @@ pub(crate) struct Held {
     pub(crate) recipients: u64,
 }
 
-// The rows of a table whose data has no more bytes are counted again in less time than it takes to remember how many they are.
+// The rows of a table whose data has no more bytes, in one block, are counted again in less time than it takes to remember how many
+// they are.
 const SMALL: u64 = 2048;
 
-/// How many rows the tables of messages have, as far as they were counted. A number is that of each table with the same data, and
-/// what is known of a message is so of each that has the same list of subnodes.
+/// How many rows tables have, as far as they were counted. A number is that of each table with the same data, and what is known of
+/// a message is so of each that has the same list of subnodes.
 #[derive(Drop)]
 pub(crate) struct RowCounts {
     // By the block of a list of subnodes, with bit 0 of its identifier cleared.
@@ -68,16 +70,16 @@ impl RowCounts {
         Ok(())
     }
 
-    // How many rows a table has.
+    /// How many rows a table has; or memory is refused.
     #[tactic(auto, using(crate::proofs::RowCountLemmas::table_known, crate::proofs::RowCountLemmas::is_count))]
-    fn rows_in(&mut self, table: Tc) -> Result<u64, AllocError>
+    pub(crate) fn rows_in(&mut self, table: Tc) -> Result<u64, AllocError>
         requires { AreCountsTrue (table_of_node (node_of_tc table)) self.old }
         ensures known { AreCountsTrue (table_of_node (node_of_tc table.entry)) self.new }
         ensures count { let node = node_of_tc table.entry in
             IfOk result (λ n. n ≡ length (tc_rows (table_of_node node) (roots_of node))) }
     {
         let node = table.node();
-        if node.spans().size() <= SMALL {
+        if !is_internal(node.bid_data()) && node.spans().size() <= SMALL {
             return Ok(table.row_count());
         }
         let block = PageKind::Bbt.key_of(node.bid_data());

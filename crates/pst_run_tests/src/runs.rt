@@ -26,6 +26,7 @@ mod nodes;
 mod one_value;
 mod outlook;
 mod reading;
+mod shared_lists;
 mod values;
 mod whole;
 mod words;

@@ -16,7 +16,7 @@ pub returns-clause-put : goal.returns-clause-put
 unfolding listed_data
 returns-clause-put c =
     let t = table_of_intact c.args.intact.now in
-    let known : IfSome c.properties_of-pc.result (λ p. table_of_node (node_of_pc p) ≡ t) = c.properties_of-pc.ensures.table t c.message.ensures.table in
+    let known : IfSome c.properties_of-pc.result (λ p. table_of_node (node_of_pc p) ≡ t) = c.properties_of-pc.ensures.table t c.in_ok-message.ensures.table in
     let r = option_map (λ p. roots_of (node_of_pc p)) c.properties_of-pc.result in
     let subject : Members = member (codes "subject") (text_there t r SUBJECT) no_members in
     let sender : Members = member (codes "sender") (text_there t r SENDER) subject in
@@ -28,28 +28,28 @@ returns-clause-put c =
     (next_marked (codes "sender") (text_there t r SENDER) subject _ _ _ _ refl c.in_ok-extend_from_slice-3.ensures.items (c.in_ok-put_text_of-2.ensures.put t known)
     (next_marked (codes "nid") (nid_data c.id-2.result) sender _ _ _ _ refl c.in_ok-extend_from_slice-2.ensures.items c.in_ok-put_nid.ensures.put
     (first_marked (codes "class") (text_there t r CLASS) nid _ _ _ refl c.in_ok-extend_from_slice.ensures.items (c.in_ok-put_text_of.ensures.put t known))))) in
-    rw (c.properties_of-pc.ensures.roots, c.message.ensures.roots, c.id.ensures, c.id-2.ensures) at put
+    rw (c.properties_of-pc.ensures.roots, c.in_ok-message.ensures.roots, c.id.ensures, c.id-2.ensures) at put
 
 pub returns-in_err-put_text_of-clause-kept : goal.returns-in_err-put_text_of-clause-kept
 returns-in_err-put_text_of-clause-kept c = kept_so c.from_residual-in_err-put_text_of.result _ _ (kept_through _ _ _ (kept_here _ _ _ c.in_ok-extend_from_slice.ensures.items) c.in_err-put_text_of.ensures.kept)
 
 pub returns-in_err-extend_from_slice-2-clause-kept : goal.returns-in_err-extend_from_slice-2-clause-kept
-returns-in_err-extend_from_slice-2-clause-kept c = kept_so c.from_residual-in_err-extend_from_slice-2.result _ _ (kept_still _ _ _ (kept_more _ _ _ _ (kept_here _ _ _ c.in_ok-extend_from_slice.ensures.items) (c.in_ok-put_text_of.ensures.put (table_of_intact c.args.intact.now) (c.properties_of-pc.ensures.table (table_of_intact c.args.intact.now) c.message.ensures.table))) c.in_err-extend_from_slice-2.ensures.items)
+returns-in_err-extend_from_slice-2-clause-kept c = kept_so c.from_residual-in_err-extend_from_slice-2.result _ _ (kept_still _ _ _ (kept_more _ _ _ _ (kept_here _ _ _ c.in_ok-extend_from_slice.ensures.items) (c.in_ok-put_text_of.ensures.put (table_of_intact c.args.intact.now) (c.properties_of-pc.ensures.table (table_of_intact c.args.intact.now) c.in_ok-message.ensures.table))) c.in_err-extend_from_slice-2.ensures.items)
 
 pub returns-in_err-put_nid-clause-kept : goal.returns-in_err-put_nid-clause-kept
-returns-in_err-put_nid-clause-kept c = kept_so c.from_residual-in_err-put_nid.result _ _ (kept_through _ _ _ (kept_more _ _ _ _ (kept_more _ _ _ _ (kept_here _ _ _ c.in_ok-extend_from_slice.ensures.items) (c.in_ok-put_text_of.ensures.put (table_of_intact c.args.intact.now) (c.properties_of-pc.ensures.table (table_of_intact c.args.intact.now) c.message.ensures.table))) c.in_ok-extend_from_slice-2.ensures.items) c.in_err-put_nid.ensures.kept)
+returns-in_err-put_nid-clause-kept c = kept_so c.from_residual-in_err-put_nid.result _ _ (kept_through _ _ _ (kept_more _ _ _ _ (kept_more _ _ _ _ (kept_here _ _ _ c.in_ok-extend_from_slice.ensures.items) (c.in_ok-put_text_of.ensures.put (table_of_intact c.args.intact.now) (c.properties_of-pc.ensures.table (table_of_intact c.args.intact.now) c.in_ok-message.ensures.table))) c.in_ok-extend_from_slice-2.ensures.items) c.in_err-put_nid.ensures.kept)
 
 pub returns-in_err-extend_from_slice-3-clause-kept : goal.returns-in_err-extend_from_slice-3-clause-kept
-returns-in_err-extend_from_slice-3-clause-kept c = kept_so c.from_residual-in_err-extend_from_slice-3.result _ _ (kept_still _ _ _ (kept_more _ _ _ _ (kept_more _ _ _ _ (kept_more _ _ _ _ (kept_here _ _ _ c.in_ok-extend_from_slice.ensures.items) (c.in_ok-put_text_of.ensures.put (table_of_intact c.args.intact.now) (c.properties_of-pc.ensures.table (table_of_intact c.args.intact.now) c.message.ensures.table))) c.in_ok-extend_from_slice-2.ensures.items) c.in_ok-put_nid.ensures.put) c.in_err-extend_from_slice-3.ensures.items)
+returns-in_err-extend_from_slice-3-clause-kept c = kept_so c.from_residual-in_err-extend_from_slice-3.result _ _ (kept_still _ _ _ (kept_more _ _ _ _ (kept_more _ _ _ _ (kept_more _ _ _ _ (kept_here _ _ _ c.in_ok-extend_from_slice.ensures.items) (c.in_ok-put_text_of.ensures.put (table_of_intact c.args.intact.now) (c.properties_of-pc.ensures.table (table_of_intact c.args.intact.now) c.in_ok-message.ensures.table))) c.in_ok-extend_from_slice-2.ensures.items) c.in_ok-put_nid.ensures.put) c.in_err-extend_from_slice-3.ensures.items)
 
 pub returns-in_err-put_text_of-2-clause-kept : goal.returns-in_err-put_text_of-2-clause-kept
-returns-in_err-put_text_of-2-clause-kept c = kept_so c.from_residual-in_err-put_text_of-2.result _ _ (kept_through _ _ _ (kept_more _ _ _ _ (kept_more _ _ _ _ (kept_more _ _ _ _ (kept_more _ _ _ _ (kept_here _ _ _ c.in_ok-extend_from_slice.ensures.items) (c.in_ok-put_text_of.ensures.put (table_of_intact c.args.intact.now) (c.properties_of-pc.ensures.table (table_of_intact c.args.intact.now) c.message.ensures.table))) c.in_ok-extend_from_slice-2.ensures.items) c.in_ok-put_nid.ensures.put) c.in_ok-extend_from_slice-3.ensures.items) c.in_err-put_text_of-2.ensures.kept)
+returns-in_err-put_text_of-2-clause-kept c = kept_so c.from_residual-in_err-put_text_of-2.result _ _ (kept_through _ _ _ (kept_more _ _ _ _ (kept_more _ _ _ _ (kept_more _ _ _ _ (kept_more _ _ _ _ (kept_here _ _ _ c.in_ok-extend_from_slice.ensures.items) (c.in_ok-put_text_of.ensures.put (table_of_intact c.args.intact.now) (c.properties_of-pc.ensures.table (table_of_intact c.args.intact.now) c.in_ok-message.ensures.table))) c.in_ok-extend_from_slice-2.ensures.items) c.in_ok-put_nid.ensures.put) c.in_ok-extend_from_slice-3.ensures.items) c.in_err-put_text_of-2.ensures.kept)
 
 pub returns-in_err-extend_from_slice-4-clause-kept : goal.returns-in_err-extend_from_slice-4-clause-kept
-returns-in_err-extend_from_slice-4-clause-kept c = kept_so c.from_residual-in_err-extend_from_slice-4.result _ _ (kept_still _ _ _ (kept_more _ _ _ _ (kept_more _ _ _ _ (kept_more _ _ _ _ (kept_more _ _ _ _ (kept_more _ _ _ _ (kept_here _ _ _ c.in_ok-extend_from_slice.ensures.items) (c.in_ok-put_text_of.ensures.put (table_of_intact c.args.intact.now) (c.properties_of-pc.ensures.table (table_of_intact c.args.intact.now) c.message.ensures.table))) c.in_ok-extend_from_slice-2.ensures.items) c.in_ok-put_nid.ensures.put) c.in_ok-extend_from_slice-3.ensures.items) (c.in_ok-put_text_of-2.ensures.put (table_of_intact c.args.intact.now) (c.properties_of-pc.ensures.table (table_of_intact c.args.intact.now) c.message.ensures.table))) c.in_err-extend_from_slice-4.ensures.items)
+returns-in_err-extend_from_slice-4-clause-kept c = kept_so c.from_residual-in_err-extend_from_slice-4.result _ _ (kept_still _ _ _ (kept_more _ _ _ _ (kept_more _ _ _ _ (kept_more _ _ _ _ (kept_more _ _ _ _ (kept_more _ _ _ _ (kept_here _ _ _ c.in_ok-extend_from_slice.ensures.items) (c.in_ok-put_text_of.ensures.put (table_of_intact c.args.intact.now) (c.properties_of-pc.ensures.table (table_of_intact c.args.intact.now) c.in_ok-message.ensures.table))) c.in_ok-extend_from_slice-2.ensures.items) c.in_ok-put_nid.ensures.put) c.in_ok-extend_from_slice-3.ensures.items) (c.in_ok-put_text_of-2.ensures.put (table_of_intact c.args.intact.now) (c.properties_of-pc.ensures.table (table_of_intact c.args.intact.now) c.in_ok-message.ensures.table))) c.in_err-extend_from_slice-4.ensures.items)
 
 pub returns-in_err-put_text_of-3-clause-kept : goal.returns-in_err-put_text_of-3-clause-kept
-returns-in_err-put_text_of-3-clause-kept c = kept_so c.from_residual-in_err-put_text_of-3.result _ _ (kept_through _ _ _ (kept_more _ _ _ _ (kept_more _ _ _ _ (kept_more _ _ _ _ (kept_more _ _ _ _ (kept_more _ _ _ _ (kept_more _ _ _ _ (kept_here _ _ _ c.in_ok-extend_from_slice.ensures.items) (c.in_ok-put_text_of.ensures.put (table_of_intact c.args.intact.now) (c.properties_of-pc.ensures.table (table_of_intact c.args.intact.now) c.message.ensures.table))) c.in_ok-extend_from_slice-2.ensures.items) c.in_ok-put_nid.ensures.put) c.in_ok-extend_from_slice-3.ensures.items) (c.in_ok-put_text_of-2.ensures.put (table_of_intact c.args.intact.now) (c.properties_of-pc.ensures.table (table_of_intact c.args.intact.now) c.message.ensures.table))) c.in_ok-extend_from_slice-4.ensures.items) c.in_err-put_text_of-3.ensures.kept)
+returns-in_err-put_text_of-3-clause-kept c = kept_so c.from_residual-in_err-put_text_of-3.result _ _ (kept_through _ _ _ (kept_more _ _ _ _ (kept_more _ _ _ _ (kept_more _ _ _ _ (kept_more _ _ _ _ (kept_more _ _ _ _ (kept_more _ _ _ _ (kept_here _ _ _ c.in_ok-extend_from_slice.ensures.items) (c.in_ok-put_text_of.ensures.put (table_of_intact c.args.intact.now) (c.properties_of-pc.ensures.table (table_of_intact c.args.intact.now) c.in_ok-message.ensures.table))) c.in_ok-extend_from_slice-2.ensures.items) c.in_ok-put_nid.ensures.put) c.in_ok-extend_from_slice-3.ensures.items) (c.in_ok-put_text_of-2.ensures.put (table_of_intact c.args.intact.now) (c.properties_of-pc.ensures.table (table_of_intact c.args.intact.now) c.in_ok-message.ensures.table))) c.in_ok-extend_from_slice-4.ensures.items) c.in_err-put_text_of-3.ensures.kept)
 
 pub returns-in_err-push-clause-kept : goal.returns-in_err-push-clause-kept
-returns-in_err-push-clause-kept c = kept_so c.from_residual-in_err-push.result _ _ (kept_still _ _ _ (kept_more _ _ _ _ (kept_more _ _ _ _ (kept_more _ _ _ _ (kept_more _ _ _ _ (kept_more _ _ _ _ (kept_more _ _ _ _ (kept_more _ _ _ _ (kept_here _ _ _ c.in_ok-extend_from_slice.ensures.items) (c.in_ok-put_text_of.ensures.put (table_of_intact c.args.intact.now) (c.properties_of-pc.ensures.table (table_of_intact c.args.intact.now) c.message.ensures.table))) c.in_ok-extend_from_slice-2.ensures.items) c.in_ok-put_nid.ensures.put) c.in_ok-extend_from_slice-3.ensures.items) (c.in_ok-put_text_of-2.ensures.put (table_of_intact c.args.intact.now) (c.properties_of-pc.ensures.table (table_of_intact c.args.intact.now) c.message.ensures.table))) c.in_ok-extend_from_slice-4.ensures.items) (c.in_ok-put_text_of-3.ensures.put (table_of_intact c.args.intact.now) (c.properties_of-pc.ensures.table (table_of_intact c.args.intact.now) c.message.ensures.table))) c.in_err-push.ensures.items)
+returns-in_err-push-clause-kept c = kept_so c.from_residual-in_err-push.result _ _ (kept_still _ _ _ (kept_more _ _ _ _ (kept_more _ _ _ _ (kept_more _ _ _ _ (kept_more _ _ _ _ (kept_more _ _ _ _ (kept_more _ _ _ _ (kept_more _ _ _ _ (kept_here _ _ _ c.in_ok-extend_from_slice.ensures.items) (c.in_ok-put_text_of.ensures.put (table_of_intact c.args.intact.now) (c.properties_of-pc.ensures.table (table_of_intact c.args.intact.now) c.in_ok-message.ensures.table))) c.in_ok-extend_from_slice-2.ensures.items) c.in_ok-put_nid.ensures.put) c.in_ok-extend_from_slice-3.ensures.items) (c.in_ok-put_text_of-2.ensures.put (table_of_intact c.args.intact.now) (c.properties_of-pc.ensures.table (table_of_intact c.args.intact.now) c.in_ok-message.ensures.table))) c.in_ok-extend_from_slice-4.ensures.items) (c.in_ok-put_text_of-3.ensures.put (table_of_intact c.args.intact.now) (c.properties_of-pc.ensures.table (table_of_intact c.args.intact.now) c.in_ok-message.ensures.table))) c.in_err-push.ensures.items)

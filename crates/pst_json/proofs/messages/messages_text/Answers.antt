@@ -21,5 +21,6 @@ loop-message-preserved-in-Continue-branch-2 c =
     record {
       table = ap table_of_nodes steps.1 ∙ i.table;
       known = rw table at c.put_summary.ensures.known;
+      index = rw table at c.put_summary.ensures.index;
       lines = line_put t nodes (folders_at c.in_ok-listings.listings) r _ _ _ _ _ c.in_ok-listings.ensures kind steps.0 (rw table at c.in_ok-put_summary.ensures.put) i.lines;
     }

@@ -24,7 +24,7 @@ returns-clause-put c =
     let is : old ≡ d ∷ behind =
     ap (map (listed_data told rows.files rows.places t)) steps.0
     ∙ ap (λ n. d ∷ map (listed_data told rows.files rows.places (table_of_node n)) (attachments_left c.next.new.self)) (sym steps.1) in
-    let shown : c.put_object.new.text.items ≡ text ++ row_text d c.args.later =
-    c.in_ok-put_object.ensures.put ∙ ap (λ x. text ++ row_text x c.args.later) (c.in_ok-parts.ensures.shown ∙ ap (λ x. listed_data told rows.files rows.places x a) steps.2) in
+    let shown : c.put_listed.new.text.items ≡ text ++ row_text d c.args.later =
+    c.in_ok-put_listed.ensures.put ∙ ap (λ x. text ++ row_text (listed_data told rows.files rows.places x a) c.args.later) steps.2 in
     let fewer : length old ≡ length (d ∷ behind) = ap length is in
     (omega arith, ap (λ l. l ++ items_text true (items_of behind)) shown ∙ puts_next c.args.later d old behind text is)
