@@ -1,28 +1,29 @@
 -- The hierarchy tables of folders, each gone through once.
-use Rattle.std.proofs.Common.{◌≡◌, ℕ, zero, suc, ◌<◌, Bool, true, false, cond, List, [], ◌∷◌, ◌++◌, length, Option, Some, None, refl, sym, ap, ◌∙◌, arith, BTreeMap, BTreeSet}
+use Rattle.std.proofs.Common.{◌≡◌, ℕ, Bool, true, false, cond, List, [], ◌∷◌, ◌++◌, map, Option, Some, None, refl, sym, ap, ◌∙◌, inl, inr, BTreeMap, BTreeSet}
 use Rattle.std.specs.Prelude.{nat_eq, is_some, option_map}
-use Rattle.std.specs.List.{Contains, filter, slice_index_or, list_any}
+use Rattle.std.specs.List.{Contains, filter}
 use Rattle.std.specs.Option.{option_or}
+use Rattle.std.specs.Ordering.{nat_cmp}
 use Rattle.std.specs.BTreeMap.{is_at}
+use Rattle.std.proofs.lemmas.Map.Lookups.{exact_unsigned}
 use Rattle.std.proofs.lemmas.Map.Views.{tells_apart}
 use Rattle.pst_fault.proofs.EachLemmas.{contains_here, contains_later}
-use Rattle.pst_fault.proofs.GeneralLemmas.{number_of_test, test_of_number}
+use Rattle.pst_fault.proofs.GeneralLemmas.{test_of_number}
 use Rattle.pst_page.specs.declared.entry.NodeEntry.{NodeEntry}
 use Rattle.pst_block.specs.Table.{Table}
 use Rattle.pst_btree.specs.Entries.{first_with}
 use Rattle.pst_ndb.specs.Roots.{Roots}
-use Rattle.pst_tc.specs.Values.{RowParts, tc_rows}
+use Rattle.pst_tc.specs.Values.{RowParts, info_of, tc_records, row_parts_at, tc_rows}
 use Rattle.pst_tc.proofs.AlikeLaws.{rows_alike}
-use Rattle.pst_store.specs.pst_msg.Keys.{pair_cmp}
-use Rattle.pst_store.proofs.pst_msg.KeyOrderLemmas.{pairs_exact}
 use Rattle.pst_store.specs.pst_msg.declared.items.Items.TheVariants.{Subfolders}
 use Rattle.pst_store.specs.pst_msg.Shown.{folder_table}
 use Rattle.pst_store.specs.pst_msg.Values.{is_folder}
 use Rattle.pst_store.specs.Kind.{node_of_kind}
 use Rattle.pst_reach.specs.declared.reached.Reach.{Reach}
-use Rattle.pst_reach.specs.Reach.{is_folder_among, folders_named, subfolders_of}
+use Rattle.pst_reach.specs.Reach.{ids_of, is_folder_among, folders_named, subfolders_of}
 use Rattle.pst_reach.specs.Levels.{Step, step_nid, step_from, steps_named, steps_of, reached_by}
-use Rattle.pst_reach.specs.Search.{found_in, Takes, was_taken, table_key, AreTaken}
+use Rattle.pst_reach.specs.Search.{found_in, is_in, Takes, was_taken, table_key, AreTaken}
+use Rattle.pst_reach.proofs.ListLemmas.{in_none, in_more}
 use Rattle.pst_reach.proofs.SearchLemmas.{step_met, row_met, takes_then, none_taken}
 
 -- ---- which rows a folder has
@@ -56,14 +57,12 @@ takes_same depth steps same m new next after is takes = rw is takes
 
 -- ---- a table that was gone through adds nothing
 
-pub rows_met : (depth parent : ℕ) (nodes : List NodeEntry) (rows : List RowParts) (m : BTreeMap ℕ Reach) (next : BTreeSet ℕ) → ((x : RowParts) → Contains rows x → is_folder_among nodes x.id ≡ true → is_some (found_in m x.id) ≡ true) → Takes depth (steps_named parent (folders_named nodes rows)) m next m next
-rows_met depth parent nodes [] m next met = none_taken depth m next
-rows_met depth parent nodes (x ∷ rows) m next met = by_test (is_folder_among nodes x.id) refl (rows_met depth parent nodes rows m next (λ y w. met y (contains_later x y rows w)))
-  where
-    by_test : (v : Bool) → is_folder_among nodes x.id ≡ v → Takes depth (steps_named parent (folders_named nodes rows)) m next m next → Takes depth (steps_named parent (cond v (x.id ∷ folders_named nodes rows) (folders_named nodes rows))) m next m next
-    by_test true e later =
-        takes_then depth (step_from parent x.id ∷ []) (steps_named parent (folders_named nodes rows)) m m m next next next (step_met depth (step_from parent x.id) m next (met x (contains_here x rows) e)) later
-    by_test false e later = later
+pub rows_met : (depth parent : ℕ) (ids : List ℕ) (m : BTreeMap ℕ Reach) (next : BTreeSet ℕ) → ((nid : ℕ) → Contains ids nid → is_some (found_in m nid) ≡ true) → Takes depth (steps_named parent ids) m next m next
+rows_met depth parent [] m next met = none_taken depth m next
+rows_met depth parent (x ∷ ids) m next met =
+    takes_then depth (step_from parent x ∷ []) (steps_named parent ids) m m m next next next
+    (step_met depth (step_from parent x) m next (met x (contains_here x ids)))
+    (rows_met depth parent ids m next (λ y w. met y (contains_later x y ids w)))
 
 -- ---- the rows of a table, one after another
 
@@ -99,30 +98,20 @@ row_new nodes m new next after row is takes = rw is takes
 
 -- ---- what the rows of a table name is found behind it
 
-named_first : (parent : ℕ) (nodes : List NodeEntry) (rows : List RowParts) (rest : List Step) (x : RowParts) → Contains rows x → is_folder_among nodes x.id ≡ true → is_some (first_with step_nid x.id (steps_named parent (folders_named nodes rows) ++ rest)) ≡ true
+pub named_first : (parent : ℕ) (ids : List ℕ) (rest : List Step) (nid : ℕ) → Contains ids nid → is_some (first_with step_nid nid (steps_named parent ids ++ rest)) ≡ true
 unfolding first_with
-named_first parent nodes [] rest x w there = absurd (omega (arith, w.1))
-named_first parent nodes (y ∷ rows) rest x w there = by_kind (is_folder_among nodes y.id) refl (nat_eq y.id x.id) refl (λ v. named_first parent nodes rows rest x v there)
+named_first parent [] rest nid w = absurd (in_none nid w)
+named_first parent (id ∷ ids) rest nid w = elim (in_more id ids nid w) [
+  | inl e ↦ here (test_of_number id nid e)
+  | inr later ↦ behind (nat_eq id nid) (named_first parent ids rest nid later)
+]
   where
-    others : (k : ℕ) → k < length (y ∷ rows) → slice_index_or (y ∷ rows) k x ≡ x → nat_eq y.id x.id ≡ false → Contains rows x
-    others zero lt is e =
-        let same : nat_eq y.id x.id ≡ true = test_of_number y.id x.id (ap (λ (z : RowParts). z.id) is) in
-        let bad : true ≡ false = (rw same at e) in cc
-    others (suc k) lt is e = (k, omega arith, is)
+    here : nat_eq id nid ≡ true → is_some (first_with step_nid nid (steps_named parent (id ∷ ids) ++ rest)) ≡ true
+    here e = rw e refl
 
-    later : Type 0
-    later = Contains rows x → is_some (first_with step_nid x.id (steps_named parent (folders_named nodes rows) ++ rest)) ≡ true
-
-    by_test : (v : Bool) → nat_eq y.id x.id ≡ v → later → is_some (cond v (Some (step_from parent y.id)) (first_with step_nid x.id (steps_named parent (folders_named nodes rows) ++ rest))) ≡ true
-    by_test true e more = refl
-    by_test false e more = more (others w.0 w.1 w.2 e)
-
-    by_kind : (k : Bool) → is_folder_among nodes y.id ≡ k → (v : Bool) → nat_eq y.id x.id ≡ v → later → is_some (first_with step_nid x.id (steps_named parent (cond k (y.id ∷ folders_named nodes rows) (folders_named nodes rows)) ++ rest)) ≡ true
-    by_kind true f v e more = by_test (nat_eq y.id x.id) refl more
-    by_kind false f false e more = more (others w.0 w.1 w.2 e)
-    by_kind false f true e more =
-        let same : y.id ≡ x.id = number_of_test y.id x.id e in
-        let bad : true ≡ false = sym there ∙ ap (is_folder_among nodes) (sym same) ∙ f in cc
+    behind : (v : Bool) → is_some (first_with step_nid nid (steps_named parent ids ++ rest)) ≡ true → is_some (cond v (Some (step_from parent id)) (first_with step_nid nid (steps_named parent ids ++ rest))) ≡ true
+    behind true e = refl
+    behind false e = e
 
 or_none : (o : Option Reach) → option_or o None ≡ o
 or_none None = refl
@@ -133,39 +122,59 @@ some_or depth (Some x) p there = refl
 some_or depth None (Some s) there = refl
 some_or depth None None there = cc
 
-pub rows_found : (depth parent : ℕ) (nodes : List NodeEntry) (rows : List RowParts) (m new : BTreeMap ℕ Reach) (next after : BTreeSet ℕ) → Takes depth (steps_named parent (folders_named nodes rows)) m next new after → (x : RowParts) → Contains rows x → is_folder_among nodes x.id ≡ true → is_some (found_in new x.id) ≡ true
+pub rows_found : (depth parent : ℕ) (ids : List ℕ) (m new : BTreeMap ℕ Reach) (next after : BTreeSet ℕ) → Takes depth (steps_named parent ids) m next new after → (nid : ℕ) → Contains ids nid → is_some (found_in new nid) ≡ true
 unfolding first_with
-rows_found depth parent nodes rows m new next after takes x w there =
-    ap is_some (sym (or_none (found_in new x.id)) ∙ takes.found [] x.id)
-    ∙ some_or depth (found_in m x.id) (first_with step_nid x.id (steps_named parent (folders_named nodes rows) ++ [])) (named_first parent nodes rows [] x w there)
+rows_found depth parent ids m new next after takes nid w =
+    ap is_some (sym (or_none (found_in new nid)) ∙ takes.found [] nid)
+    ∙ some_or depth (found_in m nid) (first_with step_nid nid (steps_named parent ids ++ [])) (named_first parent ids [] nid w)
+
+-- ---- the list of a table's subnodes says nothing of what its rows name
+
+with_list : Roots → ℕ → Roots
+with_list r list = record { top = r.top; bid_data = r.bid_data; bid_sub = list }
+
+-- a row names what its record does, wherever it lies
+ids_same : {X : Type 0} (f g : X → RowParts) → ((x : X) → (f x).id ≡ (g x).id) → (xs : List X) → ids_of (map f xs) ≡ ids_of (map g xs)
+ids_same f g same [] = refl
+ids_same f g same (x ∷ rest) = rw (same x, ids_same f g same rest) refl
+
+records_same : (t : Table) (r : Roots) (list : ℕ) → tc_records t r (info_of t r) ≡ tc_records t (with_list r list) (info_of t (with_list r list))
+unfolding tc_records info_of with_list
+records_same t r list = refl
+
+list_unasked : (t : Table) (r : Roots) (list : ℕ) → ids_of (tc_rows t r) ≡ ids_of (tc_rows t (with_list r list))
+unfolding tc_rows
+list_unasked t r list =
+    ids_same (row_parts_at t r) (row_parts_at t (with_list r list)) (λ x. refl) (tc_records t r (info_of t r))
+    ∙ ap ids_of (ap (map (row_parts_at t (with_list r list))) (records_same t r list))
+
+-- so tables with the same data name the same folders
+named_by_data : (t : Table) (nodes : List NodeEntry) (r s : Roots) → table_key r ≡ table_key s → folders_named nodes (tc_rows t r) ≡ folders_named nodes (tc_rows t s)
+unfolding with_list
+named_by_data t nodes r s e = ap (filter (is_folder_among nodes)) (list_unasked t r s.bid_sub ∙ ap ids_of (rows_alike t (with_list r s.bid_sub) s (e, refl)))
 
 -- ---- one more table was gone through
 
-pub table_taken : (t : Table) (nodes : List NodeEntry) (r : Roots) (tables more : BTreeSet (ℕ × ℕ)) (m new : BTreeMap ℕ Reach) →
-    ((q : ℕ × ℕ) → list_any (is_at (pair_cmp q)) more.keys ≡ cond (is_at (pair_cmp (table_key r)) q) true (list_any (is_at (pair_cmp q)) tables.keys)) →
+pub table_taken : (t : Table) (nodes : List NodeEntry) (r : Roots) (tables more : BTreeSet ℕ) (m new : BTreeMap ℕ Reach) →
+    ((q : ℕ) → is_in more q ≡ cond (is_at (nat_cmp (table_key r)) q) true (is_in tables q)) →
     ((nid : ℕ) → is_some (found_in m nid) ≡ true → is_some (found_in new nid) ≡ true) →
-    ((x : RowParts) → Contains (tc_rows t r) x → is_folder_among nodes x.id ≡ true → is_some (found_in new x.id) ≡ true) →
+    ((nid : ℕ) → Contains (folders_named nodes (tc_rows t r)) nid → is_some (found_in new nid) ≡ true) →
     AreTaken t nodes tables m → AreTaken t nodes more new
-table_taken t nodes r tables more m new adds keeps rows are s was x w there = by_test (is_at (pair_cmp (table_key r)) (table_key s)) refl (was_more (table_key s) was)
+table_taken t nodes r tables more m new adds keeps named are s was nid w = by_test (is_at (nat_cmp (table_key r)) (table_key s)) refl (sym (adds (table_key s)) ∙ was)
   where
-    was_more : (q : ℕ × ℕ) → list_any (is_at (pair_cmp q)) more.keys ≡ true → cond (is_at (pair_cmp (table_key r)) q) true (list_any (is_at (pair_cmp q)) tables.keys) ≡ true
-    was_more q is = sym (adds q) ∙ is
-
-    by_test : (v : Bool) → is_at (pair_cmp (table_key r)) (table_key s) ≡ v → cond v true (was_taken tables s) ≡ true → is_some (found_in new x.id) ≡ true
-    by_test false e before = keeps x.id (are s before x w there)
-    by_test true e before =
-        let same : table_key r ≡ table_key s = tells_apart pairs_exact (table_key r) (table_key s) e in
-        rows x (rw (rows_alike t r s (ap (λ (k : ℕ × ℕ). k.0) same, ap (λ (k : ℕ × ℕ). k.1) same)) w) there
+    by_test : (v : Bool) → is_at (nat_cmp (table_key r)) (table_key s) ≡ v → cond v true (was_taken tables s) ≡ true → is_some (found_in new nid) ≡ true
+    by_test false e before = keeps nid (are s before nid w)
+    by_test true e before = named nid (rw (named_by_data t nodes r s (tells_apart exact_unsigned (table_key r) (table_key s) e)) w)
 
 -- the same, by the key that was looked up
-pub known_table : (depth parent : ℕ) (t : Table) (nodes : List NodeEntry) (s : Roots) (key : ℕ × ℕ) (steps : List Step) (tables : BTreeSet (ℕ × ℕ)) (m : BTreeMap ℕ Reach) (next : BTreeSet ℕ) → key ≡ table_key s → list_any (is_at (pair_cmp key)) tables.keys ≡ true → AreTaken t nodes tables m → steps ≡ steps_named parent (folders_named nodes (tc_rows t s)) → Takes depth steps m next m next
-known_table depth parent t nodes s key steps tables m next is was are same = rw same (rows_met depth parent nodes (tc_rows t s) m next (are s (rw is at was)))
+pub known_table : (depth parent : ℕ) (t : Table) (nodes : List NodeEntry) (s : Roots) (key : ℕ) (steps : List Step) (tables : BTreeSet ℕ) (m : BTreeMap ℕ Reach) (next : BTreeSet ℕ) → key ≡ table_key s → is_in tables key ≡ true → AreTaken t nodes tables m → steps ≡ steps_named parent (folders_named nodes (tc_rows t s)) → Takes depth steps m next m next
+known_table depth parent t nodes s key steps tables m next is was are same = rw same (rows_met depth parent (folders_named nodes (tc_rows t s)) m next (are s (rw is at was)))
 
-pub table_taken_by : (depth parent : ℕ) (t u : Table) (nodes : List NodeEntry) (s : Roots) (key : ℕ × ℕ) (tables more : BTreeSet (ℕ × ℕ)) (m new : BTreeMap ℕ Reach) (next after : BTreeSet ℕ) → u ≡ t → key ≡ table_key s →
-    ((q : ℕ × ℕ) → list_any (is_at (pair_cmp q)) more.keys ≡ cond (is_at (pair_cmp key) q) true (list_any (is_at (pair_cmp q)) tables.keys)) →
+pub table_taken_by : (depth parent : ℕ) (t u : Table) (nodes : List NodeEntry) (s : Roots) (key : ℕ) (tables more : BTreeSet ℕ) (m new : BTreeMap ℕ Reach) (next after : BTreeSet ℕ) → u ≡ t → key ≡ table_key s →
+    ((q : ℕ) → is_in more q ≡ cond (is_at (nat_cmp key) q) true (is_in tables q)) →
     ((nid : ℕ) → is_some (found_in m nid) ≡ true → is_some (found_in new nid) ≡ true) →
     Takes depth (steps_named parent (folders_named nodes (tc_rows u s))) m next new after →
     AreTaken t nodes tables m → AreTaken t nodes more new
 table_taken_by depth parent t u nodes s key tables more m new next after alike is adds keeps takes are =
     let here : Takes depth (steps_named parent (folders_named nodes (tc_rows t s))) m next new after = (rw alike at takes) in
-    table_taken t nodes s tables more m new (rw is at adds) keeps (rows_found depth parent nodes (tc_rows t s) m new next after here) are
+    table_taken t nodes s tables more m new (rw is at adds) keeps (rows_found depth parent (folders_named nodes (tc_rows t s)) m new next after here) are

@@ -46,8 +46,8 @@ pub root_level : (t : Table) (nodes : List NodeEntry) (empty s : BTreeSet ℕ) �
 unfolding level
 root_level t nodes empty s none is = is ∙ rw none refl
 
-pub none_taken_yet : (t : Table) (nodes : List NodeEntry) (tables : BTreeSet (ℕ × ℕ)) (m : BTreeMap ℕ Reach) → tables.keys ≡ [] → AreTaken t nodes tables m
-none_taken_yet t nodes tables m none r was x w there = let bad : false ≡ true = (rw none at was) in cc
+pub none_taken_yet : (t : Table) (nodes : List NodeEntry) (tables : BTreeSet ℕ) (m : BTreeMap ℕ Reach) → tables.keys ≡ [] → AreTaken t nodes tables m
+none_taken_yet t nodes tables m none r was nid w = let bad : false ≡ true = (rw none at was) in cc
 
 -- a count of 64 bits is not capped
 pub capped_small : (n : ℕ) → n < 2 ^ 64 → n ≡ capped n

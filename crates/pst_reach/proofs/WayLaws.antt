@@ -15,6 +15,7 @@ use Rattle.pst_store.specs.pst_msg.declared.nid.TheConstants.{ROOT}
 use Rattle.pst_reach.specs.declared.reached.Reach.{Reach}
 use Rattle.pst_reach.specs.Reach.{folder_ids, subfolders_of, IsWay, IsDepth, MayBeParent, IsParent, IsReach, AreAllReached}
 use Rattle.pst_reach.specs.Levels.{Step, step_nid, step_from, steps_named, steps_from, reached_by, by_rows, root_reach, is_new, found, level, reaches_of}
+use Rattle.pst_reach.proofs.FolderLemmas.{named_first}
 use Rattle.pst_reach.proofs.LevelLemmas.{is_folder_of, AllNamed, named_is_folder}
 use Rattle.pst_reach.proofs.ListLemmas.{in_none, in_more, at_most_or_more, in_filter, of_filter, filter_rises, least_first, in_map, of_map, map_rises, how_many, not_more, one_passes, one_more}
 
@@ -29,21 +30,6 @@ module _ (t : Table) (nodes : List NodeEntry) (named : AllNamed t nodes) (rises 
 
   pub in_ids : (nid : ℕ) → is_folder_of nodes nid ≡ true → Contains (folder_ids nodes) nid
   in_ids nid e = Contains-from_any (tells_apart exact_unsigned) nid (folder_ids nodes) e
-
-  named_first : (parent : ℕ) (ids : List ℕ) (rest : List Step) (nid : ℕ) → Contains ids nid → is_some (first_with step_nid nid (steps_named parent ids ++ rest)) ≡ true
-  unfolding first_with
-  named_first parent [] rest nid w = absurd (in_none nid w)
-  named_first parent (id ∷ ids) rest nid w = elim (in_more id ids nid w) [
-    | inl e ↦ here (test_of_number id nid e)
-    | inr later ↦ behind (nat_eq id nid) (named_first parent ids rest nid later)
-  ]
-    where
-      here : nat_eq id nid ≡ true → is_some (first_with step_nid nid (steps_named parent (id ∷ ids) ++ rest)) ≡ true
-      here e = rw e refl
-
-      behind : (v : Bool) → is_some (first_with step_nid nid (steps_named parent ids ++ rest)) ≡ true → is_some (cond v (Some (step_from parent id)) (first_with step_nid nid (steps_named parent ids ++ rest))) ≡ true
-      behind true e = refl
-      behind false e = e
 
   later_first : (parent : ℕ) (ids : List ℕ) (rest : List Step) (nid : ℕ) → is_some (first_with step_nid nid rest) ≡ true → is_some (first_with step_nid nid (steps_named parent ids ++ rest)) ≡ true
   unfolding first_with

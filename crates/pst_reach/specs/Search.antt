@@ -11,10 +11,9 @@ use Rattle.pst_block.specs.Table.{Table}
 use Rattle.pst_btree.specs.Entries.{first_with}
 use Rattle.pst_ndb.specs.Counts.{capped}
 use Rattle.pst_ndb.specs.Roots.{Roots}
-use Rattle.pst_tc.specs.Values.{RowParts, tc_rows}
-use Rattle.pst_store.specs.pst_msg.Keys.{pair_cmp}
+use Rattle.pst_tc.specs.Values.{tc_rows}
 use Rattle.pst_reach.specs.declared.reached.Reach.{Reach}
-use Rattle.pst_reach.specs.Reach.{is_folder_among}
+use Rattle.pst_reach.specs.Reach.{folders_named}
 use Rattle.pst_reach.specs.Levels.{Step, step_nid, by_rows, found, level, folders_at}
 
 -- what is found of a folder so far
@@ -47,19 +46,18 @@ abbrev pub IsCountedTo : List ℕ → List ℕ → ℕ → ℕ → Type 0
 IsCountedTo left all old now =
     (n : ℕ) × (n + folders_at left ≡ folders_at all) × ((before : ℕ) → old ≡ capped before → now ≡ capped (before + n))
 
--- ---- tables that several folders have, by their blocks
+-- ---- tables that several folders have, by their data, whatever their lists of subnodes
 
-abbrev pub table_key : Roots → ℕ × ℕ
-table_key r = (bid_key r.bid_data, bid_key r.bid_sub)
+abbrev pub table_key : Roots → ℕ
+table_key r = bid_key r.bid_data
 
-abbrev pub was_taken : BTreeSet (ℕ × ℕ) → Roots → Bool
-was_taken tables r = list_any (is_at (pair_cmp (table_key r))) tables.keys
+abbrev pub was_taken : BTreeSet ℕ → Roots → Bool
+was_taken tables r = is_in tables (table_key r)
 
 -- of a table that was gone through, each folder that a row names is found
-abbrev pub AreTaken : Table → List NodeEntry → BTreeSet (ℕ × ℕ) → BTreeMap ℕ Reach → Type 0
+abbrev pub AreTaken : Table → List NodeEntry → BTreeSet ℕ → BTreeMap ℕ Reach → Type 0
 AreTaken t nodes tables m =
-    (r : Roots) → was_taken tables r ≡ true → (x : RowParts) → Contains (tc_rows t r) x → is_folder_among nodes x.id ≡ true
-    → is_some (found_in m x.id) ≡ true
+    (r : Roots) → was_taken tables r ≡ true → (nid : ℕ) → Contains (folders_named nodes (tc_rows t r)) nid → is_some (found_in m nid) ≡ true
 
 -- ---- a depth
 

@@ -19,12 +19,11 @@ use pst_store::{FOLDER, ROOT, Store, is_type};
 use std::alloc::{AllocError, Global};
 use std::collections::{BTreeMap, BTreeSet};
 
-// The key of a table.
-fn key_of(table: Node) -> (u64, u64)
+// The key of a table: its data alone, since its list of subnodes says nothing of what its rows name.
+fn key_of(table: Node) -> u64
     ensures { result ≡ table_key (roots_of table.entry) }
 {
-    let data = PageKind::Bbt.key_of(table.bid_data());
-    (data, PageKind::Bbt.key_of(table.bid_sub()))
+    PageKind::Bbt.key_of(table.bid_data())
 }
 
 // How many folders were walked from by then.
@@ -52,9 +51,9 @@ struct Search<'a> {
     alloc: Global,
     intact: Intact<'a>,
     found: BTreeMap<u32, Reach>,
-    // The tables that were gone through, by the identifiers of their blocks without bit 0. What several folders have is gone
+    // The tables that were gone through, by the identifiers of their data without bit 0. What several folders have is gone
     // through once: it names nothing new, and no lesser parent, where it is met again.
-    tables: BTreeSet<(u64, u64)>,
+    tables: BTreeSet<u64>,
     // How many folders were walked from.
     walked: u64,
 }
@@ -230,8 +229,8 @@ pub fn reach_among(alloc: Global, intact: &Intact) -> Result<Vec<Reach>, AllocEr
 /// count of the folders that were walked from is raised by their number: each is walked from once, and a search folder, which has
 /// no table to walk by, is not. It stays at its greatest value once it is there, and the other counts stay as they are.
 ///
-/// Each hierarchy table is gone through once, also one that several folders have, and a row of it takes about log n steps of n
-/// folders. It answers nothing but that memory is refused, and then no count is raised.
+/// Each hierarchy table is gone through once, also where several folders have its data, and a row of it takes about log n steps of
+/// n folders. It answers nothing but that memory is refused, and then no count is raised.
 #[tactic(auto, using(crate::proofs::RootLemmas::reaches_rise, crate::proofs::LoopLemmas::capped_small))]
 pub fn reach(alloc: Global, ndb: &Ndb, work: &mut Work) -> Result<Vec<Reach>, AllocError>
     requires { messaging_fault (table_of_ndb ndb.now) (nodes_of ndb.now) ≡ None }
