@@ -2,7 +2,6 @@ pub mod DamageLaws
 pub mod FaultsLemmas
 pub mod JudgedLemmas
 pub mod ListingsLemmas
-pub mod MessageLemmas
 pub mod NodeLaws
 pub mod OrderLemmas
 pub mod PagesLemmas

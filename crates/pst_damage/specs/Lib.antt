@@ -1,8 +1,6 @@
 pub mod Apart
 pub mod BrokenPages
-pub mod Contexts
 pub mod Damage
-pub mod Faults
 pub mod Folder
 pub mod Judged
 pub mod Known

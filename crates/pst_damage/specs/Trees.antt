@@ -5,8 +5,8 @@ use Rattle.pst_block.specs.Table.{Table}
 use Rattle.pst_datatree.specs.Data.{data_fault}
 use Rattle.pst_subnode.specs.Faults.{AreSubFaultsTrue}
 use Rattle.pst_subnode.specs.Known.{AreBothTrue}
+use Rattle.pst_msg.specs.Faults.{Parts, AreFaultsOf}
 use Rattle.pst_damage.specs.declared.trees.Known.{Known}
-use Rattle.pst_damage.specs.Faults.{Parts, AreFaultsOf}
 
 -- the data of a node
 abbrev pub data_part : Table → Parts

@@ -15,13 +15,12 @@ ghost use Rattle.pst_damage.specs.Known.{IsKnownOf};
 ghost use Rattle.pst_damage.specs.Left.{left_table, left_nodes, left_pages};
 ghost use Rattle.pst_damage.specs.Listings.{AreListingsTrue, items_number};
 
-use crate::faults::Part;
 use crate::known::Known;
 use crate::left::{Left, node_of};
 use crate::listings::{Listings, number_of};
 use pst_btree::NodeEntry;
 use pst_fault::{Fault, Kind};
-use pst_msg::{Items, Tc, listing_nid, may_list, named};
+use pst_msg::{Items, Part, Tc, listing_nid, may_list, named};
 use pst_ndb::Node;
 use pst_tc::{Row, known_tc};
 

@@ -1,15 +1,14 @@
 //! What is known of the parts of messaging that were looked at.
 
-use crate::contexts::Contexts;
-use crate::faults::Faults;
 use crate::listings::Listings;
+use pst_msg::{Checker, Faults};
 use std::alloc::Global;
 
 /// What was found without fault, and is passed over where it is met again; and the faults of what was broken.
 #[derive(Drop)]
 pub(crate) struct Known {
     /// The contexts and messages.
-    pub(crate) contexts: Contexts,
+    pub(crate) contexts: Checker,
     /// The rows of long tables of folders.
     pub(crate) listings: Listings,
     /// The faults of the rows of tables of folders.
@@ -29,7 +28,7 @@ impl Known {
             IsKnownOf t nodes broken result }
     {
         Known {
-            contexts: Contexts::new(alloc),
+            contexts: Checker::new(alloc),
             listings: Listings::new(alloc),
             rows: Faults::new(alloc),
         }

@@ -12,10 +12,10 @@ ghost use Rattle.pst_damage.specs.Judged.{told_by};
 ghost use Rattle.pst_damage.specs.Trees.{AreTreesKnown};
 
 use crate::broken::{BrokenNode, found, push_told};
-use crate::faults::Faults;
 use pst_block::Blocks;
 use pst_datatree::{Seen, check_data};
 use pst_fault::Fault;
+use pst_msg::Faults;
 use pst_page::NodeEntry;
 use pst_subnode::{Heights, SubFaults, check_sub_with};
 use std::alloc::Global;

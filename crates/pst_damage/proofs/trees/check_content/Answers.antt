@@ -2,8 +2,9 @@ use Rattle.std.proofs.Common.{inr, sym, ap, ◌∙◌, Some, rules}
 use Rattle.pst_fault.specs.Fault.{at_node}
 use Rattle.pst_block.specs.Blocks.{table_of}
 use Rattle.pst_msg.specs.Keys.{Key}
+use Rattle.pst_msg.proofs.FaultsLemmas.{told_kept}
 use Rattle.pst_damage.specs.Trees.{data_part}
-use Rattle.pst_damage.proofs.FaultsLemmas.{told_kept, data_keep}
+use Rattle.pst_damage.proofs.FaultsLemmas.{data_keep}
 use Rattle.pst_damage.proofs.trees.check_content.Goals as goal
 
 pub returns-in-Some-clause-exact : goal.returns-in-Some-clause-exact
