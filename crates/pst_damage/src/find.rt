@@ -55,8 +55,10 @@ pub fn damage_beside(alloc: Global, remains: Remains) -> Result<Damage, Fault>
 /// blocks of its data and of its subnodes: of the data tree of a node and of each list and data of a subnode below it, of a context in
 /// each role, of the rows of a folder's table by its data alone, and of what a message holds by its list of subnodes alone, where it
 /// is that of a context; so each is gone through once, however many nodes lead to it. An XBLOCK is gone through, up to the fault, for
-/// each node that leads to it by blocks of its own, and so is a message that names what is missing, or of another type. Of a node nothing is kept in memory beside what `find_remains` keeps, and at most 80 bytes where it is broken;
-/// and some 100 of each fault that is remembered.
+/// each node that leads to it by blocks of its own, and so is a message that names what is missing, or of another type. Of a node
+/// nothing is kept in memory beside what `find_remains` keeps, and at most 80 bytes where it is broken; and some 100 of each fault
+/// that is remembered.
+///
 /// NoMemory where memory is refused.
 #[tactic(auto, unfolding(crate::specs::Damage::damage_of))]
 pub fn find_damage(alloc: Global, image: Image) -> Result<Damage, Fault>
