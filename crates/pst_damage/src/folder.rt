@@ -19,6 +19,7 @@ use crate::known::Known;
 use crate::left::{Left, node_of};
 use crate::listings::{Listings, number_of};
 use pst_btree::NodeEntry;
+use pst_datatree::is_internal;
 use pst_fault::{Fault, Kind};
 use pst_msg::{Items, Part, Tc, listing_nid, may_list, named};
 use pst_ndb::Node;
@@ -58,8 +59,8 @@ fn check_each(left: &Left, items: Items, bid: u64, table: Tc) -> Result<(), Faul
     Ok(())
 }
 
-// A table of at most so many rows whose data has at most so many bytes is looked at wherever it is named; only a longer one is
-// remembered. (Of few rows may be many leaves, which have none.)
+// A table of at most so many rows whose data has at most so many bytes, in one block, is looked at wherever it is named; only a
+// longer one is remembered. (Of few rows may be many leaves, which have none.)
 const FEW: u64 = 16;
 
 const SMALL: u64 = 2048;
@@ -82,7 +83,7 @@ fn check_rows(left: &Left, items: Items, table: Node, listings: &mut Listings) -
     }
     let rows = known_tc(table);
     check_each(left, items, table.bid_data(), rows)?;
-    if table.spans().size() > SMALL || rows.row_count() > FEW {
+    if is_internal(table.bid_data()) || table.spans().size() > SMALL || rows.row_count() > FEW {
         listings.put(items, table)?;
     }
     Ok(())
