@@ -1,9 +1,8 @@
 //! Heads of files in tar archives, against another program's.
 
+use crate::stores::digest_of;
 use crate::told::{is, is_at};
 use pst_tar::{Entry, end, head, padding};
-use sha2::{Digest, Sha256};
-use std::alloc::Global;
 use std::process::Abort;
 use std::test::Fail;
 
@@ -177,15 +176,10 @@ const LONG: [(u64, usize, u64, u64, &str); 17] = [
     ),
 ];
 
-// The SHA-256 of what stands before the bytes of a file, in hexadecimal.
-fn digest_of(alloc: Global, entry: Entry<'_>) -> Result<String, Fail> {
-    let head = head(alloc, entry)?;
-    let digest: [u8; 32] = Sha256::digest(head.as_slice());
-    Ok(hex::encode(alloc, digest.as_slice())?)
-}
-
+// Compares the SHA-256 of what stands before the bytes of a file.
 fn is_headed<R: Abort + AllocGlobal>(rt: &R, entry: Entry<'_>, want: &str) -> Result<(), Fail> {
-    let told = digest_of(rt.alloc(), entry)?;
+    let head = head(rt.alloc(), entry)?;
+    let told = digest_of(rt.alloc(), head.as_slice())?;
     is_at(rt, (entry.number, entry.size), told.as_str(), want);
     Ok(())
 }

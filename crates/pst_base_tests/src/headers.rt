@@ -1,27 +1,14 @@
 //! Headers: the small store's, with bytes changed.
 
+use crate::stores::changed;
 use crate::told::{holds, is, is_at};
 use pst_bytes::Image;
 use pst_fault::{Fault, Kind, Place};
 use pst_header::*;
-use pst_make::{Change, change_all, m0};
+use pst_make::{Change, m0};
 use std::alloc::Global;
 use std::process::Abort;
 use std::test::Fail;
-
-// The small store, cut to this length, or with zeros behind it.
-fn small_store(alloc: Global, len: usize) -> Result<Vec<u8>, Fail> {
-    let mut image = m0(alloc)?;
-    image.resize(len, 0)?;
-    Ok(image)
-}
-
-// One of this length, changed.
-fn changed(alloc: Global, len: usize, changes: &[Change]) -> Result<Vec<u8>, Fail> {
-    let mut image = small_store(alloc, len)?;
-    change_all(&mut image, changes)?;
-    Ok(image)
-}
 
 fn refused(kind: Kind, at: u64) -> Fault {
     let place = Place { at, bid: 0, nid: 0 };
@@ -84,12 +71,12 @@ fn the_mapped_part_ends(rt: HostRuntime) {
     }
 }
 
-// How long a store is, what is changed in it, and its fault. A row that fails is told by its number, from 0 on.
-type Row = (usize, &'static [Change<'static>], Option<(Kind, u64)>);
+// What is changed in the store, and its fault. A row that fails is told by its number, from 0 on.
+type Row = (&'static [Change<'static>], Option<(Kind, u64)>);
 
 fn is_told<R: Abort + AllocGlobal>(rt: &R, number: usize, row: &Row) -> Result<(), Fail> {
-    let (len, changes, fault) = *row;
-    let image = changed(rt.alloc(), len, changes)?;
+    let (changes, fault) = *row;
+    let image = changed(rt.alloc(), changes)?;
     let wanted = match fault {
         Some((kind, at)) => Some(refused(kind, at)),
         None => None,
@@ -108,67 +95,54 @@ fn are_told<R: Abort + AllocGlobal>(rt: &R, rows: &[Row]) -> Result<(), Fail> {
 // One field is changed, and the check values are made right again.
 const SEALED: [Row; 13] = [
     (
-        271_360,
         &[Change::Set(0, &[0]), Change::Header],
         Some((Kind::Magic, 0)),
     ),
     (
-        271_360,
         &[Change::Set(8, &[0]), Change::Header],
         Some((Kind::Magic, 8)),
     ),
     (
-        271_360,
         &[Change::Set(10, &[15]), Change::Header],
         Some((Kind::Version(15), 10)),
     ),
     (
-        271_360,
         &[Change::Set(10, &[36, 1]), Change::Header],
         Some((Kind::Version(292), 10)),
     ),
     (
-        271_360,
         &[Change::Set(513, &[1]), Change::Header],
         Some((Kind::Encoded(1), 513)),
     ),
     (
-        271_360,
         &[Change::Set(184, &[0x01]), Change::Header],
         Some((Kind::Root, 184)),
     ),
     (
-        271_360,
         &[Change::Set(184, &[0xff, 0x45, 0x00]), Change::Header],
         Some((Kind::Root, 192)),
     ),
     (
-        271_360,
         &[Change::Set(192, &[0x00, 0x40]), Change::Header],
         Some((Kind::Root, 192)),
     ),
     (
-        271_360,
         &[Change::Set(192, &[0x00, 0x46]), Change::Header],
         Some((Kind::Root, 192)),
     ),
     (
-        271_360,
         &[Change::Set(192, &[0x00, 0x24, 0x04]), Change::Header],
         Some((Kind::Root, 192)),
     ),
     (
-        271_360,
         &[Change::Set(192, &[0xff; 8]), Change::Header],
         Some((Kind::Root, 192)),
     ),
     (
-        271_360,
         &[Change::Set(248, &[0]), Change::Header],
         Some((Kind::MapsInvalid, 248)),
     ),
     (
-        271_360,
         &[Change::Set(248, &[3]), Change::Header],
         Some((Kind::MapsInvalid, 248)),
     ),
@@ -180,18 +154,10 @@ fn the_first_fault_of_a_sealed_header(rt: HostRuntime) -> Result<(), Fail> {
 }
 
 const FLIPPED: [Row; 4] = [
-    (271_360, &[Change::Flip(300)], Some((Kind::HeaderCheck, 4))),
-    (
-        271_360,
-        &[Change::Flip(520)],
-        Some((Kind::HeaderCheck, 524)),
-    ),
-    (271_360, &[Change::Flip(4)], Some((Kind::HeaderCheck, 4))),
-    (
-        271_360,
-        &[Change::Flip(524)],
-        Some((Kind::HeaderCheck, 524)),
-    ),
+    (&[Change::Flip(300)], Some((Kind::HeaderCheck, 4))),
+    (&[Change::Flip(520)], Some((Kind::HeaderCheck, 524))),
+    (&[Change::Flip(4)], Some((Kind::HeaderCheck, 4))),
+    (&[Change::Flip(524)], Some((Kind::HeaderCheck, 524))),
 ];
 
 #[test]
@@ -207,40 +173,45 @@ fn fields_of(image: &[u8]) -> Option<Header> {
     Some(read_fields(Image::new(image)))
 }
 
-// Whether they fit.
-fn fault_of_fields(image: &[u8]) -> Option<Option<Fault>> {
+// Whether they fit, once the store is changed.
+fn fault_of_fields(alloc: Global, changes: &[Change]) -> Result<Option<Fault>, Fail> {
+    let image = changed(alloc, changes)?;
     if image.len() < 564 {
-        return None;
+        return Err(Fail::from("no header"));
     }
-    Some(check_fields(Image::new(image)).err())
+    Ok(check_fields(Image::new(&image)).err())
 }
+
+// No magic number, and with this no good maps.
+const NO_MAGIC: [Change<'static>; 2] = [Change::Set(0, &[0]), Change::Header];
+
+const NO_MAPS: [Change<'static>; 3] = [
+    Change::Set(0, &[0]),
+    Change::Set(248, &[0]),
+    Change::Header,
+];
 
 #[test]
 fn the_fields_of_a_header_alone(rt: HostRuntime) -> Result<(), Fail> {
-    let changes = [Change::Set(0, &[0]), Change::Header];
-    let image = changed(rt.alloc(), 271_360, &changes)?;
-    let fields = fields_of(&image).expect(&rt, "no header");
-    is(&rt, fields.eof, 271_360);
-    is(&rt, fields.bbt, Bref { bid: 8, ib: 0x4a00 });
-    is(&rt, fault_of_fields(&image), Some(None));
-    holds(&rt, is_amap_place(fields.last_amap));
-    holds(&rt, is_last_amap(fields.last_amap, fields.eof));
-    holds(&rt, !is_last_amap(fields.last_amap, 18_431));
-    let changes = [Change::Set(0, &[0]), Change::Set(248, &[0]), Change::Header];
-    let image = changed(rt.alloc(), 271_360, &changes)?;
-    let fault = Some(refused(Kind::MapsInvalid, 248));
-    is(&rt, fault_of_fields(&image), Some(fault));
+    let image = changed(rt.alloc(), &NO_MAGIC)?;
+    is(&rt, fields_of(&image), Some(SMALL));
+    is(&rt, fault_of_fields(rt.alloc(), &NO_MAGIC)?, None);
+    holds(&rt, is_amap_place(SMALL.last_amap));
+    holds(&rt, is_last_amap(SMALL.last_amap, SMALL.eof));
+    holds(&rt, !is_last_amap(SMALL.last_amap, 18_431));
+    let fault = refused(Kind::MapsInvalid, 248);
+    is(&rt, fault_of_fields(rt.alloc(), &NO_MAPS)?, Some(fault));
     Ok(())
 }
 
 // An earlier rule is told before a later one, and a file's length matters.
 const LENGTHS: [Row; 6] = [
-    (564, &[], Some((Kind::Root, 184))),
-    (271_359, &[], Some((Kind::Root, 184))),
-    (0, &[], Some((Kind::Short, 0))),
-    (1, &[], Some((Kind::Short, 0))),
-    (563, &[], Some((Kind::Short, 0))),
-    (271_424, &[], None),
+    (&[Change::Cut(564)], Some((Kind::Root, 184))),
+    (&[Change::Cut(271_359)], Some((Kind::Root, 184))),
+    (&[Change::Cut(0)], Some((Kind::Short, 0))),
+    (&[Change::Cut(1)], Some((Kind::Short, 0))),
+    (&[Change::Cut(563)], Some((Kind::Short, 0))),
+    (&[Change::Grow(64)], None),
 ];
 
 #[test]
@@ -252,8 +223,8 @@ fn lengths_of_a_file(rt: HostRuntime) -> Result<(), Fail> {
 // at 1,795,072, there is none; the ninth is at 2,049,024.
 const BEHIND: [Row; 6] = [
     (
-        2_050_048,
         &[
+            Change::Grow(1_778_688),
             Change::Set(184, &[0xff, 0x65, 0x1b]),
             Change::Set(192, &[0x00, 0x64, 0x1b]),
             Change::Header,
@@ -261,8 +232,8 @@ const BEHIND: [Row; 6] = [
         Some((Kind::Root, 192)),
     ),
     (
-        2_050_048,
         &[
+            Change::Grow(1_778_688),
             Change::Set(184, &[0x00, 0x66, 0x1b]),
             Change::Set(192, &[0x00, 0x64, 0x1b]),
             Change::Header,
@@ -270,8 +241,8 @@ const BEHIND: [Row; 6] = [
         None,
     ),
     (
-        2_050_048,
         &[
+            Change::Grow(1_778_688),
             Change::Set(184, &[0xff, 0x45, 0x1f]),
             Change::Set(192, &[0x00, 0x44, 0x1f]),
             Change::Header,
@@ -279,8 +250,8 @@ const BEHIND: [Row; 6] = [
         Some((Kind::Root, 192)),
     ),
     (
-        2_050_048,
         &[
+            Change::Grow(1_778_688),
             Change::Set(184, &[0x00, 0x46, 0x1f]),
             Change::Set(192, &[0x00, 0x44, 0x1f]),
             Change::Header,
@@ -288,8 +259,8 @@ const BEHIND: [Row; 6] = [
         Some((Kind::Root, 192)),
     ),
     (
-        2_050_048,
         &[
+            Change::Grow(1_778_688),
             Change::Set(184, &[0xff, 0x47, 0x1f]),
             Change::Set(192, &[0x00, 0x44, 0x1f]),
             Change::Header,
@@ -297,8 +268,8 @@ const BEHIND: [Row; 6] = [
         Some((Kind::Root, 192)),
     ),
     (
-        2_050_048,
         &[
+            Change::Grow(1_778_688),
             Change::Set(184, &[0x00, 0x48, 0x1f]),
             Change::Set(192, &[0x00, 0x44, 0x1f]),
             Change::Header,

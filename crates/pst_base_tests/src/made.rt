@@ -1,17 +1,11 @@
 //! Test images: those of another program, seals, plans that are refused.
 
+use crate::stores::{changed, digest_of};
 use crate::told::{holds, is, is_at};
 use pst_make::*;
-use sha2::{Digest, Sha256};
 use std::alloc::{AllocError, AllocFailed, Global};
 use std::process::Abort;
 use std::test::Fail;
-
-// The SHA-256 of an image, in hexadecimal. What the tests compare it with comes from another program's images.
-fn digest_of(alloc: Global, image: &[u8]) -> Result<String, Fail> {
-    let digest: [u8; 32] = Sha256::digest(image);
-    Ok(hex::encode(alloc, digest.as_slice())?)
-}
 
 // A plan of n blocks with bodies of so many bytes, block k with the byte k in all of them, and of so many nodes.
 fn even_plan(alloc: Global, blocks: u16, len: usize, nodes: u16) -> Result<Plan, Fail> {
@@ -162,13 +156,6 @@ const UNSEALED: [Change<'static>; 8] = [
     Change::Set(0x4c72, &[0; 6]),
 ];
 
-// The small store, changed.
-fn changed(alloc: Global, changes: &[Change]) -> Result<Vec<u8>, Fail> {
-    let mut image = m0(alloc)?;
-    change_all(&mut image, changes)?;
-    Ok(image)
-}
-
 // Makes all seals of the small store right; false, and nothing is done, where the image is too short.
 fn seal(image: &mut [u8]) -> bool {
     if image.len() < 271_360 {
@@ -257,6 +244,13 @@ fn sevens(alloc: Global, len: usize) -> Result<Vec<u8>, Fail> {
     Ok(vec![in alloc; 7u8; len]?)
 }
 
+// Changes the last two bytes of 563, and adds one.
+fn change_the_end(image: &mut Vec<u8>) -> Result<(), ChangeFault> {
+    set(image, 561, &[1, 2])?;
+    flip(image, 562)?;
+    change_all(image, &[Change::Grow(2), Change::Cut(564)])
+}
+
 #[test]
 fn nothing_past_the_end_is_changed(rt: HostRuntime) -> Result<(), Fail> {
     let mut image = sevens(rt.alloc(), 563)?;
@@ -268,19 +262,8 @@ fn nothing_past_the_end_is_changed(rt: HostRuntime) -> Result<(), Fail> {
         );
     }
     are_all(&rt, &image, 7);
-    Ok(())
-}
-
-// At the end, and behind it where bytes are added.
-#[test]
-fn the_end_is_changed(rt: HostRuntime) -> Result<(), Fail> {
-    let mut image = sevens(rt.alloc(), 563)?;
-    set(&mut image, 561, &[1, 2])?;
-    flip(&mut image, 562)?;
-    is(&rt, image.last().copied(), Some(3));
-    change_all(&mut image, &[Change::Grow(2), Change::Cut(564)])?;
-    is(&rt, image.get(562..), Some([3, 0].as_slice()));
-    is(&rt, image.len(), 564);
+    change_the_end(&mut image)?;
+    is(&rt, image.get(561..), Some([1, 3, 0].as_slice()));
     let refused = refusal(&mut image, Change::Grow(usize::MAX));
     is(&rt, refused, Some(ChangeFault::Memory));
     Ok(())

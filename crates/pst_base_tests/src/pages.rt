@@ -1,12 +1,12 @@
 //! Pages of the small store, with bytes changed.
 
+use crate::stores::changed;
 use crate::told::{is, is_at};
 use pst_bytes::{Image, Span};
 use pst_fault::{Fault, Kind, Place};
 use pst_header::{Bref, read_header};
-use pst_make::{Change, change_all, m0};
+use pst_make::{Change, m0};
 use pst_page::*;
-use std::alloc::Global;
 use std::process::Abort;
 use std::test::Fail;
 
@@ -22,13 +22,6 @@ fn fault_of(kind: Kind, bref: Bref) -> Fault {
         nid: 0,
     };
     Fault { kind, place }
-}
-
-// The small store, changed.
-fn changed(alloc: Global, changes: &[Change]) -> Result<Vec<u8>, Fail> {
-    let mut image = m0(alloc)?;
-    change_all(&mut image, changes)?;
-    Ok(image)
 }
 
 // The page that is read there; None where the header or the page is bad.
