@@ -1,9 +1,8 @@
 //! Heads of files in tar archives, against another program's.
 
+use crate::stores::digest_of;
 use crate::told::{is, is_at};
 use pst_tar::{Entry, end, head, padding};
-use sha2::{Digest, Sha256};
-use std::alloc::Global;
 use std::process::Abort;
 use std::test::Fail;
 
@@ -177,58 +176,72 @@ const LONG: [(u64, usize, u64, u64, &str); 17] = [
     ),
 ];
 
-// The SHA-256 of what stands before the bytes of a file, in hexadecimal.
-fn digest_of(alloc: Global, entry: Entry<'_>) -> Result<String, Fail> {
-    let head = head(alloc, entry)?;
-    let digest: [u8; 32] = Sha256::digest(head.as_slice());
-    Ok(hex::encode(alloc, digest.as_slice())?)
+// Compares the SHA-256 of what stands before the bytes of a file.
+fn is_headed<R: Abort + AllocGlobal>(rt: &R, entry: Entry<'_>, want: &str) -> Result<(), Fail> {
+    let head = head(rt.alloc(), entry)?;
+    let told = digest_of(rt.alloc(), head.as_slice())?;
+    is_at(rt, (entry.number, entry.size), told.as_str(), want);
+    Ok(())
+}
+
+// With a name of so many letters n.
+fn is_long<R: Abort + AllocGlobal>(rt: &R, row: (u64, usize, u64, u64, &str)) -> Result<(), Fail> {
+    let (number, length, size, time, want) = row;
+    let name = vec![in rt.alloc(); b'n'; length]?;
+    let entry = Entry {
+        number,
+        name: &name,
+        size,
+        time,
+    };
+    is_headed(rt, entry, want)
 }
 
 #[test]
 fn headers_are_those_of_gnu_tar(rt: HostRuntime) -> Result<(), Fail> {
-    for (name, size, time, digest) in SHORT {
+    for (name, size, time, want) in &SHORT {
         let entry = Entry {
             number: 0,
             name,
-            size,
-            time,
+            size: *size,
+            time: *time,
         };
-        let told = digest_of(rt.alloc(), entry)?;
-        is_at(&rt, name, told.as_str(), digest);
+        is_headed(&rt, entry, want)?;
     }
     Ok(())
 }
 
 #[test]
 fn what_is_too_long_stands_before_it(rt: HostRuntime) -> Result<(), Fail> {
-    for (number, length, size, time, digest) in LONG {
-        let name = vec![in rt.alloc(); b'n'; length]?;
-        let entry = Entry {
-            number,
-            name: &name,
-            size,
-            time,
-        };
-        let told = digest_of(rt.alloc(), entry)?;
-        is_at(&rt, number, told.as_str(), digest);
+    for row in &LONG {
+        is_long(&rt, *row)?;
     }
     Ok(())
 }
 
+// How long files are, and how many zeros fill their last blocks.
+const FILLED: [(u64, usize); 6] = [
+    (0, 0),
+    (1, 511),
+    (511, 1),
+    (512, 0),
+    (513, 511),
+    (u64::MAX, 1),
+];
+
+fn are_zeros<R: Abort>(rt: &R, bytes: &[u8]) {
+    for byte in bytes {
+        is(rt, *byte, 0);
+    }
+}
+
 #[test]
 fn blocks_are_filled_with_zeros(rt: HostRuntime) {
-    for (size, zeros) in [
-        (0, 0),
-        (1, 511),
-        (511, 1),
-        (512, 0),
-        (513, 511),
-        (u64::MAX, 1),
-    ] {
-        let told = padding(size);
-        is_at(&rt, size, told.len(), zeros);
-        is_at(&rt, size, told.iter().all(|byte| *byte == 0), true);
+    for (size, zeros) in &FILLED {
+        let told = padding(*size);
+        is_at(&rt, *size, told.len(), *zeros);
+        are_zeros(&rt, told);
     }
     is(&rt, end().len(), 1024);
-    is(&rt, end().iter().all(|byte| *byte == 0), true);
+    are_zeros(&rt, end());
 }

@@ -21,6 +21,8 @@ mod pages;
 #[cfg(test)]
 mod space;
 #[cfg(test)]
+mod stores;
+#[cfg(test)]
 mod times;
 #[cfg(test)]
 mod told;

@@ -1,16 +1,11 @@
 //! Test images: those of another program, seals, plans that are refused.
 
+use crate::stores::{changed, digest_of};
 use crate::told::{holds, is, is_at};
 use pst_make::*;
-use sha2::{Digest, Sha256};
 use std::alloc::{AllocError, AllocFailed, Global};
+use std::process::Abort;
 use std::test::Fail;
-
-// The SHA-256 of an image, in hexadecimal. What the tests compare it with comes from another program's images.
-fn digest_of(alloc: Global, image: &[u8]) -> Result<String, Fail> {
-    let digest: [u8; 32] = Sha256::digest(image);
-    Ok(hex::encode(alloc, digest.as_slice())?)
-}
 
 // A plan of n blocks with bodies of so many bytes, block k with the byte k in all of them, and of so many nodes.
 fn even_plan(alloc: Global, blocks: u16, len: usize, nodes: u16) -> Result<Plan, Fail> {
@@ -36,118 +31,152 @@ fn even_plan(alloc: Global, blocks: u16, len: usize, nodes: u16) -> Result<Plan,
     Ok(plan)
 }
 
+// The image of such a plan, or why there is none.
+fn even_image(
+    alloc: Global,
+    blocks: u16,
+    len: usize,
+    nodes: u16,
+) -> Result<Result<Vec<u8>, MakeFault>, Fail> {
+    let plan = even_plan(alloc, blocks, len, nodes)?;
+    Ok(build(alloc, &plan))
+}
+
+// Compares the digest of an image, and its length.
+fn is_image<R: Abort + AllocGlobal>(
+    rt: &R,
+    image: &[u8],
+    len: usize,
+    want: &str,
+) -> Result<(), Fail> {
+    let digest = digest_of(rt.alloc(), image)?;
+    is(rt, (image.len(), digest.as_str()), (len, want));
+    Ok(())
+}
+
+// Compares the digest of the image of an even plan.
+fn is_even<R: Abort + AllocGlobal>(
+    rt: &R,
+    blocks: u16,
+    len: usize,
+    nodes: u16,
+    want: &str,
+) -> Result<(), Fail> {
+    let image = even_image(rt.alloc(), blocks, len, nodes)??;
+    is_image(rt, &image, image.len(), want)
+}
+
 #[test]
 fn fixed_images(rt: HostRuntime) -> Result<(), Fail> {
-    let alloc = rt.alloc();
-    for (image, want) in [
-        (
-            m0(alloc)?,
-            "fad9565623624ccd53baedac897c48ca75dbda38b419cb8b6967b97ea848d681",
-        ),
-        (
-            m1(alloc)?,
-            "97e4432ce148bf8b44e190056902d6036bb123d87899223881ab8b30ab0595af",
-        ),
-        (
-            m2(alloc)?,
-            "21249abfa0fbf1c0a546c5a978e8938491496fb77125ae5afb47596fdaa80c07",
-        ),
-    ] {
-        is(&rt, image.len(), 271_360);
-        is(&rt, digest_of(alloc, &image)?.as_str(), want);
-    }
-    Ok(())
+    let image = m0(rt.alloc())?;
+    is_image(
+        &rt,
+        &image,
+        271_360,
+        "fad9565623624ccd53baedac897c48ca75dbda38b419cb8b6967b97ea848d681",
+    )?;
+    let image = m1(rt.alloc())?;
+    is_image(
+        &rt,
+        &image,
+        271_360,
+        "97e4432ce148bf8b44e190056902d6036bb123d87899223881ab8b30ab0595af",
+    )?;
+    let image = m2(rt.alloc())?;
+    is_image(
+        &rt,
+        &image,
+        271_360,
+        "21249abfa0fbf1c0a546c5a978e8938491496fb77125ae5afb47596fdaa80c07",
+    )
 }
 
 #[test]
 fn empty_plan(rt: HostRuntime) -> Result<(), Fail> {
-    let alloc = rt.alloc();
-    let plan = even_plan(alloc, 0, 0, 0)?;
-    let image = build(alloc, &plan)?;
-    is(
-        &rt,
-        digest_of(alloc, &image)?.as_str(),
-        "09f60880b1730a76c9ad1de34dc2765458f391a36e537727a45eaaf47ac06428",
-    );
-    Ok(())
+    let want = "09f60880b1730a76c9ad1de34dc2765458f391a36e537727a45eaaf47ac06428";
+    is_even(&rt, 0, 0, 0, want)
 }
 
+// A leaf more than one branch names: two levels of branches.
 #[test]
 fn empty_bodies(rt: HostRuntime) -> Result<(), Fail> {
-    let alloc = rt.alloc();
-    // a leaf more than one branch names: two levels of branches
-    let plan = even_plan(alloc, 401, 0, 0)?;
-    let image = build(alloc, &plan)?;
-    is(
-        &rt,
-        digest_of(alloc, &image)?.as_str(),
-        "8704d44a70cadad8af3a694a4874d297f8cba3bc4afb2bd83f8e3de2bc194fdb",
-    );
-    Ok(())
+    let want = "8704d44a70cadad8af3a694a4874d297f8cba3bc4afb2bd83f8e3de2bc194fdb";
+    is_even(&rt, 401, 0, 0, want)
 }
 
+// Eleven regions, with a second page map behind the ninth allocation map.
 #[test]
 fn several_regions(rt: HostRuntime) -> Result<(), Fail> {
-    let alloc = rt.alloc();
-    // eleven regions, with a second page map behind the ninth allocation map
-    let plan = even_plan(alloc, 300, 8176, 300)?;
-    let image = build(alloc, &plan)?;
-    is(&rt, image.len(), 2_810_880);
-    is(
+    let image = even_image(rt.alloc(), 300, 8176, 300)??;
+    is_image(
         &rt,
-        digest_of(alloc, &image)?.as_str(),
+        &image,
+        2_810_880,
         "acf795bb53500db6e0a383e81f16c682dbaf05a5d995f9f21aebcea841c71d88",
-    );
+    )
+}
+
+// Blocks, how long their bodies are, and why there is no image of them.
+const REFUSED: [(u16, usize, Option<MakeFault>); 6] = [
+    (479, 8176, None),
+    (480, 8176, Some(MakeFault::TooLarge)),
+    (520, 8176, Some(MakeFault::TooLarge)),
+    (1, 8176, None),
+    (1, 8177, Some(MakeFault::Body)),
+    (520, 8177, Some(MakeFault::Body)),
+];
+
+fn is_refused<R: Abort + AllocGlobal>(
+    rt: &R,
+    row: (u16, usize, Option<MakeFault>),
+) -> Result<(), Fail> {
+    let (blocks, len, want) = row;
+    let image = even_image(rt.alloc(), blocks, len, 0)?;
+    is_at(rt, (blocks, len), image.err(), want);
     Ok(())
 }
 
 #[test]
 fn refused_plans(rt: HostRuntime) -> Result<(), Fail> {
-    let alloc = rt.alloc();
-    for (blocks, len, want) in [
-        (479, 8176, None),
-        (480, 8176, Some(MakeFault::TooLarge)),
-        (520, 8176, Some(MakeFault::TooLarge)),
-        (1, 8176, None),
-        (1, 8177, Some(MakeFault::Body)),
-        (520, 8177, Some(MakeFault::Body)),
-    ] {
-        let plan = even_plan(alloc, blocks, len, 0)?;
-        is_at(&rt, (blocks, len), build(alloc, &plan).err(), want);
+    for row in &REFUSED {
+        is_refused(&rt, *row)?;
     }
     Ok(())
+}
+
+// What is sealed, set to 0: check values and signatures.
+const UNSEALED: [Change<'static>; 8] = [
+    Change::Set(4, &[0; 4]),
+    Change::Set(524, &[0; 4]),
+    Change::Set(0x4400 + 498, &[0; 6]),
+    Change::Set(0x4600 + 498, &[0; 6]),
+    Change::Set(0x4800 + 498, &[0; 6]),
+    Change::Set(0x4a00 + 498, &[0; 6]),
+    Change::Set(0x4c32, &[0; 6]),
+    Change::Set(0x4c72, &[0; 6]),
+];
+
+// Makes all seals of the small store right; false, and nothing is done, where the image is too short.
+fn seal(image: &mut [u8]) -> bool {
+    if image.len() < 271_360 {
+        return false;
+    }
+    seal_block(image, 0x4c00, 44);
+    seal_block(image, 0x4c40, 38);
+    for at in [0x4400, 0x4600, 0x4800, 0x4a00] {
+        seal_page(image, at);
+    }
+    seal_header(image);
+    true
 }
 
 // The bytes of an image with the seals' fields set to 0 are sealed again: nothing else is to be changed.
 #[test]
 fn sealed_again(rt: HostRuntime) -> Result<(), Fail> {
-    let alloc = rt.alloc();
-    let sealed = m0(alloc)?;
-    let mut image = m0(alloc)?;
-    for (at, len) in [
-        (4, 4),
-        (524, 4),
-        (0x4400 + 498, 6),
-        (0x4600 + 498, 6),
-        (0x4800 + 498, 6),
-        (0x4a00 + 498, 6),
-        (0x4c32, 6),
-        (0x4c72, 6),
-    ] {
-        for i in at..at + len {
-            *image.get_mut(i).expect(&rt, "short") = 0;
-        }
-    }
-    assert_ne!(rt; image.as_slice(), sealed.as_slice());
-    if image.len() < 271_360 {
-        return Err("short".into());
-    }
-    seal_block(&mut image, 0x4c00, 44);
-    seal_block(&mut image, 0x4c40, 38);
-    for at in [0x4400, 0x4600, 0x4800, 0x4a00] {
-        seal_page(&mut image, at);
-    }
-    seal_header(&mut image);
+    let sealed = m0(rt.alloc())?;
+    let mut image = changed(rt.alloc(), &UNSEALED)?;
+    holds(&rt, image.as_slice() != sealed.as_slice());
+    holds(&rt, seal(&mut image));
     is(&rt, image.as_slice(), sealed.as_slice());
     Ok(())
 }
@@ -163,63 +192,79 @@ fn refused_memory(rt: HostRuntime) {
 }
 
 // The check values are set to 0 and made right again, a bit is flipped to and fro, and bytes are added and cut off.
+const UNDONE: [Change<'static>; 11] = [
+    Change::Set(4, &[0; 4]),
+    Change::Set(524, &[0; 4]),
+    Change::Set(0x49f2, &[0; 6]),
+    Change::Set(0x4c32, &[0; 6]),
+    Change::Flip(0x4c00),
+    Change::Flip(0x4c00),
+    Change::Header,
+    Change::Page(0x4800),
+    Change::Block(0x4c00, 44),
+    Change::Grow(64),
+    Change::Cut(271_360),
+];
+
 #[test]
 fn changes_that_undo_each_other(rt: HostRuntime) -> Result<(), Fail> {
-    let mut image = m0(rt.alloc())?;
-    change_all(
-        &mut image,
-        &[
-            Change::Set(4, &[0; 4]),
-            Change::Set(524, &[0; 4]),
-            Change::Set(0x49f2, &[0; 6]),
-            Change::Set(0x4c32, &[0; 6]),
-            Change::Flip(0x4c00),
-            Change::Flip(0x4c00),
-            Change::Header,
-            Change::Page(0x4800),
-            Change::Block(0x4c00, 44),
-            Change::Grow(64),
-            Change::Cut(271_360),
-        ],
-    )?;
-    is(
+    let image = changed(rt.alloc(), &UNDONE)?;
+    is_image(
         &rt,
-        digest_of(rt.alloc(), &image)?.as_str(),
+        &image,
+        271_360,
         "fad9565623624ccd53baedac897c48ca75dbda38b419cb8b6967b97ea848d681",
-    );
-    Ok(())
+    )
+}
+
+// What goes past the end of 563 bytes.
+const PAST: [Change<'static>; 7] = [
+    Change::Set(560, &[1; 4]),
+    Change::Set(usize::MAX, &[1; 2]),
+    Change::Flip(563),
+    Change::Header,
+    Change::Page(52),
+    Change::Page(u64::MAX),
+    Change::Block(500, 1),
+];
+
+// Why an image is not changed.
+fn refusal(image: &mut Vec<u8>, change: Change) -> Option<ChangeFault> {
+    change.apply(image).err()
+}
+
+fn are_all<R: Abort>(rt: &R, bytes: &[u8], wanted: u8) {
+    for byte in bytes {
+        is(rt, *byte, wanted);
+    }
+}
+
+// So many bytes of 7.
+fn sevens(alloc: Global, len: usize) -> Result<Vec<u8>, Fail> {
+    Ok(vec![in alloc; 7u8; len]?)
+}
+
+// Changes the last two bytes of 563, and adds one.
+fn change_the_end(image: &mut Vec<u8>) -> Result<(), ChangeFault> {
+    set(image, 561, &[1, 2])?;
+    flip(image, 562)?;
+    change_all(image, &[Change::Grow(2), Change::Cut(564)])
 }
 
 #[test]
 fn nothing_past_the_end_is_changed(rt: HostRuntime) -> Result<(), Fail> {
-    let mut image = vec![in rt.alloc(); 7u8; 563]?;
-    for change in [
-        Change::Set(560, &[1; 4]),
-        Change::Set(usize::MAX, &[1; 2]),
-        Change::Flip(563),
-        Change::Header,
-        Change::Page(52),
-        Change::Page(u64::MAX),
-        Change::Block(500, 1),
-    ] {
-        is(&rt, change.apply(&mut image), Err(ChangeFault::PastEnd));
+    let mut image = sevens(rt.alloc(), 563)?;
+    for change in &PAST {
+        is(
+            &rt,
+            refusal(&mut image, *change),
+            Some(ChangeFault::PastEnd),
+        );
     }
-    holds(&rt, image.iter().all(|byte| *byte == 7));
-    set(&mut image, 561, &[1, 2])?;
-    flip(&mut image, 562)?;
-    is(&rt, image.last().copied(), Some(3));
-    Change::Grow(2).apply(&mut image)?;
-    Change::Cut(564).apply(&mut image)?;
-    is(
-        &rt,
-        (image.get(562).copied(), image.get(563).copied()),
-        (Some(3), Some(0)),
-    );
-    is(&rt, image.len(), 564);
-    is(
-        &rt,
-        Change::Grow(usize::MAX).apply(&mut image),
-        Err(ChangeFault::Memory),
-    );
+    are_all(&rt, &image, 7);
+    change_the_end(&mut image)?;
+    is(&rt, image.get(561..), Some([1, 3, 0].as_slice()));
+    let refused = refusal(&mut image, Change::Grow(usize::MAX));
+    is(&rt, refused, Some(ChangeFault::Memory));
     Ok(())
 }

@@ -8,6 +8,7 @@ use pst_bytes::Span;
 use pst_fault::{Fault, Kind};
 use pst_header::{Bref, Header};
 use pst_space::*;
+use std::process::Abort;
 use std::test::Fail;
 
 // A header of so many regions of 253,952 bytes ([MS-PST] 2.2.2.7.2).
@@ -80,61 +81,101 @@ fn a_span_is_claimed_once(rt: HostRuntime) -> Result<(), Fail> {
     Ok(())
 }
 
-// Spans that begin and end at each side of the edges of words: just their units are claimed, and one more unit at either
-// end is refused.
+// Units: where a span begins, and how many it has. They begin and end at each side of the edges of words.
+const SPANS: [(u64, u64); 9] = [
+    (64, 64),
+    (65, 63),
+    (100, 28),
+    (100, 29),
+    (127, 2),
+    (128, 128),
+    (100, 300),
+    (127, 130),
+    (3904, 64),
+];
+
+// What claiming so many units from one on answers, and where they begin.
+fn claim_units(
+    claims: &mut Claims,
+    first: u64,
+    count: u64,
+) -> Result<(Result<(), Fault>, u64), Fail> {
+    let at = first.saturating_mul(64).saturating_add(17408);
+    let answer = claim(claims, at, count.saturating_mul(64))?;
+    Ok((answer, at))
+}
+
+fn is_free<R: Abort>(rt: &R, claims: &mut Claims, first: u64, count: u64) -> Result<(), Fail> {
+    let (answer, _) = claim_units(claims, first, count)?;
+    is_at(rt, (first, count), answer, Ok(()));
+    Ok(())
+}
+
+fn is_taken<R: Abort>(rt: &R, claims: &mut Claims, first: u64, count: u64) -> Result<(), Fail> {
+    let (answer, at) = claim_units(claims, first, count)?;
+    is_at(
+        rt,
+        (first, count),
+        answer,
+        Err(Fault::at(Kind::Overlap, at)),
+    );
+    Ok(())
+}
+
+// Behind the map pages just these units are claimed.
+fn are_claimed<R: Abort>(rt: &R, claims: &Claims, first: u64, count: u64) {
+    for unit in 16..3968 {
+        let within = first <= unit && unit - first < count;
+        is_at(rt, (unit, first, count), claims.is_claimed(unit), within);
+    }
+}
+
+// A span is claimed, and one more unit at either end is refused.
+fn is_whole<R: Abort + AllocGlobal>(rt: &R, first: u64, count: u64) -> Result<(), Fail> {
+    let mut claims = Claims::new(rt.alloc(), &header_of(1))?;
+    let last = first.saturating_add(count).saturating_sub(1);
+    let before = first.saturating_sub(48);
+    is_free(rt, &mut claims, first, count)?;
+    are_claimed(rt, &claims, first, count);
+    is_taken(rt, &mut claims, first, 1)?;
+    is_taken(rt, &mut claims, last, 1)?;
+    is_taken(rt, &mut claims, before, 49)?;
+    is_free(rt, &mut claims, before, 48)
+}
+
 #[test]
 fn spans_go_from_word_to_word(rt: HostRuntime) -> Result<(), Fail> {
-    for (first, count) in [
-        (64, 64),
-        (65, 63),
-        (100, 28),
-        (100, 29),
-        (127, 2),
-        (128, 128),
-        (100, 300),
-        (127, 130),
-        (3904, 64),
-    ] {
-        let mut claims = Claims::new(rt.alloc(), &header_of(1))?;
-        let (at, len) = (17408 + 64 * first, 64 * count);
-        is(&rt, claim(&mut claims, at, len)?, Ok(()));
-        for unit in 16..3968 {
-            let within = first <= unit && unit < first + count;
-            is_at(&rt, (unit, first, count), claims.is_claimed(unit), within);
-        }
-        let last = at + len - 64;
-        for other in [at, last] {
-            let overlap = Err(Fault::at(Kind::Overlap, other));
-            is(&rt, claim(&mut claims, other, 64)?, overlap);
-        }
-        let before = at - 64 * 48;
-        let overlap = Err(Fault::at(Kind::Overlap, before));
-        is(&rt, claim(&mut claims, before, 64 * 49)?, overlap);
-        is(&rt, claim(&mut claims, before, 64 * 48)?, Ok(()));
+    for (first, count) in &SPANS {
+        is_whole(&rt, *first, *count)?;
     }
     Ok(())
 }
 
-// A byte of flags has the first unit as its least significant bit.
+// Units, and the byte of the flags of eight from there on: the first unit is its least significant bit.
+const EIGHTS: [(u64, u8); 7] = [
+    (0, 0xff),
+    (8, 0xff),
+    (16, 0x02),
+    (24, 0x00),
+    (56, 0xf0),
+    (64, 0x3f),
+    (3960, 0x00),
+];
+
+fn eight_from(claims: &Claims, unit: u64) -> Option<u8> {
+    if !unit.is_multiple_of(8) || unit > 4000 || claims.units() < unit + 8 {
+        return None;
+    }
+    Some(claims.eight(unit))
+}
+
 #[test]
 fn eight_units_are_a_byte(rt: HostRuntime) -> Result<(), Fail> {
     let mut claims = Claims::new(rt.alloc(), &header_of(1))?;
     is(&rt, claim(&mut claims, 17408 + 64 * 17, 64)?, Ok(()));
     is(&rt, claim(&mut claims, 17408 + 64 * 60, 64 * 10)?, Ok(()));
-    for (unit, byte) in [
-        (0, 0xff),
-        (8, 0xff),
-        (16, 0x02),
-        (24, 0x00),
-        (56, 0xf0),
-        (64, 0x3f),
-        (3960, 0x00),
-    ] {
-        let room = claims.units() >= unit + 8;
-        holds(&rt, room);
-        if room {
-            is_at(&rt, unit, claims.eight(unit), byte);
-        }
+    for (unit, byte) in &EIGHTS {
+        is_at(&rt, *unit, eight_from(&claims, *unit), Some(*byte));
     }
     Ok(())
 }

@@ -1,8 +1,7 @@
 //! Times as text, against another program's.
 
-use crate::told::is_at;
+use crate::told::{holds_at, is_at};
 use pst_time::{time_bytes, time_text};
-use std::alloc::{AllocError, Global};
 use std::process::Abort;
 use std::test::Fail;
 
@@ -151,41 +150,42 @@ const DRAWN: [(u64, &str); 36] = [
     (2_461_068_788_874_004_820, "9399-10-26T05:54:47.4004820Z"),
 ];
 
-// Each time has its text, which is asked for in both ways.
-fn have_their_texts<R: Abort>(
-    rt: &R,
-    alloc: Global,
-    times: &[(u64, &str)],
-) -> Result<(), AllocError> {
+// A time has its text, which is asked for in both ways.
+fn has_text<R: Abort + AllocGlobal>(rt: &R, time: u64, text: &str) -> Result<(), Fail> {
+    let told = time_text(rt.alloc(), time)?;
+    is_at(rt, time, told.as_deref(), Some(text));
+    let Some(bytes) = time_bytes(time) else {
+        return Err(Fail::from("no text"));
+    };
+    is_at(rt, time, bytes.as_slice(), text.as_bytes());
+    Ok(())
+}
+
+fn have_their_texts<R: Abort + AllocGlobal>(rt: &R, times: &[(u64, &str)]) -> Result<(), Fail> {
     for (time, text) in times {
-        let told = time_text(alloc, *time)?;
-        is_at(rt, *time, told.as_deref(), Some(*text));
-        let bytes = time_bytes(*time);
-        is_at(
-            rt,
-            *time,
-            bytes.as_ref().map(|b| b.as_slice()),
-            Some(text.as_bytes()),
-        );
+        has_text(rt, *time, text)?;
     }
     Ok(())
 }
 
 #[test]
 fn times_have_their_texts(rt: HostRuntime) -> Result<(), Fail> {
-    have_their_texts(&rt, rt.alloc(), &TIMES)?;
-    have_their_texts(&rt, rt.alloc(), &MONTHS)?;
-    have_their_texts(&rt, rt.alloc(), &YEARS)?;
-    have_their_texts(&rt, rt.alloc(), &DRAWN)?;
+    have_their_texts(&rt, &TIMES)?;
+    have_their_texts(&rt, &MONTHS)?;
+    have_their_texts(&rt, &YEARS)?;
+    have_their_texts(&rt, &DRAWN)
+}
+
+fn has_none<R: Abort + AllocGlobal>(rt: &R, time: u64) -> Result<(), Fail> {
+    let told = time_text(rt.alloc(), time)?;
+    is_at(rt, time, told.as_deref(), None);
+    holds_at(rt, time, time_bytes(time).is_none());
     Ok(())
 }
 
 #[test]
 fn times_behind_the_year_9999_have_none(rt: HostRuntime) -> Result<(), Fail> {
-    for time in [2_650_467_744_000_000_000, 1 << 63, u64::MAX] {
-        let told = time_text(rt.alloc(), time)?;
-        is_at(&rt, time, told.as_deref(), None);
-        is_at(&rt, time, time_bytes(time), None);
-    }
-    Ok(())
+    has_none(&rt, 2_650_467_744_000_000_000)?;
+    has_none(&rt, 1 << 63)?;
+    has_none(&rt, u64::MAX)
 }

@@ -7,29 +7,27 @@ use std::process::Abort;
 
 /// Stops the test where what is told is not what is wanted.
 pub(crate) fn is<R: Abort, T: PartialEq + Debug + Copy>(rt: &R, told: T, wanted: T) {
-    assert_eq!(rt; told, wanted);
+    if told != wanted {
+        panic!(rt; "told {told:?}, wanted {wanted:?}");
+    }
 }
 
 /// The same of a case, which is named where it differs.
-pub(crate) fn is_at<R: Abort, C: Debug + Copy, T: PartialEq + Debug + Copy>(
+pub(crate) fn is_at<R: Abort, C: PartialEq + Debug + Copy, T: PartialEq + Debug + Copy>(
     rt: &R,
     case: C,
     told: T,
     wanted: T,
 ) {
-    assert_eq!(rt; told, wanted, "{case:?}");
+    is(rt, (case, told), (case, wanted));
 }
 
 /// Stops the test where something does not hold.
-pub(crate) fn holds<R: Abort>(rt: &R, told: bool)
-    ensures { IsTrue told }
-{
-    assert!(rt; told);
+pub(crate) fn holds<R: Abort>(rt: &R, told: bool) {
+    is(rt, told, true);
 }
 
 /// The same of a case, which is named where it does not hold.
-pub(crate) fn holds_at<R: Abort, C: Debug + Copy>(rt: &R, case: C, told: bool)
-    ensures { IsTrue told }
-{
-    assert!(rt; told, "{case:?}");
+pub(crate) fn holds_at<R: Abort, C: PartialEq + Debug + Copy>(rt: &R, case: C, told: bool) {
+    is(rt, (case, told), (case, true));
 }

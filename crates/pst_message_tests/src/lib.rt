@@ -3,6 +3,8 @@
 #![tactic(auto)]
 
 #[cfg(test)]
+mod makers;
+#[cfg(test)]
 mod messages;
 #[cfg(test)]
 mod stores;

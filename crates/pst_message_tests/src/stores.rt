@@ -6,9 +6,11 @@ mod folders;
 mod names;
 mod reached;
 
-use bodies::{EMBEDS, PLAIN, list, table};
+use crate::makers::Body::{Bytes, List, Table};
+use crate::makers::{Entry, add_blocks, add_nodes, node_of};
+use bodies::{EMBEDS, PLAIN};
 use pst_bytes::Image;
-use pst_make::{BlockPlan, NodePlan, Plan, build, m1_plan};
+use pst_make::{Plan, build, m1_plan};
 use pst_msg::check_messaging;
 use pst_ndb::check_ndb;
 use pst_store::*;
@@ -16,55 +18,53 @@ use std::alloc::Global;
 use std::test::Fail;
 
 // The nodes that are added: a search folder, and messages.
-const NODES: [(u32, u64, u64); 4] = [
+const NODES: [Entry; 4] = [
     (0x163, 8, 0),
     (0x20_0024, 16, 34),
     (0x20_0028, 16, 0),
     (0x20_0044, 16, 0),
 ];
 
-fn add_block(plan: &mut Plan, bid: u64, body: Vec<u8>) -> Result<(), Fail> {
-    plan.blocks.push(BlockPlan { bid, body })?;
-    Ok(())
+fn image_of(alloc: Global, plan: &Plan) -> Result<Vec<u8>, Fail> {
+    let Ok(image) = build(alloc, plan) else {
+        return Err(Fail::from("not made"));
+    };
+    Ok(image)
 }
 
-fn node_of(nid: u32, bid_data: u64, bid_sub: u64) -> NodePlan {
-    NodePlan {
-        nid,
-        bid_data,
-        bid_sub,
-        parent: 0,
+// Adds the contents table of the root folder, behind its hierarchy table.
+fn insert_contents(plan: &mut Plan) -> Result<(), Fail> {
+    if plan.nodes.len() < 3 {
+        return Err(Fail::from("too few nodes"));
     }
+    plan.nodes.insert(3, node_of(0x12e, 20, 0))?;
+    Ok(())
 }
 
 // A store with a root folder, a folder below it, a search folder, two messages in the root folder and one that belongs to it. The
 // first message has two recipients and two attachments, the second of which has these properties, and a message below it.
 fn image(alloc: Global, attachment: &[u8]) -> Result<Vec<u8>, Fail> {
+    let blocks = [
+        (16, Bytes(&PLAIN)),
+        (20, Table(&[0x20_0024, 0x20_0044])),
+        (24, Table(&[0x8025, 0x8045])),
+        (28, Bytes(attachment)),
+        (30, List(&[(0x20_0024, 16, 0)])),
+        (
+            34,
+            List(&[
+                (0x671, 24, 0),
+                (0x692, 20, 0),
+                (0x8025, 16, 0),
+                (0x8045, 28, 30),
+            ]),
+        ),
+    ];
     let mut plan = m1_plan(alloc)?;
-    add_block(&mut plan, 16, Vec::from_slice(alloc, &PLAIN)?)?;
-    add_block(&mut plan, 20, table(alloc, [0x20_0024, 0x20_0044])?)?;
-    add_block(&mut plan, 24, table(alloc, [0x8025, 0x8045])?)?;
-    add_block(&mut plan, 28, Vec::from_slice(alloc, attachment)?)?;
-    let below = list(alloc, &[(0x20_0024, 16, 0)])?;
-    add_block(&mut plan, 30, below)?;
-    let held = list(
-        alloc,
-        &[
-            (0x671, 24, 0),
-            (0x692, 20, 0),
-            (0x8025, 16, 0),
-            (0x8045, 28, 30),
-        ],
-    )?;
-    add_block(&mut plan, 34, held)?;
-    if plan.nodes.len() < 3 {
-        return Err(Fail::from("too few nodes"));
-    }
-    plan.nodes.insert(3, node_of(0x12e, 20, 0))?;
-    for (nid, bid_data, bid_sub) in NODES {
-        plan.nodes.push(node_of(nid, bid_data, bid_sub))?;
-    }
-    build(alloc, &plan).map_err(|_| Fail::from("not made"))
+    add_blocks(alloc, &mut plan, &blocks)?;
+    insert_contents(&mut plan)?;
+    add_nodes(&mut plan, &NODES)?;
+    image_of(alloc, &plan)
 }
 
 // The store that a file is.

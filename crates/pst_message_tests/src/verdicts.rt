@@ -2,19 +2,31 @@
 
 mod names;
 
+use crate::makers::add_nodes;
 use crate::told::is;
 use pst_amap::BitOrder;
-use pst_make::{Change, NodePlan, Plan, build, m0, m0_plan, m1, m1_plan, set};
+use pst_fault::Fault;
+use pst_make::Change::{Page, Set};
+use pst_make::{Change, Plan, build, change_all, m0, m0_plan, m1, m1_plan, set};
 use pst_verify::*;
 use std::alloc::Global;
+use std::process::Abort;
 use std::test::Fail;
 
-// What is reported of a file, or the line of its first fault.
-fn line_of(alloc: Global, image: &[u8]) -> Result<String, Fail> {
-    let report = match verify(alloc, image) {
-        Ok(found) => found.report,
-        Err(fault) => return Ok(format!(in alloc; "{fault}")?),
-    };
+fn put_unreached(alloc: Global, line: &mut String, nid: u32) -> Result<(), Fail> {
+    let text = format!(in alloc; ", unreached {nid:x}")?;
+    line.push_str(&text)?;
+    Ok(())
+}
+
+fn put_lost(alloc: Global, line: &mut String, at: u64, len: u64) -> Result<(), Fail> {
+    let text = format!(in alloc; ", lost {at} {len}")?;
+    line.push_str(&text)?;
+    Ok(())
+}
+
+// What is reported of a good file.
+fn line_of_report(alloc: Global, report: &Report) -> Result<String, Fail> {
     let (pages, blocks, nodes) = (report.pages, report.blocks, report.nodes);
     let (folders, messages) = (report.folders, report.messages);
     let order = match report.order {
@@ -27,63 +39,69 @@ fn line_of(alloc: Global, image: &[u8]) -> Result<String, Fail> {
         "yes: {pages} {blocks} {nodes} {folders} {messages} {order}, {expansions} {contexts} {walked}"
     )?;
     for nid in &report.unreached {
-        let text = format!(in alloc; ", unreached {nid:x}")?;
-        line.push_str(&text)?;
+        put_unreached(alloc, &mut line, *nid)?;
     }
     for span in &report.lost {
-        let (at, len) = (span.at, span.len);
-        let text = format!(in alloc; ", lost {at} {len}")?;
-        line.push_str(&text)?;
+        put_lost(alloc, &mut line, span.at, span.len)?;
     }
     Ok(line)
 }
 
-// A body's byte is set, and the file is built.
-fn with_byte(
-    alloc: Global,
-    plan: Plan,
-    block: usize,
-    at: usize,
-    byte: u8,
-) -> Result<Vec<u8>, Fail> {
-    let mut plan = plan;
-    let found = plan.blocks.get_mut(block).ok_or("no block")?;
-    let there = found.body.get_mut(at).ok_or("past the end")?;
-    *there = byte;
-    build(alloc, &plan).map_err(|_| Fail::from("not made"))
+fn line_of_fault(alloc: Global, fault: Fault) -> Result<String, Fail> {
+    Ok(format!(in alloc; "{fault}")?)
 }
 
-// What is reported of the small store with one node more.
-fn with_node(alloc: Global, nid: u32, bid_data: u64) -> Result<String, Fail> {
-    let mut plan = m1_plan(alloc)?;
-    plan.nodes.push(NodePlan {
-        nid,
-        bid_data,
-        bid_sub: 0,
-        parent: 0,
-    })?;
-    let image = build(alloc, &plan).map_err(|_| Fail::from("not made"))?;
-    line_of(alloc, &image)
+// What is reported of a file, or the line of its first fault.
+fn line_of(alloc: Global, image: &[u8]) -> Result<String, Fail> {
+    match verify(alloc, image) {
+        Ok(found) => line_of_report(alloc, &found.report),
+        Err(fault) => line_of_fault(alloc, fault),
+    }
+}
+
+// Whether a file is answered with a line.
+fn is_told<R: Abort + AllocGlobal>(rt: &R, image: &[u8], line: &str) -> Result<(), Fail> {
+    let told = line_of(rt.alloc(), image)?;
+    is(rt, told.as_str(), line);
+    Ok(())
+}
+
+// Whether a plan's file is.
+fn is_answered<R: Abort + AllocGlobal>(rt: &R, plan: &Plan, line: &str) -> Result<(), Fail> {
+    let image = build(rt.alloc(), plan).expect(rt, "not made");
+    is_told(rt, &image, line)
+}
+
+// Changes one of a plan's blocks.
+fn change_block(plan: &mut Plan, block: usize, changes: &[Change]) -> Result<(), Fail> {
+    let Some(found) = plan.blocks.get_mut(block) else {
+        return Err(Fail::from("no block"));
+    };
+    change_all(&mut found.body, changes)?;
+    Ok(())
+}
+
+// Whether the small store with one node more is answered with a line.
+fn with_node<R: Abort + AllocGlobal>(
+    rt: &R,
+    nid: u32,
+    bid_data: u64,
+    line: &str,
+) -> Result<(), Fail> {
+    let mut plan = m1_plan(rt.alloc())?;
+    add_nodes(&mut plan, &[(nid, bid_data, 0)])?;
+    is_answered(rt, &plan, line)
 }
 
 #[test]
 fn stores_are_reported(rt: HostRuntime) -> Result<(), Fail> {
-    let alloc = rt.alloc();
-    let image = m0(alloc)?;
-    let told = line_of(alloc, &image)?;
-    is(&rt, told.as_str(), "yes: 2 2 2 1 0 high, 0 2 1");
-    let image = m1(alloc)?;
-    let told = line_of(alloc, &image)?;
-    is(&rt, told.as_str(), "yes: 2 3 4 2 0 high, 0 3 2");
-    let told = with_node(alloc, 0x162, 8)?;
-    is(
-        &rt,
-        told.as_str(),
-        "yes: 2 3 5 3 0 high, 0 3 2, unreached 162",
-    );
-    let told = with_node(alloc, 0x14d, 12)?;
-    is(&rt, told.as_str(), "yes: 2 3 5 2 0 high, 0 3 2");
-    Ok(())
+    let image = m0(rt.alloc())?;
+    is_told(&rt, &image, "yes: 2 2 2 1 0 high, 0 2 1")?;
+    let image = m1(rt.alloc())?;
+    is_told(&rt, &image, "yes: 2 3 4 2 0 high, 0 3 2")?;
+    let line = "yes: 2 3 5 3 0 high, 0 3 2, unreached 162";
+    with_node(&rt, 0x162, 8, line)?;
+    with_node(&rt, 0x14d, 12, "yes: 2 3 5 2 0 high, 0 3 2")
 }
 
 // The first byte of the allocation map that is set, and what is answered: its units 32 to 39 are those of the two blocks.
@@ -93,68 +111,69 @@ const MAPS: [(u8, &str); 3] = [
     (0x03, "yes: 2 2 2 1 0 low, 0 2 1"),
 ];
 
+fn with_map<R: Abort + AllocGlobal>(rt: &R, byte: u8, line: &str) -> Result<(), Fail> {
+    let mut image = m0(rt.alloc())?;
+    change_all(&mut image, &[Set(0x4404, &[byte]), Page(0x4400)])?;
+    is_told(rt, &image, line)
+}
+
 #[test]
 fn maps_are_compared(rt: HostRuntime) -> Result<(), Fail> {
-    let alloc = rt.alloc();
-    for (byte, line) in MAPS {
-        let mut image = m0(alloc)?;
-        set(&mut image, 0x4404, &[byte])?;
-        Change::Page(0x4400).apply(&mut image)?;
-        let told = line_of(alloc, &image)?;
-        is(&rt, told.as_str(), line);
+    for (byte, line) in &MAPS {
+        with_map(&rt, *byte, line)?;
     }
     Ok(())
 }
 
-// A byte that is set from the front of the file on, in this order, and what is answered once it is.
-const PHASES: [(usize, &str); 5] = [
-    (0x4c00, "no: 14 BlockTrailer at 0x4c00 bid 0x4 nid 0x0"),
-    (0x4800, "no: 9 PageTrailer at 0x4800 bid 0x4 nid 0x0"),
-    (0x4a00, "no: 9 PageTrailer at 0x4a00 bid 0x8 nid 0x0"),
-    (300, "no: 5 HeaderCheck at 0x4 bid 0x0 nid 0x0"),
-    (0, "no: 2 Magic at 0x0 bid 0x0 nid 0x0"),
+// Bytes that are set one after another, from the front of the file on at last, and what is answered once each is: in the map, in a
+// block, in the two trees, in the header.
+const PHASES: [(usize, u8, &str); 6] = [
+    (0x4404, 0xff, "no: 19 MapPage at 0x4400 bid 0x0 nid 0x0"),
+    (
+        0x4c00,
+        0xee,
+        "no: 14 BlockTrailer at 0x4c00 bid 0x4 nid 0x0",
+    ),
+    (0x4800, 0xee, "no: 9 PageTrailer at 0x4800 bid 0x4 nid 0x0"),
+    (0x4a00, 0xee, "no: 9 PageTrailer at 0x4a00 bid 0x8 nid 0x0"),
+    (300, 0xee, "no: 5 HeaderCheck at 0x4 bid 0x0 nid 0x0"),
+    (0, 0xee, "no: 2 Magic at 0x0 bid 0x0 nid 0x0"),
 ];
+
+// The small store with a root folder whose properties are at fault.
+fn at_fault(alloc: Global) -> Result<Vec<u8>, Fail> {
+    let mut plan = m0_plan(alloc)?;
+    change_block(&mut plan, 1, &[Set(16, &[0x60])])?;
+    Ok(build(alloc, &plan)?)
+}
+
+fn is_told_after<R: Abort + AllocGlobal>(
+    rt: &R,
+    image: &mut [u8],
+    phase: &(usize, u8, &str),
+) -> Result<(), Fail> {
+    let (at, byte, line) = *phase;
+    set(image, at, &[byte])?;
+    is_told(rt, image, line)
+}
 
 #[test]
 fn the_first_fault_is_told(rt: HostRuntime) -> Result<(), Fail> {
-    let alloc = rt.alloc();
-    let told = line_of(alloc, &[])?;
-    is(&rt, told.as_str(), "no: 1 Short at 0x0 bid 0x0 nid 0x0");
-    let plan = m0_plan(alloc)?;
-    let mut image = with_byte(alloc, plan, 1, 16, 0x60)?;
-    let told = line_of(alloc, &image)?;
-    is(
-        &rt,
-        told.as_str(),
-        "no: 22 HeapId at 0x4c50 bid 0x8 nid 0x122",
-    );
-    set(&mut image, 0x4404, &[0xff])?;
-    let told = line_of(alloc, &image)?;
-    is(
-        &rt,
-        told.as_str(),
-        "no: 19 MapPage at 0x4400 bid 0x0 nid 0x0",
-    );
-    for (at, line) in PHASES {
-        set(&mut image, at, &[0xee])?;
-        let told = line_of(alloc, &image)?;
-        is(&rt, told.as_str(), line);
+    is_told(&rt, &[], "no: 1 Short at 0x0 bid 0x0 nid 0x0")?;
+    let mut image = at_fault(rt.alloc())?;
+    let line = "no: 22 HeapId at 0x4c50 bid 0x8 nid 0x122";
+    is_told(&rt, &image, line)?;
+    for phase in &PHASES {
+        is_told_after(&rt, &mut image, phase)?;
     }
     Ok(())
 }
 
 #[test]
 fn rows_are_looked_up(rt: HostRuntime) -> Result<(), Fail> {
-    let alloc = rt.alloc();
-    let mut plan = m1_plan(alloc)?;
+    let mut plan = m1_plan(rt.alloc())?;
     let dropped = plan.nodes.pop().expect(&rt, "no node");
     is(&rt, dropped.nid, 0x142);
-    let image = build(alloc, &plan).expect(&rt, "not made");
-    let told = line_of(alloc, &image)?;
-    is(
-        &rt,
-        told.as_str(),
-        "no: 26 NodeMissing at 0x4cba bid 0xc nid 0x142",
-    );
-    Ok(())
+    let line = "no: 26 NodeMissing at 0x4cba bid 0xc nid 0x142";
+    is_answered(&rt, &plan, line)
 }

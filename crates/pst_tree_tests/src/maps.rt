@@ -2,14 +2,15 @@
 
 ghost use Rattle.std.specs.Prelude.{◌≡◌, length};
 
-use crate::told::{holds, holds_at, is, is_at};
+use crate::told::{holds_at, is_at};
 use pst_amap::*;
 use pst_bytes::{Image, Span};
 use pst_fault::{Fault, Kind};
 use pst_header::{Header, read_header};
-use pst_make::{Change, m0, set};
+use pst_make::{Change, change_all, m0};
 use pst_space::Claims;
 use std::alloc::Global;
+use std::process::Abort;
 use std::test::Fail;
 
 fn claim(claims: &mut Claims, at: u64, len: u64) -> Result<(), Fail>
@@ -50,193 +51,274 @@ fn compared(
 // The pages and blocks of the small store.
 const SMALL: [(u64, u64); 4] = [(0x4800, 512), (0x4a00, 512), (0x4c00, 64), (0x4c40, 64)];
 
-// The small store with other bits in the fifth byte of its map.
-fn small_store(alloc: Global, byte: u8) -> Result<Vec<u8>, Fail> {
+// The small store, changed.
+fn changed(alloc: Global, changes: &[Change]) -> Result<Vec<u8>, Fail> {
     let mut image = m0(alloc)?;
-    set(&mut image, 0x4404, &[byte])?;
-    Change::Page(0x4400).apply(&mut image)?;
+    change_all(&mut image, changes)?;
     Ok(image)
+}
+
+// The small store with other bytes in its map, from the fifth on.
+fn small_store(alloc: Global, marks: &[u8]) -> Result<Vec<u8>, Fail> {
+    changed(alloc, &[Change::Set(0x4404, marks), Change::Page(0x4400)])
+}
+
+// The fault, where a comparison ends with one.
+fn fault_of(alloc: Global, image: &[u8], spans: &[(u64, u64)]) -> Result<Option<Fault>, Fail> {
+    let (report, _) = compared(alloc, image, spans, 0)?;
+    Ok(report.err())
+}
+
+// What a comparison reports, in plain values: the order of bits, how many old maps there are, what is lost, and whether a unit is
+// claimed then.
+#[derive(Drop)]
+struct Told {
+    order: BitOrder,
+    old_maps: u64,
+    lost: Vec<Span>,
+    claimed: bool,
+}
+
+fn told_of(alloc: Global, image: &[u8], spans: &[(u64, u64)], unit: u64) -> Result<Told, Fail> {
+    let (report, claimed) = compared(alloc, image, spans, unit)?;
+    match report {
+        Ok(report) => Ok(Told {
+            order: report.order,
+            old_maps: report.old_maps,
+            lost: report.lost,
+            claimed,
+        }),
+        Err(_) => Err(Fail::from("refused")),
+    }
+}
+
+// The fifth byte of the map, the order of bits, and what is lost.
+const MARKED: [(u8, BitOrder, &[Span]); 5] = [
+    (0xc0, BitOrder::High, &[]),
+    (0xe0, BitOrder::High, &[Span { at: 19584, len: 64 }]),
+    (
+        0xf8,
+        BitOrder::High,
+        &[Span {
+            at: 19584,
+            len: 192,
+        }],
+    ),
+    (0x03, BitOrder::Low, &[]),
+    (0x83, BitOrder::Low, &[Span { at: 19904, len: 64 }]),
+];
+
+fn is_marked<R: Abort + AllocGlobal>(
+    rt: &R,
+    byte: u8,
+    order: BitOrder,
+    lost: &[Span],
+) -> Result<(), Fail> {
+    let image = small_store(rt.alloc(), &[byte])?;
+    let told = told_of(rt.alloc(), &image, &SMALL, 33)?;
+    is_at(rt, byte, (told.order, told.old_maps), (order, 0));
+    is_at(rt, byte, told.lost.as_slice(), lost);
+    holds_at(rt, byte, told.claimed);
+    Ok(())
 }
 
 #[test]
 fn what_is_claimed_is_marked(rt: HostRuntime) -> Result<(), Fail> {
-    for (byte, order, lost) in [
-        (0xc0, BitOrder::High, None),
-        (0xe0, BitOrder::High, Some(Span { at: 19584, len: 64 })),
-        (
-            0xf8,
-            BitOrder::High,
-            Some(Span {
-                at: 19584,
-                len: 192,
-            }),
-        ),
-        (0x03, BitOrder::Low, None),
-        (0x83, BitOrder::Low, Some(Span { at: 19904, len: 64 })),
-    ] {
-        let image = small_store(rt.alloc(), byte)?;
-        let (report, claimed) = compared(rt.alloc(), &image, &SMALL, 33)?;
-        let report = report.expect(&rt, "refused");
-        is_at(&rt, byte, report.order, order);
-        is(&rt, report.old_maps, 0);
-        is_at(&rt, byte, report.lost.as_slice(), lost.as_slice());
-        holds(&rt, claimed);
+    for (byte, order, lost) in &MARKED {
+        is_marked(&rt, *byte, *order, lost)?;
     }
     Ok(())
 }
 
 // Neither order fits. The fault is told most significant bit first: with 0x01 that is the first block, though the other
 // order lacks the second alone.
+const MISSING: [(u8, u64); 5] = [
+    (0x80, 0x4c40),
+    (0x00, 0x4c00),
+    (0x40, 0x4c00),
+    (0x02, 0x4c00),
+    (0x01, 0x4c00),
+];
+
+fn is_missing<R: Abort + AllocGlobal>(rt: &R, byte: u8, at: u64) -> Result<(), Fail> {
+    let image = small_store(rt.alloc(), &[byte])?;
+    let fault = fault_of(rt.alloc(), &image, &SMALL)?;
+    is_at(rt, byte, fault, Some(Fault::at(Kind::MapMissing, at)));
+    Ok(())
+}
+
 #[test]
 fn what_is_missing_is_told(rt: HostRuntime) -> Result<(), Fail> {
-    for (byte, at) in [
-        (0x80, 0x4c40),
-        (0x00, 0x4c00),
-        (0x40, 0x4c00),
-        (0x02, 0x4c00),
-        (0x01, 0x4c00),
-    ] {
-        let image = small_store(rt.alloc(), byte)?;
-        let (report, _) = compared(rt.alloc(), &image, &SMALL, 0)?;
-        holds_at(
-            &rt,
-            byte,
-            report.err() == Some(Fault::at(Kind::MapMissing, at)),
-        );
+    for (byte, at) in &MISSING {
+        is_missing(&rt, *byte, *at)?;
     }
     Ok(())
 }
 
-// The blocks take units 32 to 40, so their marks lie in the fifth byte of the map and the first bit of the sixth. A breach
-// is told at its own unit whatever the bytes beside it say, and a run goes on from byte to byte.
+// The blocks take units 32 to 40, so their marks lie in the fifth byte of the map and the first bit of the sixth.
+const BLOCKS: [(u64, u64); 3] = [(0x4800, 512), (0x4a00, 512), (0x4c00, 576)];
+
+// A breach is told at its own unit whatever the bytes beside it say: three bytes of the map, and the unit.
+const BREACHES: [([u8; 3], u64); 3] = [
+    ([0xff, 0x00, 0xff], 0x4e00),
+    ([0xfe, 0x80, 0xff], 0x4dc0),
+    ([0x7f, 0xff, 0xff], 0x4c00),
+];
+
+// And a run that is lost goes on from byte to byte.
+const RUNS: [([u8; 3], &[Span]); 4] = [
+    ([0xff, 0x80, 0x00], &[]),
+    (
+        [0xff, 0xff, 0xff],
+        &[Span {
+            at: 0x4e40,
+            len: 64 * 15,
+        }],
+    ),
+    (
+        [0xff, 0x81, 0xfe],
+        &[Span {
+            at: 0x4fc0,
+            len: 64 * 8,
+        }],
+    ),
+    (
+        [0xff, 0x80, 0x01],
+        &[Span {
+            at: 0x51c0,
+            len: 64,
+        }],
+    ),
+];
+
+fn is_breached<R: Abort + AllocGlobal>(rt: &R, marks: [u8; 3], at: u64) -> Result<(), Fail> {
+    let image = small_store(rt.alloc(), &marks)?;
+    let fault = fault_of(rt.alloc(), &image, &BLOCKS)?;
+    is_at(rt, marks, fault, Some(Fault::at(Kind::MapMissing, at)));
+    Ok(())
+}
+
+fn is_lost<R: Abort + AllocGlobal>(rt: &R, marks: [u8; 3], lost: &[Span]) -> Result<(), Fail> {
+    let image = small_store(rt.alloc(), &marks)?;
+    let told = told_of(rt.alloc(), &image, &BLOCKS, 0)?;
+    is_at(rt, marks, told.lost.as_slice(), lost);
+    Ok(())
+}
+
 #[test]
 fn bytes_are_seen_as_eight_units(rt: HostRuntime) -> Result<(), Fail> {
-    let spans = [(0x4800, 512), (0x4a00, 512), (0x4c00, 576)];
-    let missing = |at: u64| Err(Fault::at(Kind::MapMissing, at));
-    let rows = [
-        ([0xff, 0x80, 0x00], Ok(None)),
-        ([0xff, 0x00, 0xff], missing(0x4e00)),
-        ([0xfe, 0x80, 0xff], missing(0x4dc0)),
-        ([0x7f, 0xff, 0xff], missing(0x4c00)),
-        (
-            [0xff, 0xff, 0xff],
-            Ok(Some(Span {
-                at: 0x4e40,
-                len: 64 * 15,
-            })),
-        ),
-        (
-            [0xff, 0x81, 0xfe],
-            Ok(Some(Span {
-                at: 0x4fc0,
-                len: 64 * 8,
-            })),
-        ),
-        (
-            [0xff, 0x80, 0x01],
-            Ok(Some(Span {
-                at: 0x51c0,
-                len: 64,
-            })),
-        ),
-    ];
-    for (bytes, wanted) in rows {
-        let mut image = m0(rt.alloc())?;
-        set(&mut image, 0x4404, &bytes)?;
-        Change::Page(0x4400).apply(&mut image)?;
-        let (report, _) = compared(rt.alloc(), &image, &spans, 0)?;
-        match (report, wanted) {
-            (Ok(report), Ok(lost)) => is(&rt, report.lost.as_slice(), lost.as_slice()),
-            (Err(fault), Err(other)) => holds_at(&rt, bytes, fault == other),
-            _ => return Err(Fail::from("another ending")),
-        }
+    for (marks, at) in &BREACHES {
+        is_breached(&rt, *marks, *at)?;
     }
+    for (marks, lost) in &RUNS {
+        is_lost(&rt, *marks, lost)?;
+    }
+    Ok(())
+}
+
+// What is changed in a map page: the check value, the type twice, the signature, the identifier, and the page's own units.
+const BAD: [&[Change<'static>]; 6] = [
+    &[Change::Set(0x4400 + 500, &[0])],
+    &[Change::Set(0x4400 + 496, &[0x83]), Change::Page(0x4400)],
+    &[Change::Set(0x4400 + 497, &[0x83]), Change::Page(0x4400)],
+    &[Change::Set(0x4400 + 498, &[1])],
+    &[Change::Set(0x4400 + 504, &[1]), Change::Page(0x4400)],
+    &[Change::Set(0x4400, &[0x7f]), Change::Page(0x4400)],
+];
+
+fn is_bad<R: Abort + AllocGlobal>(rt: &R, number: usize, changes: &[Change]) -> Result<(), Fail> {
+    let image = changed(rt.alloc(), changes)?;
+    let fault = fault_of(rt.alloc(), &image, &SMALL)?;
+    is_at(rt, number, fault, Some(Fault::at(Kind::MapPage, 0x4400)));
     Ok(())
 }
 
 #[test]
 fn a_map_page_has_to_be_good(rt: HostRuntime) -> Result<(), Fail> {
-    // The check value, the type twice, the signature, the identifier, and the page's own units.
-    let rows: [(usize, u8, bool); 6] = [
-        (500, 0, false),
-        (496, 0x83, true),
-        (497, 0x83, true),
-        (498, 1, false),
-        (504, 1, true),
-        (0, 0x7f, true),
-    ];
-    for (place, byte, sealed) in rows {
-        let mut image = m0(rt.alloc())?;
-        set(&mut image, 0x4400_usize.saturating_add(place), &[byte])?;
-        if sealed {
-            Change::Page(0x4400).apply(&mut image)?;
-        }
-        let (report, _) = compared(rt.alloc(), &image, &SMALL, 0)?;
-        holds_at(
-            &rt,
-            place,
-            report.err() == Some(Fault::at(Kind::MapPage, 0x4400)),
-        );
+    for (number, changes) in BAD.iter().enumerate() {
+        is_bad(&rt, number, changes)?;
     }
     Ok(())
 }
 
-// Two regions with no tree, and a page of two types at one of the two places, whose units are marked by these bytes.
-fn two_regions(alloc: Global, at: u64, kinds: [u8; 2], marks: [u8; 2]) -> Result<Vec<u8>, Fail> {
-    let small = m0(alloc)?;
-    let mut image = vec![in alloc; 0u8; 525_312]?;
-    set(&mut image, 0, small.get(..564).ok_or("too short")?)?;
-    set(&mut image, 184, &[0x00, 0x04, 0x08])?;
-    set(&mut image, 192, &[0x00, 0x24, 0x04])?;
-    Change::Header.apply(&mut image)?;
-    set(&mut image, 0x4400, &[0xff, 0xff])?;
-    set(
-        &mut image,
-        0x4400 + 496,
-        &[0x84, 0x84, 0, 0, 0, 0, 0, 0, 0x00, 0x44],
-    )?;
-    Change::Page(0x4400).apply(&mut image)?;
-    set(&mut image, 271_360, &[0xff, 0x00, marks[0], marks[1]])?;
-    set(
-        &mut image,
+// What makes the small store one of two regions with no tree: its second allocation map is at 271,360.
+const TWO_REGIONS: [Change<'static>; 9] = [
+    Change::Cut(564),
+    Change::Grow(524_748),
+    Change::Set(184, &[0x00, 0x04, 0x08]),
+    Change::Set(192, &[0x00, 0x24, 0x04]),
+    Change::Header,
+    Change::Set(0x4400, &[0xff, 0xff]),
+    Change::Set(0x4400 + 496, &[0x84, 0x84, 0, 0, 0, 0, 0, 0, 0x00, 0x44]),
+    Change::Page(0x4400),
+    Change::Set(
         271_360 + 496,
         &[0x84, 0x84, 0, 0, 0, 0, 0, 0, 0x00, 0x24, 0x04],
-    )?;
-    Change::Page(271_360).apply(&mut image)?;
+    ),
+];
+
+// Puts a page of two types at one of the two places of the second region, whose units are marked by these bytes.
+fn put_second(image: &mut Vec<u8>, at: u64, kinds: [u8; 2], marks: [u8; 2]) -> Result<(), Fail> {
     let page = usize::try_from(at)?;
-    set(&mut image, page.saturating_add(496), &kinds)?;
-    set(&mut image, page.saturating_add(504), &at.to_le_bytes())?;
-    Change::Page(at).apply(&mut image)?;
+    let changes = [
+        Change::Set(271_360, &[0xff, 0x00, marks[0], marks[1]]),
+        Change::Page(271_360),
+        Change::Set(page.saturating_add(496), &kinds),
+        Change::Set(page.saturating_add(504), &at.to_le_bytes()),
+        Change::Page(at),
+    ];
+    change_all(image, &changes)?;
+    Ok(())
+}
+
+// Two regions with no tree, and such a page.
+fn two_regions(alloc: Global, at: u64, kinds: [u8; 2], marks: [u8; 2]) -> Result<Vec<u8>, Fail> {
+    let mut image = changed(alloc, &TWO_REGIONS)?;
+    put_second(&mut image, at, kinds, marks)?;
     Ok(image)
+}
+
+// Both places, the first unit of a page there, and the bytes that mark its units.
+const OLD_PLACES: [(u64, u64, [u8; 2]); 2] = [
+    (272_384, 3_984, [0xff, 0x00]),
+    (272_896, 3_992, [0x00, 0xff]),
+];
+
+// The two types of a page, and whether it is an old map page.
+const TYPES: [([u8; 2], bool); 5] = [
+    ([0x82, 0x82], true),
+    ([0x85, 0x85], true),
+    ([0x82, 0x85], false),
+    ([0x85, 0x82], false),
+    ([0x83, 0x83], false),
+];
+
+fn is_old<R: Abort + AllocGlobal>(
+    rt: &R,
+    place: (u64, u64, [u8; 2]),
+    kinds: [u8; 2],
+    is_old: bool,
+) -> Result<(), Fail> {
+    let (at, unit, marks) = place;
+    let image = two_regions(rt.alloc(), at, kinds, marks)?;
+    let told = told_of(rt.alloc(), &image, &[], unit)?;
+    let page = [Span { at, len: 512 }];
+    let lost: &[Span] = if is_old { &[] } else { &page };
+    is_at(rt, (kinds, at), told.lost.as_slice(), lost);
+    is_at(
+        rt,
+        (kinds, at),
+        (told.old_maps, told.claimed),
+        (u64::from(is_old), is_old),
+    );
+    Ok(())
 }
 
 #[test]
 fn old_map_pages_are_claimed(rt: HostRuntime) -> Result<(), Fail> {
-    // Both places, the first unit of a page there, and the bytes that mark its units.
-    let places = [
-        (272_384, 3_984, [0xff, 0x00]),
-        (272_896, 3_992, [0x00, 0xff]),
-    ];
-    let types = [
-        ([0x82, 0x82], true),
-        ([0x85, 0x85], true),
-        ([0x82, 0x85], false),
-        ([0x85, 0x82], false),
-        ([0x83, 0x83], false),
-    ];
-    for (at, unit, marks) in places {
-        for (kinds, is_old) in types {
-            let image = two_regions(rt.alloc(), at, kinds, marks)?;
-            let (report, is_claimed) = compared(rt.alloc(), &image, &[], unit)?;
-            let report = report.expect(&rt, "refused");
-            let lost = if is_old {
-                None
-            } else {
-                Some(Span { at, len: 512 })
-            };
-            is_at(&rt, (kinds, at), report.old_maps, u64::from(is_old));
-            is_at(&rt, (kinds, at), report.lost.as_slice(), lost.as_slice());
-            is_at(&rt, (kinds, at), is_claimed, is_old);
+    for place in &OLD_PLACES {
+        for (kinds, old) in &TYPES {
+            is_old(&rt, *place, *kinds, *old)?;
         }
     }
     Ok(())
@@ -244,27 +326,78 @@ fn old_map_pages_are_claimed(rt: HostRuntime) -> Result<(), Fail> {
 
 // The first unit behind the map pages is claimed, so that its mark in the first map says the order of bits. A page whose
 // units are not all marked is no old map page; what is lost is read in the same order.
+type Order = (u8, BitOrder, u8, u8, u64, &'static [Span]);
+
+const ORDERS: [Order; 7] = [
+    (0x80, BitOrder::High, 0x82, 0xff, 1, &[]),
+    (0x80, BitOrder::High, 0x82, 0x00, 0, &[]),
+    (
+        0x80,
+        BitOrder::High,
+        0x82,
+        0xfe,
+        0,
+        &[Span {
+            at: 272_384,
+            len: 448,
+        }],
+    ),
+    (0x01, BitOrder::Low, 0x82, 0xff, 1, &[]),
+    (
+        0x01,
+        BitOrder::Low,
+        0x85,
+        0xff,
+        0,
+        &[Span {
+            at: 272_384,
+            len: 512,
+        }],
+    ),
+    (
+        0x01,
+        BitOrder::Low,
+        0x82,
+        0x7f,
+        0,
+        &[Span {
+            at: 272_384,
+            len: 448,
+        }],
+    ),
+    (
+        0x01,
+        BitOrder::Low,
+        0x82,
+        0xfe,
+        0,
+        &[Span {
+            at: 272_448,
+            len: 448,
+        }],
+    ),
+];
+
+// The mark in the first map.
+fn set_mark(image: &mut Vec<u8>, mark: u8) -> Result<(), Fail> {
+    change_all(image, &[Change::Set(0x4402, &[mark]), Change::Page(0x4400)])?;
+    Ok(())
+}
+
+fn is_in_order<R: Abort + AllocGlobal>(rt: &R, row: &Order) -> Result<(), Fail> {
+    let (mark, order, kind, marks, old_maps, lost) = *row;
+    let mut image = two_regions(rt.alloc(), 272_384, [0x82, kind], [marks, 0])?;
+    set_mark(&mut image, mark)?;
+    let told = told_of(rt.alloc(), &image, &[(0x4800, 64)], 0)?;
+    is_at(rt, marks, (told.order, told.old_maps), (order, old_maps));
+    is_at(rt, marks, told.lost.as_slice(), lost);
+    Ok(())
+}
+
 #[test]
 fn one_order_is_read_everywhere(rt: HostRuntime) -> Result<(), Fail> {
-    let rows = [
-        (0x80, BitOrder::High, 0x82, 0xff, 1, None),
-        (0x80, BitOrder::High, 0x82, 0x00, 0, None),
-        (0x80, BitOrder::High, 0x82, 0xfe, 0, Some((272_384, 448))),
-        (0x01, BitOrder::Low, 0x82, 0xff, 1, None),
-        (0x01, BitOrder::Low, 0x85, 0xff, 0, Some((272_384, 512))),
-        (0x01, BitOrder::Low, 0x82, 0x7f, 0, Some((272_384, 448))),
-        (0x01, BitOrder::Low, 0x82, 0xfe, 0, Some((272_448, 448))),
-    ];
-    for (mark, order, kind, marks, old_maps, lost) in rows {
-        let mut image = two_regions(rt.alloc(), 272_384, [0x82, kind], [marks, 0])?;
-        set(&mut image, 0x4402, &[mark])?;
-        Change::Page(0x4400).apply(&mut image)?;
-        let (report, _) = compared(rt.alloc(), &image, &[(0x4800, 64)], 0)?;
-        let report = report.expect(&rt, "refused");
-        let lost = lost.map(|(at, len)| Span { at, len });
-        is(&rt, report.order, order);
-        is_at(&rt, marks, report.old_maps, old_maps);
-        is_at(&rt, marks, report.lost.as_slice(), lost.as_slice());
+    for row in &ORDERS {
+        is_in_order(&rt, row)?;
     }
     Ok(())
 }

@@ -5,7 +5,7 @@ mod lists;
 mod many;
 mod order;
 
-use crate::told::{holds, is, is_at};
+use crate::told::is;
 use pst_btree::*;
 use pst_bytes::Image;
 use pst_fault::{Fault, Kind};
@@ -121,110 +121,83 @@ fn three_leaves(alloc: Global, last: u64) -> Result<Vec<u8>, Fail> {
     Ok(image)
 }
 
+// The node B-tree of a file without the list of its nodes, likewise.
+fn node_tree_in<'a>(alloc: Global, image: Image<'a>) -> Result<NodeTree<'a>, Fault> {
+    let header = read_header(image)?;
+    let mut claims = Claims::new(alloc, &header)?;
+    walk_node_tree(alloc, image, &header, &mut claims)
+}
+
+// The two blocks of a small store.
+const FIRST: BlockEntry = BlockEntry {
+    bid: 4,
+    ib: 0x4c00,
+    cb: 44,
+};
+
+const SECOND: BlockEntry = BlockEntry {
+    bid: 8,
+    ib: 0x4c40,
+    cb: 38,
+};
+
+// Its two nodes: the message store and the root folder.
+const STORE: NodeEntry = NodeEntry {
+    nid: 0x21,
+    bid_data: 4,
+    bid_sub: 0,
+    parent: 0,
+};
+
+const FOLDER: NodeEntry = NodeEntry {
+    nid: 0x122,
+    bid_data: 8,
+    bid_sub: 0,
+    parent: 0x122,
+};
+
+fn are_small_blocks<R: Abort>(rt: &R, tree: &BlockTree, entries: &[BlockEntry]) {
+    is(rt, entries, [FIRST, SECOND].as_slice());
+    is(rt, (tree.pages(), tree.level()), (1, 0));
+    is(rt, tree.find(4), Some(FIRST));
+    is(rt, tree.find(9), Some(SECOND));
+    is(rt, tree.find(6), None);
+    is(rt, tree.find_steps(8), (Some(SECOND), 1));
+}
+
+fn are_small_nodes<R: Abort>(rt: &R, tree: &NodeTree) {
+    is(rt, (tree.pages(), tree.level()), (1, 0));
+    is(rt, tree.find(0x21), Some(STORE));
+    is(rt, tree.find(0x22), None);
+    is(rt, tree.find(0x23), None);
+    is(rt, tree.find_steps(0x122), (Some(FOLDER), 1));
+    let mut all = tree.nodes();
+    is(rt, all.next(), Some(STORE));
+    is(rt, all.next(), Some(FOLDER));
+    is(rt, all.next(), None);
+}
+
 #[test]
 fn the_trees_of_a_small_store(rt: HostRuntime) -> Result<(), Fail> {
     let bytes = m0(rt.alloc())?;
-    let image = Image::new(&bytes);
-    let Ok(header) = read_header(image) else {
-        panic!(rt; "no header");
+    let Ok((blocks, entries)) = blocks_in(rt.alloc(), Image::new(&bytes)) else {
+        return Err(Fail::from("no blocks"));
     };
-    let mut claims = Claims::new(rt.alloc(), &header)?;
-    let Ok((blocks, entries)) = walk_blocks(rt.alloc(), image, &header, &mut claims) else {
-        panic!(rt; "no blocks");
+    are_small_blocks(&rt, &blocks, &entries);
+    let Ok((nodes, entries)) = nodes_in(rt.alloc(), Image::new(&bytes)) else {
+        return Err(Fail::from("no nodes"));
     };
-    let first = BlockEntry {
-        bid: 4,
-        ib: 0x4c00,
-        cb: 44,
-    };
-    let second = BlockEntry {
-        bid: 8,
-        ib: 0x4c40,
-        cb: 38,
-    };
-    is(&rt, entries.len(), 2);
-    is(&rt, entries.first().copied(), Some(first));
-    is(&rt, entries.get(1).copied(), Some(second));
-    is(&rt, blocks.pages(), 1);
-    holds(&rt, blocks.level() == 0);
-    is(&rt, blocks.find(4), Some(first));
-    is(&rt, blocks.find(9), Some(second));
-    is(&rt, blocks.find(6), None);
-    is(&rt, blocks.find_steps(8), (Some(second), 1));
-    // The page from 0x4A00 to 0x4BFF is claimed, and no more.
-    for (unit, claimed) in [
-        (16, false),
-        (23, false),
-        (24, true),
-        (31, true),
-        (32, false),
-    ] {
-        is_at(&rt, unit, claims.is_claimed(unit), claimed);
-    }
-    let Ok((nodes, entries)) = walk_nodes(rt.alloc(), image, &header, &mut claims) else {
-        panic!(rt; "no nodes");
-    };
-    let store = NodeEntry {
-        nid: 0x21,
-        bid_data: 4,
-        bid_sub: 0,
-        parent: 0,
-    };
-    let folder = NodeEntry {
-        nid: 0x122,
-        bid_data: 8,
-        bid_sub: 0,
-        parent: 0x122,
-    };
-    is(&rt, entries.len(), 2);
-    is(&rt, nodes.pages(), 1);
-    holds(&rt, nodes.level() == 0);
-    is(&rt, nodes.find(0x21), Some(store));
-    is(&rt, nodes.find(0x23), None);
-    is(&rt, nodes.find_steps(0x122), (Some(folder), 1));
-    let mut all = nodes.nodes();
-    is(&rt, all.next(), Some(store));
-    is(&rt, all.next(), Some(folder));
-    is(&rt, all.next(), None);
-    holds(&rt, claims.is_claimed(16));
-    // Each page lies on itself.
-    let again = walk_blocks(rt.alloc(), image, &header, &mut claims).err();
-    is(&rt, again, Some(Fault::within(Kind::Overlap, 0x4a00, 8)));
-    let again = walk_nodes(rt.alloc(), image, &header, &mut claims).err();
-    is(&rt, again, Some(Fault::within(Kind::Overlap, 0x4800, 4)));
-    Ok(())
+    is(&rt, entries.as_slice(), [STORE, FOLDER].as_slice());
+    are_small_nodes(&rt, &nodes);
+    claims::small_pages_are(&rt, &bytes)
 }
 
 #[test]
 fn the_node_tree_without_a_list(rt: HostRuntime) -> Result<(), Fail> {
     let bytes = m0(rt.alloc())?;
-    let image = Image::new(&bytes);
-    let Ok(header) = read_header(image) else {
-        panic!(rt; "no header");
+    let Ok(nodes) = node_tree_in(rt.alloc(), Image::new(&bytes)) else {
+        return Err(Fail::from("no nodes"));
     };
-    let mut claims = Claims::new(rt.alloc(), &header)?;
-    let Ok(nodes) = walk_node_tree(rt.alloc(), image, &header, &mut claims) else {
-        panic!(rt; "no nodes");
-    };
-    is(&rt, nodes.pages(), 1);
-    holds(&rt, nodes.find(0x22).is_none());
-    let mut all = nodes.nodes();
-    is(
-        &rt,
-        all.next().map(|node| (node.nid, node.bid_data)),
-        Some((0x21, 4)),
-    );
-    is(
-        &rt,
-        all.next().map(|node| (node.nid, node.bid_data)),
-        Some((0x122, 8)),
-    );
-    is(&rt, all.next(), None);
-    // The page from 0x4800 to 0x49FF is claimed, and lies on itself.
-    for (unit, claimed) in [(16, true), (23, true), (24, false)] {
-        is_at(&rt, unit, claims.is_claimed(unit), claimed);
-    }
-    let again = walk_node_tree(rt.alloc(), image, &header, &mut claims).err();
-    is(&rt, again, Some(Fault::within(Kind::Overlap, 0x4800, 4)));
+    are_small_nodes(&rt, &nodes);
     Ok(())
 }

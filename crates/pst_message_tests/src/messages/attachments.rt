@@ -1,30 +1,24 @@
 //! What an attachment embeds.
 
-use super::makers::{add_block, list, properties, table};
-use super::{add_node, is_answered};
-use pst_make::{Plan, m0_plan};
-use std::alloc::Global;
+use super::are_answered;
+use crate::makers::Body::{Bytes, List, Properties, Table};
+use crate::makers::Record;
+use std::process::Abort;
 use std::test::Fail;
 
-// A store of a message, 0x200024, with one attachment, 0x8025, whose properties and value are these. The attachment's subnodes
-// are 0x41, with this data, and 0x200024, a message.
-fn store(
-    alloc: Global,
-    records: &[(u16, u16, u32)],
-    value: &[u8],
-    data: &[u8],
-) -> Result<Plan, Fail> {
-    let mut plan = m0_plan(alloc)?;
-    add_block(&mut plan, 12, properties(alloc, &[], &[])?)?;
-    add_block(&mut plan, 16, Vec::from_slice(alloc, data)?)?;
-    add_block(&mut plan, 20, table(alloc, &[0x8025])?)?;
-    add_block(&mut plan, 24, properties(alloc, records, value)?)?;
-    let held = list(alloc, &[(0x41, 16, 0), (0x20_0024, 12, 0)])?;
-    add_block(&mut plan, 30, held)?;
-    let held = list(alloc, &[(0x671, 20, 0), (0x8025, 24, 30)])?;
-    add_block(&mut plan, 34, held)?;
-    add_node(&mut plan, 0x20_0024, 12, 34)?;
-    Ok(plan)
+// Whether a store of a message, 0x200024, with one attachment, 0x8025, is answered as a row says. The attachment's subnodes are
+// 0x41, with this data, and 0x200024, a message.
+fn is_answered<R: Abort + AllocGlobal>(rt: &R, row: &Row) -> Result<(), Fail> {
+    let (records, value, data, line) = *row;
+    let blocks = [
+        (12, Properties(&[], &[])),
+        (16, Bytes(data)),
+        (20, Table(&[0x8025])),
+        (24, Properties(records, value)),
+        (30, List(&[(0x41, 16, 0), (0x20_0024, 12, 0)])),
+        (34, List(&[(0x671, 20, 0), (0x8025, 24, 30)])),
+    ];
+    are_answered(rt, &blocks, &[(0x20_0024, 12, 34)], line)
 }
 
 // An object that names the message, one that names no subnode, one that names a subnode of another type, and one that names a node
@@ -39,7 +33,7 @@ const ROOT: [u8; 8] = [0x22, 1, 0, 0, 8, 0, 0, 0];
 
 // The properties of the attachment, its value, the data of subnode 0x41, and what is answered. With two properties the value
 // lies at 0x4da4, with three at 0x4dac; the data at 0x4cc0.
-type Row<'a> = (&'a [(u16, u16, u32)], &'a [u8], &'a [u8], &'a str);
+type Row<'a> = (&'a [Record], &'a [u8], &'a [u8], &'a str);
 
 const ROWS: [Row<'static>; 19] = [
     (
@@ -144,9 +138,8 @@ const ROWS: [Row<'static>; 19] = [
 
 #[test]
 fn attachments(rt: HostRuntime) -> Result<(), Fail> {
-    let alloc = rt.alloc();
-    for (records, value, data, line) in ROWS {
-        is_answered(&rt, alloc, &store(alloc, records, value, data)?, line)?;
+    for row in &ROWS {
+        is_answered(&rt, row)?;
     }
     Ok(())
 }

@@ -1,23 +1,45 @@
 //! The nodes that every store has, and the tables of folders.
 
-use super::{add_node, is_answered};
-use pst_make::{Plan, m0_plan, m1_plan, m2_plan};
+use super::is_answered;
+use crate::makers::node_of;
+use pst_make::{Plan, m0_plan, m1_plan, m2_plan, set};
 use std::alloc::Global;
+use std::process::Abort;
 use std::test::Fail;
 
-// The small store with a table of one row, in block 12, whose record of the row index is at 0x4cba, and with these nodes.
-fn with_row(alloc: Global, row: u8, nodes: &[(u32, u64)]) -> Result<Plan, Fail> {
-    let mut plan = m1_plan(alloc)?;
-    let table = plan.blocks.get_mut(2).ok_or("no block")?;
-    for at in [58, 66] {
-        let byte = table.body.get_mut(at).ok_or("past the end")?;
-        *byte = row;
-    }
+// Gives the row of a table in block 12 this identifier, in the row index and in the row matrix.
+fn set_row(plan: &mut Plan, row: u8) -> Result<(), Fail> {
+    let Some(table) = plan.blocks.get_mut(2) else {
+        return Err(Fail::from("no block"));
+    };
+    set(&mut table.body, 58, &[row])?;
+    set(&mut table.body, 66, &[row])?;
+    Ok(())
+}
+
+fn set_nodes(alloc: Global, plan: &mut Plan, nodes: &[(u32, u64)]) -> Result<(), Fail> {
     plan.nodes = Vec::new(alloc);
     for (nid, bid_data) in nodes {
-        add_node(&mut plan, *nid, *bid_data, 0)?;
+        plan.nodes.push(node_of(*nid, *bid_data, 0))?;
     }
-    Ok(plan)
+    Ok(())
+}
+
+// Whether the small store with a table of one row, in block 12, whose record of the row index is at 0x4cba, and with these nodes is
+// answered as a row says.
+fn with_row<R: Abort + AllocGlobal>(rt: &R, case: &Row) -> Result<(), Fail> {
+    let (row, nodes, line) = *case;
+    let mut plan = m1_plan(rt.alloc())?;
+    set_row(&mut plan, row)?;
+    set_nodes(rt.alloc(), &mut plan, nodes)?;
+    is_answered(rt, &plan, line)
+}
+
+fn with_rows<R: Abort + AllocGlobal>(rt: &R, cases: &[Row]) -> Result<(), Fail> {
+    for case in cases {
+        with_row(rt, case)?;
+    }
+    Ok(())
 }
 
 // The low byte of the row's identifier, whose high one is 1; the nodes, each with the block of its data; and what is answered.
@@ -115,17 +137,15 @@ const TABLE_ROWS: [Row<'static>; 15] = [
     ),
 ];
 
+fn plan_is_answered<R: Abort + AllocGlobal>(rt: &R, plan: Plan, line: &str) -> Result<(), Fail> {
+    is_answered(rt, &plan, line)
+}
+
 #[test]
 fn folders(rt: HostRuntime) -> Result<(), Fail> {
-    let alloc = rt.alloc();
-    is_answered(&rt, alloc, &m0_plan(alloc)?, "yes 2")?;
-    is_answered(&rt, alloc, &m1_plan(alloc)?, "yes 3")?;
-    is_answered(&rt, alloc, &m2_plan(alloc)?, "yes 3")?;
-    for (row, nodes, line) in REQUIRED_ROWS {
-        is_answered(&rt, alloc, &with_row(alloc, row, nodes)?, line)?;
-    }
-    for (row, nodes, line) in TABLE_ROWS {
-        is_answered(&rt, alloc, &with_row(alloc, row, nodes)?, line)?;
-    }
-    Ok(())
+    plan_is_answered(&rt, m0_plan(rt.alloc())?, "yes 2")?;
+    plan_is_answered(&rt, m1_plan(rt.alloc())?, "yes 3")?;
+    plan_is_answered(&rt, m2_plan(rt.alloc())?, "yes 3")?;
+    with_rows(&rt, &REQUIRED_ROWS)?;
+    with_rows(&rt, &TABLE_ROWS)
 }

@@ -2,39 +2,57 @@
 
 use super::bodies::EMBEDS;
 use super::{Store, image, store_of};
-use crate::told::{holds, holds_at, is};
-use pst_msg::Tc;
+use crate::told::is;
+use pst_msg::{Folder, Tc};
 use std::alloc::Global;
 use std::test::Fail;
 
-// The identifiers of the rows of a table, or that there is none.
-fn ids_of(alloc: Global, table: Option<Tc>) -> Result<String, Fail> {
-    let mut line = String::new(alloc);
-    let Some(tc) = table else {
-        line.push_str(" none")?;
-        return Ok(line);
-    };
-    for row in tc.rows() {
-        let id = row.id();
-        let text = format!(in alloc; " {id:x}")?;
-        line.push_str(&text)?;
-    }
-    Ok(line)
+fn put_nid(alloc: Global, line: &mut String, nid: u32) -> Result<(), Fail> {
+    let text = format!(in alloc; " {nid:x}")?;
+    line.push_str(&text)?;
+    Ok(())
 }
 
-// A folder, with how many properties it has, and its tables.
-fn folder_line(alloc: Global, store: &Store, nid: u32) -> Result<String, Fail> {
-    let Some(folder) = store.folder(nid) else {
-        return Ok(format!(in alloc; "none")?);
+// The identifiers of the rows of a table, or that there is none.
+fn put_ids(alloc: Global, line: &mut String, table: Option<Tc>) -> Result<(), Fail> {
+    let Some(tc) = table else {
+        line.push_str(" none")?;
+        return Ok(());
     };
+    for row in tc.rows() {
+        put_nid(alloc, line, row.id())?;
+    }
+    Ok(())
+}
+
+fn put_tables(alloc: Global, line: &mut String, tables: [Option<Tc>; 3]) -> Result<(), Fail> {
+    let [hierarchy, contents, associated] = tables;
+    put_ids(alloc, line, hierarchy)?;
+    line.push_str(",")?;
+    put_ids(alloc, line, contents)?;
+    line.push_str(",")?;
+    put_ids(alloc, line, associated)
+}
+
+// A folder: whether it has a count of messages, and its tables.
+fn put_folder(alloc: Global, line: &mut String, folder: &Folder) -> Result<(), Fail> {
     let found = folder.nid();
     let is_counted = folder.pc().get(0x3602).is_some();
-    let mut line = format!(in alloc; "{found:x} {is_counted}:")?;
-    line.push_str(&ids_of(alloc, folder.hierarchy())?)?;
-    line.push_str(",")?;
-    line.push_str(&ids_of(alloc, folder.contents())?)?;
-    line.push_str(",")?;
-    line.push_str(&ids_of(alloc, folder.associated())?)?;
+    let text = format!(in alloc; "{found:x} {is_counted}:")?;
+    line.push_str(&text)?;
+    put_tables(
+        alloc,
+        line,
+        [folder.hierarchy(), folder.contents(), folder.associated()],
+    )
+}
+
+fn folder_line(alloc: Global, store: &Store, nid: u32) -> Result<String, Fail> {
+    let mut line = String::new(alloc);
+    match store.folder(nid) {
+        Some(folder) => put_folder(alloc, &mut line, &folder)?,
+        None => line.push_str("none")?,
+    }
     Ok(line)
 }
 
@@ -49,12 +67,11 @@ const FOLDERS: [(u32, &str); 6] = [
 
 #[test]
 fn folders_are_found(rt: HostRuntime) -> Result<(), Fail> {
-    let alloc = rt.alloc();
-    let image = image(alloc, &EMBEDS)?;
-    let store = store_of(alloc, &image)?;
-    for (nid, line) in FOLDERS {
-        let told = folder_line(alloc, &store, nid)?;
-        is(&rt, told.as_str(), line);
+    let image = image(rt.alloc(), &EMBEDS)?;
+    let store = store_of(rt.alloc(), &image)?;
+    for (nid, line) in &FOLDERS {
+        let told = folder_line(rt.alloc(), &store, *nid)?;
+        is(&rt, told.as_str(), *line);
     }
     let root = store.root();
     is(&rt, root.nid(), 0x122);
@@ -63,34 +80,45 @@ fn folders_are_found(rt: HostRuntime) -> Result<(), Fail> {
     Ok(())
 }
 
-#[test]
-fn nodes_are_found(rt: HostRuntime) -> Result<(), Fail> {
-    let alloc = rt.alloc();
-    let image = image(alloc, &EMBEDS)?;
-    let store = store_of(alloc, &image)?;
-    let mut line = String::new(alloc);
+// The identifiers of all folders, and of all messages.
+fn put_all(nids: &mut Vec<u32>, store: &Store) -> Result<(), Fail> {
     for folder in store.folders() {
-        let nid = folder.nid();
-        let text = format!(in alloc; "{nid:x} ")?;
-        line.push_str(&text)?;
+        nids.push(folder.nid())?;
     }
     for message in store.messages() {
-        let nid = message.nid();
-        let text = format!(in alloc; "{nid:x} ")?;
-        line.push_str(&text)?;
+        nids.push(message.nid())?;
     }
-    is(&rt, line.as_str(), "122 142 163 200024 200028 200044 ");
+    Ok(())
+}
+
+const ALL: [u32; 6] = [0x122, 0x142, 0x163, 0x20_0024, 0x20_0028, 0x20_0044];
+
+fn nid_of_node(store: &Store, nid: u32) -> Option<u32> {
+    let node = store.node(nid)?;
+    Some(node.nid())
+}
+
+fn nid_of_message(store: &Store, nid: u32) -> Option<u32> {
+    let message = store.message(nid)?;
+    Some(message.nid())
+}
+
+#[test]
+fn nodes_are_found(rt: HostRuntime) -> Result<(), Fail> {
+    let image = image(rt.alloc(), &EMBEDS)?;
+    let store = store_of(rt.alloc(), &image)?;
+    let mut nids = Vec::new(rt.alloc());
+    put_all(&mut nids, &store)?;
+    is(&rt, nids.as_slice(), ALL.as_slice());
     for nid in [0x21, 0x122, 0x12d, 0x20_0044] {
-        let node = store.node(nid).expect(&rt, "no node");
-        is(&rt, node.nid(), nid);
+        is(&rt, nid_of_node(&store, nid), Some(nid));
     }
-    holds(&rt, store.node(0x999).is_none());
+    is(&rt, nid_of_node(&store, 0x999), None);
     for nid in [0x20_0024, 0x20_0028] {
-        let message = store.message(nid).expect(&rt, "no message");
-        is(&rt, message.nid(), nid);
+        is(&rt, nid_of_message(&store, nid), Some(nid));
     }
     for nid in [0x122, 0x21, 0x20_0064] {
-        holds_at(&rt, nid, store.message(nid).is_none());
+        is(&rt, (nid, nid_of_message(&store, nid)), (nid, None));
     }
     Ok(())
 }

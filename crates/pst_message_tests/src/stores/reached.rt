@@ -1,10 +1,12 @@
 //! The folders that the root folder reaches.
 
-use super::bodies::{PLAIN, table};
-use super::{add_block, node_of};
+use super::bodies::PLAIN;
+use super::image_of;
+use crate::makers::Body::{Bytes, Table};
+use crate::makers::{Blocks, Entry, add_blocks, add_nodes};
 use crate::told::is;
 use pst_bytes::Image;
-use pst_make::{build, m1_plan};
+use pst_make::m1_plan;
 use pst_msg::check_messaging;
 use pst_ndb::check_ndb;
 use pst_reach::{Reach, path_from_root, reach, unreached, ways_are_found};
@@ -14,28 +16,30 @@ use std::test::Fail;
 // Folders beside those of the small store, whose root folder 0x122 names 0x142: that names 0x162 and 0x182, and these two have one
 // table, which names the search folder 0x163 and 0x1a2. That has the root folder's table, so that ways go in a circle. The folder
 // 0x1c2 has it too, and none names it.
-const NODES: [(u32, u64); 10] = [
-    (0x14d, 20),
-    (0x162, 16),
-    (0x163, 16),
-    (0x16d, 24),
-    (0x182, 16),
-    (0x18d, 24),
-    (0x1a2, 16),
-    (0x1ad, 12),
-    (0x1c2, 16),
-    (0x1cd, 12),
+const NODES: [Entry; 10] = [
+    (0x14d, 20, 0),
+    (0x162, 16, 0),
+    (0x163, 16, 0),
+    (0x16d, 24, 0),
+    (0x182, 16, 0),
+    (0x18d, 24, 0),
+    (0x1a2, 16, 0),
+    (0x1ad, 12, 0),
+    (0x1c2, 16, 0),
+    (0x1cd, 12, 0),
+];
+
+const BLOCKS: Blocks<'static> = &[
+    (16, Bytes(&PLAIN)),
+    (20, Table(&[0x162, 0x182])),
+    (24, Table(&[0x163, 0x1a2])),
 ];
 
 fn image(alloc: Global) -> Result<Vec<u8>, Fail> {
     let mut plan = m1_plan(alloc)?;
-    add_block(&mut plan, 16, Vec::from_slice(alloc, &PLAIN)?)?;
-    add_block(&mut plan, 20, table(alloc, [0x162, 0x182])?)?;
-    add_block(&mut plan, 24, table(alloc, [0x163, 0x1a2])?)?;
-    for (nid, bid_data) in NODES {
-        plan.nodes.push(node_of(nid, bid_data, 0))?;
-    }
-    build(alloc, &plan).map_err(|_| Fail::from("not made"))
+    add_blocks(alloc, &mut plan, BLOCKS)?;
+    add_nodes(&mut plan, &NODES)?;
+    image_of(alloc, &plan)
 }
 
 // A folder that is reached, with its parent and its depth.
@@ -46,31 +50,66 @@ fn put_folder(alloc: Global, line: &mut String, folder: &Reach) -> Result<(), Fa
     Ok(())
 }
 
-// Those that are reached and those that are not, and how many were walked from, beside 7.
+fn put_unreached(alloc: Global, line: &mut String, nid: u32) -> Result<(), Fail> {
+    let text = format!(in alloc; "not {nid:x}, ")?;
+    line.push_str(&text)?;
+    Ok(())
+}
+
+// Those that are reached and those that are not.
+fn put_all(
+    alloc: Global,
+    line: &mut String,
+    reached: &[Reach],
+    others: &[u32],
+) -> Result<(), Fail> {
+    for folder in reached {
+        put_folder(alloc, line, folder)?;
+    }
+    for nid in others {
+        put_unreached(alloc, line, *nid)?;
+    }
+    Ok(())
+}
+
+// The same, and how many were walked from.
+fn line_of_all(
+    alloc: Global,
+    reached: &[Reach],
+    others: &[u32],
+    walked: u64,
+) -> Result<String, Fail> {
+    let mut line = String::new(alloc);
+    put_all(alloc, &mut line, reached, others)?;
+    let text = format!(in alloc; "{walked}")?;
+    line.push_str(&text)?;
+    Ok(line)
+}
+
+// That of a file, where 7 are counted before.
 fn reached_line(alloc: Global, image: &[u8]) -> Result<String, Fail> {
     let Ok(checked) = check_ndb(alloc, Image::new(image)) else {
         return Err(Fail::from("no node database"));
     };
     let ndb = checked.ndb;
     let mut work = checked.work;
-    let mut line = String::new(alloc);
     work.walked = 7;
     match check_messaging(alloc, &ndb, &mut work) {
         Ok(()) => {
             let reached = reach(alloc, &ndb, &mut work)?;
-            for folder in &reached {
-                put_folder(alloc, &mut line, folder)?;
-            }
-            for nid in unreached(alloc, &ndb, &reached)? {
-                let text = format!(in alloc; "not {nid:x}, ")?;
-                line.push_str(&text)?;
-            }
+            let others = unreached(alloc, &ndb, &reached)?;
+            line_of_all(alloc, &reached, &others, work.walked)
         }
-        Err(_) => return Err(Fail::from("refused")),
+        Err(_) => Err(Fail::from("refused")),
     }
-    let walked = work.walked;
-    let text = format!(in alloc; "{walked}")?;
-    line.push_str(&text)?;
+}
+
+fn line_of_path(alloc: Global, path: &[u32]) -> Result<String, Fail> {
+    let mut line = String::new(alloc);
+    for above in path {
+        let text = format!(in alloc; "{above:x} ")?;
+        line.push_str(&text)?;
+    }
     Ok(line)
 }
 
@@ -81,21 +120,16 @@ fn path_line(alloc: Global, image: &[u8], nid: u32) -> Result<String, Fail> {
     };
     let ndb = checked.ndb;
     let mut work = checked.work;
-    let mut line = String::new(alloc);
     match check_messaging(alloc, &ndb, &mut work) {
         Ok(()) => {
             let reached = reach(alloc, &ndb, &mut work)?;
-            let Some(path) = path_from_root(alloc, &reached, nid)? else {
-                return Ok(line);
-            };
-            for above in path {
-                let text = format!(in alloc; "{above:x} ")?;
-                line.push_str(&text)?;
+            match path_from_root(alloc, &reached, nid)? {
+                Some(path) => line_of_path(alloc, &path),
+                None => Ok(String::new(alloc)),
             }
         }
-        Err(_) => return Err(Fail::from("refused")),
+        Err(_) => Err(Fail::from("refused")),
     }
-    Ok(line)
 }
 
 #[test]

@@ -1,27 +1,13 @@
 //! Whole files with a name map: what is reported of them, and their first faults.
 
-use super::line_of;
-use crate::told::is;
+use super::{change_block, is_answered};
+use crate::makers::Body::Bytes;
+use crate::makers::{add_blocks, add_nodes};
 use pst_make::Change::Set;
-use pst_make::{BlockPlan, Change, NodePlan, Plan, build, change_all, m2_plan};
+use pst_make::{Change, Plan, m2_plan};
 use std::alloc::Global;
 use std::process::Abort;
 use std::test::Fail;
-
-// Whether a plan's file is answered with a line.
-fn is_answered<R: Abort>(rt: &R, alloc: Global, plan: &Plan, line: &str) -> Result<(), Fail> {
-    let image = build(alloc, plan).expect(rt, "not made");
-    let told = line_of(alloc, &image)?;
-    is(rt, told.as_str(), line);
-    Ok(())
-}
-
-// Changes one of a plan's blocks.
-fn change_block(plan: &mut Plan, block: usize, changes: &[Change]) -> Result<(), Fail> {
-    let found = plan.blocks.get_mut(block).ok_or("no block")?;
-    change_all(&mut found.body, changes)?;
-    Ok(())
-}
 
 // The store with a name map, whose block lies at 0x4c80, with bytes of it and of the root folder's block changed.
 fn changed(alloc: Global, folder: &[Change], map: &[Change]) -> Result<Plan, Fail> {
@@ -99,11 +85,16 @@ const ROWS: [Row<'static>; 12] = [
     ),
 ];
 
+fn is_row<R: Abort + AllocGlobal>(rt: &R, row: &Row) -> Result<(), Fail> {
+    let (folder, map, line) = *row;
+    let plan = changed(rt.alloc(), folder, map)?;
+    is_answered(rt, &plan, line)
+}
+
 #[test]
 fn small_maps(rt: HostRuntime) -> Result<(), Fail> {
-    let alloc = rt.alloc();
-    for (folder, map, line) in ROWS {
-        is_answered(&rt, alloc, &changed(alloc, folder, map)?, line)?;
+    for row in &ROWS {
+        is_row(&rt, row)?;
     }
     Ok(())
 }
@@ -118,29 +109,37 @@ const BEFORE_THE_NODES: [Row<'static>; 2] = [
     ),
 ];
 
+fn is_row_with_a_table<R: Abort + AllocGlobal>(rt: &R, row: &Row) -> Result<(), Fail> {
+    let (folder, map, line) = *row;
+    let mut plan = changed(rt.alloc(), folder, map)?;
+    add_nodes(&mut plan, &[(0x12d, 12, 0)])?;
+    is_answered(rt, &plan, line)
+}
+
 #[test]
 fn a_map_comes_before_the_nodes(rt: HostRuntime) -> Result<(), Fail> {
-    let alloc = rt.alloc();
-    for (folder, map, line) in BEFORE_THE_NODES {
-        let mut plan = changed(alloc, folder, map)?;
-        plan.nodes.push(NodePlan {
-            nid: 0x12d,
-            bid_data: 12,
-            bid_sub: 0,
-            parent: 0,
-        })?;
-        is_answered(&rt, alloc, &plan, line)?;
+    for row in &BEFORE_THE_NODES {
+        is_row_with_a_table(&rt, row)?;
     }
+    Ok(())
+}
+
+// Gives the node of the map these blocks of data and of subnodes.
+fn set_map(plan: &mut Plan, bid_data: u64, bid_sub: u64) -> Result<(), Fail> {
+    let Some(node) = plan.nodes.get_mut(1) else {
+        return Err(Fail::from("no node"));
+    };
+    node.bid_data = bid_data;
+    node.bid_sub = bid_sub;
     Ok(())
 }
 
 // A map without streams, which has the same data as the root folder: one context.
 #[test]
 fn a_map_without_streams(rt: HostRuntime) -> Result<(), Fail> {
-    let alloc = rt.alloc();
-    let mut plan = m2_plan(alloc)?;
-    plan.nodes.get_mut(1).ok_or("no node")?.bid_data = 8;
-    is_answered(&rt, alloc, &plan, "yes: 2 3 3 1 0 high, 0 2 1")
+    let mut plan = m2_plan(rt.alloc())?;
+    set_map(&mut plan, 8, 0)?;
+    is_answered(&rt, &plan, "yes: 2 3 3 1 0 high, 0 2 1")
 }
 
 // A property context with the entry stream alone, which is the data of a subnode: an XBLOCK that names two blocks twice, of 12
@@ -176,24 +175,38 @@ const PIECES: [([u8; 12], [u8; 4], &str); 2] = [
     ),
 ];
 
+// The block of the map is another one.
+fn set_body(alloc: Global, plan: &mut Plan, bytes: &[u8]) -> Result<(), Fail> {
+    let Some(block) = plan.blocks.get_mut(2) else {
+        return Err(Fail::from("no block"));
+    };
+    block.body = Vec::from_slice(alloc, bytes)?;
+    Ok(())
+}
+
+fn in_pieces<'x, R: Abort + AllocGlobal>(
+    rt: &R,
+    first: &'x [u8],
+    second: &'x [u8],
+    line: &str,
+) -> Result<(), Fail> {
+    let blocks = [
+        (16, Bytes(first)),
+        (20, Bytes(second)),
+        (26, Bytes(&XBLOCK)),
+        (30, Bytes(&SUBNODES)),
+    ];
+    let mut plan = m2_plan(rt.alloc())?;
+    set_map(&mut plan, 12, 30)?;
+    set_body(rt.alloc(), &mut plan, &STREAM)?;
+    add_blocks(rt.alloc(), &mut plan, &blocks)?;
+    is_answered(rt, &plan, line)
+}
+
 #[test]
 fn entries_in_pieces(rt: HostRuntime) -> Result<(), Fail> {
-    let alloc = rt.alloc();
-    for (first, second, line) in PIECES {
-        let mut plan = m2_plan(alloc)?;
-        plan.nodes.get_mut(1).ok_or("no node")?.bid_sub = 30;
-        plan.blocks.get_mut(2).ok_or("no block")?.body = Vec::from_slice(alloc, &STREAM)?;
-        let bodies: [(u64, &[u8]); 4] = [
-            (16, &first),
-            (20, &second),
-            (26, &XBLOCK),
-            (30, &SUBNODES),
-        ];
-        for (bid, body) in bodies {
-            let body = Vec::from_slice(alloc, body)?;
-            plan.blocks.push(BlockPlan { bid, body })?;
-        }
-        is_answered(&rt, alloc, &plan, line)?;
+    for (first, second, line) in &PIECES {
+        in_pieces(&rt, first, second, line)?;
     }
     Ok(())
 }

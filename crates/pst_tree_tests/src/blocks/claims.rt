@@ -31,38 +31,55 @@ fn claimed_after<R: Abort>(
     Ok(())
 }
 
-#[test]
-fn a_refusal_keeps_the_claims_before_it(rt: HostRuntime) -> Result<(), Fail> {
-    let mut bytes = m0(rt.alloc())?;
-    flip(&mut bytes, 0x4c74)?;
-    claimed_after(&rt, rt.alloc(), &bytes, [true, true, false])?;
-    set_entry(&mut bytes, 16, &8177_u16.to_le_bytes())?;
-    claimed_after(&rt, rt.alloc(), &bytes, [true, false, false])?;
-    flip(&mut bytes, 0x4c34)?;
-    claimed_after(&rt, rt.alloc(), &bytes, [true, false, false])
+fn are_kept<R: Abort + AllocGlobal>(
+    rt: &R,
+    changes: &[Change],
+    wanted: [bool; 3],
+) -> Result<(), Fail> {
+    let image = changed(rt.alloc(), changes)?;
+    claimed_after(rt, rt.alloc(), &image, wanted)
 }
 
-// Fronts of the file, with an end of file that says so: the first block that does not lie in what is left is told.
+// The second block's trailer; that and its length, which is 8,177; these and the first block's trailer.
+#[test]
+fn a_refusal_keeps_the_claims_before_it(rt: HostRuntime) -> Result<(), Fail> {
+    let second = Change::Flip(0x4c74);
+    let length = Change::Set(ENTRY_CB, &[0xf1, 0x1f]);
+    let page = Change::Page(0x4a00);
+    let first = Change::Flip(0x4c34);
+    are_kept(&rt, &[second], [true, true, false])?;
+    are_kept(&rt, &[second, length, page], [true, false, false])?;
+    are_kept(&rt, &[second, length, page, first], [true, false, false])
+}
+
+// Fronts of the file, with an end of file that says so: the first block that does not lie in what is left is told. How long each
+// is, and the same in three bytes.
+const FRONTS: [(usize, [u8; 3], Option<BlockEntry>); 4] = [
+    (19_456, [0x00, 0x4c, 0x00], Some(FIRST)),
+    (19_520, [0x40, 0x4c, 0x00], Some(SECOND)),
+    (19_584, [0x80, 0x4c, 0x00], None),
+    (271_296, [0xc0, 0x23, 0x04], None),
+];
+
+fn is_cut<R: Abort + AllocGlobal>(
+    rt: &R,
+    row: &(usize, [u8; 3], Option<BlockEntry>),
+) -> Result<(), Fail> {
+    let (len, end, cut) = *row;
+    let changes = [Change::Cut(len), Change::Set(184, &end), Change::Header];
+    let fault = fault_in(rt.alloc(), &changes)?;
+    let wanted = match cut {
+        Some(entry) => Some(fault_of(Kind::BlockPlace, entry)),
+        None => None,
+    };
+    is_at(rt, len, fault, wanted);
+    Ok(())
+}
+
 #[test]
 fn fronts_that_cut_the_blocks(rt: HostRuntime) -> Result<(), Fail> {
-    let whole = m0(rt.alloc())?;
-    for (len, cut) in [
-        (19_456_usize, Some(FIRST)),
-        (19_520, Some(SECOND)),
-        (19_584, None),
-        (271_296, None),
-    ] {
-        let front = whole.get(..len).expect(&rt, "too short");
-        let mut bytes = Vec::from_slice(rt.alloc(), front)?;
-        set(&mut bytes, 184, &(len as u64).to_le_bytes())?;
-        Change::Header.apply(&mut bytes)?;
-        let fault = cut.map(|entry| fault_of(Kind::BlockPlace, entry));
-        is_at(
-            &rt,
-            len,
-            blocks_in(rt.alloc(), Image::new(&bytes)).err(),
-            fault,
-        );
+    for row in &FRONTS {
+        is_cut(&rt, row)?;
     }
     Ok(())
 }

@@ -1,7 +1,8 @@
 //! Look-ups in a tree of many blocks.
 
 use super::*;
-use crate::told::{holds, is, is_at};
+use crate::told::{is, is_at};
+use pst_btree::BlockTree;
 
 // The n-th of many empty blocks of a made store, whose node B-tree has one page, at 0x4800, and whose block B-tree has the
 // 24 pages from 0x4a00 on. Then come the blocks, of 64 bytes each.
@@ -25,29 +26,37 @@ fn many_blocks(alloc: Global, count: u64) -> Result<Vec<u8>, Fail> {
     build(alloc, &Plan { blocks, nodes }).map_err(|_| Fail::from("not made"))
 }
 
+// Each of so many blocks is found in three steps.
+fn are_found<R: Abort>(rt: &R, tree: &BlockTree, count: u64) {
+    for n in 0..count {
+        let entry = nth_block(n);
+        is_at(rt, n, tree.find_steps(entry.bid), (Some(entry), 3));
+    }
+}
+
+// How many blocks are summed, and the last of them.
+fn summed<R: Abort>(rt: &R, alloc: Global, image: &[u8], last: u64) -> Result<(), Fault> {
+    let image = Image::new(image);
+    let header = read_header(image)?;
+    let mut claims = Claims::new(alloc, &header)?;
+    let (tree, entries) = walk_blocks(alloc, image, &header, &mut claims)?;
+    are_found(rt, &tree, entries.len() as u64);
+    is(
+        rt,
+        (entries.len(), tree.pages(), tree.level()),
+        (401, 24, 2),
+    );
+    let (blocks, sums) = sum_blocks(image, &header, tree, &entries, &mut claims)?;
+    is(rt, (sums, blocks.entry(1604)), (401, Some(nth_block(last))));
+    Ok(())
+}
+
 // 401 entries take 21 leaves, 2 branches and a root.
 #[test]
 fn each_of_many_blocks_is_found(rt: HostRuntime) -> Result<(), Fail> {
     let bytes = many_blocks(rt.alloc(), 401)?;
-    let image = Image::new(&bytes);
-    let Ok(header) = read_header(image) else {
-        panic!(rt; "no header");
-    };
-    let mut claims = Claims::new(rt.alloc(), &header)?;
-    let Ok((tree, entries)) = walk_blocks(rt.alloc(), image, &header, &mut claims) else {
-        panic!(rt; "no tree");
-    };
-    is(&rt, entries.len(), 401);
-    is(&rt, tree.pages(), 24);
-    holds(&rt, tree.level() == 2);
-    for n in 0..401 {
-        let entry = nth_block(n);
-        is_at(&rt, n, tree.find_steps(entry.bid), (Some(entry), 3));
+    match summed(&rt, rt.alloc(), &bytes, 400) {
+        Ok(()) => Ok(()),
+        Err(_) => Err(Fail::from("refused")),
     }
-    let Ok((blocks, sums)) = sum_blocks(image, &header, tree, &entries, &mut claims) else {
-        panic!(rt; "no blocks");
-    };
-    is(&rt, sums, 401);
-    is(&rt, blocks.entry(1604), Some(nth_block(400)));
-    Ok(())
 }

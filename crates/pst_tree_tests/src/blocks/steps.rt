@@ -40,12 +40,12 @@ fn summed(bytes: &[u8], entry: BlockEntry) -> Result<(Option<Fault>, u64), Fail>
 // A block is summed, and counted, whatever the answer is.
 #[test]
 fn a_block_is_summed_and_counted(rt: HostRuntime) -> Result<(), Fail> {
-    let mut bytes = m0(rt.alloc())?;
+    let bytes = m0(rt.alloc())?;
     let other = BlockEntry { bid: 12, ..SECOND };
     is(&rt, summed(&bytes, SECOND)?, (None, 4));
     let fault = fault_of(Kind::BlockTrailer, other);
     is(&rt, summed(&bytes, other)?, (Some(fault), 4));
-    flip(&mut bytes, 0x4c40)?;
+    let bytes = changed(rt.alloc(), &[Change::Flip(0x4c40)])?;
     let fault = fault_of(Kind::BlockTrailer, SECOND);
     is(&rt, summed(&bytes, SECOND)?, (Some(fault), 4));
     Ok(())

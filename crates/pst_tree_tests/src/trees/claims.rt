@@ -1,40 +1,139 @@
-//! What a walk leaves claimed.
+//! What walks leave claimed.
+
+ghost use Rattle.std.specs.Prelude.{◌≡◌, length};
+ghost use Rattle.pst_bytes.specs.Image.{bytes_of};
+ghost use Rattle.pst_header.specs.Head.{Head};
+ghost use Rattle.pst_space.specs.Claimed.{unit_total};
 
 use super::*;
 use crate::told::is;
+use pst_header::Header;
 
-// The fault of a walk of the block B-tree, and which of these units are claimed after it.
-fn claimed_after(
+// A walk: of the block B-tree, of the node B-tree, and of the latter without a list.
+#[derive(Clone, Copy)]
+enum Walk {
+    Blocks,
+    Nodes,
+    Tree,
+}
+
+// The fault with which a walk ends.
+fn fault_of(
+    alloc: Global,
+    walk: Walk,
+    image: Image,
+    header: &Header,
+    claims: &mut Claims,
+) -> Option<Fault>
+    requires head { Head (bytes_of image) header.now }
+    requires units { length claims.old ≡ unit_total header.now }
+    ensures { length claims.new ≡ length claims.old }
+{
+    match walk {
+        Walk::Blocks => walk_blocks(alloc, image, header, claims).err(),
+        Walk::Nodes => walk_nodes(alloc, image, header, claims).err(),
+        Walk::Tree => walk_node_tree(alloc, image, header, claims).err(),
+    }
+}
+
+// The fault of the last of these walks, and which of these units are claimed then.
+fn walked(
     alloc: Global,
     image: &[u8],
+    walks: &[Walk],
     units: &[u64],
 ) -> Result<(Option<Fault>, Vec<bool>), Fault> {
     let image = Image::new(image);
     let header = read_header(image)?;
     let mut claims = Claims::new(alloc, &header)?;
-    let fault = walk_blocks(alloc, image, &header, &mut claims).err();
-    let claimed = units
-        .iter()
-        .map(|unit| claims.is_claimed(*unit))
-        .collect(alloc)?;
-    Ok((fault, claimed))
+    let mut fault = None;
+    for walk in walks {
+        fault = fault_of(alloc, *walk, image, &header, &mut claims);
+    }
+    Ok((fault, flags_of(alloc, &claims, units)?))
+}
+
+fn flags_of(alloc: Global, claims: &Claims, units: &[u64]) -> Result<Vec<bool>, Fault> {
+    let mut flags = Vec::new(alloc);
+    for unit in units {
+        flags.push(claims.is_claimed(*unit))?;
+    }
+    Ok(flags)
+}
+
+// Walks, units, the fault of the last walk, and which of the units are claimed then.
+type Row = (
+    &'static [Walk],
+    &'static [u64],
+    Option<(Kind, u64, u64)>,
+    &'static [bool],
+);
+
+fn is_claimed<R: Abort + AllocGlobal>(rt: &R, image: &[u8], row: &Row) -> Result<(), Fail> {
+    let (walks, units, fault, flags) = *row;
+    let Ok((told, claimed)) = walked(rt.alloc(), image, walks, units) else {
+        return Err(Fail::from("no header"));
+    };
+    let wanted = match fault {
+        Some((kind, at, bid)) => Some(Fault::within(kind, at, bid)),
+        None => None,
+    };
+    is(rt, (told, claimed.as_slice()), (wanted, flags));
+    Ok(())
+}
+
+// The pages of a small store lie from 0x4A00 to 0x4BFF and from 0x4800 to 0x49FF: these are claimed, and no more, and each page
+// lies on itself.
+const SMALL: [Row; 6] = [
+    (
+        &[Walk::Blocks],
+        &[16, 23, 24, 31, 32],
+        None,
+        &[false, false, true, true, false],
+    ),
+    (&[Walk::Blocks, Walk::Nodes], &[16], None, &[true]),
+    (
+        &[Walk::Blocks, Walk::Nodes, Walk::Blocks],
+        &[],
+        Some((Kind::Overlap, 0x4a00, 8)),
+        &[],
+    ),
+    (
+        &[Walk::Blocks, Walk::Nodes, Walk::Blocks, Walk::Nodes],
+        &[],
+        Some((Kind::Overlap, 0x4800, 4)),
+        &[],
+    ),
+    (&[Walk::Tree], &[16, 23, 24], None, &[true, true, false]),
+    (
+        &[Walk::Tree, Walk::Tree],
+        &[],
+        Some((Kind::Overlap, 0x4800, 4)),
+        &[],
+    ),
+];
+
+/// Stops the test where something else is claimed of a small store.
+pub(super) fn small_pages_are<R: Abort + AllocGlobal>(rt: &R, image: &[u8]) -> Result<(), Fail> {
+    for row in &SMALL {
+        is_claimed(rt, image, row)?;
+    }
+    Ok(())
 }
 
 // A branch whose second child lies at no place for a page: the branch, at unit (0x8000 - 0x4400) / 64 = 240, and the
 // first leaf stay claimed, and no more.
+const BEFORE: Row = (
+    &[Walk::Blocks],
+    &[239, 240, 255, 256],
+    Some((Kind::PagePlace, 0x8020, 9)),
+    &[false, true, true, false],
+);
+
 #[test]
 fn pages_before_a_fault_are_claimed(rt: HostRuntime) -> Result<(), Fail> {
     let mut image = three_leaves(rt.alloc(), 36)?;
     let root = [branch(4, 1), [20, 9, 0x8020], branch(40, 3)];
     put_page(&mut image, PageKind::Bbt, page_at(0), 1, &root)?;
-    let Ok((fault, claimed)) = claimed_after(rt.alloc(), &image, &[239, 240, 255, 256]) else {
-        panic!(rt; "no header");
-    };
-    is(&rt, fault, Some(Fault::within(Kind::PagePlace, 0x8020, 9)));
-    is(
-        &rt,
-        claimed.as_slice(),
-        [false, true, true, false].as_slice(),
-    );
-    Ok(())
+    is_claimed(&rt, &image, &BEFORE)
 }

@@ -1,7 +1,7 @@
 //! Keys and their bounds, and the first page that is wrong.
 
 use super::*;
-use crate::told::is;
+use crate::told::{is, is_at};
 use pst_page::{Page, open_page};
 
 // Without bit 0, the keys 4 and 5 are the same.
@@ -113,22 +113,26 @@ fn bound(page: &Page, entry: u8, high: Option<u64>) -> Result<Option<u64>, Fail>
     Ok(bound_of(page, entry, high))
 }
 
+// What the check of a leaf says of its keys, under a low and a high bound: none, or where in it the first fault is.
+fn is_in_order<R: Abort>(rt: &R, leaf: &Page, low: u64, high: Option<u64>, offset: Option<u64>) {
+    let Bref { bid, ib } = page_at(2);
+    let wanted = match offset {
+        Some(offset) => Some(Fault::within(Kind::KeyOrder, ib.saturating_add(offset), bid)),
+        None => None,
+    };
+    is_at(rt, (low, high), check_order(leaf, low, high).err(), wanted);
+}
+
 // The keys of the leaf are 20 and 36, and those of the branch above it 4, 20 and 40.
 #[test]
 fn the_keys_of_one_page(rt: HostRuntime) -> Result<(), Fail> {
     let image = three_leaves(rt.alloc(), 36)?;
     let leaf = opened(&image, page_at(2))?;
-    let Bref { bid, ib } = page_at(2);
-    let fault = |at: u64| Some(Fault::within(Kind::KeyOrder, at, bid));
-    for (low, high, wanted) in [
-        (0, None, None),
-        (20, Some(37), None),
-        (21, None, fault(ib)),
-        (0, Some(36), fault(ib.saturating_add(24))),
-        (0, Some(20), fault(ib)),
-    ] {
-        is(&rt, check_order(&leaf, low, high).err(), wanted);
-    }
+    is_in_order(&rt, &leaf, 0, None, None);
+    is_in_order(&rt, &leaf, 20, Some(37), None);
+    is_in_order(&rt, &leaf, 21, None, Some(0));
+    is_in_order(&rt, &leaf, 0, Some(36), Some(24));
+    is_in_order(&rt, &leaf, 0, Some(20), Some(0));
     let root = opened(&image, page_at(0))?;
     is(&rt, bound(&root, 0, None)?, Some(20));
     is(&rt, bound(&root, 1, None)?, Some(40));
