@@ -1,5 +1,5 @@
 #!/usr/bin/env python3
-"""Runs the kit's rt, with what it asks of the crates below each crate worked out once.
+"""Runs the kit's rt, with what it works out again and again worked out once.
 
     tools/rt.py WORD..          as `rt WORD..`
 
@@ -7,14 +7,29 @@ rt works out which crates lie below one, and a sum of all their sources, by ever
 there are 690,000 paths below the program. For the first it asks some thousand times before its first proof of `rt ci`; the sum it
 takes twice for each library, and would be busy with those of the upper ones for an hour and a half. Here what lies below is
 remembered, since crates.txt does not change while rt runs, and a sum as long as no file has changed of which it was taken.
-Nothing else of rt is touched: each proof, edit, test and program is judged by the kit's own code. Where this rt is made
-otherwise, it is run as it is.
+
+`rt ci` proves a library, and begins its edits with another proof of it, a fifth of the whole gate. Here the library is proved by
+`rattle check -o` and built from that, as rt does with programs, and the edits begin over what this proof has left: the modules
+that were checked, laid where rattle keeps its work between two checks. Behind the edits rt has the crate itself proved over that
+folder; where it is not, each edit is tried again from nothing.
+
+Each proof, edit, test and program is judged by the kit's own code. Where this rt is made otherwise, it is run as it is.
 """
+import hashlib
 import importlib.machinery
 import importlib.util
+import inspect
+import json
 import os
 import shutil
+import subprocess
 import sys
+import tempfile
+
+# The sum of the kit's calls on which this stands: how a crate is proved, how its edits are tried, and how one is checked.
+KNOWN = "7d0b5f82fb1ad6ecd9067b7c0a17cfb8398182febe9f64d448bae7199dd00088"
+# A crate without anything: its check makes the folder in which rattle keeps its work.
+NOTHING = "#![tactic(auto)]\n//! Nothing.\n"
 
 
 def kit_rt():
@@ -66,6 +81,102 @@ def remembered_sum(made, files_of):
     return stamp
 
 
+def is_known(rt):
+    """Whether the kit proves a crate and tries its edits as this file takes for granted."""
+    try:
+        text = inspect.getsource(rt.Crate.ci) + inspect.getsource(rt.must_fail_all) + inspect.getsource(rt.checked)
+    except (AttributeError, OSError, TypeError):
+        return False
+    return hashlib.sha256(text.encode()).hexdigest() == KNOWN
+
+
+def left_by(crate):
+    """The folder of a crate's out/ for what its proof has left."""
+    return os.path.join(crate.folder, "out", "proved")
+
+
+def proved_for_others(rt, crate, words):
+    """Proves a crate from nothing as one on which others stand: rt holds a library's build, and not a check, to it that no tactic
+    chose a term which a contract of theirs may read."""
+    crate.out.seek(0, os.SEEK_END)
+    begin = crate.out.tell()
+    status = crate.prove(["check", *words])
+    crate.out.seek(begin)
+    if not status and rt.rtlib.chose_a_term(crate.out.read(), True):
+        rt.say("a tactic chose a term that a contract may read, as the lines above say: write the term yourself", crate.out)
+        status = 1
+    crate.out.seek(0, os.SEEK_END)
+    return status
+
+
+def prove_library(rt, crate, flags):
+    """Proves a library from nothing, builds it of what was proved, and keeps what was checked where the crate has edits."""
+    words = crate.words(flags, keeps=False)
+    with tempfile.TemporaryDirectory(prefix="rt-proved-") as room:
+        proved = os.path.join(room, "proved")
+        status = proved_for_others(rt, crate, [*words, "-o", proved])
+        if status:
+            return status
+        for flag in ("--logic-built", "--jobs"):
+            at = words.index(flag)
+            words = [*words[:at], *words[at + 2 :]]
+        shutil.rmtree(os.path.dirname(crate.rlib), ignore_errors=True)
+        os.makedirs(os.path.dirname(crate.rlib))
+        status = crate.call(rt.rtlib.RATTLE, "build", *words, "--crate-checked", proved, "--statements", "-o", crate.rlib)
+        if status == 0 and rt.edits_of(crate)[0]:
+            shutil.rmtree(left_by(crate), ignore_errors=True)
+            shutil.move(os.path.join(proved, "toolchain"), left_by(crate))
+    return status
+
+
+def crate_proved(rt, made):
+    """How `rt ci` proves a crate or its tests, but for libraries."""
+
+    def ci(crate, flags, tests):
+        if tests or crate.is_program or crate.is_static:
+            return made(crate, flags, tests)
+        return prove_library(rt, crate, flags)
+
+    return ci
+
+
+def lay(rt, proved, kept):
+    """Lays what a proof has left where rattle keeps its work, below a folder."""
+    with tempfile.TemporaryDirectory(prefix="rt-nothing-") as room:
+        os.mkdir(os.path.join(room, "src"))
+        with open(os.path.join(room, "src", "lib.rt"), "w", encoding="utf-8") as file:
+            file.write(NOTHING)
+        logic = ["--antt-project", f"{rt.KIT}/rattle/logic/antt-project.json", "--logic-built", f"{rt.KIT}/logic_built"]
+        words = ["check", "--crate-name", "nothing", "src/lib.rt", "-L", f"dependency={rt.KIT}/rlibs", *logic, "--incremental", kept]
+        subprocess.run([rt.rtlib.RATTLE, *words], cwd=room, capture_output=True, check=False)
+    folders = os.listdir(kept)
+    if len(folders) != 1:
+        return
+    with open(os.path.join(proved, "checked.json"), encoding="utf-8") as rows, open(os.path.join(proved, "checked.a"), "rb") as all_of:
+        for name, at, length in map(json.loads, rows):
+            if "/" in name:
+                continue
+            all_of.seek(at)
+            with open(os.path.join(kept, folders[0], f"{name}.oantt"), "wb") as file:
+                file.write(all_of.read(length))
+
+
+def edits_tried(rt, made):
+    """How `rt ci` tries a crate's edits, over what its proof has left where that is there."""
+
+    def must_fail_all(crate, edits, flags):
+        if not edits or not os.path.isdir(left_by(crate)):
+            return made(crate, edits, flags)
+        with tempfile.TemporaryDirectory(prefix="rt-edits-") as kept:
+            lay(rt, left_by(crate), kept)
+            shutil.rmtree(left_by(crate))
+            tried = [rt.must_fail(crate, edit, flags, kept) for edit in edits]
+            is_sound = not rt.checked(crate, {}, flags, kept).returncode
+        return [it if is_sound and it[0] else rt.must_fail(crate, edit, flags) for edit, it in zip(edits, tried)]
+
+    return must_fail_all
+
+
 def main(words):
     sys.dont_write_bytecode = True
     rt = kit_rt()
@@ -74,6 +185,9 @@ def main(words):
     crate = rt.rtlib.Crate
     crate.below = remembered(crate.below)
     crate.stamp = remembered_sum(crate.stamp, rt.rtlib.files_of)
+    if is_known(rt):
+        rt.Crate.ci = crate_proved(rt, rt.Crate.ci)
+        rt.must_fail_all = edits_tried(rt, rt.must_fail_all)
     status = rt.main(words)
     sys.stdout.flush()
     return status

@@ -97,6 +97,7 @@ def main() -> int:
     if len(sys.argv) != 2:
         print("usage: python3 make_wheel.py FOLDER", file=sys.stderr)
         return 2
+    os.makedirs(sys.argv[1], exist_ok=True)
     print(os.path.join(sys.argv[1], build_wheel(sys.argv[1])))
     return 0
 

@@ -36,7 +36,8 @@ def again(store):
         f"{code('sha256sum')} of the file is {code(store.seal.sha256)}. It was taken before the first command and behind the last one, and "
         "was the same.",
         f"{code('sha256sum')} of the program is {code(program.sha256)}"
-        + (f", which is the program of the sources {code(told['sources'])}, proved with {texts.escaped(told['kit'])}." if told else "."),
+        + (f", which pst_show.txt names as the program of the sources {code(told['sources'])}, proved with "
+           f"{texts.escaped(told['kit'])}." if told else "."),
         f"{typed(check.words)} ends with status {check.status}, and says what stands below the verdict. The same bytes always have the "
         "same answer.",
         f"Each other command below, with {code('| sha256sum')} behind it, has the digest that stands beside it.",

@@ -42,7 +42,8 @@ def folders(store):
     reached, lost = folders_of(store.folders, store.messages)
     drawn = [tile(it) for it in tiles(reached, lost)]
     about = ("Each area is as large as the messages of a folder, by the sizes that stand in them (property 0E08), which Outlook wrote and "
-             "nobody checks. A message that several folders list counts in each.")
+             "nobody checks. A message that several folders list counts in each; how many "
+             "messages a folder has is how many rows its table has, of a damaged store those of broken messages with them.")
     if store.messages.sizeless:
         about += f" Messages without a size count as 0: {texts.number(store.messages.sizeless)}."
     columns = [("Folder", False), ("Messages", True), ("Its own", True), ("In all", True), ("Identifier", True)]

@@ -43,7 +43,7 @@ def words(store):
 def hidden(damage):
     """Where an index page is broken there may be more than is told."""
     pages = len(damage["pages"])
-    return f" What only {'that index page names' if pages == 1 else 'those index pages name'} is not known." if pages else ""
+    return f" What only {'that index page names' if pages == 1 else 'those index pages name'} may not be known." if pages else ""
 
 
 def parts_broken(damage):

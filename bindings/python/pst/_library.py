@@ -53,10 +53,11 @@ _take_back.restype = None
 
 
 def _open_library() -> ctypes.CDLL:
-    """The library that PST_LIBRARY names; else that beside this file; else the system's."""
+    """The library that PST_LIBRARY names; else that beside this file; else, in a clone, the kept one; else the system's."""
+    here = os.path.dirname(os.path.abspath(__file__))
+    near = (os.path.join(here, _NAME), os.path.join(here, *[os.pardir] * 3, "built", _NAME))
     named = os.environ.get("PST_LIBRARY")
-    beside = os.path.join(os.path.dirname(os.path.abspath(__file__)), _NAME)
-    library = ctypes.CDLL(named or (beside if os.path.exists(beside) else _NAME))
+    library = ctypes.CDLL(named or next(filter(os.path.exists, near), _NAME))
     library.pst_answer.argtypes = [
         ctypes.c_char_p,
         ctypes.c_size_t,
