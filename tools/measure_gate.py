@@ -3,13 +3,13 @@
 
   tools/measure_gate.py LOG..                 prints the table of what the logs hold
   tools/measure_gate.py --edits LOG..         and the seconds of each must-fail edit
-  tools/measure_gate.py --run LOG [NAME..]    runs `rt ci NAME..`, writes into LOG what its provers took, and prints the table
+  tools/measure_gate.py --run LOG [NAME..]    runs `tools/rt.py ci NAME..`, writes into LOG what its provers took, and prints the table
   tools/measure_gate.py --watch PID LOG       the same of an rt that runs already, until that ends
   tools/measure_gate.py --functions NAME..    proves each crate from nothing, one function after another, and prints the
                                               seconds before the first one, and those of each that takes over 15
 
 A prover is told by its command line and its folder: a crate's own check and its tests run in crates/NAME, each try of an
-edit in a folder rt-edit-.., over what a first proof of the crate left in a folder rt-edits-... Seconds are processor
+edit, or of several in one check, in a folder rt-edit-.., over what a proof of the crate left in a folder rt-edits-... Seconds are processor
 seconds of the prover and of all that it started, as the system counts them, looked at five times a second; the last
 fifth of a second is missed. Beside other work they are up to a fifth more. A log has a line for each prover, and may be
 written by several runs: of what was proved twice the last counts.
@@ -32,7 +32,7 @@ ROOT = os.path.dirname(os.path.dirname(os.path.abspath(__file__)))
 TICKS = os.sysconf("SC_CLK_TCK")
 PAUSE = 0.2
 SLOW = 15
-OVER = re.compile(r"/rt-edits-[^/]*/(\w+)$")
+OVER = re.compile(r"/rt-edits-[^/]*/(\w+)(-together)?$")
 CHECKED = re.compile(r"checked (\S+), \d+ of \d+$")
 
 
@@ -82,6 +82,8 @@ def told_of(pid):
     crate = words[words.index("--crate-name") + 1]
     if "/rt-edit-" in folder:
         over = OVER.search(words[words.index("--incremental") + 1]) if "--incremental" in words else None
+        if over and over[2]:
+            return "edits together", crate
         return f"edit {over[1] if over else 'from nothing'}", crate
     if "--crate-checked" in words:
         return "compile", crate
@@ -110,7 +112,7 @@ def watch(top, log, is_over):
 def run(names, log):
     """Runs `rt ci` and watches it; the log's last line has what the system says of all of it."""
     began, over = time.time(), threading.Event()
-    with subprocess.Popen(["rt", "ci", *names], cwd=ROOT) as gate:
+    with subprocess.Popen([sys.executable, f"{ROOT}/tools/rt.py", "ci", *names], cwd=ROOT) as gate:
         watcher = threading.Thread(target=watch, args=(gate.pid, log, over.is_set))
         watcher.start()
         gate.wait()
@@ -195,14 +197,15 @@ def read(files):
 
 
 def row(crate, done):
-    """What a crate took, and how much of it was not measured. Its edits begin and end with a proof of the crate, over what is kept."""
+    """What a crate took, and how much of it was not measured. Its edits end with a proof of the crate, over what is kept, and may begin
+    with one. How many are tried in one check is not seen."""
     last = lambda what: done.get(what, [None])[-1]
     edits = {name: last(f"edit {number}") for number, name in enumerate(edits_of(crate))}
-    tried = [it for it in edits.values() if it is not None]
-    others = sum(done.get("edit seed", [])[-2:]) + sum(done.get("edit from nothing", []))
-    lacks = (last("check") is None) + (has_tests(crate) and last("tests") is None) + len(edits) - len(tried)
+    tried, together = [it for it in edits.values() if it is not None], done.get("edits together", [])
+    others = sum(done.get("edit seed", [])[-2:]) + sum(done.get("edit from nothing", [])) + sum(together)
+    lacks = (last("check") is None) + (has_tests(crate) and last("tests") is None) + (0 if together else len(edits) - len(tried))
     made = sum(sum(done.get(it, [])[-2:]) for it in ("compile", "link"))
-    found = {"check": last("check"), "tests": last("tests"), "edits": edits, "tried": tried, "lacks": lacks}
+    found = {"check": last("check"), "tests": last("tests"), "edits": edits, "tried": [*tried, *together], "lacks": lacks}
     found["of_edits"] = sum(tried) + others
     found["all"] = (found["check"] or 0) + (found["tests"] or 0) + found["of_edits"] + made
     return found
@@ -214,13 +217,13 @@ def table(found):
     under = all_under(deps)
     rows = {it: row(it, found.get(it, {})) for it in deps}
     shown = lambda it: f"{it:.0f}" if it else ""
-    print("| Crate | Alone | Its tests | Its edits | Edits | The dearest | A change, in minutes |")
-    print("|---|---|---|---|---|---|---|")
+    print("| Crate | Alone | Its tests | Its edits | Edits | Checks of edits | The dearest | A change, in minutes |")
+    print("|---|---|---|---|---|---|---|---|")
     for crate, it in rows.items():
         every = [rows[crate], *(rows[up] for up in deps if crate in under[up])]
         change = f"{sum(one['all'] for one in every) / 60:.0f}{'+' if any(one['lacks'] for one in every) else ''}"
-        many = f"{len(it['tried'])} of {len(it['edits'])}" if len(it["tried"]) < len(it["edits"]) else len(it["edits"]) or ""
-        cells = [crate, shown(it["check"]), shown(it["tests"]), shown(it["of_edits"]), many, shown(max(it["tried"], default=0)), change]
+        many = [len(it["edits"]) or "", len(it["tried"]) or ""]
+        cells = [crate, shown(it["check"]), shown(it["tests"]), shown(it["of_edits"]), *many, shown(max(it["tried"], default=0)), change]
         print(f"| {' | '.join(map(str, cells))} |")
     parts = [sum(it[part] or 0 for it in rows.values()) / 60 for part in ("all", "check", "tests", "of_edits")]
     print("\nIn minutes: {:.0f} in all, of which {:.0f} for the crates alone, {:.0f} for tests and {:.0f} for edits.".format(*parts))

@@ -13,7 +13,11 @@ remembered, since crates.txt does not change while rt runs, and a sum as long as
 that were checked, laid where rattle keeps its work between two checks. Behind the edits rt has the crate itself proved over that
 folder; where it is not, each edit is tried again from nothing.
 
-Each proof, edit, test and program is judged by the kit's own code. Where this rt is made otherwise, it is run as it is.
+Each edit is a check of the whole crate, half of which goes by before its function is looked at. Here those edits of a crate that
+change the bodies of different functions are tried in one check (tools/edits_together.py).
+
+Each proof, test and program is judged by the kit's own code, and each edit by what the kit's prover says of its function. Where this
+rt is made otherwise, it is run as it is.
 """
 import hashlib
 import importlib.machinery
@@ -26,8 +30,12 @@ import subprocess
 import sys
 import tempfile
 
-# The sum of the kit's calls on which this stands: how a crate is proved, how its edits are tried, and how one is checked.
-KNOWN = "7d0b5f82fb1ad6ecd9067b7c0a17cfb8398182febe9f64d448bae7199dd00088"
+from edits_together import Together
+
+# The kit's calls on which this stands: how a crate is proved, how its edits are tried, and how one is checked; and the sum of their
+# text. With the first kit the edits of a crate are one call, with the second each is a task among others.
+CALLS_OF_ONE = ["must_fail_all", "checked"], "7d0b5f82fb1ad6ecd9067b7c0a17cfb8398182febe9f64d448bae7199dd00088"
+CALLS_OF_TASKS = ["must_fail", "checked", "seeded", "add_edits"], "5b582855a7407fdd84f0bf28539b0a0c73d6c23e66c1f75bec6b287113b7420d"
 # A crate without anything: its check makes the folder in which rattle keeps its work.
 NOTHING = "#![tactic(auto)]\n//! Nothing.\n"
 
@@ -81,13 +89,14 @@ def remembered_sum(made, files_of):
     return stamp
 
 
-def is_known(rt):
-    """Whether the kit proves a crate and tries its edits as this file takes for granted."""
+def is_known(rt, known):
+    """Whether the kit proves a crate and tries its edits by these calls, as this file takes for granted."""
+    names, wanted = known
     try:
-        text = inspect.getsource(rt.Crate.ci) + inspect.getsource(rt.must_fail_all) + inspect.getsource(rt.checked)
+        text = "".join(inspect.getsource(it) for it in [rt.Crate.ci, *(getattr(rt, name) for name in names)])
     except (AttributeError, OSError, TypeError):
         return False
-    return hashlib.sha256(text.encode()).hexdigest() == KNOWN
+    return hashlib.sha256(text.encode()).hexdigest() == wanted
 
 
 def left_by(crate):
@@ -177,6 +186,41 @@ def edits_tried(rt, made):
     return must_fail_all
 
 
+def seeds_of_proofs(rt, made):
+    """How the folder is made that a crate's edits begin with: of what the crate's proof has left, where that is there."""
+
+    def seeded(crate, flags, start=None):
+        if start or not os.path.isdir(left_by(crate)):
+            return made(crate, flags, start)
+        room = tempfile.mkdtemp(prefix=f"rt-edits-{os.getpid()}-")
+        rt.SEEDS.append(room)
+        os.mkdir(os.path.join(room, "seed"))
+        lay(rt, left_by(crate), os.path.join(room, "seed"))
+        shutil.rmtree(left_by(crate))
+        return room
+
+    return seeded
+
+
+def edits_added(together, made):
+    """How a crate's edits become tasks: the folder that they begin with comes behind the crate's proof, and of those that are tried
+    in one check all others behind the first."""
+
+    def add_edits(tasks, crate, edits, *words, **named):
+        results = made(tasks, crate, edits, *words, **named)
+        for group in together.groups(crate, edits):
+            for edit in group[1:]:
+                key = crate.name, "edits", edits.index(edit)
+                waits, *rest = tasks[key]
+                tasks[key] = [*waits, (crate.name, "edits", edits.index(group[0]))], *rest
+        seed = tasks.get((crate.name, "seed"))
+        if seed and (crate.name, "proof") in tasks:
+            tasks[crate.name, "seed"] = [*seed[0], (crate.name, "proof")], *seed[1:]
+        return results
+
+    return add_edits
+
+
 def main(words):
     sys.dont_write_bytecode = True
     rt = kit_rt()
@@ -185,9 +229,15 @@ def main(words):
     crate = rt.rtlib.Crate
     crate.below = remembered(crate.below)
     crate.stamp = remembered_sum(crate.stamp, rt.rtlib.files_of)
-    if is_known(rt):
+    if is_known(rt, CALLS_OF_ONE):
         rt.Crate.ci = crate_proved(rt, rt.Crate.ci)
         rt.must_fail_all = edits_tried(rt, rt.must_fail_all)
+    elif is_known(rt, CALLS_OF_TASKS):
+        together = Together(rt)
+        rt.Crate.ci = crate_proved(rt, rt.Crate.ci)
+        rt.seeded = seeds_of_proofs(rt, rt.seeded)
+        rt.must_fail = together.must_fail(rt.must_fail)
+        rt.add_edits = edits_added(together, rt.add_edits)
     status = rt.main(words)
     sys.stdout.flush()
     return status
