@@ -41,6 +41,7 @@ _pst_show() {
     ((files == 0)) || return
     case $command in
         help) mapfile -t COMPREPLY < <(compgen -W "$commands" -- "$word") ;;
+        explain) mapfile -t COMPREPLY < <(compgen -W '1 Short 2 Magic 3 Version 4 Encoded 5 HeaderCheck 6 Root 7 MapsInvalid 8 PagePlace 9 PageTrailer 10 PageShape 11 KeyOrder 12 Overlap 13 BlockPlace 14 BlockTrailer 15 BlockMissing 16 DataTree 17 Subnode 18 Nesting 19 MapPage 20 MapMissing 21 Heap 22 HeapId 23 Bth 24 Property 25 Table 26 NodeMissing 27 NodeKind 28 NoMemory' -- "$word") ;;
         check | damage | head | nodes | folders | contents | messages | props | value | export)
             compopt -o filenames 2>/dev/null
             mapfile -t COMPREPLY < <(compgen -d -- "$word"; compgen -f -X '!*.[pP][sS][tT]' -- "$word")

@@ -2,9 +2,9 @@
 """Writes the completions, and the synopsis and the commands of the manual page, from the program's own help.
 
 What the program takes stands once, in the list of its commands (crates/pst_ask/src/verb.rt) and in their help. This asks
-the built program for its help and for that of each command, and writes completions/ and, of man/pst_show.1, the synopsis
-and the commands. With
---compare it writes nothing, and says which file is another one; the status is 1 then. --program names the program in place
+the built program for its help and for that of each command, and `explain` for the kinds of fault, and writes completions/ and, of
+man/pst_show.1, the synopsis and the commands. The completions of report/pst_report have the options that its own help names.
+With --compare it writes nothing, and says which file is another one; the status is 1 then. --program names the program in place
 of ./pst_show.
 """
 import argparse
@@ -16,6 +16,9 @@ from typing import NamedTuple
 
 ROOT = os.path.dirname(os.path.dirname(os.path.abspath(__file__)))
 STORE = "*.(#i)pst(-.)"
+# What is completed of the options of pst_report: what each does, and what stands behind it.
+REPORT = {"--program": ("Asks this program", "program"), "--many": ("Writes a page over many stores", "table"),
+          "--version": ("Shows the version", "")}
 
 
 class Word(NamedTuple):
@@ -71,6 +74,23 @@ def commands_of(program):
     return [command_of(program, *row) for row in rows(help_of(program), "Commands:")]
 
 
+def kinds_of(program):
+    """The kinds of fault: of each its number, its name and what it says."""
+    lines = subprocess.run([program, "explain"], capture_output=True, text=True, check=True).stdout.splitlines()
+    return [re.fullmatch(r"(\d+) (\w+): (.*)", line).groups() for line in lines]
+
+
+def quoted(text):
+    """A text in the quotes of a shell."""
+    return "'" + text.replace("'", "'\\''") + "'"
+
+
+def report_options():
+    """The options of pst_report by its help, each with what it does and what stands behind it."""
+    named = dict.fromkeys(re.findall(r"^ {4}pst_report .*", "\n".join(help_of(f"{ROOT}/report/pst_report")), re.M))
+    return {option: REPORT[option] for line in named for option in re.findall(r"--\w+", line)}
+
+
 def own(commands):
     """The commands but for `help`, which clap adds."""
     return [command for command in commands if command.name != "help"]
@@ -113,6 +133,7 @@ _pst_show() {{
     ((files == 0)) || return
     case $command in
         help) mapfile -t COMPREPLY < <(compgen -W "$commands" -- "$word") ;;
+        explain) mapfile -t COMPREPLY < <(compgen -W '{kinds}' -- "$word") ;;
         {files})
             compopt -o filenames 2>/dev/null
             mapfile -t COMPREPLY < <(compgen -d -- "$word"; compgen -f -X '!*.[pP][sS][tT]' -- "$word")
@@ -124,7 +145,7 @@ complete -F _pst_show pst_show
 """
 
 
-def bash(commands):
+def bash(commands, kinds):
     options = [
         f"            {command.name}) options='--help {' '.join(flag for flag, _ in command.flags)}' ;;"
         for command in commands
@@ -134,7 +155,33 @@ def bash(commands):
         names=" ".join(command.name for command in commands),
         options="\n".join(options),
         files=" | ".join(command.name for command in commands if command.takes_file()),
+        kinds=" ".join(word for number, name, _ in kinds for word in (number, name)),
     )
+
+
+BASH_REPORT = """\
+# Completion of pst_report for bash.
+
+_pst_report() {{
+    local word=${{COMP_WORDS[COMP_CWORD]}}
+    COMPREPLY=()
+    if [[ $word == -* ]]; then
+        mapfile -t COMPREPLY < <(compgen -W '--help {options}' -- "$word")
+        return
+    fi
+    compopt -o filenames 2>/dev/null
+    case ${{COMP_WORDS[COMP_CWORD - 1]}} in
+        {files}) mapfile -t COMPREPLY < <(compgen -f -- "$word") ;;
+        *) mapfile -t COMPREPLY < <(compgen -d -- "$word"; compgen -f -X '!*.[pP][sS][tT]' -- "$word") ;;
+    esac
+}}
+
+complete -F _pst_report pst_report
+"""
+
+
+def bash_report(options):
+    return BASH_REPORT.format(options=" ".join(options), files=" | ".join(name for name, (_, file) in options.items() if file))
 
 
 # ---- zsh
@@ -144,7 +191,8 @@ ZSH = """\
 # Completion of pst_show for zsh.
 
 _pst_show() {{
-    local -a commands
+    local -a commands kinds
+    local kind
     commands=(
 {names}
     )
@@ -161,6 +209,13 @@ _pst_show() {{
     ((CURRENT--))
     case $command in
 {cases}
+        explain)
+            for kind in \\
+{kinds}; do
+                kinds+=("${{kind%% *}}:${{kind#*:}}" "${{kind#* }}")
+            done
+            _arguments '(- *)'{{-h,--help}}'[show help]' '1:kind:{{_describe kind kinds}}'
+            ;;
         help)
             ((CURRENT == 2)) && _describe -t commands command commands
             ;;
@@ -187,16 +242,24 @@ def zsh_case(command):
     return f"        {command.name})\n            _arguments {arguments}\n            ;;"
 
 
-def zsh(commands):
+def zsh(commands, kinds):
     return ZSH.format(
         names="\n".join(f"        '{command.name}:{command.about}'" for command in commands),
-        cases="\n".join(zsh_case(command) for command in own(commands)),
+        cases="\n".join(zsh_case(command) for command in own(commands) if command.name != "explain"),
+        kinds=" \\\n".join(f"                {quoted(f'{number} {name}:{text}')}" for number, name, text in kinds),
     )
+
+
+def zsh_report(options):
+    given = ["'(- *)'{-h,--help}'[show help]'"]
+    given += [f"'{name}[{text}]{f':{file}:_files' if file else ''}'" for name, (text, file) in options.items()]
+    arguments = " \\\n    ".join([*given, zsh_word(1, Word("FILE", "", False, False))])
+    return f"#compdef pst_report\n# Completion of pst_report for zsh.\n\n_arguments {arguments}\n"
 
 
 # ---- fish
 
-def fish(commands):
+def fish(commands, kinds):
     names = " ".join(command.name for command in commands)
     helped = " ".join(command.name for command in own(commands))
     files = " ".join(command.name for command in commands if command.takes_file())
@@ -208,12 +271,24 @@ def fish(commands):
         seen = f'complete -c pst_show -n "__fish_seen_subcommand_from {command.name}"'
         lines += [f"{seen} -l {flag.lstrip('-')} -d '{text}'" for flag, text in command.flags]
     lines += [
+        f'complete -c pst_show -n "__fish_seen_subcommand_from explain" -a "{number} {name}" -d {quoted(text)}'
+        for number, name, text in kinds
+    ]
+    lines += [
         f"complete -c pst_show -n \"__fish_seen_subcommand_from {helped}\" -s h -l help -d 'Show help'",
         f'complete -c pst_show -n "__fish_seen_subcommand_from {files}" \\',
         '    -k -a "(__fish_complete_suffix .pst)"',
         'complete -c pst_show -n "__fish_seen_subcommand_from help" -a "$commands"',
     ]
     return "\n".join(lines) + "\n"
+
+
+def fish_report(options):
+    lines = ["# Completion of pst_report for fish.", "", "complete -c pst_report -f", "complete -c pst_report -s h -l help -d 'Show help'"]
+    lines += [
+        f"complete -c pst_report -l {name.lstrip('-')}{' -r -F' if file else ''} -d '{text}'" for name, (text, file) in options.items()
+    ]
+    return "\n".join([*lines, 'complete -c pst_report -k -a "(__fish_complete_suffix .pst)"']) + "\n"
 
 
 # ---- the manual page
@@ -258,17 +333,22 @@ def manual(commands, page):
 # ---- all of them
 
 def text_of(path):
+    if not os.path.isfile(os.path.join(ROOT, path)):
+        return ""
     with open(os.path.join(ROOT, path), encoding="utf-8") as file:
         return file.read()
 
 
-def written(commands):
+def written(commands, kinds, options):
     """The files with what they have to hold."""
     page = "man/pst_show.1"
     return {
-        "completions/pst_show.bash": bash(commands),
-        "completions/_pst_show": zsh(commands),
-        "completions/pst_show.fish": fish(commands),
+        "completions/pst_show.bash": bash(commands, kinds),
+        "completions/_pst_show": zsh(commands, kinds),
+        "completions/pst_show.fish": fish(commands, kinds),
+        "completions/pst_report.bash": bash_report(options),
+        "completions/_pst_report": zsh_report(options),
+        "completions/pst_report.fish": fish_report(options),
         page: manual(commands, text_of(page)),
     }
 
@@ -278,7 +358,8 @@ def main():
     parser.add_argument("--program", default=f"{ROOT}/pst_show", help="the program, in place of ./pst_show")
     parser.add_argument("--compare", action="store_true", help="writes nothing, and says which files are others")
     given = parser.parse_args()
-    files = written(commands_of(os.path.abspath(given.program)))
+    program = os.path.abspath(given.program)
+    files = written(commands_of(program), kinds_of(program), report_options())
     others = [path for path, text in files.items() if text_of(path) != text]
     if given.compare:
         for path in others:
