@@ -87,8 +87,8 @@ def quoted(text):
 
 def report_options():
     """The options of pst_report by its help, each with what it does and what stands behind it."""
-    named = dict.fromkeys(re.findall(r"^ {4}pst_report .*", "\n".join(help_of(f"{ROOT}/report/pst_report")), re.M))
-    return {option: REPORT[option] for line in named for option in re.findall(r"--\w+", line)}
+    lines = [line for line in help_of(f"{ROOT}/report/pst_report") if line.startswith("    pst_report ")]
+    return {option: REPORT[option] for line in lines for option in re.findall(r"--\w+", line)}
 
 
 def own(commands):
