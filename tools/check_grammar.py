@@ -4,7 +4,9 @@
     tools/check_grammar.py [--write]
 
 A public clause is a `requires` or an `ensures` of a `pub fn`, or a ghost member of an iterator. The definitions are those
-that it brings in from the `specs/` of the repository's crates. The page names a definition by its word between backticks.
+that it brings in from the `specs/` of the repository's crates. The page names a definition where the row that has its word between
+backticks stands below its crate and has its file: a word with two homes is to be named in a row of each. And each word of a row is
+defined in a file of that row, or is a type of the crate's sources.
 
 A number is a constant of `src/` that a file of `specs/` brings in. The page's table "Numbers" has each with its value and its
 file, which are compared, and what [MS-PST] calls it. Crates of tests and of test images are left out. With --write the table's
@@ -25,6 +27,10 @@ NUMBERS = re.compile(r"use Rattle\.(?:\w+\.)*?(pst_\w+)\.specs\.(?:(pst_\w+)\.)*
 ROW = re.compile(r"^\| `(\w+)` \| (.*?) \| (.*?) \| (.*?) \| (\S+) \|$", re.M)
 TABLE = re.compile(r"(?<=\n## Numbers\n)(.*?\n\|---\|.*?\n)(.*?)(?=\n\n|\Z)", re.S)
 WORD = re.compile(r"[^\s(){}\[\].,;:×→↔λ≡∷+*<>≤=-]+")
+SECTION = re.compile(r"^## (pst_\w+): .*?\n(.*?)(?=^## |\Z)", re.M | re.S)
+HOMES = re.compile(r"^\| (.*?) \| .* \| specs/(\S.*?) \|$", re.M)
+PASSED_ON = re.compile(r"^pub use Rattle\.(\w+)\.specs(?:\.([\w.]+))?(?: as (\w+))?$", re.M)
+DEFINED = re.compile(r"^ *(?:(?:abbrev|unfoldable) )?(?:pub )?(?:record |data )?◌?([^\s:(◌]+)◌?(?: [({].*)? :", re.M)
 
 
 def imported(text):
@@ -114,22 +120,57 @@ def check_numbers(page):
     return len(wrong) + len(unnamed)
 
 
+def home(crate, module):
+    """The file of crates/ in which a module of specs/ stands, as it is brought in: behind the crates that pass it on. What a crate
+    passes on of one that is not the repository's is its own."""
+    first, _, rest = module.partition(".")
+    if first.startswith("pst_"):
+        return home(first, rest)
+    place = f"{crate}/specs/{module.replace('.', '/')}.antt"
+    lib = f"{crate}/specs/Lib.antt"
+    if os.path.isfile(os.path.join(HOME, "crates", place)) or not os.path.isfile(os.path.join(HOME, "crates", lib)):
+        return place
+    for other, path, name in PASSED_ON.findall(read(f"crates/{lib}")):
+        if first == (name or path.rpartition(".")[2]):
+            return home(other, ".".join(filter(None, (path, rest)))) if other.startswith("pst_") else lib
+    return place
+
+
+def homes(page):
+    """Of each row of the page its crate, its words and its files."""
+    for crate, section in SECTION.findall(page):
+        for words, files in HOMES.findall(section):
+            yield crate, re.findall(r"`([^`]*)`", words), [f"{crate}/specs/{file}" for file in files.split(", ")]
+
+
+def check_rows(page):
+    """Finds the words of rows that none of their files defines: how many."""
+    wrong = 0
+    for crate, words, files in homes(page):
+        kept = [read(f"crates/{file}") for file in files if os.path.isfile(os.path.join(HOME, "crates", file))]
+        defined = {name for text in kept for name in DEFINED.findall(text)}
+        passed = any(not other.startswith("pst_") for text in kept for other, _, _ in PASSED_ON.findall(text))
+        sources = "".join(map(read, sorted(glob.glob(os.path.join(HOME, f"crates/{crate}/src/**/*.rt"), recursive=True))))
+        for word in words:
+            if not (word in defined or passed or re.search(rf"\b(struct|enum|type) {re.escape(word)}\b", sources)):
+                print(f"{word}, in docs/GRAMMAR.md, is not defined in {', '.join(files)}")
+                wrong += 1
+    return wrong
+
+
 def check_definitions(page):
     """Finds the definitions that public clauses cite and the page lacks: how many."""
-    named = set()
-    for quoted in re.findall(r"`([^`]*)`", page):
-        named.update(WORD.findall(quoted))
-        named.add(quoted)
+    named = {(file, word) for _, words, files in homes(page) for file in files for quoted in words for word in (quoted, *WORD.findall(quoted))}
     missing = {}
     for path in sorted(glob.glob(os.path.join(HOME, "crates/*/src/**/*.rt"), recursive=True)):
         text = read(path)
         words = imported(text)
-        for clause in public_clauses(text):
-            for word in WORD.findall(clause):
-                if word in words and words[word][2] not in named and "◌" not in word:
-                    missing.setdefault(words[word], os.path.relpath(path, HOME))
-    for (crate, module, name), path in sorted(missing.items()):
-        print(f"{name} of {crate}/specs/{module.replace('.', '/')}.antt, cited in {path}, is not in docs/GRAMMAR.md")
+        cited = {words[word] for clause in public_clauses(text) for word in WORD.findall(clause) if word in words and "◌" not in word}
+        for crate, module, name in cited:
+            if (home(crate, module), name) not in named:
+                missing.setdefault((home(crate, module), name), os.path.relpath(path, HOME))
+    for (place, name), path in sorted(missing.items()):
+        print(f"{name} of {place}, cited in {path}, is not in docs/GRAMMAR.md")
     print(f"{len(missing)} definitions of public clauses are missing in docs/GRAMMAR.md")
     return len(missing)
 
@@ -143,7 +184,7 @@ def main():
         page = written(page, numbers())
         with open(os.path.join(HOME, "docs/GRAMMAR.md"), "w", encoding="utf-8") as file:
             file.write(page)
-    return 1 if check_definitions(page) + check_numbers(page) else 0
+    return 1 if check_definitions(page) + check_rows(page) + check_numbers(page) else 0
 
 
 if __name__ == "__main__":
