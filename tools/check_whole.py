@@ -1,7 +1,8 @@
 #!/usr/bin/env python3
-"""Holds what the program shows with --whole to what `damage` says and to the sound samples: over damaged copies, and over the samples.
+"""Holds `damage` to `check`, and what is shown with --whole to `damage` and to the sound samples: over damaged copies, and over the samples.
 
-Each copy of a sample has one to four other bytes, or is cut, as a seed chooses. Of a node that `damage` tells, `props` and `value`
+Each copy of a sample has one to four other bytes, or is cut, as a seed chooses. `damage` finds nothing broken exactly where `check` says
+yes, and else the fault that `check` says is among those that it tells. Of a node that `damage` tells, `props` and `value`
 say its fault; of each other node of the sample `props` shows what it shows of the sample (but for the names, where the name map is
 broken), or tells the fault of a broken page. `messages` and `folders` show exactly those that are whole, and `contents` each row as
 in the sample, or with the fault of its message. Of a sample that is sound each of the five commands answers with --whole what it
@@ -143,6 +144,14 @@ class Copy:
             good = answer[:2] == (1, b"") and (answer[2] in self.pages or first is not None and answer[2] == line_of(first))
         self.expect(good, "contents", nid, answer)
 
+    def hold_verdict(self, status, damage):
+        """What `check` says, beside what `damage` tells: nothing and yes, or something and one of it."""
+        told = [damage["header"], *damage["pages"], *damage["blocks"], damage["maps"], *(it["fault"] for it in damage["nodes"])]
+        lines = {line_of(it) for it in told if it}
+        checked = self.plain("check")
+        good = status == 1 and checked[:2] == (1, b"") and checked[2] in lines if lines else status == checked[0] == 0
+        self.expect(good, "check", checked)
+
     def hold(self):
         """Holds all of it, and returns what does not hold."""
         status, damage, line = self.plain("damage")
@@ -152,6 +161,7 @@ class Copy:
                 self.expect(self.over(*words) == (status, b"", line), *words)
             return self.faults
         damage = json.loads(damage)
+        self.hold_verdict(status, damage)
         self.broken = {it["node"]: it["fault"] for it in damage["nodes"]}
         self.pages = {line_of(it) for it in damage["pages"]}
         self.is_unnamed = NAME_MAP in self.broken or bool(self.pages)
@@ -181,7 +191,7 @@ def held(program, sample, seed):
 def main():
     parser = argparse.ArgumentParser(description="Holds what is shown with --whole to `damage` and to the sound samples.")
     parser.add_argument("--program", default=f"{ROOT}/pst_show", help="the program, in place of ./pst_show")
-    parser.add_argument("--copies", type=int, default=300, help="how many damaged copies there are")
+    parser.add_argument("--copies", type=int, default=500, help="how many damaged copies there are")
     parser.add_argument("--seed", type=int, default=1, help="what chooses the damage")
     given = parser.parse_args()
     program = os.path.abspath(given.program)
