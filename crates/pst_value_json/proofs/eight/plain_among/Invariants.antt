@@ -1,7 +1,7 @@
 use Rattle.std.proofs.Common.{◌≡◌, ◌+◌, ◌*◌, ◌<◌, ◌≤◌, ℕ, true}
 use Rattle.std.specs.Prelude.{slice_index}
 use Rattle.json.specs.Run.{is_plain}
-use Rattle.pst_value_json.proofs.utf16.plain_among.Given as goal
+use Rattle.pst_value_json.proofs.eight.plain_among.Given as goal
 
 -- where all so far were counted, they stand for themselves
 abbrev pub invariant-loop-i : goal.invariant-loop-i
