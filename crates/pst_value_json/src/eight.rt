@@ -26,30 +26,6 @@ pub(crate) fn unit_at(bytes: &[u8], at: usize) -> u32
     u32::from(bytes[at]) + 256 * u32::from(bytes[at + 1])
 }
 
-// Whether a unit is ASCII and stands for itself between quotes.
-fn is_plain_unit(unit: u32) -> bool
-    ensures ascii { IsTrue result → unit < 0x80 }
-    ensures plain { IsTrue result → is_plain unit ≡ true }
-{
-    unit >= 0x20 && unit < 0x80 && unit != 0x22 && unit != 0x5C
-}
-
-// How many of the eight units at a place are ASCII and stand for themselves. None is passed over, so that all are looked at side by
-// side.
-pub(crate) fn plain_among(bytes: &[u8], at: usize) -> u32
-    requires { at + 16 ≤ length bytes.now }
-    ensures ascii { result ≡ 8 → (k : ℕ) → k < 8 →
-        slice_index bytes.now (at + 2 * k) + 256 * slice_index bytes.now (at + 2 * k + 1) < 0x80 }
-    ensures plain { result ≡ 8 → (k : ℕ) → k < 8 → is_plain
-        (slice_index bytes.now (at + 2 * k) + 256 * slice_index bytes.now (at + 2 * k + 1)) ≡ true }
-{
-    let mut count = 0;
-    for i in 0..8 {
-        count += u32::from(is_plain_unit(unit_at(bytes, at + 2 * i)));
-    }
-    count
-}
-
 // Whether a unit is a character of its own, and stands for itself between quotes.
 fn is_whole_unit(unit: u32) -> bool
     ensures alone { IsTrue result → (unit < 0xD800) ⊎ (0xE000 ≤ unit) }
@@ -58,7 +34,8 @@ fn is_whole_unit(unit: u32) -> bool
     unit >= 0x20 && unit != 0x22 && unit != 0x5C && (unit < FIRST || unit >= BEHIND)
 }
 
-// How many of the eight units at a place are characters of their own and stand for themselves.
+// How many of the eight units at a place are characters of their own and stand for themselves. None is passed over, so that all are
+// looked at side by side.
 pub(crate) fn whole_among(bytes: &[u8], at: usize) -> u32
     requires { at + 16 ≤ length bytes.now }
     ensures alone { result ≡ 8 → (k : ℕ) → k < 8 →
@@ -71,6 +48,19 @@ pub(crate) fn whole_among(bytes: &[u8], at: usize) -> u32
     let mut count = 0;
     for i in 0..8 {
         count += u32::from(is_whole_unit(unit_at(bytes, at + 2 * i)));
+    }
+    count
+}
+
+// How many of the eight units at a place are ASCII.
+fn ascii_among(bytes: &[u8], at: usize) -> u32
+    requires { at + 16 ≤ length bytes.now }
+    ensures { result ≡ 8 → (k : ℕ) → k < 8 →
+        slice_index bytes.now (at + 2 * k) + 256 * slice_index bytes.now (at + 2 * k + 1) < 0x80 }
+{
+    let mut count = 0;
+    for i in 0..8 {
+        count += u32::from(unit_at(bytes, at + 2 * i) < 0x80);
     }
     count
 }
@@ -95,8 +85,8 @@ fn units_at(bytes: &[u8], at: usize) -> u16x8
     ])
 }
 
-/// The lower bytes of the eight units at a place, which are ASCII.
-pub(crate) fn lower_bytes(bytes: &[u8], at: usize) -> [u8; 8]
+// The lower bytes of the eight units at a place, which are ASCII.
+fn lower_bytes(bytes: &[u8], at: usize) -> [u8; 8]
     requires within { at + 16 ≤ length bytes.now }
     requires ascii { (k : ℕ) → k < 8 →
         slice_index bytes.now (at + 2 * k) + 256 * slice_index bytes.now (at + 2 * k + 1) < 0x80 }
@@ -206,9 +196,9 @@ fn lay_bytes(low: u16, high: u16, at: usize, spelt: &mut [u8; ROOM])
     spelt[at + 2] = (high % 256) as u8;
 }
 
-/// Puts eight units that are characters of their own and stand for themselves behind a text. Their bytes are laid down in an array
-/// first, and those behind the last of them go again.
-pub(crate) fn put_eight(bytes: &[u8], at: usize, text: &mut Vec<u8>) -> Result<(), AllocError>
+// Puts the characters that eight units are, which stand for themselves, behind a text. Their bytes are laid down in an array first,
+// and those behind the last of them go again.
+fn put_characters(bytes: &[u8], at: usize, text: &mut Vec<u8>) -> Result<(), AllocError>
     requires within { at + 16 ≤ length bytes.now }
     requires alone { (k : ℕ) → k < 8 →
         (slice_index bytes.now (at + 2 * k) + 256 * slice_index bytes.now (at + 2 * k + 1) < 0xD800)
@@ -231,4 +221,24 @@ pub(crate) fn put_eight(bytes: &[u8], at: usize, text: &mut Vec<u8>) -> Result<(
     text.extend_from_slice(&spelt)?;
     text.truncate(whole);
     Ok(())
+}
+
+/// Puts eight units that are characters of their own and stand for themselves behind a text.
+pub(crate) fn put_eight(bytes: &[u8], at: usize, text: &mut Vec<u8>) -> Result<(), AllocError>
+    requires within { at + 16 ≤ length bytes.now }
+    requires alone { (k : ℕ) → k < 8 →
+        (slice_index bytes.now (at + 2 * k) + 256 * slice_index bytes.now (at + 2 * k + 1) < 0xD800)
+        ⊎ (0xE000 ≤ slice_index bytes.now (at + 2 * k) + 256 * slice_index bytes.now (at + 2 * k + 1)) }
+    requires plain { (k : ℕ) → k < 8 →
+        slice_index bytes.now (at + 2 * k) + 256 * slice_index bytes.now (at + 2 * k + 1) < 0x80 → is_plain
+        (slice_index bytes.now (at + 2 * k) + 256 * slice_index bytes.now (at + 2 * k + 1)) ≡ true }
+    ensures put { OnOk result (text.new.items ++ escape (utf8_of (drop (at + 16) bytes.now))
+        ≡ text.old.items ++ escape (utf8_of (drop at bytes.now))) }
+    ensures kept { BeginsWith text.new.items text.old.items }
+{
+    if ascii_among(bytes, at) == 8 {
+        text.extend_from_slice(&lower_bytes(bytes, at))?;
+        return Ok(());
+    }
+    put_characters(bytes, at, text)
 }

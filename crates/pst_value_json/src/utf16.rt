@@ -9,7 +9,7 @@ ghost use Rattle.pst_datatree.specs.Shown.{bytes_in};
 ghost use Rattle.pst_value_json.specs.Value.{utf8_of};
 ghost use Rattle.pst_value_json.specs.Kept.{BeginsWith};
 
-use crate::eight::{lower_bytes, plain_among, put_eight, unit_at, whole_among};
+use crate::eight::{put_eight, unit_at, whole_among};
 use crate::escape::put_escape_reserved;
 use pst_datatree::{Pieces, Value};
 use std::alloc::{AllocError, Global};
@@ -150,7 +150,7 @@ fn put_run(bytes: &[u8], from: usize, count: usize, text: &mut Vec<u8>) -> usize
 }
 
 // Puts the next eight characters behind a text, from a place on, or as many as are left, and says where the next one begins. Eight units
-// that stand for themselves go at once, of ASCII and of others.
+// that stand for themselves go at once.
 fn put_next(bytes: &[u8], at: usize, text: &mut Vec<u8>) -> Result<usize, AllocError>
     requires { at + 2 ≤ length bytes.now }
     ensures within { IfOk result (λ end. (at < end) × (end ≤ length bytes.now)) }
@@ -158,15 +158,9 @@ fn put_next(bytes: &[u8], at: usize, text: &mut Vec<u8>) -> Result<usize, AllocE
         ≡ text.old.items ++ escape (utf8_of (drop at bytes.now))) }
     ensures kept { BeginsWith text.new.items text.old.items }
 {
-    if bytes.len() - at >= 16 {
-        if plain_among(bytes, at) == 8 {
-            text.extend_from_slice(&lower_bytes(bytes, at))?;
-            return Ok(at + 16);
-        }
-        if whole_among(bytes, at) == 8 {
-            put_eight(bytes, at, text)?;
-            return Ok(at + 16);
-        }
+    if bytes.len() - at >= 16 && whole_among(bytes, at) == 8 {
+        put_eight(bytes, at, text)?;
+        return Ok(at + 16);
     }
     let count = min((bytes.len() - at) / 2, RUN);
     text.reserve(MOST * count)?;

@@ -1,7 +1,7 @@
 use Rattle.std.proofs.Common.{◌≡◌, ◌++◌, ◌+◌, ◌*◌, ◌≤◌, length, take, drop}
 use Rattle.json.specs.Print.{escape}
 use Rattle.pst_value_json.specs.Value.{utf8_of}
-use Rattle.pst_value_json.proofs.eight.put_eight.Given as goal
+use Rattle.pst_value_json.proofs.eight.put_characters.Given as goal
 
 -- what is laid down, with what is left, is all
 abbrev pub invariant-loop-i : goal.invariant-loop-i
