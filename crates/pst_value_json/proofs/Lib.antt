@@ -1,4 +1,5 @@
 pub mod CellLemmas
+pub mod CharacterLemmas
 pub mod ColumnLemmas
 pub mod DigitLemmas
 pub mod EscapeLemmas
@@ -14,5 +15,6 @@ pub mod PlaceLemmas
 pub mod PropLemmas
 pub mod RowLemmas
 pub mod TimeLemmas
+pub mod UnitLanes
 pub mod UnitLemmas
 pub mod ValueLemmas

@@ -1,7 +1,8 @@
 -- Texts of 16-bit units, character by character.
-use Rattle.std.proofs.Common.{◌≡◌, ℕ, zero, suc, ◌+◌, ◌-◌, ◌*◌, ◌<◌, ◌≤◌, true, List, [], ◌∷◌, ◌++◌, length, drop, get_or, refl, sym, ap, ◌∙◌, arith, append_assoc, append-nil, map, length-drop, inl, inr}
+use Rattle.std.proofs.Common.{◌≡◌, ℕ, zero, suc, ◌+◌, ◌-◌, ◌*◌, ◌<◌, ◌≤◌, true, List, [], ◌∷◌, ◌++◌, length, take, drop, get_or, refl, sym, ap, ◌∙◌, arith, append_assoc, append-nil, map, length-drop, inl, inr}
 use Rattle.std.proofs.lemmas.Bool.{lt-leb, le-leb, lt-ltb, le-ltb}
-use Rattle.std.proofs.lemmas.List.{drop_more}
+use Rattle.std.proofs.Math.Seq.{take-suc}
+use Rattle.std.proofs.lemmas.List.{drop_more, take_all}
 use Rattle.std.proofs.lemmas.Str.Ascii.{encode_ascii}
 use Rattle.std.specs.Prelude.{◌/◌, ◌%◌, false, ◌⊎◌, Option, encode_utf8_all, Some, None}
 use Rattle.std.proofs.lemmas.Grind.{flat_map-append}
@@ -87,31 +88,37 @@ plain_units (suc n) bytes at text whole inside small plain so_far =
     ∙ plain_put bytes i (text ++ lowers bytes at n) (text ++ lowers bytes at (suc n)) whole (omega (arith, inside)) (omega (arith, small n last)) none
     (ap is_plain (sym same) ∙ plain n last) (sym (append_assoc text (lowers bytes at n) (get_or bytes i 0 ∷ []))) before
 
+-- these bytes, one by one
+lowest : (n : ℕ) (bytes : List ℕ) (at : ℕ) (low : List ℕ) → n ≤ length low → ((k : ℕ) → k < n → get_or low k 0 ≡ get_or bytes (at + 2 * k) 0) → take n low ≡ lowers bytes at n
+lowest zero bytes at low within same = refl
+lowest (suc n) bytes at low within same =
+    let last : n < suc n = omega arith in
+    take-suc low n 0 (omega (arith, within))
+    ∙ ap (λ l. l ++ get_or low n 0 ∷ []) (lowest n bytes at low (omega (arith, within)) (λ k lt. same k (omega (arith, lt))))
+    ∙ ap (λ x. lowers bytes at n ++ x ∷ []) (same n last)
+
 -- eight that stand for themselves
 pub eight_put : (bytes : List ℕ) (at : ℕ) (low text put : List ℕ) → at + 16 ≤ length bytes
     → ((k : ℕ) → k < 8 → get_or bytes (at + 2 * k) 0 + 256 * get_or bytes (at + 2 * k + 1) 0 < 128)
     → ((k : ℕ) → k < 8 → is_plain (get_or bytes (at + 2 * k) 0 + 256 * get_or bytes (at + 2 * k + 1) 0) ≡ true)
-    → low ≡ get_or bytes at 0 ∷ get_or bytes (at + 2) 0 ∷ get_or bytes (at + 4) 0 ∷ get_or bytes (at + 6) 0
-    ∷ get_or bytes (at + 8) 0 ∷ get_or bytes (at + 10) 0 ∷ get_or bytes (at + 12) 0 ∷ get_or bytes (at + 14) 0 ∷ []
+    → length low ≡ 8 → ((k : ℕ) → k < 8 → get_or low k 0 ≡ get_or bytes (at + 2 * k) 0)
     → put ≡ text ++ low → put ++ escape (utf8_of (drop (at + 16) bytes)) ≡ text ++ escape (utf8_of (drop at bytes))
-eight_put bytes at low text put inside small plain lowest now =
-    let here : at ≡ at + 2 * 0 = omega arith in
-    let byte : ℕ → ℕ = λ i. get_or bytes i 0 in
-    let rest = byte (at + 2) ∷ byte (at + 4) ∷ byte (at + 6) ∷ byte (at + 8) ∷ byte (at + 10) ∷ byte (at + 12) ∷ byte (at + 14) ∷ [] in
-    ap (λ l. l ++ escape (utf8_of (drop (at + 16) bytes))) (now ∙ ap (λ l. text ++ l) (lowest ∙ ap (λ i. byte i ∷ rest) here))
+eight_put bytes at low text put inside small plain long same now =
+    let all : low ≡ lowers bytes at 8 = sym (take_all 8 low (omega (arith, long))) ∙ lowest 8 bytes at low (omega (arith, long)) same in
+    ap (λ l. l ++ escape (utf8_of (drop (at + 16) bytes))) (now ∙ ap (λ l. text ++ l) all)
     ∙ plain_units 8 bytes at text (text ++ escape (utf8_of (drop at bytes))) inside small plain refl
 
 -- ---- characters of several bytes
 
 -- a byte that is not ASCII stands for itself
-high_plain : (x : ℕ) → 128 ≤ x → escape_byte x ≡ x ∷ []
+pub high_plain : (x : ℕ) → 128 ≤ x → escape_byte x ≡ x ∷ []
 high_plain x h = escape_byte_plain x (λ e. omega arith) (λ e. omega arith) (omega arith)
 
-encode_two : (c : ℕ) → 128 ≤ c → c < 2048 → encode_utf8 c ≡ (192 + c / 64) ∷ (128 + c % 64) ∷ []
+pub encode_two : (c : ℕ) → 128 ≤ c → c < 2048 → encode_utf8 c ≡ (192 + c / 64) ∷ (128 + c % 64) ∷ []
 unfolding encode_utf8
 encode_two c h l = rw (le-ltb c 128 h, lt-ltb c 2048 l) refl
 
-encode_three : (c : ℕ) → 2048 ≤ c → c < 65536 → encode_utf8 c ≡ (224 + c / 4096) ∷ (128 + c / 64 % 64) ∷ (128 + c % 64) ∷ []
+pub encode_three : (c : ℕ) → 2048 ≤ c → c < 65536 → encode_utf8 c ≡ (224 + c / 4096) ∷ (128 + c / 64 % 64) ∷ (128 + c % 64) ∷ []
 unfolding encode_utf8
 encode_three c h l = let more : 128 ≤ c = omega arith in rw (le-ltb c 128 more, le-ltb c 2048 h, lt-ltb c 65536 l) refl
 

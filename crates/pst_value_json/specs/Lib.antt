@@ -5,6 +5,7 @@ pub mod Kept
 pub mod Plain
 pub mod Form
 pub mod Value
+pub mod Characters
 pub mod Time
 pub mod Places
 pub mod Filed

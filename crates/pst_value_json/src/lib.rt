@@ -27,6 +27,7 @@
 mod cells;
 mod compact;
 mod digits;
+mod eight;
 mod escape;
 mod filed;
 mod form;

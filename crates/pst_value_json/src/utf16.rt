@@ -9,6 +9,7 @@ ghost use Rattle.pst_datatree.specs.Shown.{bytes_in};
 ghost use Rattle.pst_value_json.specs.Value.{utf8_of};
 ghost use Rattle.pst_value_json.specs.Kept.{BeginsWith};
 
+use crate::eight::{put_eight, unit_at, whole_among};
 use crate::escape::put_escape_reserved;
 use pst_datatree::{Pieces, Value};
 use std::alloc::{AllocError, Global};
@@ -31,49 +32,6 @@ const FIRST: u32 = 0xD800;
 const SECOND: u32 = 0xDC00;
 
 const BEHIND: u32 = 0xE000;
-
-// Whether a unit is ASCII and stands for itself between quotes.
-fn is_plain_unit(unit: u32) -> bool
-    ensures ascii { IsTrue result → unit < 0x80 }
-    ensures plain { IsTrue result → is_plain unit ≡ true }
-{
-    unit >= 0x20 && unit < 0x80 && unit != 0x22 && unit != 0x5C
-}
-
-// How many of the eight units at a place are ASCII and stand for themselves. None is passed over, so that all are looked at side by
-// side.
-fn plain_among(bytes: &[u8], at: usize) -> u32
-    requires { at + 16 ≤ length bytes.now }
-    ensures ascii { result ≡ 8 → (k : ℕ) → k < 8 →
-        slice_index bytes.now (at + 2 * k) + 256 * slice_index bytes.now (at + 2 * k + 1) < 0x80 }
-    ensures plain { result ≡ 8 → (k : ℕ) → k < 8 → is_plain
-        (slice_index bytes.now (at + 2 * k) + 256 * slice_index bytes.now (at + 2 * k + 1)) ≡ true }
-{
-    let mut count = 0;
-    for i in 0..8 {
-        count += u32::from(is_plain_unit(unit_at(bytes, at + 2 * i)));
-    }
-    count
-}
-
-// The lower bytes of the eight units at a place.
-fn lower_bytes(bytes: &[u8], at: usize) -> [u8; 8]
-    requires { at + 16 ≤ length bytes.now }
-    ensures { let byte = slice_index bytes.now in
-        result ≡ byte at ∷ byte (at + 2) ∷ byte (at + 4) ∷ byte (at + 6)
-        ∷ byte (at + 8) ∷ byte (at + 10) ∷ byte (at + 12) ∷ byte (at + 14) ∷ [] }
-{
-    [
-        bytes[at],
-        bytes[at + 2],
-        bytes[at + 4],
-        bytes[at + 6],
-        bytes[at + 8],
-        bytes[at + 10],
-        bytes[at + 12],
-        bytes[at + 14],
-    ]
-}
 
 // The last six bits of a character, as a byte behind its first.
 fn following(bits: u32) -> u8
@@ -119,14 +77,6 @@ fn put_four(shown: u32, text: &mut Vec<u8>)
     text.push_reserved(following(shown / 0x1000));
     text.push_reserved(following(shown / 64));
     text.push_reserved(following(shown));
-}
-
-// The unit at a place.
-fn unit_at(bytes: &[u8], at: usize) -> u32
-    requires { at + 2 ≤ length bytes.now }
-    ensures { result ≡ slice_index bytes.now at + 256 * slice_index bytes.now (at + 1) }
-{
-    u32::from(bytes[at]) + 256 * u32::from(bytes[at + 1])
 }
 
 // Puts the character behind a text that begins with a surrogate at a place: that of a pair, or U+FFFD; and says where the next one
@@ -208,8 +158,8 @@ fn put_next(bytes: &[u8], at: usize, text: &mut Vec<u8>) -> Result<usize, AllocE
         ≡ text.old.items ++ escape (utf8_of (drop at bytes.now))) }
     ensures kept { BeginsWith text.new.items text.old.items }
 {
-    if bytes.len() - at >= 16 && plain_among(bytes, at) == 8 {
-        text.extend_from_slice(&lower_bytes(bytes, at))?;
+    if bytes.len() - at >= 16 && whole_among(bytes, at) == 8 {
+        put_eight(bytes, at, text)?;
         return Ok(at + 16);
     }
     let count = min((bytes.len() - at) / 2, RUN);
