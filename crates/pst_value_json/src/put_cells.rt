@@ -44,11 +44,7 @@ fn put_cell_value(
 
 // Puts the places of a cell behind a text, where these are asked for: nothing stands before them in the object.
 #[tactic(auto, unfolding(json::specs::Print::escape_byte), using(crate::proofs::MemberLemmas::first_there))]
-fn put_first_places(
-    places: bool,
-    value: Value,
-    text: &mut Vec<u8>,
-) -> Result<(), AllocError>
+fn put_first_places(places: bool, value: Value, text: &mut Vec<u8>) -> Result<(), AllocError>
     ensures put { let shown = option_map places_data (if_asked places (places_in value.entry)) in
         OnOk result (text.new.items
         ≡ text.old.items ++ first_member_text (codes "places") shown) }

@@ -10,8 +10,8 @@ ghost use Rattle.pst_value_json.specs.Props.{kind_data, set_data, called_data, s
 ghost use Rattle.pst_value_json.specs.Kept.{BeginsWith};
 
 use crate::digits::put_id;
-use crate::put_places::put_places;
 use crate::put::{put_natural, put_null, put_string};
+use crate::put_places::put_places;
 use crate::put_values::{put_guid, put_text, put_value};
 use pst_datatree::Value;
 use pst_names::{Name, NameKind};
@@ -72,11 +72,7 @@ fn put_set_member(name: &Option<Name>, text: &mut Vec<u8>) -> Result<(), AllocEr
 
 // Puts the places of a value behind a text, where these are asked for.
 #[tactic(auto, unfolding(json::specs::Print::escape_byte), using(crate::proofs::MemberLemmas::there_put))]
-fn put_places_member(
-    places: bool,
-    value: Value,
-    text: &mut Vec<u8>,
-) -> Result<(), AllocError>
+fn put_places_member(places: bool, value: Value, text: &mut Vec<u8>) -> Result<(), AllocError>
     ensures put { let shown = option_map places_data (if_asked places (places_in value.entry)) in
         OnOk result (text.new.items ≡ text.old.items ++ if_member_text (codes "places") shown) }
     ensures kept { OnErr result (BeginsWith text.new.items text.old.items) }
