@@ -1,9 +1,10 @@
 -- Where the pieces of values lie.
 use Rattle.std.proofs.Common.{◌≡◌, ℕ, ◌+◌, ◌<◌, ◌≤◌, List, [], ◌∷◌, ◌++◌, map, length, take, drop, Option, Some, None, refl, sym, ap, ◌∙◌, arith, inl, inr, length-take, length-drop, Bor}
-use Rattle.std.specs.Prelude.{IfSome, nat_lt, option_map, if◌then◌else◌}
+use Rattle.std.specs.Prelude.{IfSome, nat_lt, option_map, if◌then◌else◌, Result, Ok, Err, OnOk, ⊤}
 use Rattle.std.proofs.lemmas.Bool.{cases_lt}
 use Rattle.std.proofs.lemmas.List.{take_min}
 use Rattle.std.proofs.lemmas.Grind.{common_steps}
+use Rattle.serde_json.specs.Written.{compact_text}
 use Rattle.pst_bytes.specs.declared.Image.{Image}
 use Rattle.pst_bytes.specs.declared.span.Span.{Span}
 use Rattle.pst_bytes.specs.Image.{bytes_of, bytes_at, IsInside}
@@ -18,7 +19,7 @@ use Rattle.pst_pc.specs.Values.{spans_in}
 use Rattle.pst_tc.specs.Values.{tc_cell}
 use Rattle.pst_value.specs.View.{IsValueOf}
 use Rattle.pst_value_json.specs.Laws.{AreBytesAt, PropPlacesLaw, CellPlacesLaw}
-use Rattle.pst_value_json.specs.Places.{in_file, places_of, places_in, content_of, content_in}
+use Rattle.pst_value_json.specs.Places.{in_file, places_data, places_of, places_in, content_of, content_in}
 
 -- ---- spans without bytes
 
@@ -62,6 +63,19 @@ places_of_pieces (Whole a s) kept q keeps is inside = absurd (cc)
 places_of_pieces (Pieces p) kept q keeps is inside =
     let same : KeepsBytes (Pieces p) (Pieces q) = rw is at keeps in
     kept_places (bytes_of (file_of p)) (bytes_of (file_of q)) (spans_left p) (spans_left q) same.0 (ap bytes_of same.1) inside
+
+-- the pieces that stand there then are the value's
+pub pieces_put : {E : Type 0} (result : Result ⊤ E) (value kept : Value) (q : PiecesView) (text put : List ℕ) → KeepsBytes value kept → kept ≡ Pieces q
+    → OnOk result (put ≡ text ++ compact_text (places_data (spans_left q))) → OnOk result (map (in_file (bytes_of (file_of q))) (spans_left q) ≡ spans_left q)
+    → OnOk result (put ≡ text ++ compact_text (places_data (places_in value)))
+pieces_put (Ok u) value kept q text put keeps is shown inside = shown ∙ ap (λ l. text ++ compact_text (places_data l)) (sym (places_of_pieces value kept q keeps is inside))
+pieces_put (Err e) value kept q text put keeps is shown inside = tt
+
+pub slice_put : {E : Type 0} (result : Result ⊤ E) (value kept : Value) (at : ℕ) (slice : Bor (List ℕ)) (text put : List ℕ) → KeepsBytes value kept → kept ≡ Whole at slice
+    → OnOk result (put ≡ text ++ compact_text (places_data (nonempty (record { at = at; len = length slice.now } ∷ []))))
+    → OnOk result (put ≡ text ++ compact_text (places_data (places_in value)))
+slice_put (Ok u) value kept at slice text put keeps is shown = shown ∙ ap (λ l. text ++ compact_text (places_data l)) (sym (places_of_slice value kept at slice keeps is))
+slice_put (Err e) value kept at slice text put keeps is shown = tt
 
 -- ---- a span that lies in the file is all there
 

@@ -39,6 +39,7 @@ mod places;
 mod props;
 mod put;
 mod put_cells;
+mod put_places;
 mod put_props;
 mod put_values;
 mod scalar;

@@ -14,9 +14,9 @@ ghost use Rattle.pst_value_json.specs.Rows.{PutsItems};
 ghost use Rattle.pst_value_json.specs.Kept.{BeginsWith};
 
 use crate::cells::cell_at;
-use crate::compact::{put_comma, put_doc};
+use crate::compact::put_comma;
 use crate::digits::{put_nid, put_tag};
-use crate::places::places_doc;
+use crate::put_places::put_places;
 use crate::put_values::{put_bytes, put_value};
 use pst_datatree::Value;
 use pst_tc::{Column, Row};
@@ -43,13 +43,8 @@ fn put_cell_value(
 }
 
 // Puts the places of a cell behind a text, where these are asked for: nothing stands before them in the object.
-#[tactic(auto, unfolding(json::specs::Print::escape_byte), using(crate::proofs::MemberLemmas::first_there, crate::proofs::PropLemmas::places_have_none))]
-fn put_first_places(
-    alloc: Global,
-    places: bool,
-    value: Value,
-    text: &mut Vec<u8>,
-) -> Result<(), AllocError>
+#[tactic(auto, unfolding(json::specs::Print::escape_byte), using(crate::proofs::MemberLemmas::first_there))]
+fn put_first_places(places: bool, value: Value, text: &mut Vec<u8>) -> Result<(), AllocError>
     ensures put { let shown = option_map places_data (if_asked places (places_in value.entry)) in
         OnOk result (text.new.items
         ≡ text.old.items ++ first_member_text (codes "places") shown) }
@@ -57,7 +52,7 @@ fn put_first_places(
 {
     if places {
         text.extend_from_slice(b"\"places\":")?;
-        put_doc(alloc, &places_doc(alloc, value)?, text)?;
+        put_places(value, text)?;
     }
     Ok(())
 }
@@ -76,7 +71,7 @@ fn put_cell(
     ensures kept { OnErr result (BeginsWith text.new.items text.old.items) }
 {
     text.push(b'{')?;
-    put_first_places(alloc, places, value, text)?;
+    put_first_places(places, value, text)?;
     put_comma(places, text)?;
     text.extend_from_slice(b"\"tag\":")?;
     put_tag(column.tag, text)?;

@@ -9,10 +9,9 @@ ghost use Rattle.pst_value_json.specs.Places.{places_in, places_data, if_asked};
 ghost use Rattle.pst_value_json.specs.Props.{kind_data, set_data, called_data, set_of_data, prop_data, filed_data};
 ghost use Rattle.pst_value_json.specs.Kept.{BeginsWith};
 
-use crate::compact::put_doc;
 use crate::digits::put_id;
-use crate::places::places_doc;
 use crate::put::{put_natural, put_null, put_string};
+use crate::put_places::put_places;
 use crate::put_values::{put_guid, put_text, put_value};
 use pst_datatree::Value;
 use pst_names::{Name, NameKind};
@@ -72,20 +71,15 @@ fn put_set_member(name: &Option<Name>, text: &mut Vec<u8>) -> Result<(), AllocEr
 }
 
 // Puts the places of a value behind a text, where these are asked for.
-#[tactic(auto, unfolding(json::specs::Print::escape_byte), using(crate::proofs::MemberLemmas::there_put, crate::proofs::PropLemmas::places_have_none))]
-fn put_places_member(
-    alloc: Global,
-    places: bool,
-    value: Value,
-    text: &mut Vec<u8>,
-) -> Result<(), AllocError>
+#[tactic(auto, unfolding(json::specs::Print::escape_byte), using(crate::proofs::MemberLemmas::there_put))]
+fn put_places_member(places: bool, value: Value, text: &mut Vec<u8>) -> Result<(), AllocError>
     ensures put { let shown = option_map places_data (if_asked places (places_in value.entry)) in
         OnOk result (text.new.items ≡ text.old.items ++ if_member_text (codes "places") shown) }
     ensures kept { OnErr result (BeginsWith text.new.items text.old.items) }
 {
     if places {
         text.extend_from_slice(b",\"places\":")?;
-        put_doc(alloc, &places_doc(alloc, value)?, text)?;
+        put_places(value, text)?;
     }
     Ok(())
 }
@@ -107,7 +101,7 @@ pub(crate) fn put_prop(
     text.extend_from_slice(b"{\"id\":")?;
     put_id(prop.id, text)?;
     put_name_member(alloc, name, text)?;
-    put_places_member(alloc, places, prop.value, text)?;
+    put_places_member(places, prop.value, text)?;
     put_set_member(name, text)?;
     text.extend_from_slice(b",\"type\":")?;
     put_id(prop.kind.0, text)?;
@@ -138,7 +132,7 @@ pub(crate) fn put_filed_prop(
     text.extend_from_slice(b",\"id\":")?;
     put_id(prop.id, text)?;
     put_name_member(alloc, name, text)?;
-    put_places_member(alloc, places, prop.value, text)?;
+    put_places_member(places, prop.value, text)?;
     put_set_member(name, text)?;
     text.extend_from_slice(b",\"type\":")?;
     put_id(prop.kind.0, text)?;

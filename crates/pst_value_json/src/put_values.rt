@@ -9,19 +9,20 @@ ghost use Rattle.serde_json.specs.Written.{compact_text};
 ghost use Rattle.pst_datatree.specs.Left.{slices_left};
 ghost use Rattle.pst_datatree.specs.Shown.{bytes_in};
 ghost use Rattle.pst_value.specs.Read.{exactly, i16_of, i32_of, i64_of, u32_of, u64_of, bool_of, guid_of, object_of};
-ghost use Rattle.pst_value_json.specs.Parts.{natural, integer};
+ghost use Rattle.pst_value.specs.Elements.{elements_left};
+ghost use Rattle.pst_value_json.specs.Parts.{natural, integer, list_data};
 ghost use Rattle.pst_value_json.specs.Value.{hex_data, text_data, guid_data, object_data, null_or_hex, or_hex, single_data, value_data};
 ghost use Rattle.pst_value_json.specs.Kept.{BeginsWith};
 
-use crate::compact::put_doc;
+use crate::compact::put_comma;
 use crate::digits::{put_lower_bytes, put_nid};
 use crate::form::{Form, form_of_type};
 use crate::put::{put_integer, put_natural, put_null, put_plain, put_truth};
 use crate::utf16::put_units;
-use crate::value::values_doc;
 use pst_datatree::{Pieces, Value};
 use pst_value::{
-    PropType, as_bool, as_guid, as_i16, as_i32, as_i64, as_object, as_u32, as_u64, elements_from,
+    Elements, PropType, as_bool, as_guid, as_i16, as_i32, as_i64, as_object, as_u32, as_u64,
+    elements_from,
 };
 use std::alloc::{AllocError, Global};
 use uuid::Uuid;
@@ -223,8 +224,30 @@ fn put_single(
     }
 }
 
+// Puts single values of this type behind a text, as a list: value by value, with no tree of them.
+fn put_values(
+    alloc: Global,
+    kind: PropType,
+    values: Elements,
+    text: &mut Vec<u8>,
+) -> Result<(), AllocError>
+    ensures put { OnOk result (text.new.items ≡ text.old.items
+        ++ compact_text (list_data (single_data kind.0) (elements_left values.entry))) }
+    ensures kept { OnErr result (BeginsWith text.new.items text.old.items) }
+{
+    text.push(b'[')?;
+    let mut later = false;
+    for value in values {
+        put_comma(later, text)?;
+        put_single(alloc, kind, value, text)?;
+        later = true;
+    }
+    text.push(b']')?;
+    Ok(())
+}
+
 /// Puts a value of this type behind a text, as `value_doc` shows it.
-#[tactic(auto, unfolding(crate::specs::Value::value_data), using(crate::proofs::ValueLemmas::values_have_none))]
+#[tactic(auto, unfolding(crate::specs::Value::value_data))]
 pub(crate) fn put_value(
     alloc: Global,
     kind: PropType,
@@ -236,10 +259,7 @@ pub(crate) fn put_value(
     ensures kept { OnErr result (BeginsWith text.new.items text.old.items) }
 {
     match elements_from(value, kind) {
-        Some(values) => {
-            let doc = values_doc(alloc, PropType(kind.0 % 0x1000), values)?;
-            put_doc(alloc, &doc, text)
-        }
+        Some(values) => put_values(alloc, PropType(kind.0 % 0x1000), values, text),
         None => put_single(alloc, kind, value, text),
     }
 }

@@ -43,8 +43,8 @@ fn single_doc(alloc: Global, kind: PropType, value: Value) -> Result<Doc, AllocE
     }
 }
 
-/// A list of single values of this type.
-pub(crate) fn values_doc(alloc: Global, kind: PropType, values: Elements) -> Result<Doc, AllocError>
+// A list of single values of this type.
+fn values_doc(alloc: Global, kind: PropType, values: Elements) -> Result<Doc, AllocError>
     ensures { IfOk result (λ d.
         view d ≡ list_data (single_data kind.0) (elements_left values.entry)) }
 {
