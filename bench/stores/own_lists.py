@@ -56,7 +56,7 @@ def own_attachments(store, messages=500, count=60_000, rows=300):
     table of the first ROWS as attachments."""
     roots(store)
     (_, *made), *entries = attachment_entries(store, rows)
-    more = [(entry, 0, 0) for entry in identifiers(count, 5)[rows:]]
+    more = [(entry, 0, 0) for entry in identifiers(count, PLAIN)[rows:]]
     shared = leaf_lists(store, [(ATTACHMENTS, *made)] + entries + more)
     message = small_message(store)
     for node in identifiers(messages, 4):
