@@ -1,9 +1,11 @@
 """Stores that are made to be slow: a long list of subnodes and another one are asked by turns, where the index of the one that
 was asked last is kept; or an index is thought to be worth less than it is."""
-from stores.contexts import BINARY, INTEGER32, STRING, PropertyContext, text
+from stores.contexts import BINARY, INTEGER32, OBJECT, STRING, PropertyContext, text
+from stores.far import EMBEDDED_OBJECT
 from stores.hostile import PLAIN, SEARCH_FOLDER, TEXTS, identifiers, named_folders, ordered, roots, small_message
 from stores.lists import data_tree, leaf_list, leaf_lists, list_over, subnode_list, xblock
-from stores.mail import ATTACHMENT_METHOD, ATTACHMENTS, DISPLAY_NAME, context, table
+from stores.mail import (ATTACHMENT_DATA, ATTACHMENT_METHOD, ATTACHMENTS, DISPLAY_NAME, EMBEDDED_MESSAGE, context,
+                         table)
 
 FILLER = 200  # bytes of a heap that no property has
 
@@ -57,6 +59,23 @@ def turning_attachments(store, count=20_000, entries=60_000, order="falling", lo
     store.node(0x200024, small_message(store), subnode_list(store, [rows] + held))
 
 
+def listed_objects(store, count=9000, entries=60_000, order="falling"):
+    """COUNT ENTRIES ORDER: a message with so many attachments, whose data are their own XBLOCKs of one block, and which share
+    a list of so many subnodes, which is rising, falling or shuffled; the least is the object that names the message which
+    they embed, the next."""
+    roots(store)
+    message, nids, made = small_message(store), identifiers(count, 5), PropertyContext(store)
+    made.set(ATTACHMENT_METHOD, INTEGER32, 5)
+    made.set_raw(ATTACHMENT_DATA, OBJECT, PLAIN)
+    span, = made.bodies()
+    block, value = store.block(span), store.block(EMBEDDED_OBJECT)
+    held = [(PLAIN, value, 0), (EMBEDDED_MESSAGE, message, 0)]
+    more = [(entry, 0, 0) for entry in identifiers(entries, PLAIN) if entry > EMBEDDED_MESSAGE]
+    shared, rows = subnode_list(store, ordered(held + more, order)), table(store, [], [(row, {}) for row in nids])
+    attached = [(row, xblock(store, [block], len(span)), shared) for row in nids]
+    store.node(0x200024, message, subnode_list(store, [(ATTACHMENTS, *rows)] + attached))
+
+
 def hollow_lists(store, messages=400, count=60_000, rows=197):
     """MESSAGES COUNT ROWS: messages with lists of their own over shared SLBLOCKs of COUNT subnodes, whose identifiers
     rise, and one without subnodes in the middle; the last ROWS are attachments, of which they share a table."""
@@ -72,4 +91,4 @@ def hollow_lists(store, messages=400, count=60_000, rows=197):
         store.node(node, message, list_over(store, leaves))
 
 
-MAKERS = (turning_scans, turning_names, turning_attachments, hollow_lists)
+MAKERS = (turning_scans, turning_names, turning_attachments, listed_objects, hollow_lists)
