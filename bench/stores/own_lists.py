@@ -63,15 +63,15 @@ def own_attachments(store, messages=500, count=60_000, rows=300):
         store.node(node, message, list_over(store, shared))
 
 
-def own_values(store, contexts=500, count=60_000, order="rising"):
-    """CONTEXTS COUNT ORDER: search folders that share a property context of 200 records, which names a subnode in
-    each, under lists of their own over shared SLBLOCKs of so many subnodes, whose identifiers are rising, falling
+def own_values(store, contexts=500, count=60_000, order="rising", records=200):
+    """CONTEXTS COUNT ORDER RECORDS: search folders that share a property context of so many records, which names a subnode
+    in each, under lists of their own over shared SLBLOCKs of so many subnodes, whose identifiers are rising, falling
     or shuffled."""
     roots(store)
     made, value = PropertyContext(store), store.block(text("value"))
     entries = [(entry, value, 0) for entry in identifiers(count, PLAIN)]
-    for number in range(200):
-        made.set_raw(number + 1, BINARY, entries[number * (count // 200)][0])
+    for number in range(records):
+        made.set_raw(number + 1, BINARY, entries[number * (count // records)][0])
     data, shared = data_tree(store, made.bodies()), leaf_lists(store, ordered(entries, order))
     for node in identifiers(contexts, SEARCH_FOLDER):
         store.node(node, data, list_over(store, shared))
