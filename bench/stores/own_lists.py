@@ -100,7 +100,7 @@ def turning_lists(store, contexts=2000, count=60_000):
     roots(store)
     span, = context(store, [(SUBJECT, STRING, text("x" * 300))]).bodies()
     block = store.block(span)
-    lists = [subnode_list(store, [(entry, 0, 0) for entry in identifiers(count, kind)]) for kind in (PLAIN, 5)]
+    lists = [subnode_list(store, [(entry, 0, 0) for entry in identifiers(count, kind)]) for kind in (PLAIN, 4)]
     for number, node in enumerate(identifiers(contexts, SEARCH_FOLDER)):
         store.node(node, xblock(store, [block], len(span)), lists[number % 2])
 
