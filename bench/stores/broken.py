@@ -1,11 +1,11 @@
 """Damaged stores that are made to be slow for `damage`: what many nodes share is broken at its end. They are no stores,
 so `check` refuses them."""
-from stores.contexts import STRING, text
+from stores.contexts import INTEGER32, STRING, text
 from stores.far import full_map
-from stores.hostile import PLAIN, attachment_entries, identifiers, ordered, roots, small_message
+from stores.hostile import PLAIN, attachment_entries, embedding_context, identifiers, ordered, roots, small_message
 from stores.lists import (BLOCKS_IN_A_LIST, SUBNODES_IN_A_LEAF, leaf_list, leaf_lists, list_over, subnode_list, xblock,
                           xxblock)
-from stores.mail import SUBJECT, context
+from stores.mail import ATTACHMENT_METHOD, ATTACHMENTS, EMBEDDED_MESSAGE, SUBJECT, context, table
 
 NO_BLOCK = 0x7FFF_FFF0  # the identifier of a block that is not there
 
@@ -17,6 +17,19 @@ def missing_rows(store, messages=4000, count=4000):
     shared, message = subnode_list(store, attachment_entries(store, count)[:-1]), small_message(store)
     for node in identifiers(messages, 4):
         store.node(node, message, shared)
+
+
+def wrong_holders(store, messages=10_000, count=10_000):
+    """MESSAGES COUNT: messages with a list of their own each and one attachment, which they share; it embeds a message with
+    so many attachments, which are one context, and whose table names in its last row a subnode that is no attachment."""
+    roots(store)
+    message, held, row = small_message(store), embedding_context(store), identifiers(1, 5)[0]
+    rows = identifiers(count, 5) + identifiers(count + 1, PLAIN)[-1:]
+    data = context(store, [(ATTACHMENT_METHOD, INTEGER32, 1)]).write()[0]
+    entries = [(ATTACHMENTS, *table(store, [], [(named, {}) for named in rows]))] + [(named, data, 0) for named in rows]
+    inner, made = leaf_list(store, [(EMBEDDED_MESSAGE, message, subnode_list(store, entries))]), table(store, [], [(row, {})])
+    for node in identifiers(messages, 4):
+        store.node(node, message, leaf_list(store, [(ATTACHMENTS, *made), (row, held, inner)]))
 
 
 def broken_maps(store, messages=2000):
@@ -60,4 +73,4 @@ def sunk_lists(store, lists=60, leaves=100, depth=250, order="shuffled"):
             below = leaf_list(store, [(PLAIN, 0, below)])
 
 
-MAKERS = (missing_rows, broken_maps, twice_listed, sunk_lists)
+MAKERS = (missing_rows, wrong_holders, broken_maps, twice_listed, sunk_lists)

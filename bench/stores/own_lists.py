@@ -56,22 +56,22 @@ def own_attachments(store, messages=500, count=60_000, rows=300):
     table of the first ROWS as attachments."""
     roots(store)
     (_, *made), *entries = attachment_entries(store, rows)
-    more = [(entry, 0, 0) for entry in identifiers(count, 5)[rows:]]
+    more = [(entry, 0, 0) for entry in identifiers(count, PLAIN)[rows:]]
     shared = leaf_lists(store, [(ATTACHMENTS, *made)] + entries + more)
     message = small_message(store)
     for node in identifiers(messages, 4):
         store.node(node, message, list_over(store, shared))
 
 
-def own_values(store, contexts=500, count=60_000, order="rising"):
-    """CONTEXTS COUNT ORDER: search folders that share a property context of 200 records, which names a subnode in
-    each, under lists of their own over shared SLBLOCKs of so many subnodes, whose identifiers are rising, falling
+def own_values(store, contexts=500, count=60_000, order="rising", records=200):
+    """CONTEXTS COUNT ORDER RECORDS: search folders that share a property context of so many records, which names a subnode
+    in each, under lists of their own over shared SLBLOCKs of so many subnodes, whose identifiers are rising, falling
     or shuffled."""
     roots(store)
     made, value = PropertyContext(store), store.block(text("value"))
     entries = [(entry, value, 0) for entry in identifiers(count, PLAIN)]
-    for number in range(200):
-        made.set_raw(number + 1, BINARY, entries[number * (count // 200)][0])
+    for number in range(records):
+        made.set_raw(number + 1, BINARY, entries[number * (count // records)][0])
     data, shared = data_tree(store, made.bodies()), leaf_lists(store, ordered(entries, order))
     for node in identifiers(contexts, SEARCH_FOLDER):
         store.node(node, data, list_over(store, shared))
@@ -100,7 +100,7 @@ def turning_lists(store, contexts=2000, count=60_000):
     roots(store)
     span, = context(store, [(SUBJECT, STRING, text("x" * 300))]).bodies()
     block = store.block(span)
-    lists = [subnode_list(store, [(entry, 0, 0) for entry in identifiers(count, kind)]) for kind in (PLAIN, 5)]
+    lists = [subnode_list(store, [(entry, 0, 0) for entry in identifiers(count, kind)]) for kind in (PLAIN, 4)]
     for number, node in enumerate(identifiers(contexts, SEARCH_FOLDER)):
         store.node(node, xblock(store, [block], len(span)), lists[number % 2])
 

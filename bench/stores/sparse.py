@@ -4,11 +4,11 @@ import struct
 
 from stores.contexts import BINARY, INTEGER32, OBJECT, STRING, PropertyContext, text
 from stores.far import EMBEDDED_OBJECT
-from stores.hostile import PLAIN, TEXTS, identifiers, named_folders, roots, small_message
+from stores.hostile import PLAIN, TEXTS, identifiers, named_folders, ordered, roots, small_message
 from stores.lists import BLOCKS_IN_A_LIST, data_of, data_tree, leaf_list, subnode_list, xblock, xxblock
 from stores.mail import (ATTACHMENT_DATA, ATTACHMENT_METHOD, ATTACHMENTS, EMBEDDED_MESSAGE, NAME_MAP, context, table)
 
-LAST_SET, FIRST_STRING = 32_003, 1_000_000
+FIRST_SET, LAST_SET, FIRST_STRING = 3, 32_003, 1_000_000
 HTML = 0x1013  # the body of a message as HTML
 
 
@@ -123,4 +123,18 @@ def long_names(store, names=1000, length=20_000):
     named_message(store, names)
 
 
-MAKERS = (sparse_values, sparse_names, sparse_objects, spelt_bodies, far_sets, crossed_entries, long_names)
+def listed_names(store, names=30_000, count=60_000, order="falling"):
+    """NAMES COUNT ORDER: a message with so many properties, each with a name that is a string of a set; the streams of the
+    name map are the least of so many subnodes, whose list is rising, falling or shuffled."""
+    roots(store)
+    entries = b"".join(struct.pack("<IHH", 0, 2 * FIRST_SET + 1, number) for number in range(names))
+    made = PropertyContext(store)
+    for identifier, stream in ((2, bytes(16)), (3, entries), (4, struct.pack("<I", 2) + text("x"))):
+        made.set_raw(identifier, BINARY, made.subnode(data_of(store, stream)))
+    held = ordered(sorted(made.subnodes) + [(entry, 0, 0) for entry in identifiers(count, PLAIN)], order)
+    store.node(NAME_MAP, data_tree(store, made.bodies()), subnode_list(store, held))
+    named_message(store, names)
+
+
+MAKERS = (sparse_values, sparse_names, sparse_objects, spelt_bodies, far_sets, crossed_entries, long_names,
+          listed_names)
