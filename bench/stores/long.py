@@ -3,8 +3,8 @@ import struct
 
 from stores.contexts import BINARY, STRING, PropertyContext, TableContext, text
 from stores.database import LONGEST_BODY
-from stores.hostile import attachment_entries, identifiers, ordered, roots, small_message
-from stores.lists import BLOCKS_IN_A_LIST, data_tree, leaf_list, subnode_list, xblock, xxblock
+from stores.hostile import PLAIN, attachment_entries, identifiers, ordered, roots, small_message
+from stores.lists import BLOCKS_IN_A_LIST, SUBNODES_IN_A_LEAF, data_tree, leaf_list, subnode_list, xblock, xxblock
 from stores.mail import DISPLAY_NAME, NAME_MAP, RECIPIENTS
 
 
@@ -70,6 +70,21 @@ def wide_table(store, rows=20_000, order="shuffled"):
         made.set_raw(DISPLAY_NAME, made.subnode(value))
     data, _ = made.write()
     inner = subnode_list(store, ordered(sorted(made.subnodes), order))
+    store.node(0x200024, small_message(store), leaf_list(store, [(RECIPIENTS, data, inner)]))
+
+
+def leaf_cells(store, rows=60_000, order="falling"):
+    """ROWS ORDER: wide_table, but that all cells are in one subnode, the least of an SLBLOCK of 340, which is rising,
+    falling or shuffled."""
+    roots(store)
+    made, value = TableContext(store, [(DISPLAY_NAME, STRING)], doubles=252), store.block(text("Reader"))
+    place = made.subnode(value)
+    for number in range(rows):
+        made.add(number, {})
+        made.set_raw(DISPLAY_NAME, place)
+    data, _ = made.write()
+    more = [(entry, 0, 0) for entry in identifiers(SUBNODES_IN_A_LEAF - len(made.subnodes), PLAIN)]
+    inner = leaf_list(store, ordered(sorted(made.subnodes) + more, order))
     store.node(0x200024, small_message(store), leaf_list(store, [(RECIPIENTS, data, inner)]))
 
 
@@ -139,5 +154,5 @@ def lost_runs(store, regions=80):
     store.mark_every_other = True
 
 
-MAKERS = (attachments, subnode_properties, table_cells, wide_table, scattered_rows, empty_spans, wide_heap,
+MAKERS = (attachments, subnode_properties, table_cells, wide_table, leaf_cells, scattered_rows, empty_spans, wide_heap,
           named_entries, deep_trees, lost_runs)
