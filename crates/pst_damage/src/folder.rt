@@ -59,11 +59,20 @@ fn check_each(left: &Left, items: Items, bid: u64, table: Tc) -> Result<(), Faul
     Ok(())
 }
 
-// A table of at most so many rows whose data has at most so many bytes, in one block, is looked at wherever it is named; only a
-// longer one is remembered. (Of few rows may be many leaves, which have none.)
+// A table of at most so many rows whose data has at most so many bytes, in one block, and which has no list of subnodes, is looked at
+// wherever it is named; only another one is remembered. (Of few rows may be many leaves, which have none; and in a list the row
+// matrix may have to be sought.)
 const FEW: u64 = 16;
 
 const SMALL: u64 = 2048;
+
+// Whether it pays to remember the rows of a table.
+fn is_worth(table: Node, rows: &Tc) -> bool {
+    table.bid_sub() != 0
+        || is_internal(table.bid_data())
+        || table.spans().size() > SMALL
+        || rows.row_count() > FEW
+}
 
 // All rows of a table, unless they are remembered: by its data, whatever its list, since no row is named there.
 fn check_rows(left: &Left, items: Items, table: Node, listings: &mut Listings) -> Result<(), Fault>
@@ -83,7 +92,7 @@ fn check_rows(left: &Left, items: Items, table: Node, listings: &mut Listings) -
     }
     let rows = known_tc(table);
     check_each(left, items, table.bid_data(), rows)?;
-    if is_internal(table.bid_data()) || table.spans().size() > SMALL || rows.row_count() > FEW {
+    if is_worth(table, &rows) {
         listings.put(items, table)?;
     }
     Ok(())

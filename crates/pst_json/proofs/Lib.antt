@@ -1,4 +1,3 @@
-pub mod CheckLemmas
 pub mod FolderLemmas
 pub mod FoundLemmas
 pub mod HeadLemmas
@@ -6,7 +5,6 @@ pub mod IndexLemmas
 pub mod ListingLemmas
 pub mod MessageLemmas
 pub mod NameLemmas
-pub mod NodeLemmas
 pub mod OutputLemmas
 pub mod PathLemmas
 pub mod PropertyLemmas

@@ -31,8 +31,11 @@ unfoldable pub lost_data : Span → Data
 lost_data s = object (member (codes "at") (natural s.at) (member (codes "len") (natural s.len) no_members))
 
 -- the runs from one on
+abbrev pub lost_left : LostRows → List Span
+lost_left rows = drop rows.at rows.runs.now
+
 abbrev pub lost_rows : LostRows → List Data
-lost_rows rows = map lost_data (drop rows.at rows.runs.now)
+lost_rows rows = map lost_data (lost_left rows)
 
 abbrev pub order_data : BitOrder → Data
 order_data High = string (codes "high")

@@ -150,7 +150,7 @@ pub(crate) struct AttachmentRows<'a> {
         (table_of_node (holder_left attachments)) index },
 }
 
-#[tactic(auto, using(crate::proofs::NodeLemmas::attachment_has_none, crate::proofs::IndexLemmas::last_of, pst_value_json::proofs::RowLemmas::puts_next))]
+#[tactic(auto, using(crate::proofs::IndexLemmas::last_of, pst_value_json::proofs::RowLemmas::puts_next))]
 impl Rows for AttachmentRows<'_> {
     ghost use Rattle.pst_json.specs.Lists.{attachment_rows_left};
 

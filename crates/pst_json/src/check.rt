@@ -3,24 +3,15 @@
 ghost use Rattle.std.specs.Prelude.{◌≡◌, IfOk};
 ghost use Rattle.serde_json.specs.Data.{string};
 ghost use Rattle.serde_json.specs.View.{view};
+ghost use Rattle.pst_value_json.specs.Object.{parts_data, KeysRise};
 ghost use Rattle.pst_json.specs.Check.{lost_data, lost_rows, report_parts, order_data, check_data, check_line as line_of_check};
 
 use pst_amap::BitOrder;
 use pst_bytes::Span;
-use pst_value_json::{Line, Made, Part, Rows, Sink, Tree};
+use pst_value_json::{Line, Made, Part, Rows, Sink, Tree, put_object};
 use pst_verify::Report;
-use serde_json::{Value as Doc, json};
+use serde_json::Value as Doc;
 use std::alloc::{AllocError, Global};
-
-// A lost run as an object.
-#[tactic(auto, unfolding(crate::specs::Check::lost_data))]
-fn lost_doc(alloc: Global, run: &Span) -> Result<Doc, AllocError>
-    ensures { IfOk result (λ d. view d ≡ lost_data run.now) }
-{
-    let at = run.at;
-    let len = run.len;
-    json!(in alloc; {"at": at, "len": len})
-}
 
 /// The lost runs from one on, each as an object.
 #[derive(Drop)]
@@ -29,17 +20,56 @@ pub(crate) struct LostRows<'a> {
     at: usize,
 }
 
-#[tactic(auto, using(crate::proofs::CheckLemmas::lost_has_none))]
+// What the object of a lost run is made of.
+#[tactic(auto, unfolding(crate::specs::Check::lost_data))]
+fn lost_parts<'a>(alloc: Global, run: Span) -> Result<Vec<Part<LostRows<'a>>>, AllocError>
+    ensures shown { IfOk result (λ parts. parts_data lost_rows parts.items ≡ lost_data run) }
+    ensures keys { IfOk result (λ parts. KeysRise lost_rows parts.items) }
+{
+    let parts = vec![in alloc;
+        Part::Value("at", Made::Natural(run.at)),
+        Part::Value("len", Made::Natural(run.len)),
+    ]?;
+    Ok(parts)
+}
+
+impl LostRows<'_> {
+    ghost use Rattle.std.specs.Prelude.{◌≡◌, [], ◌∷◌, MatchOption};
+    ghost use Rattle.pst_json.specs.Check.{lost_left};
+
+    // The next run.
+    fn next_run(&mut self) -> Option<Span>
+        ensures { MatchOption result (lost_left self.old ≡ [])
+            (λ run. lost_left self.old ≡ run ∷ lost_left self.new) }
+    {
+        let run = *self.runs.get(self.at)?;
+        self.at += 1;
+        Some(run)
+    }
+}
+
+#[tactic(auto, using(pst_value_json::proofs::RowLemmas::puts_next))]
 impl Rows for LostRows<'_> {
     ghost left = { lost_rows };
 
     fn next_doc(&mut self, alloc: Global) -> Result<Option<Doc>, AllocError> {
-        if self.at >= self.runs.len() {
-            return Ok(None);
+        match self.next_run() {
+            Some(run) => Ok(Some(Tree::object(alloc, lost_parts(alloc, run)?)?)),
+            None => Ok(None),
         }
-        let doc = lost_doc(alloc, &self.runs[self.at])?;
-        self.at += 1;
-        Ok(Some(doc))
+    }
+
+    fn put_next(
+        &mut self,
+        alloc: Global,
+        later: bool,
+        text: &mut Vec<u8>,
+    ) -> Result<bool, AllocError> {
+        let Some(run) = self.next_run() else {
+            return Ok(false);
+        };
+        put_object(alloc, lost_parts(alloc, run)?, later, text)?;
+        Ok(true)
     }
 }
 

@@ -145,7 +145,7 @@ impl<'a> FolderRows<'a> {
     }
 }
 
-#[tactic(auto, using(crate::proofs::FolderLemmas::folder_has_none, crate::proofs::RowCountLemmas::counts_of, crate::proofs::IndexLemmas::last_of))]
+#[tactic(auto, using(crate::proofs::RowCountLemmas::counts_of, crate::proofs::IndexLemmas::last_of))]
 impl Rows for FolderRows<'_> {
     ghost use Rattle.pst_json.specs.FolderRows.{folder_rows};
 

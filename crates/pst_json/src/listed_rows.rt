@@ -23,7 +23,6 @@ pub(crate) struct ListedRows<'a> {
         (table_of_intact intact) index },
 }
 
-#[tactic(auto, using(crate::proofs::FolderLemmas::row_has_none))]
 impl Rows for ListedRows<'_> {
     ghost use Rattle.pst_json.specs.Contents.{listed_rows};
 

@@ -46,7 +46,6 @@ fn put_node(entry: &NodeEntry, text: &mut Vec<u8>) -> Result<(), AllocError>
 #[derive(Drop)]
 pub(crate) struct NodeRows<'a>(Nodes<'a>);
 
-#[tactic(auto, using(crate::proofs::NodeLemmas::node_has_none))]
 impl Rows for NodeRows<'_> {
     ghost left = { node_rows };
 

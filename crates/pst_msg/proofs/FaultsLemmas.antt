@@ -1,8 +1,9 @@
 -- What is remembered of faults is true.
 use Rattle.std.proofs.Common.{◌≡◌, ℕ, true, false, cond, Bool, Option, Some, None, Result, Ok, Err, inl, inr, refl, sym, ap, ◌∙◌}
 use Rattle.std.specs.Prelude.{option_map}
-use Rattle.std.specs.BTreeMap.{get, IsEmpty, IsUnchanged}
+use Rattle.std.specs.BTreeMap.{get, btree_map_len, IsEmpty, IsUnchanged}
 use Rattle.std.specs.Ordering.{eq_by_cmp}
+use Rattle.std.proofs.lemmas.List.{nil_from_length}
 use Rattle.std.proofs.lemmas.Map.Views.{tells_apart}
 use Rattle.pst_fault.specs.declared.fault.Fault.{Fault}
 use Rattle.pst_fault.specs.Fault.{at_node}
@@ -29,6 +30,11 @@ use Rattle.pst_msg.proofs.KnownLemmas.{role_back}
 pub none_kept : (retell : Retelling) (parts : Parts) (faults : Faults) → IsEmpty faults.faults → AreFaultsOf retell parts faults
 unfolding AreFaultsOf fault_kept
 none_kept retell parts faults none q f is = let bad : None ≡ Some f = (rw none at is) in cc
+
+-- where none is remembered, of no part one is
+pub empty_kept : (faults : Faults) (q : Key) → btree_map_len faults.faults ≡ 0 → None ≡ fault_kept faults q
+unfolding fault_kept
+empty_kept faults q none = let empty : IsEmpty faults.faults = nil_from_length faults.faults.entries none in rw empty refl
 
 pub one_kept : (retell : Retelling) (parts : Parts) (old new : Faults) (q : Key) (f : Fault)
     → ((p : Key) → get key_cmp new.faults p ≡ cond (eq_by_cmp key_cmp q p) (Some f) (get key_cmp old.faults p))

@@ -31,7 +31,7 @@ pub struct Faults {
 impl Faults {
     ghost use Rattle.std.specs.Prelude.{◌≡◌, Option, Err};
     ghost use Rattle.pst_fault.specs.declared.fault.Fault.{Fault as SpecFault};
-    ghost use Rattle.pst_fault.specs.First.{Tells};
+    ghost use Rattle.pst_fault.specs.First.{IsFirst, Tells};
     ghost use Rattle.pst_msg.specs.Faults.{Parts, Retelling, IsFaultOf, fault_kept, AreFaultsOf, IsTold};
 
     /// None yet. No memory is taken.
@@ -43,12 +43,25 @@ impl Faults {
         }
     }
 
-    /// The fault that is remembered of a part.
+    // The fault that is remembered of a part. A whole store has none, so this stands apart.
+    #[cold]
+    #[inline(never)]
     #[tactic(auto, unfolding(crate::specs::Faults::fault_kept))]
-    pub fn get(&self, part: Part) -> Option<Fault>
+    fn find(&self, part: Part) -> Option<Fault>
         ensures { result ≡ fault_kept self.now part }
     {
         self.faults.get(&part).copied()
+    }
+
+    /// The fault that is remembered of a part.
+    #[tactic(auto, using(crate::proofs::FaultsLemmas::empty_kept))]
+    pub fn get(&self, part: Part) -> Option<Fault>
+        ensures { result ≡ fault_kept self.now part }
+    {
+        if self.faults.is_empty() {
+            return None;
+        }
+        self.find(part)
     }
 
     /// Remembers the fault of a part, where that pays. AllocError where memory is refused.
@@ -63,6 +76,19 @@ impl Faults {
         Ok(())
     }
 
+    // Remembers the fault of a part, and hands it on. A whole store has none, so this stands apart.
+    #[cold]
+    #[inline(never)]
+    fn refuse(&mut self, part: Part, fault: Fault) -> Result<(), Fault>
+        ensures known { (retell : Retelling) (parts : Parts) →
+            (IsTold fault → IsFaultOf retell parts part fault) →
+            AreFaultsOf retell parts self.old → AreFaultsOf retell parts self.new }
+        ensures same { (first : Option SpecFault) → IsFirst first fault → Tells result first tt }
+    {
+        self.remember(part, fault)?;
+        Err(fault)
+    }
+
     /// What a check of a part answers, whose fault is remembered from then on. NoMemory where memory is refused.
     pub fn keep(&mut self, part: Part, answer: Result<(), Fault>) -> Result<(), Fault>
         ensures known { (retell : Retelling) (parts : Parts) →
@@ -72,10 +98,7 @@ impl Faults {
     {
         match answer {
             Ok(()) => Ok(()),
-            Err(fault) => {
-                self.remember(part, fault)?;
-                Err(fault)
-            }
+            Err(fault) => self.refuse(part, fault),
         }
     }
 }

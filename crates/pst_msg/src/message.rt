@@ -1,7 +1,8 @@
 //! The check of a message, and of all that it holds. Messages nest in one another: one is gone on with, and those that wait for it
 //! stand on a stack in memory.
 
-ghost use Rattle.std.specs.Prelude.{◌≡◌, [], None, OnOk, IfOk, IfErr, IfSome, IfNone};
+ghost use Rattle.std.specs.Prelude.{◌≡◌, [], Option, None, OnOk, IfOk, IfErr, IfSome, IfNone};
+ghost use Rattle.pst_fault.specs.declared.fault.Fault.{Fault as SpecFault};
 ghost use Rattle.pst_fault.specs.Fault.{no_memory};
 ghost use Rattle.pst_fault.specs.First.{IsFirst, Tells};
 ghost use Rattle.pst_ndb.specs.Views.{table_of_node, roots_of};
@@ -54,38 +55,6 @@ fn turn_to(frame: &Frame, gone: u32, known: &mut Known) -> Result<(), Fault>
     known.indexes.turn(known.alloc, frame.node, &frame.rest)
 }
 
-// Goes on with a message: through its rows, up to one whose attachment embeds a message that has to be gone through first, which
-// is given; and after the last of them the message is remembered. `before` is 0 where none of its rows was gone through, else 1.
-fn go_on<'a>(
-    frame: &mut Frame<'a>,
-    before: u32,
-    known: &mut Known,
-) -> Result<Option<Frame<'a>>, Fault>
-    requires known { IsTrueOf (table_of_node frame.old.node) known.old }
-    requires frame { IsFrame (table_of_node frame.old.node) known.old None None frame.old }
-    requires holder { HasHolder (table_of_node frame.old.node) known.old frame.old }
-    ensures known { IsTrueOf (table_of_node frame.old.node) known.new }
-    ensures grows { let t = table_of_node frame.old.node in
-        Grows t (λ nodes. HasMessage t nodes (roots_of frame.old.node)) known.old known.new }
-    ensures refused { let t = table_of_node frame.old.node in
-        IfErr result (IsFirst (message_at t frame.old.limit (roots_of frame.old.node))) }
-    ensures done { IfOk result (λ o. IfNone o (WholeIn known.new.messages (roots_of frame.old.node)
-        × HolderIn known.new frame.old)) }
-    ensures open { let t = table_of_node frame.old.node in
-        IfOk result (λ o. IfSome o (IsWentOn t known.new frame.old frame.new)) }
-{
-    let mut gone = before;
-    while let Some(row) = frame.rest.next() {
-        turn_to(frame, gone, known)?;
-        gone = gone.saturating_add(1);
-        if let Some(above) = open_row(frame.node, frame.bid, row, frame.limit, known)? {
-            return Ok(Some(above));
-        }
-    }
-    finish(frame, known)?;
-    Ok(None)
-}
-
 // A fault in what a message holds is that of those which wait for it, too: it is known from then on of each.
 fn remember_all(node: Node, stack: &[Frame], fault: Fault, known: &mut Known) -> Result<(), Fault>
     requires known { IsTrueOf (table_of_node node) known.old }
@@ -103,8 +72,28 @@ fn remember_all(node: Node, stack: &[Frame], fault: Fault, known: &mut Known) ->
     Ok(())
 }
 
-// Goes on with a message for which these wait. Where it has a fault, that is known from then on of all of them.
-fn go_on_above<'a>(
+// A fault in what a message holds, which is known from then on and handed on. A whole store has none, so this stands apart.
+#[cold]
+#[inline(never)]
+fn refuse_all(node: Node, stack: &[Frame], fault: Fault, known: &mut Known) -> Fault
+    requires known { IsTrueOf (table_of_node node) known.old }
+    requires first { let t = table_of_node node in
+        IsFirst (held_fault t (below_message t LISTS) (roots_of node)) fault }
+    requires stack { AreBrokenBy (table_of_node node) fault stack.now }
+    ensures known { IsTrueOf (table_of_node node.entry) known.new }
+    ensures grows { Grows (table_of_node node.entry) (λ nodes. Unit {0}) known.old known.new }
+    ensures same { (first : Option SpecFault) → IsFirst first fault → IsFirst first result }
+{
+    match remember_all(node, stack, fault, known) {
+        Ok(()) => fault,
+        Err(refused) => refused,
+    }
+}
+
+// Goes on with a message: through its rows, up to one whose attachment embeds a message that has to be gone through first, which
+// is given; and after the last of them the message is remembered. `before` is 0 where none of its rows was gone through, else 1.
+// Where it has a fault, that is known from then on of it and of those which wait for it.
+fn go_on<'a>(
     frame: &mut Frame<'a>,
     before: u32,
     stack: &[Frame<'a>],
@@ -124,14 +113,18 @@ fn go_on_above<'a>(
     ensures open { let t = table_of_node frame.old.node in
         IfOk result (λ o. IfSome o (IsWentOn t known.new frame.old frame.new)) }
 {
-    let node = frame.node;
-    match go_on(frame, before, known) {
-        Ok(above) => Ok(above),
-        Err(fault) => {
-            remember_all(node, stack, fault, known)?;
-            Err(fault)
+    let mut gone = before;
+    while let Some(row) = frame.rest.next() {
+        turn_to(frame, gone, known)?;
+        gone = gone.saturating_add(1);
+        match open_row(frame.node, frame.bid, row, frame.limit, known) {
+            Ok(Some(above)) => return Ok(Some(above)),
+            Ok(None) => {}
+            Err(fault) => return Err(refuse_all(frame.node, stack, fault, known)),
         }
     }
+    finish(frame, known)?;
+    Ok(None)
 }
 
 /// Checks a message of a checked file, and all that it holds. What is found without fault is remembered, and passed over
@@ -153,7 +146,7 @@ pub(crate) fn check_message(node: Node, known: &mut Known) -> Result<(), Fault>
     let mut gone = 0;
     let mut stack = Vec::new(known.alloc);
     loop {
-        match go_on_above(&mut last, gone, &stack, known)? {
+        match go_on(&mut last, gone, &stack, known)? {
             Some(above) => {
                 stack.push(last)?;
                 last = above;

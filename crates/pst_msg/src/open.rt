@@ -22,7 +22,7 @@ use crate::known::Known;
 use crate::nid::{ATTACHMENT, ATTACHMENTS, is_type, named};
 use crate::object::{Object, embedded};
 use crate::recipients::check_recipients;
-use crate::remember::{remember_attachment, remember_broken, remember_held, remember_message};
+use crate::remember::{refuse_held, remember_attachment, remember_held, remember_message};
 use crate::role::Role;
 use pst_fault::{Fault, Kind};
 use pst_ndb::Node;
@@ -30,7 +30,7 @@ use pst_pc::known_pc;
 use pst_tc::{Row, known_tc};
 
 // What a message holds in its list of subnodes, up to the rows of its attachment table; where it has none, the message is
-// remembered.
+// remembered. A fault is known from then on.
 #[tactic(auto, unfolding(crate::specs::Fault::held_fault, crate::specs::Fault::attachments_fault))]
 fn open_held<'a>(
     node: Node<'a>,
@@ -50,10 +50,14 @@ fn open_held<'a>(
     ensures open { let t = table_of_node node.entry in
         IfOk result (λ o. IfSome o (IsOpened t known.new (roots_of node.entry) limit holder.entry)) }
 {
-    check_recipients(node, known)?;
+    if let Err(fault) = check_recipients(node, known) {
+        return Err(refuse_held(node, limit, fault, known));
+    }
     match known.index.subnode(node, ATTACHMENTS) {
         Some(table) => {
-            once(known, Role::Attachments, table)?;
+            if let Err(fault) = once(known, Role::Attachments, table) {
+                return Err(refuse_held(node, limit, fault, known));
+            }
             Ok(Some(Frame {
                 holder,
                 node,
@@ -69,7 +73,7 @@ fn open_held<'a>(
     }
 }
 
-// What a message holds in its list of subnodes, unless that is known to have a fault; and one that is found is known from then on.
+// What a message holds in its list of subnodes, unless that is known to have a fault.
 fn open_list<'a>(
     node: Node<'a>,
     limit: u32,
@@ -91,13 +95,7 @@ fn open_list<'a>(
     if let Some(fault) = known.broken_lists.get(part_of_list(node)) {
         return Err(fault.at_node(node.top()));
     }
-    match open_held(node, limit, holder, known) {
-        Ok(above) => Ok(above),
-        Err(fault) => {
-            remember_broken(node, fault, known)?;
-            Err(fault)
-        }
-    }
+    open_held(node, limit, holder, known)
 }
 
 /// A message, which this attachment embeds if one does, unless it is remembered: up to the rows of its attachment table.

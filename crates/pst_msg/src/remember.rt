@@ -4,7 +4,8 @@ ghost use Rattle.std.specs.Prelude.{◌≡◌, None, OnOk, IfErr};
 ghost use Rattle.pst_fault.specs.Fault.{no_memory};
 ghost use Rattle.pst_fault.specs.First.{IsFirst};
 ghost use Rattle.pst_subnode.specs.declared.check.TheConstants.{LISTS};
-ghost use Rattle.pst_ndb.specs.Views.{table_of_node, roots_of};
+ghost use Rattle.pst_subnode.specs.Tree.{sub_fault};
+ghost use Rattle.pst_ndb.specs.Views.{table_of_node, sub_bid_of, roots_of};
 ghost use Rattle.pst_msg.specs.declared.role.Role.TheVariants.{Properties};
 ghost use Rattle.pst_msg.specs.Fault.{held_fault, below_message, attachment_fault};
 ghost use Rattle.pst_msg.specs.Growth.{Grows};
@@ -86,4 +87,24 @@ pub(crate) fn remember_broken(node: Node, fault: Fault, known: &mut Known) -> Re
         known.broken_lists.remember(part_of_list(node), fault)?;
     }
     Ok(())
+}
+
+/// The fault of what a message holds, which is known from then on, as `remember_broken` knows it, and handed on. A whole store has
+/// none, so this stands apart.
+#[cold]
+#[inline(never)]
+pub(crate) fn refuse_held(node: Node, limit: u32, fault: Fault, known: &mut Known) -> Fault
+    requires sound { sub_fault (table_of_node node) limit (sub_bid_of node) ≡ None }
+    requires known { IsTrueOf (table_of_node node) known.old }
+    requires first { let t = table_of_node node in
+        IsFirst (held_fault t (below_message t limit) (roots_of node)) fault }
+    ensures known { IsTrueOf (table_of_node node.entry) known.new }
+    ensures grows { Grows (table_of_node node.entry) (λ nodes. Unit {0}) known.old known.new }
+    ensures first { let t = table_of_node node.entry in
+        IsFirst (held_fault t (below_message t limit) (roots_of node.entry)) result }
+{
+    match remember_broken(node, fault, known) {
+        Ok(()) => fault,
+        Err(refused) => refused,
+    }
 }

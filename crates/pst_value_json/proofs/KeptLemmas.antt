@@ -1,8 +1,8 @@
 -- A text that keeps what it had while more is put behind it.
-use Rattle.std.proofs.Common.{◌≡◌, ℕ, List, ◌++◌, length, take, drop, sym, ap, ◌∙◌, append_assoc}
-use Rattle.std.specs.Prelude.{Result, Ok, Err, OnErr}
+use Rattle.std.proofs.Common.{◌≡◌, ℕ, List, ◌++◌, length, take, drop, sym, ap, ◌∙◌, append_assoc, arith}
+use Rattle.std.specs.Prelude.{Result, Ok, Err, OnErr, OnOk}
 use Rattle.std.proofs.Math.Seq.{take-append_seam}
-use Rattle.std.proofs.lemmas.List.{take-append-drop}
+use Rattle.std.proofs.lemmas.List.{take-append-drop, take_all}
 use Rattle.pst_value_json.specs.Kept.{BeginsWith}
 
 -- more is put behind it
@@ -38,3 +38,12 @@ kept_end (Err e) text put now first then = kept_through text put now first then
 pub kept_so : {A E : Type 0} (result : Result A E) (text put : List ℕ) → BeginsWith put text → OnErr result (BeginsWith put text)
 kept_so (Ok v) text put kept = tt
 kept_so (Err e) text put kept = kept
+
+-- what is put behind it leaves it, whatever the result is
+pub kept_by : {A E : Type 0} (result : Result A E) (base text more now : List ℕ) → OnOk result (now ≡ text ++ more) → OnErr result (BeginsWith now text) → BeginsWith text base → BeginsWith now base
+kept_by (Ok v) base text more now put kept first = kept_more base text more now first put
+kept_by (Err e) base text more now put kept first = kept_through base text now first kept
+
+-- a text keeps itself
+pub kept_itself : (text : List ℕ) → BeginsWith text text
+kept_itself text = take_all (length text) text (omega arith)

@@ -2,7 +2,6 @@ pub mod Names
 pub mod Parts
 pub mod Line
 pub mod Kept
-pub mod Plain
 pub mod Form
 pub mod Value
 pub mod Time
@@ -15,6 +14,7 @@ pub mod Laws
 pub mod Rows
 pub mod Made
 pub mod Object
+pub mod Pen
 pub use Rattle.pst_datatree.specs as pst_datatree
 pub use Rattle.pst_value.specs as pst_value
 pub use Rattle.pst_names.specs as pst_names

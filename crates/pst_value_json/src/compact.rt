@@ -2,8 +2,8 @@
 
 ghost use Rattle.std.specs.Prelude.{◌≡◌, ◌++◌, IfOk, OnOk, OnErr, false};
 ghost use Rattle.serde_json.specs.View.{view};
-ghost use Rattle.serde_json.specs.Written.{compact_text, comma_if, has_float};
-ghost use Rattle.pst_value_json.specs.Line.{line_of, row_text};
+ghost use Rattle.serde_json.specs.Written.{comma_if, has_float};
+ghost use Rattle.pst_value_json.specs.Line.{line_of};
 ghost use Rattle.pst_value_json.specs.Kept.{BeginsWith};
 
 use serde_json::Value as Doc;
@@ -37,31 +37,4 @@ pub fn put_comma(later: bool, text: &mut Vec<u8>) -> Result<(), AllocError>
         text.push(b',')?;
     }
     Ok(())
-}
-
-/// Puts the text of a document behind a text.
-pub(crate) fn put_doc(alloc: Global, doc: &Doc, text: &mut Vec<u8>) -> Result<(), AllocError>
-    requires { has_float (view doc.now) ≡ false }
-    ensures put { OnOk result (text.new.items ≡ text.old.items ++ compact_text (view doc.now)) }
-    ensures kept { OnErr result (BeginsWith text.new.items text.old.items) }
-{
-    let more = doc.to_vec(alloc)?;
-    text.extend_from_slice(&more)?;
-    Ok(())
-}
-
-/// Puts an item of a list behind a text, and a comma before it where others stand there.
-#[tactic(auto, unfolding(crate::specs::Line::row_text))]
-pub(crate) fn put_row(
-    alloc: Global,
-    doc: &Doc,
-    later: bool,
-    text: &mut Vec<u8>,
-) -> Result<(), AllocError>
-    requires { has_float (view doc.now) ≡ false }
-    ensures put { OnOk result (text.new.items ≡ text.old.items ++ row_text (view doc.now) later) }
-    ensures kept { OnErr result (BeginsWith text.new.items text.old.items) }
-{
-    put_comma(later, text)?;
-    put_doc(alloc, doc, text)
 }

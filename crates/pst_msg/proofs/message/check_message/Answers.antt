@@ -19,23 +19,23 @@ loop-stack-init c = record {
 
 -- ---- the message that is gone on with
 
-pub go_on_above-requires-clause-known : goal.go_on_above-requires-clause-known
-go_on_above-requires-clause-known c =
+pub go_on-requires-clause-known : goal.go_on-requires-clause-known
+go_on-requires-clause-known c =
     let top = stack_top (table_of_node c.args.node) (roots_of c.args.node) c.loop-stack.known c.loop-stack.last _ c.loop-stack.invariant.stack in
     rw top.frame.table c.loop-stack.invariant.known
 
-pub go_on_above-requires-clause-frame : goal.go_on_above-requires-clause-frame
-go_on_above-requires-clause-frame c =
+pub go_on-requires-clause-frame : goal.go_on-requires-clause-frame
+go_on-requires-clause-frame c =
     let top = stack_top (table_of_node c.args.node) (roots_of c.args.node) c.loop-stack.known c.loop-stack.last _ c.loop-stack.invariant.stack in
     rw top.frame.table top.frame
 
-pub go_on_above-requires-clause-holder : goal.go_on_above-requires-clause-holder
-go_on_above-requires-clause-holder c =
+pub go_on-requires-clause-holder : goal.go_on-requires-clause-holder
+go_on-requires-clause-holder c =
     let top = stack_top (table_of_node c.args.node) (roots_of c.args.node) c.loop-stack.known c.loop-stack.last _ c.loop-stack.invariant.stack in
     rw top.frame.table top.holder
 
-pub go_on_above-requires-clause-stack : goal.go_on_above-requires-clause-stack
-go_on_above-requires-clause-stack c =
+pub go_on-requires-clause-stack : goal.go_on-requires-clause-stack
+go_on-requires-clause-stack c =
     let t = table_of_node c.args.node in
     let top = stack_top t (roots_of c.args.node) c.loop-stack.known c.loop-stack.last _ c.loop-stack.invariant.stack in
     rw (top.frame.table, c.deref.ensures.value) (stack_waits t (roots_of c.args.node) c.loop-stack.known c.loop-stack.last c.loop-stack.stack.items c.loop-stack.invariant.known c.loop-stack.invariant.stack)
@@ -45,13 +45,13 @@ go_on_above-requires-clause-stack c =
 pub returns-in_err-above-clause-known : goal.returns-in_err-above-clause-known
 returns-in_err-above-clause-known c =
     let top = stack_top (table_of_node c.args.node) (roots_of c.args.node) c.loop-stack.known c.loop-stack.last _ c.loop-stack.invariant.stack in
-    rw top.frame.table at c.go_on_above.ensures.known
+    rw top.frame.table at c.go_on.ensures.known
 
 pub returns-in_err-above-clause-grows : goal.returns-in_err-above-clause-grows
 returns-in_err-above-clause-grows c =
     let t = table_of_node c.args.node in
     let top = stack_top t (roots_of c.args.node) c.loop-stack.known c.loop-stack.last _ c.loop-stack.invariant.stack in
-    turn_grows t (roots_of c.args.node) (roots_of c.loop-stack.last.node) _ c.loop-stack.known c.go_on_above.new.known top.reached c.loop-stack.invariant.grows (rw top.frame.table at c.go_on_above.ensures.grows)
+    turn_grows t (roots_of c.args.node) (roots_of c.loop-stack.last.node) _ c.loop-stack.known c.go_on.new.known top.reached c.loop-stack.invariant.grows (rw top.frame.table at c.go_on.ensures.grows)
 
 pub returns-in_err-above-clause-exact : goal.returns-in_err-above-clause-exact
 returns-in_err-above-clause-exact c =
@@ -65,20 +65,20 @@ returns-in_err-above-clause-exact c =
 pub returns-in_err-push-in-Some-2-clause-known : goal.returns-in_err-push-in-Some-2-clause-known
 returns-in_err-push-in-Some-2-clause-known c =
     let top = stack_top (table_of_node c.args.node) (roots_of c.args.node) c.loop-stack.known c.loop-stack.last _ c.loop-stack.invariant.stack in
-    rw top.frame.table at c.go_on_above.ensures.known
+    rw top.frame.table at c.go_on.ensures.known
 
 pub returns-in_err-push-in-Some-2-clause-grows : goal.returns-in_err-push-in-Some-2-clause-grows
 returns-in_err-push-in-Some-2-clause-grows c =
     let t = table_of_node c.args.node in
     let top = stack_top t (roots_of c.args.node) c.loop-stack.known c.loop-stack.last _ c.loop-stack.invariant.stack in
-    turn_grows t (roots_of c.args.node) (roots_of c.loop-stack.last.node) _ c.loop-stack.known c.go_on_above.new.known top.reached c.loop-stack.invariant.grows (rw top.frame.table at c.go_on_above.ensures.grows)
+    turn_grows t (roots_of c.args.node) (roots_of c.loop-stack.last.node) _ c.loop-stack.known c.go_on.new.known top.reached c.loop-stack.invariant.grows (rw top.frame.table at c.go_on.ensures.grows)
 
 pub loop-stack-smaller-in-Some-2 : goal.loop-stack-smaller-in-Some-2
 loop-stack-smaller-in-Some-2 c =
     let t = table_of_node c.args.node in
     let top = stack_top t (roots_of c.args.node) c.loop-stack.known c.loop-stack.last _ c.loop-stack.invariant.stack in
-    let on : IsWentOn t c.go_on_above.new.known c.loop-stack.last c.go_on_above.new.frame c.in-Some-2.above = rw top.frame.table at (rw c.in-Some-2.is at c.in_ok-above.ensures.open) in
-    fewer_pushed t c.loop-stack.stack.items c.push.new.self.items c.loop-stack.last c.go_on_above.new.frame c.in-Some-2.above c.in_ok-push-in-Some-2.ensures.items on.steps
+    let on : IsWentOn t c.go_on.new.known c.loop-stack.last c.go_on.new.frame c.in-Some-2.above = rw top.frame.table at (rw c.in-Some-2.is at c.in_ok-above.ensures.open) in
+    fewer_pushed t c.loop-stack.stack.items c.push.new.self.items c.loop-stack.last c.go_on.new.frame c.in-Some-2.above c.in_ok-push-in-Some-2.ensures.items on.steps
 
 pub loop-stack-preserved-in-Some-2 : goal.loop-stack-preserved-in-Some-2
 loop-stack-preserved-in-Some-2 c =
@@ -86,12 +86,12 @@ loop-stack-preserved-in-Some-2 c =
     let root = roots_of c.args.node in
     let last = c.loop-stack.last in
     let top = stack_top t root c.loop-stack.known last _ c.loop-stack.invariant.stack in
-    let on : IsWentOn t c.go_on_above.new.known last c.go_on_above.new.frame c.in-Some-2.above = rw top.frame.table at (rw c.in-Some-2.is at c.in_ok-above.ensures.open) in
-    let g : Grows t (λ nodes. HasMessage t nodes (roots_of last.node)) c.loop-stack.known c.go_on_above.new.known = rw top.frame.table at c.go_on_above.ensures.grows in
+    let on : IsWentOn t c.go_on.new.known last c.go_on.new.frame c.in-Some-2.above = rw top.frame.table at (rw c.in-Some-2.is at c.in_ok-above.ensures.open) in
+    let g : Grows t (λ nodes. HasMessage t nodes (roots_of last.node)) c.loop-stack.known c.go_on.new.known = rw top.frame.table at c.go_on.ensures.grows in
     record {
-      known = rw top.frame.table at c.go_on_above.ensures.known;
-      grows = turn_grows t root (roots_of last.node) _ c.loop-stack.known c.go_on_above.new.known top.reached c.loop-stack.invariant.grows g;
-      stack = one_pushed t _ root c.loop-stack.known c.go_on_above.new.known c.loop-stack.stack.items c.push.new.self.items last c.go_on_above.new.frame c.in-Some-2.above c.in_ok-push-in-Some-2.ensures.items c.loop-stack.invariant.stack g on;
+      known = rw top.frame.table at c.go_on.ensures.known;
+      grows = turn_grows t root (roots_of last.node) _ c.loop-stack.known c.go_on.new.known top.reached c.loop-stack.invariant.grows g;
+      stack = one_pushed t _ root c.loop-stack.known c.go_on.new.known c.loop-stack.stack.items c.push.new.self.items last c.go_on.new.frame c.in-Some-2.above c.in_ok-push-in-Some-2.ensures.items c.loop-stack.invariant.stack g on;
     }
 
 -- ---- it is done, and one waits for it
@@ -102,14 +102,14 @@ loop-stack-preserved c =
     let root = roots_of c.args.node in
     let last = c.loop-stack.last in
     let top = stack_top t root c.loop-stack.known last _ c.loop-stack.invariant.stack in
-    let known : IsTrueOf t c.go_on_above.new.known = rw top.frame.table at c.go_on_above.ensures.known in
-    let g : Grows t (λ nodes. HasMessage t nodes (roots_of last.node)) c.loop-stack.known c.go_on_above.new.known = rw top.frame.table at c.go_on_above.ensures.grows in
+    let known : IsTrueOf t c.go_on.new.known = rw top.frame.table at c.go_on.ensures.known in
+    let g : Grows t (λ nodes. HasMessage t nodes (roots_of last.node)) c.loop-stack.known c.go_on.new.known = rw top.frame.table at c.go_on.ensures.grows in
     let done = rw c.in-None.is at c.in_ok-above.ensures.done in
-    let left = stack_popped t _ root c.loop-stack.known c.go_on_above.new.known last _ c.loop-stack.invariant.stack g known done.0 done.1 in
+    let left = stack_popped t _ root c.loop-stack.known c.go_on.new.known last _ c.loop-stack.invariant.stack g known done.0 done.1 in
     record {
       known = known;
-      grows = turn_grows t root (roots_of last.node) _ c.loop-stack.known c.go_on_above.new.known top.reached c.loop-stack.invariant.grows g;
-      stack = one_popped t root c.go_on_above.new.known c.loop-stack.stack.items c.pop.new.self.items c.in-Some-pop.below c.in-Some-pop.ensures.items left;
+      grows = turn_grows t root (roots_of last.node) _ c.loop-stack.known c.go_on.new.known top.reached c.loop-stack.invariant.grows g;
+      stack = one_popped t root c.go_on.new.known c.loop-stack.stack.items c.pop.new.self.items c.in-Some-pop.below c.in-Some-pop.ensures.items left;
     }
 
 -- ---- it is done, and none waits for it
@@ -117,13 +117,13 @@ loop-stack-preserved c =
 pub returns-in-None-pop-clause-known : goal.returns-in-None-pop-clause-known
 returns-in-None-pop-clause-known c =
     let top = stack_top (table_of_node c.args.node) (roots_of c.args.node) c.loop-stack.known c.loop-stack.last _ c.loop-stack.invariant.stack in
-    rw top.frame.table at c.go_on_above.ensures.known
+    rw top.frame.table at c.go_on.ensures.known
 
 pub returns-in-None-pop-clause-grows : goal.returns-in-None-pop-clause-grows
 returns-in-None-pop-clause-grows c =
     let t = table_of_node c.args.node in
     let top = stack_top t (roots_of c.args.node) c.loop-stack.known c.loop-stack.last _ c.loop-stack.invariant.stack in
-    turn_grows t (roots_of c.args.node) (roots_of c.loop-stack.last.node) _ c.loop-stack.known c.go_on_above.new.known top.reached c.loop-stack.invariant.grows (rw top.frame.table at c.go_on_above.ensures.grows)
+    turn_grows t (roots_of c.args.node) (roots_of c.loop-stack.last.node) _ c.loop-stack.known c.go_on.new.known top.reached c.loop-stack.invariant.grows (rw top.frame.table at c.go_on.ensures.grows)
 
 pub returns-in-None-pop-clause-there : goal.returns-in-None-pop-clause-there
 returns-in-None-pop-clause-there c =
@@ -131,12 +131,12 @@ returns-in-None-pop-clause-there c =
     let root = roots_of c.args.node in
     let last = c.loop-stack.last in
     let top = stack_top t root c.loop-stack.known last _ c.loop-stack.invariant.stack in
-    let known : IsTrueOf t c.go_on_above.new.known = rw top.frame.table at c.go_on_above.ensures.known in
-    let g : Grows t (λ nodes. HasMessage t nodes (roots_of last.node)) c.loop-stack.known c.go_on_above.new.known = rw top.frame.table at c.go_on_above.ensures.grows in
+    let known : IsTrueOf t c.go_on.new.known = rw top.frame.table at c.go_on.ensures.known in
+    let g : Grows t (λ nodes. HasMessage t nodes (roots_of last.node)) c.loop-stack.known c.go_on.new.known = rw top.frame.table at c.go_on.ensures.grows in
     let done = rw c.in-None.is at c.in_ok-above.ensures.done in
-    let left = stack_popped t _ root c.loop-stack.known c.go_on_above.new.known last _ c.loop-stack.invariant.stack g known done.0 done.1 in
+    let left = stack_popped t _ root c.loop-stack.known c.go_on.new.known last _ c.loop-stack.invariant.stack g known done.0 done.1 in
     let none : c.loop-stack.stack.items ≡ [] = nil_from_length c.loop-stack.stack.items (omega (arith, c.in-None-pop.ensures.cases, c.loop-stack.stack.ok)) in
-    none_waits t root c.go_on_above.new.known c.loop-stack.stack.items none left
+    none_waits t root c.go_on.new.known c.loop-stack.stack.items none left
 
 pub returns-in-None-pop-clause-exact : goal.returns-in-None-pop-clause-exact
 returns-in-None-pop-clause-exact c =
@@ -144,10 +144,10 @@ returns-in-None-pop-clause-exact c =
     let root = roots_of c.args.node in
     let last = c.loop-stack.last in
     let top = stack_top t root c.loop-stack.known last _ c.loop-stack.invariant.stack in
-    let known : IsTrueOf t c.go_on_above.new.known = rw top.frame.table at c.go_on_above.ensures.known in
-    let g : Grows t (λ nodes. HasMessage t nodes (roots_of last.node)) c.loop-stack.known c.go_on_above.new.known = rw top.frame.table at c.go_on_above.ensures.grows in
+    let known : IsTrueOf t c.go_on.new.known = rw top.frame.table at c.go_on.ensures.known in
+    let g : Grows t (λ nodes. HasMessage t nodes (roots_of last.node)) c.loop-stack.known c.go_on.new.known = rw top.frame.table at c.go_on.ensures.grows in
     let done = rw c.in-None.is at c.in_ok-above.ensures.done in
-    let left = stack_popped t _ root c.loop-stack.known c.go_on_above.new.known last _ c.loop-stack.invariant.stack g known done.0 done.1 in
+    let left = stack_popped t _ root c.loop-stack.known c.go_on.new.known last _ c.loop-stack.invariant.stack g known done.0 done.1 in
     let none : c.loop-stack.stack.items ≡ [] = nil_from_length c.loop-stack.stack.items (omega (arith, c.in-None-pop.ensures.cases, c.loop-stack.stack.ok)) in
-    let whole : WholeIn c.go_on_above.new.known.messages root = none_waits t root c.go_on_above.new.known c.loop-stack.stack.items none left in
+    let whole : WholeIn c.go_on.new.known.messages root = none_waits t root c.go_on.new.known c.loop-stack.stack.items none left in
     (known.messages root whole c.args.node.subs, refl)

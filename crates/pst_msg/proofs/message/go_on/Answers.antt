@@ -1,5 +1,4 @@
 use Rattle.std.proofs.Common.{List, refl, ap, ◌∙◌, sym, arith}
-use Rattle.std.proofs.lemmas.Result.{err_from_is_err_and}
 use Rattle.pst_page.specs.declared.entry.NodeEntry.{NodeEntry}
 use Rattle.pst_block.specs.Table.{Table}
 use Rattle.pst_ndb.specs.Views.{table_of_node, roots_of}
@@ -8,6 +7,7 @@ use Rattle.pst_msg.specs.declared.frame.Frame.{Frame}
 use Rattle.pst_msg.specs.declared.known.Known.{Known}
 use Rattle.pst_msg.specs.Frames.{with_rest}
 use Rattle.pst_msg.specs.Growth.{Grows}
+use Rattle.pst_msg.proofs.BrokenLemmas.{broken_held}
 use Rattle.pst_msg.proofs.CountLemmas.{grows_same, grows_then}
 use Rattle.pst_msg.proofs.OpenLemmas.{grows_any}
 use Rattle.pst_msg.proofs.FrameLemmas.{row_of_message, frame_refused, frame_opened, frame_step, frame_same, frame_later, fewer_left, holder_later, row_of_frame}
@@ -40,8 +40,8 @@ returns-in_err-turn_to-clause-grows c =
 grown : (t : Table) (H : List NodeEntry → Type 0) (a b c : Known) → Grows t H a b → Grows t (λ nodes. Unit {0}) b c → Grows t H a c
 grown t H a b c g h = grows_then t H a b c g (grows_any t H b c h)
 
-pub returns-in_err-above-clause-grows : goal.returns-in_err-above-clause-grows
-returns-in_err-above-clause-grows c =
+pub returns-in-Ok-Some-clause-grows : goal.returns-in-Ok-Some-clause-grows
+returns-in-Ok-Some-clause-grows c =
     let f = c.loop-row.frame in
     let t = table_of_node c.args.frame.now.node in
     let before = c.loop-row.invariant in
@@ -50,38 +50,17 @@ returns-in_err-above-clause-grows c =
     let turned = grown t _ _ _ _ before.grows (rw before.frame.table at c.turn_to.ensures.grows) in
     row_of_message t (roots_of c.args.frame.now.node) (row_parts c.in-Some.row) _ _ _ (rw same at row) turned (rw same at c.open_row.ensures.grows)
 
-pub returns-in_err-above-clause-refused : goal.returns-in_err-above-clause-refused
-returns-in_err-above-clause-refused c =
-    let p = err_from_is_err_and c.from_residual-in_err-above.result c.from_residual-in_err-above.ensures.1 in
-    let f = c.loop-row.frame in
-    let t = table_of_node c.args.frame.now.node in
-    let before = c.loop-row.invariant in
-    let same = ap (λ (x : Frame). x.node) before.only in
-    let limit = ap (λ (x : Frame). x.limit) before.only in
-    let refused = frame_refused t c.loop-row.known f c.next.new.self (row_parts c.in-Some.row) _ before.known before.frame c.in-Some.ensures.steps.0 (rw before.frame.table at c.in_err-above.ensures.refused) in
-    rw (p.1, p.2) (rw (same, limit) at refused)
-
-pub returns-in-Some-2-clause-grows : goal.returns-in-Some-2-clause-grows
-returns-in-Some-2-clause-grows c =
-    let f = c.loop-row.frame in
-    let t = table_of_node c.args.frame.now.node in
-    let before = c.loop-row.invariant in
-    let same = ap (λ (x : Frame). x.node) before.only in
-    let row = row_of_frame t c.loop-row.known f c.next.new.self (row_parts c.in-Some.row) c.in-Some.ensures.steps.0 before.frame in
-    let turned = grown t _ _ _ _ before.grows (rw before.frame.table at c.turn_to.ensures.grows) in
-    row_of_message t (roots_of c.args.frame.now.node) (row_parts c.in-Some.row) _ _ _ (rw same at row) turned (rw same at c.open_row.ensures.grows)
-
-pub returns-in-Some-2-clause-open : goal.returns-in-Some-2-clause-open
-returns-in-Some-2-clause-open c =
+pub returns-in-Ok-Some-clause-open : goal.returns-in-Ok-Some-clause-open
+returns-in-Ok-Some-clause-open c =
     let f = c.loop-row.frame in
     let t = table_of_node c.args.frame.now.node in
     let before = c.loop-row.invariant in
     let roots = ap (λ (x : Frame). roots_of x.node) before.only in
     let limit = ap (λ (x : Frame). x.limit) before.only in
     let holder = ap (λ (x : Frame). x.holder) before.only in
-    let opened = rw c.in-Some-2.is at c.in_ok-above.ensures.open in
+    let opened = rw c.in-Ok-Some.field-0-is at c.in-Ok-Some.ensures.open in
     let turned = frame_later t _ c.loop-row.known c.turn_to.new.known _ _ f (rw before.frame.table at c.turn_to.ensures.grows) before.frame in
-    frame_opened t _ c.turn_to.new.known c.open_row.new.known c.args.frame.now f c.next.new.self (row_parts c.in-Some.row) c.in-Some-2.above (rw before.frame.table at c.open_row.ensures.grows) turned c.in-Some.ensures.steps.0 (rw before.frame.table at opened) roots limit holder before.steps
+    frame_opened t _ c.turn_to.new.known c.open_row.new.known c.args.frame.now f c.next.new.self (row_parts c.in-Some.row) c.in-Ok-Some.above (rw before.frame.table at c.open_row.ensures.grows) turned c.in-Some.ensures.steps.0 (rw before.frame.table at opened) roots limit holder before.steps
 
 pub loop-row-preserved : goal.loop-row-preserved
 loop-row-preserved c =
@@ -91,7 +70,7 @@ loop-row-preserved c =
     let rows = c.in-Some.ensures.steps.0 in
     let same = ap (λ (x : Frame). x.node) before.only in
     let row = row_of_frame t c.loop-row.known f c.next.new.self (row_parts c.in-Some.row) rows before.frame in
-    let done = rw c.in_default-2.is at c.in_ok-above.ensures.done in
+    let done = rw c.in-Ok-None.field-0-is at c.in-Ok-None.ensures.done in
     let made = rw before.frame.table at c.turn_to.ensures.grows in
     let turned = frame_later t _ c.loop-row.known c.turn_to.new.known _ _ f made before.frame in
     let grows = rw before.frame.table at c.open_row.ensures.grows in
@@ -103,6 +82,47 @@ loop-row-preserved c =
       holder = holder_later t _ c.turn_to.new.known c.open_row.new.known f grows (holder_later t _ c.loop-row.known c.turn_to.new.known f made before.holder);
       steps = fewer_left t f c.next.new.self (row_parts c.in-Some.row) _ rows before.steps;
     }
+
+-- ---- a row with a fault, which is that of the message
+
+pub refuse_all-requires-clause-first : goal.refuse_all-requires-clause-first
+refuse_all-requires-clause-first c =
+    let f = c.loop-row.frame in
+    let t = table_of_node c.args.frame.now.node in
+    let before = c.loop-row.invariant in
+    let refused = frame_refused t c.loop-row.known f c.next.new.self (row_parts c.in-Some.row) c.in-Err.fault before.known before.frame c.in-Some.ensures.steps.0 (rw before.frame.table at c.in-Err.ensures.refused) in
+    rw before.frame.table (broken_held t c.loop-row.known f c.in-Err.fault before.known before.frame refused)
+
+pub refuse_all-requires-clause-stack : goal.refuse_all-requires-clause-stack
+refuse_all-requires-clause-stack c =
+    let f = c.loop-row.frame in
+    let t = table_of_node c.args.frame.now.node in
+    let before = c.loop-row.invariant in
+    let same = ap (λ (x : Frame). x.node) before.only in
+    let limit = ap (λ (x : Frame). x.limit) before.only in
+    let refused = frame_refused t c.loop-row.known f c.next.new.self (row_parts c.in-Some.row) c.in-Err.fault before.known before.frame c.in-Some.ensures.steps.0 (rw before.frame.table at c.in-Err.ensures.refused) in
+    rw before.frame.table (c.requires.stack c.in-Err.fault (rw (same, limit) at refused))
+
+pub returns-in-Err-clause-grows : goal.returns-in-Err-clause-grows
+returns-in-Err-clause-grows c =
+    let f = c.loop-row.frame in
+    let t = table_of_node c.args.frame.now.node in
+    let before = c.loop-row.invariant in
+    let same = ap (λ (x : Frame). x.node) before.only in
+    let row = row_of_frame t c.loop-row.known f c.next.new.self (row_parts c.in-Some.row) c.in-Some.ensures.steps.0 before.frame in
+    let turned = grown t _ _ _ _ before.grows (rw before.frame.table at c.turn_to.ensures.grows) in
+    let opened = row_of_message t (roots_of c.args.frame.now.node) (row_parts c.in-Some.row) _ _ _ (rw same at row) turned (rw same at c.open_row.ensures.grows) in
+    grown t _ _ _ _ opened (rw before.frame.table at c.refuse_all.ensures.grows)
+
+pub returns-in-Err-clause-refused : goal.returns-in-Err-clause-refused
+returns-in-Err-clause-refused c =
+    let f = c.loop-row.frame in
+    let t = table_of_node c.args.frame.now.node in
+    let before = c.loop-row.invariant in
+    let same = ap (λ (x : Frame). x.node) before.only in
+    let limit = ap (λ (x : Frame). x.limit) before.only in
+    let refused = frame_refused t c.loop-row.known f c.next.new.self (row_parts c.in-Some.row) c.in-Err.fault before.known before.frame c.in-Some.ensures.steps.0 (rw before.frame.table at c.in-Err.ensures.refused) in
+    c.refuse_all.ensures.same _ (rw (same, limit) at refused)
 
 -- ---- no row is left
 

@@ -1,12 +1,8 @@
 use Rattle.std.proofs.Common.{inr, refl}
 use Rattle.pst_ndb.specs.Views.{table_of_node}
-use Rattle.pst_msg.proofs.BrokenLemmas.{whole_first}
 use Rattle.pst_msg.proofs.RetoldLemmas.{held_told}
 use Rattle.pst_msg.proofs.open.open_list.Goals as goal
 
 pub returns-in-Some-clause-refused : goal.returns-in-Some-clause-refused
 returns-in-Some-clause-refused c =
     inr (held_told (table_of_node c.args.node) c.args.limit c.args.node c.args.known.now.broken_lists c.part_of_list.result c.top.result c.in-Some.fault c.at_node.result refl c.requires.sound c.requires.known.broken_lists c.part_of_list.ensures c.in-Some.ensures c.top.ensures c.at_node.ensures)
-
-pub remember_broken-requires-clause-first : goal.remember_broken-requires-clause-first
-remember_broken-requires-clause-first c = whole_first (table_of_node c.args.node) c.args.limit c.args.node c.in-Err.fault refl c.requires.sound c.in-Err.ensures.refused
