@@ -12,6 +12,7 @@ pub mod Columns
 pub mod Cells
 pub mod Laws
 pub mod Rows
+pub mod Leaf
 pub mod Made
 pub mod Object
 pub mod Pen

@@ -5,12 +5,12 @@ ghost use Rattle.serde_json.specs.Data.{Data, Members, no_members, member, objec
 ghost use Rattle.serde_json.specs.View.{items_of};
 ghost use Rattle.serde_json.specs.Written.{compact_text, members_text, items_text};
 ghost use Rattle.pst_value_json.specs.Kept.{BeginsWith};
-ghost use Rattle.pst_value_json.specs.Made.{made_data};
+ghost use Rattle.pst_value_json.specs.Leaf.{leaf_data};
 ghost use Rattle.pst_value_json.specs.Object.{all_plain};
 ghost use Rattle.pst_value_json.specs.Pen.{and_member, before, IsLast, marked, InObject};
 
-use crate::parts::Made;
-use crate::put_values::put_made;
+use crate::leaf::Leaf;
+use crate::put_values::put_leaf;
 use std::alloc::{AllocError, Global};
 
 /// What rows and values are written with. An object is the key of its first member and its value, the key of each other one and its
@@ -32,8 +32,8 @@ pub trait Pen {
     ghost AtItem: { Self → Self → List Data → Type 0 };
 
     /// A value as it is shown.
-    fn made(&mut self, alloc: Global, made: &Made) -> Result<(), AllocError>
-        ensures put { OnOk result (Puts self.old self.new (made_data made.now)) }
+    fn leaf(&mut self, alloc: Global, made: &Leaf) -> Result<(), AllocError>
+        ensures put { OnOk result (Puts self.old self.new (leaf_data made.now)) }
         ensures kept { (base : Self) → Keeps base self.old → Keeps base self.new };
 
     /// An object begins with the key of its first member, of whose bytes each stands for itself; the key with the marks around it is
@@ -110,8 +110,8 @@ impl Pen for Vec<u8> {
         → s.items ++ (compact_text d ++ items_text true (items_of rest))
         ≡ base.items ++ compact_text (array (items_of (done ++ d ∷ rest))) };
 
-    fn made(&mut self, alloc: Global, made: &Made) -> Result<(), AllocError> {
-        put_made(alloc, made, self)
+    fn leaf(&mut self, alloc: Global, made: &Leaf) -> Result<(), AllocError> {
+        put_leaf(alloc, made, self)
     }
 
     fn first(

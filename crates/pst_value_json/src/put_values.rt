@@ -7,12 +7,12 @@ ghost use Rattle.json.specs.Print.{escape};
 ghost use Rattle.serde_json.specs.Written.{compact_text};
 ghost use Rattle.pst_datatree.specs.Left.{slices_left};
 ghost use Rattle.pst_datatree.specs.Shown.{bytes_in};
-ghost use Rattle.pst_value_json.specs.Made.{made_data};
+ghost use Rattle.pst_value_json.specs.Leaf.{leaf_data};
 ghost use Rattle.pst_value_json.specs.Value.{hex_data, text_data, guid_data, object_data};
 ghost use Rattle.pst_value_json.specs.Kept.{BeginsWith};
 
 use crate::digits::{put_hex, put_id, put_lower_bytes, put_nid, put_nid_or_null, put_tag};
-use crate::parts::Made;
+use crate::leaf::Leaf;
 use crate::put::{put_integer, put_natural, put_null, put_plain, put_string, put_truth};
 use crate::utf16::put_units;
 use pst_datatree::{Pieces, Value};
@@ -84,24 +84,24 @@ fn put_nid_and_size(nid: u32, size: u32, text: &mut Vec<u8>) -> Result<(), Alloc
 
 /// Puts a value behind a text, as it is shown.
 #[inline]
-pub fn put_made(alloc: Global, made: &Made, text: &mut Vec<u8>) -> Result<(), AllocError>
+pub fn put_leaf(alloc: Global, made: &Leaf, text: &mut Vec<u8>) -> Result<(), AllocError>
     ensures put { OnOk result (text.new.items
-        ≡ text.old.items ++ compact_text (made_data made.now)) }
+        ≡ text.old.items ++ compact_text (leaf_data made.now)) }
     ensures kept { OnErr result (BeginsWith text.new.items text.old.items) }
 {
     match made {
-        Made::Null => put_null(text),
-        Made::Truth(truth) => put_truth(*truth, text),
-        Made::Natural(number) => put_natural(*number, text),
-        Made::Integer(number) => put_integer(*number, text),
-        Made::Nid(nid) => put_nid_or_null(*nid, text),
-        Made::Id(id) => put_id(*id, text),
-        Made::Tag(tag) => put_tag(*tag, text),
-        Made::Word(word) => put_string(word, text),
-        Made::Digest(digest) => put_hex(digest, text),
-        Made::Guid(guid) => put_guid(*guid, text),
-        Made::Object(nid, size) => put_nid_and_size(*nid, *size, text),
-        Made::Text(value) => put_text(alloc, *value, text),
-        Made::Hex(value) => put_bytes(*value, text),
+        Leaf::Null => put_null(text),
+        Leaf::Truth(truth) => put_truth(*truth, text),
+        Leaf::Natural(number) => put_natural(*number, text),
+        Leaf::Integer(number) => put_integer(*number, text),
+        Leaf::Nid(nid) => put_nid_or_null(*nid, text),
+        Leaf::Id(id) => put_id(*id, text),
+        Leaf::Tag(tag) => put_tag(*tag, text),
+        Leaf::Word(word) => put_string(word, text),
+        Leaf::Digest(digest) => put_hex(digest, text),
+        Leaf::Guid(guid) => put_guid(*guid, text),
+        Leaf::Object(nid, size) => put_nid_and_size(*nid, *size, text),
+        Leaf::Text(value) => put_text(alloc, *value, text),
+        Leaf::Hex(value) => put_bytes(*value, text),
     }
 }

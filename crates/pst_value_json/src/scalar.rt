@@ -7,11 +7,11 @@ ghost use Rattle.serde_json.specs.View.{view};
 ghost use Rattle.pst_datatree.specs.Left.{slices_left};
 ghost use Rattle.pst_datatree.specs.Shown.{bytes_in};
 ghost use Rattle.pst_value.specs.Units.{units_of};
-ghost use Rattle.pst_value_json.specs.Made.{made_data};
+ghost use Rattle.pst_value_json.specs.Leaf.{leaf_data};
 ghost use Rattle.pst_value_json.specs.Value.{hex_data, utf8_of, text_data, object_data};
 
+use crate::leaf::Leaf;
 use crate::names::{id_text, nid_text, tag_text};
-use crate::parts::Made;
 use pst_datatree::{Pieces, Value};
 use pst_value::units16;
 use serde_json::{Value as Doc, json};
@@ -92,23 +92,23 @@ fn nid_and_size_doc(alloc: Global, nid: u32, size: u32) -> Result<Doc, AllocErro
 }
 
 /// A value as it is shown.
-pub(crate) fn made_doc(alloc: Global, made: &Made) -> Result<Doc, AllocError>
-    ensures { IfOk result (λ d. view d ≡ made_data made.now) }
+pub(crate) fn leaf_doc(alloc: Global, made: &Leaf) -> Result<Doc, AllocError>
+    ensures { IfOk result (λ d. view d ≡ leaf_data made.now) }
 {
     match made {
-        Made::Null => Ok(Doc::Null),
-        Made::Truth(truth) => Ok(Doc::from(*truth)),
-        Made::Natural(number) => Ok(Doc::from(*number)),
-        Made::Integer(number) => Ok(Doc::from(*number)),
-        Made::Nid(Some(nid)) => Ok(Doc::from(nid_text(alloc, *nid)?)),
-        Made::Nid(None) => Ok(Doc::Null),
-        Made::Id(id) => Ok(Doc::from(id_text(alloc, *id)?)),
-        Made::Tag(tag) => Ok(Doc::from(tag_text(alloc, *tag)?)),
-        Made::Word(word) => Ok(Doc::from(String::from_str(alloc, word)?)),
-        Made::Digest(digest) => Ok(Doc::from(hex::encode(alloc, *digest)?)),
-        Made::Guid(guid) => Ok(Doc::from(format!(in alloc; "{guid}")?)),
-        Made::Object(nid, size) => nid_and_size_doc(alloc, *nid, *size),
-        Made::Text(value) => text_doc(alloc, *value),
-        Made::Hex(value) => bytes_doc(alloc, *value),
+        Leaf::Null => Ok(Doc::Null),
+        Leaf::Truth(truth) => Ok(Doc::from(*truth)),
+        Leaf::Natural(number) => Ok(Doc::from(*number)),
+        Leaf::Integer(number) => Ok(Doc::from(*number)),
+        Leaf::Nid(Some(nid)) => Ok(Doc::from(nid_text(alloc, *nid)?)),
+        Leaf::Nid(None) => Ok(Doc::Null),
+        Leaf::Id(id) => Ok(Doc::from(id_text(alloc, *id)?)),
+        Leaf::Tag(tag) => Ok(Doc::from(tag_text(alloc, *tag)?)),
+        Leaf::Word(word) => Ok(Doc::from(String::from_str(alloc, word)?)),
+        Leaf::Digest(digest) => Ok(Doc::from(hex::encode(alloc, *digest)?)),
+        Leaf::Guid(guid) => Ok(Doc::from(format!(in alloc; "{guid}")?)),
+        Leaf::Object(nid, size) => nid_and_size_doc(alloc, *nid, *size),
+        Leaf::Text(value) => text_doc(alloc, *value),
+        Leaf::Hex(value) => bytes_doc(alloc, *value),
     }
 }

@@ -4,126 +4,126 @@ ghost use Rattle.std.specs.Prelude.{◌≡◌};
 ghost use Rattle.serde_json.specs.Data.{boolean};
 ghost use Rattle.pst_datatree.specs.Shown.{bytes_in};
 ghost use Rattle.pst_value.specs.Read.{exactly, i16_of, i32_of, i64_of, u32_of, u64_of, bool_of, guid_of, object_of};
-ghost use Rattle.pst_value_json.specs.Made.{made_data};
+ghost use Rattle.pst_value_json.specs.Leaf.{leaf_data};
 ghost use Rattle.pst_value_json.specs.Parts.{natural, integer};
 ghost use Rattle.pst_value_json.specs.Value.{guid_data, object_data, null_or_hex, or_hex, single_data};
 
 use crate::form::{Form, form_of_type};
-use crate::parts::Made;
+use crate::leaf::Leaf;
 use pst_datatree::Value;
 use pst_value::{PropType, as_bool, as_guid, as_i16, as_i32, as_i64, as_object, as_u32, as_u64};
 
 // Null where a value has no byte, and else its bytes.
 #[inline]
-fn bytes_or_null(value: Value<'_>) -> Made<'_>
-    ensures { made_data result ≡ null_or_hex (bytes_in value.entry) }
+fn bytes_or_null(value: Value<'_>) -> Leaf<'_>
+    ensures { leaf_data result ≡ null_or_hex (bytes_in value.entry) }
 {
     if value.len() == 0 {
-        return Made::Null;
+        return Leaf::Null;
     }
-    Made::Hex(value)
+    Leaf::Hex(value)
 }
 
 // A signed number of 2 bytes.
 #[inline]
-fn int16(value: Value<'_>) -> Made<'_>
+fn int16(value: Value<'_>) -> Leaf<'_>
     ensures { let bytes = bytes_in value.entry in
-        made_data result ≡ or_hex integer (exactly 2 i16_of bytes) bytes }
+        leaf_data result ≡ or_hex integer (exactly 2 i16_of bytes) bytes }
 {
     match as_i16(value) {
-        Some(number) => Made::Integer(i64::from(number)),
+        Some(number) => Leaf::Integer(i64::from(number)),
         None => bytes_or_null(value),
     }
 }
 
 // A signed number of 4 bytes.
 #[inline]
-fn int32(value: Value<'_>) -> Made<'_>
+fn int32(value: Value<'_>) -> Leaf<'_>
     ensures { let bytes = bytes_in value.entry in
-        made_data result ≡ or_hex integer (exactly 4 i32_of bytes) bytes }
+        leaf_data result ≡ or_hex integer (exactly 4 i32_of bytes) bytes }
 {
     match as_i32(value) {
-        Some(number) => Made::Integer(i64::from(number)),
+        Some(number) => Leaf::Integer(i64::from(number)),
         None => bytes_or_null(value),
     }
 }
 
 // A signed number of 8 bytes.
 #[inline]
-fn int64(value: Value<'_>) -> Made<'_>
+fn int64(value: Value<'_>) -> Leaf<'_>
     ensures { let bytes = bytes_in value.entry in
-        made_data result ≡ or_hex integer (exactly 8 i64_of bytes) bytes }
+        leaf_data result ≡ or_hex integer (exactly 8 i64_of bytes) bytes }
 {
     match as_i64(value) {
-        Some(number) => Made::Integer(number),
+        Some(number) => Leaf::Integer(number),
         None => bytes_or_null(value),
     }
 }
 
 // A number of 4 bytes.
 #[inline]
-fn nat32(value: Value<'_>) -> Made<'_>
+fn nat32(value: Value<'_>) -> Leaf<'_>
     ensures { let bytes = bytes_in value.entry in
-        made_data result ≡ or_hex natural (exactly 4 u32_of bytes) bytes }
+        leaf_data result ≡ or_hex natural (exactly 4 u32_of bytes) bytes }
 {
     match as_u32(value) {
-        Some(number) => Made::Natural(u64::from(number)),
+        Some(number) => Leaf::Natural(u64::from(number)),
         None => bytes_or_null(value),
     }
 }
 
 // A number of 8 bytes.
 #[inline]
-fn nat64(value: Value<'_>) -> Made<'_>
+fn nat64(value: Value<'_>) -> Leaf<'_>
     ensures { let bytes = bytes_in value.entry in
-        made_data result ≡ or_hex natural (exactly 8 u64_of bytes) bytes }
+        leaf_data result ≡ or_hex natural (exactly 8 u64_of bytes) bytes }
 {
     match as_u64(value) {
-        Some(number) => Made::Natural(number),
+        Some(number) => Leaf::Natural(number),
         None => bytes_or_null(value),
     }
 }
 
 // A truth value.
 #[inline]
-fn truth(value: Value<'_>) -> Made<'_>
+fn truth(value: Value<'_>) -> Leaf<'_>
     ensures { let bytes = bytes_in value.entry in
-        made_data result ≡ or_hex boolean (exactly 1 bool_of bytes) bytes }
+        leaf_data result ≡ or_hex boolean (exactly 1 bool_of bytes) bytes }
 {
     match as_bool(value) {
-        Some(truth) => Made::Truth(truth),
+        Some(truth) => Leaf::Truth(truth),
         None => bytes_or_null(value),
     }
 }
 
 // A GUID of 16 bytes.
 #[inline]
-fn guid(value: Value<'_>) -> Made<'_>
+fn guid(value: Value<'_>) -> Leaf<'_>
     ensures { let bytes = bytes_in value.entry in
-        made_data result ≡ or_hex guid_data (exactly 16 guid_of bytes) bytes }
+        leaf_data result ≡ or_hex guid_data (exactly 16 guid_of bytes) bytes }
 {
     match as_guid(value) {
-        Some(guid) => Made::Guid(guid),
+        Some(guid) => Leaf::Guid(guid),
         None => bytes_or_null(value),
     }
 }
 
 // An object.
 #[inline]
-fn object(value: Value<'_>) -> Made<'_>
+fn object(value: Value<'_>) -> Leaf<'_>
     ensures { let bytes = bytes_in value.entry in
-        made_data result ≡ or_hex object_data (object_of bytes) bytes }
+        leaf_data result ≡ or_hex object_data (object_of bytes) bytes }
 {
     match as_object(value) {
-        Some((nid, size)) => Made::Object(nid, size),
+        Some((nid, size)) => Leaf::Object(nid, size),
         None => bytes_or_null(value),
     }
 }
 
 /// A single value of this type.
 #[inline]
-pub(crate) fn single(kind: PropType, value: Value<'_>) -> Made<'_>
-    ensures { made_data result ≡ single_data kind.0 (bytes_in value.entry) }
+pub(crate) fn single(kind: PropType, value: Value<'_>) -> Leaf<'_>
+    ensures { leaf_data result ≡ single_data kind.0 (bytes_in value.entry) }
 {
     match form_of_type(kind) {
         Form::Int16 => int16(value),
@@ -134,8 +134,8 @@ pub(crate) fn single(kind: PropType, value: Value<'_>) -> Made<'_>
         Form::Truth => truth(value),
         Form::Guid => guid(value),
         Form::Object => object(value),
-        Form::Text => Made::Text(value),
+        Form::Text => Leaf::Text(value),
         Form::Fixed => bytes_or_null(value),
-        Form::Open => Made::Hex(value),
+        Form::Open => Leaf::Hex(value),
     }
 }

@@ -9,11 +9,12 @@ ghost use Rattle.pst_value_json.specs.Object.{put_part, parts_data, KeysRise, pa
 ghost use Rattle.pst_value_json.specs.Kept.{BeginsWith};
 
 use crate::compact::put_comma;
+use crate::leaf::leaf_of;
 use crate::listing::{Rows, list_doc, put_list};
 use crate::parts::Part;
 use crate::put::put_key;
-use crate::put_values::put_made;
-use crate::scalar::made_doc;
+use crate::put_values::put_leaf;
+use crate::scalar::leaf_doc;
 use serde_json::{Map, Value as Doc};
 use std::alloc::{AllocError, Global};
 
@@ -47,7 +48,12 @@ fn put_member<R: Rows>(
         ≡ put_part R.left (members_view map.old.entries) part) }
 {
     match part {
-        Part::Value(key, made) => serde_json::put(map, alloc, key, made_doc(alloc, &made)?),
+        Part::Value(key, made) => serde_json::put(
+            map,
+            alloc,
+            key,
+            leaf_doc(alloc, &leaf_of(&made))?,
+        ),
         Part::Rows(key, rows) => serde_json::put(map, alloc, key, list_doc(alloc, rows)?),
     }
 }
@@ -80,7 +86,7 @@ fn put_part_text<R: Rows>(
     match part {
         Part::Value(key, made) => {
             put_key(key, later, text)?;
-            put_made(alloc, &made, text)
+            put_leaf(alloc, &leaf_of(&made), text)
         }
         Part::Rows(key, rows) => {
             put_key(key, later, text)?;

@@ -4,9 +4,9 @@ ghost use Rattle.std.specs.Prelude.{◌≡◌, ◌++◌, [], ◌∷◌, OnOk, Li
 ghost use Rattle.serde_json.specs.Data.{Data, Items, Members, object, array, string, put};
 ghost use Rattle.serde_json.specs.View.{view, items_of, items_view, members_view};
 
-use crate::parts::Made;
+use crate::leaf::Leaf;
 use crate::pens::Pen;
-use crate::scalar::made_doc;
+use crate::scalar::leaf_doc;
 use serde_json::{Map, Value as Doc};
 use std::alloc::{AllocError, Global};
 
@@ -26,8 +26,8 @@ impl Pen for Vec<Doc> {
     ghost AtItem = { λ base s done.
         map view s.items ≡ map view base.items ++ array (items_of done) ∷ [] };
 
-    fn made(&mut self, alloc: Global, made: &Made) -> Result<(), AllocError> {
-        self.push(made_doc(alloc, made)?)?;
+    fn leaf(&mut self, alloc: Global, made: &Leaf) -> Result<(), AllocError> {
+        self.push(leaf_doc(alloc, made)?)?;
         Ok(())
     }
 

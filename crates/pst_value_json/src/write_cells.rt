@@ -11,7 +11,7 @@ ghost use Rattle.pst_value_json.specs.Parts.{list_data};
 ghost use Rattle.pst_value_json.specs.Places.{content_in, places_in};
 
 use crate::cells::cell_at;
-use crate::parts::Made;
+use crate::leaf::Leaf;
 use crate::pens::Pen;
 use crate::write_places::write_places;
 use crate::write_values::write_value;
@@ -35,7 +35,7 @@ fn write_cell_value<P: Pen>(
     if kind.cell_width() == Some(column.width) {
         write_value(alloc, kind, value, pen)
     } else {
-        pen.made(alloc, &Made::Hex(value))
+        pen.leaf(alloc, &Leaf::Hex(value))
     }
 }
 
@@ -72,7 +72,7 @@ fn write_cell<P: Pen>(
     ensures kept { (base : P) → P.Keeps base pen.old → P.Keeps base pen.new }
 {
     open_cell(alloc, places, value, pen)?;
-    pen.made(alloc, &Made::Tag(column.tag))?;
+    pen.leaf(alloc, &Leaf::Tag(column.tag))?;
     pen.next(alloc, "value", b",\"value\":")?;
     write_cell_value(alloc, column, value, pen)?;
     pen.close(alloc)
@@ -144,6 +144,6 @@ pub(crate) fn write_row<P: Pen>(
     pen.first(alloc, "cells", b"{\"cells\":")?;
     write_cells(alloc, row, columns, places, pen)?;
     pen.next(alloc, "row", b",\"row\":")?;
-    pen.made(alloc, &Made::Nid(Some(row.id())))?;
+    pen.leaf(alloc, &Leaf::Nid(Some(row.id())))?;
     pen.close(alloc)
 }

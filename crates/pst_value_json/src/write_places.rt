@@ -6,7 +6,7 @@ ghost use Rattle.pst_datatree.specs.Left.{spans_left, file_of};
 ghost use Rattle.pst_datatree.specs.Spans.{nonempty};
 ghost use Rattle.pst_value_json.specs.Places.{in_file, piece_data, places_data, places_in};
 
-use crate::parts::Made;
+use crate::leaf::Leaf;
 use crate::pens::Pen;
 use pst_bytes::Span;
 use pst_datatree::{Pieces, Value};
@@ -19,10 +19,10 @@ fn write_piece<P: Pen>(alloc: Global, piece: Span, pen: &mut P) -> Result<(), Al
 {
     pen.open_list(alloc)?;
     pen.comma(false)?;
-    pen.made(alloc, &Made::Natural(piece.at))?;
+    pen.leaf(alloc, &Leaf::Natural(piece.at))?;
     pen.item(alloc)?;
     pen.comma(true)?;
-    pen.made(alloc, &Made::Natural(piece.len))?;
+    pen.leaf(alloc, &Leaf::Natural(piece.len))?;
     pen.item(alloc)?;
     pen.close_list(true)
 }

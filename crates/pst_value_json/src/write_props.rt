@@ -4,13 +4,13 @@ ghost use Rattle.std.specs.Prelude.{◌≡◌, OnOk, codes, map, option_map};
 ghost use Rattle.serde_json.specs.Data.{Members};
 ghost use Rattle.pst_names.specs.View.{kind_parts, name_parts};
 ghost use Rattle.pst_pc.specs.View.{property_of};
-ghost use Rattle.pst_value_json.specs.Made.{made_data};
+ghost use Rattle.pst_value_json.specs.Leaf.{leaf_data};
 ghost use Rattle.pst_value_json.specs.Pen.{InObject, IsLast, and_member_if};
 ghost use Rattle.pst_value_json.specs.Places.{places_in, places_data, if_asked};
 ghost use Rattle.pst_value_json.specs.Props.{kind_data, set_data, called_data, set_of_data, prop_data, filed_data, filed_prop_data, names_told};
 
 use crate::filed::{Filed, file_told};
-use crate::parts::Made;
+use crate::leaf::Leaf;
 use crate::pens::Pen;
 use crate::write_places::write_places;
 use crate::write_values::write_value;
@@ -21,22 +21,22 @@ use std::alloc::{AllocError, Global};
 use uuid::Uuid;
 
 // A name within its set.
-fn kind_made(kind: NameKind<'_>) -> Made<'_>
-    ensures { made_data result ≡ kind_data (kind_parts kind.entry) }
+fn kind_leaf(kind: NameKind<'_>) -> Leaf<'_>
+    ensures { leaf_data result ≡ kind_data (kind_parts kind.entry) }
 {
     match kind {
-        NameKind::Num(number) => Made::Natural(u64::from(number)),
-        NameKind::Text(text) => Made::Text(text),
+        NameKind::Num(number) => Leaf::Natural(u64::from(number)),
+        NameKind::Text(text) => Leaf::Text(text),
     }
 }
 
 // The set that a name is of, or null.
-fn set_made(set: Option<Uuid>) -> Made<'static>
-    ensures { made_data result ≡ set_data set }
+fn set_leaf(set: Option<Uuid>) -> Leaf<'static>
+    ensures { leaf_data result ≡ set_data set }
 {
     match set {
-        Some(guid) => Made::Guid(guid),
-        None => Made::Null,
+        Some(guid) => Leaf::Guid(guid),
+        None => Leaf::Null,
     }
 }
 
@@ -64,7 +64,7 @@ fn write_name_member<P: Pen>(
 {
     if let Some(name) = name {
         pen.next(alloc, "name", b",\"name\":")?;
-        pen.made(alloc, &kind_made(name.kind))?;
+        pen.leaf(alloc, &kind_leaf(name.kind))?;
     }
     Ok(())
 }
@@ -83,7 +83,7 @@ fn write_set_member<P: Pen>(
 {
     if let Some(name) = name {
         pen.next(alloc, "set", b",\"set\":")?;
-        pen.made(alloc, &set_made(name.set))?;
+        pen.leaf(alloc, &set_leaf(name.set))?;
     }
     Ok(())
 }
@@ -123,12 +123,12 @@ fn write_prop<P: Pen>(
     ensures kept { (base : P) → P.Keeps base pen.old → P.Keeps base pen.new }
 {
     pen.first(alloc, "id", b"{\"id\":")?;
-    pen.made(alloc, &Made::Id(prop.id))?;
+    pen.leaf(alloc, &Leaf::Id(prop.id))?;
     write_name_member(alloc, name, pen)?;
     write_places_member(alloc, places, prop.value, pen)?;
     write_set_member(alloc, name, pen)?;
     pen.next(alloc, "type", b",\"type\":")?;
-    pen.made(alloc, &Made::Id(prop.kind.0))?;
+    pen.leaf(alloc, &Leaf::Id(prop.kind.0))?;
     pen.next(alloc, "value", b",\"value\":")?;
     write_value(alloc, prop.kind, prop.value, pen)?;
     pen.close(alloc)
@@ -150,14 +150,14 @@ fn write_filed_prop<P: Pen>(
     ensures kept { (base : P) → P.Keeps base pen.old → P.Keeps base pen.new }
 {
     pen.first(alloc, "file", b"{\"file\":")?;
-    pen.made(alloc, &Made::Word(file))?;
+    pen.leaf(alloc, &Leaf::Word(file))?;
     pen.next(alloc, "id", b",\"id\":")?;
-    pen.made(alloc, &Made::Id(prop.id))?;
+    pen.leaf(alloc, &Leaf::Id(prop.id))?;
     write_name_member(alloc, name, pen)?;
     write_places_member(alloc, places, prop.value, pen)?;
     write_set_member(alloc, name, pen)?;
     pen.next(alloc, "type", b",\"type\":")?;
-    pen.made(alloc, &Made::Id(prop.kind.0))?;
+    pen.leaf(alloc, &Leaf::Id(prop.kind.0))?;
     pen.close(alloc)
 }
 

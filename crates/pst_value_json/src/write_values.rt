@@ -7,9 +7,9 @@ ghost use Rattle.pst_value.specs.Elements.{elements_left};
 ghost use Rattle.pst_value_json.specs.Parts.{list_data};
 ghost use Rattle.pst_value_json.specs.Value.{single_data, value_data, hex_data};
 
-use crate::parts::Made;
+use crate::leaf::Leaf;
 use crate::pens::Pen;
-use crate::scalar::made_doc;
+use crate::scalar::leaf_doc;
 use crate::single::single;
 use crate::trees::only;
 use pst_datatree::Value;
@@ -32,7 +32,7 @@ fn write_values<P: Pen>(
     let mut later = false;
     for value in values {
         pen.comma(later)?;
-        pen.made(alloc, &single(kind, value))?;
+        pen.leaf(alloc, &single(kind, value))?;
         pen.item(alloc)?;
         later = true;
     }
@@ -52,7 +52,7 @@ pub(crate) fn write_value<P: Pen>(
 {
     match elements_from(value, kind) {
         Some(values) => write_values(alloc, PropType(kind.0 % 0x1000), values, pen),
-        None => pen.made(alloc, &single(kind, value)),
+        None => pen.leaf(alloc, &single(kind, value)),
     }
 }
 
@@ -69,5 +69,5 @@ pub fn value_doc(alloc: Global, kind: PropType, value: Value) -> Result<Doc, All
 pub fn hex_doc(alloc: Global, value: Value) -> Result<Doc, AllocError>
     ensures { IfOk result (λ d. view d ≡ hex_data (bytes_in value.entry)) }
 {
-    made_doc(alloc, &Made::Hex(value))
+    leaf_doc(alloc, &Leaf::Hex(value))
 }

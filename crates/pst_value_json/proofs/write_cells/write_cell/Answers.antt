@@ -18,7 +18,7 @@ returns-clause-put g c =
     let places = places_in c.args.value in
     let front : Members = placed_members c.args.places places in
     let tag : Data = string (tag_text c.args.column.tag) in
-    let first = begun g.P.Pen.Puts g.P.Pen.AtKey _ _ _ front (codes "tag") tag c.in_ok-open_cell.ensures.put c.in_ok-made.ensures.put (last_tag c.args.places places) in
+    let first = begun g.P.Pen.Puts g.P.Pen.AtKey _ _ _ front (codes "tag") tag c.in_ok-open_cell.ensures.put c.in_ok-leaf.ensures.put (last_tag c.args.places places) in
     let second = begun g.P.Pen.Puts g.P.Pen.AtKey _ _ _ (and_member front (codes "tag") tag) (codes "value") (cell_value cell) (c.in_ok-next.ensures.put _ (and_member front (codes "tag") tag) first) c.in_ok-write_cell_value.ensures.put
     (last_value c.args.places places tag) in
     subst (λ ms. OnOk c.close.result (g.P.Pen.Puts c.args.pen.now c.close.new.self (object ms))) (cell_members c.args.places places tag (cell_value cell)) (c.close.ensures.put _ _ second)

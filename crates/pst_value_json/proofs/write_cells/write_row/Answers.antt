@@ -17,5 +17,5 @@ returns-clause-put g c =
     let cells : Data = list_data (cell_data c.args.places) (cells_of (table_of_node node) (roots_of node) (row_parts c.args.row).place.at (map column_of c.args.columns.now)) in
     let one : Members = member (codes "cells") cells no_members in
     let first = begun g.P.Pen.Puts g.P.Pen.AtKey _ _ _ no_members (codes "cells") cells c.in_ok-first.ensures.put c.in_ok-write_cells.ensures.put refl in
-    let second = begun g.P.Pen.Puts g.P.Pen.AtKey _ _ _ one (codes "row") (nid_data c.id.result) (c.in_ok-next.ensures.put _ one first) c.in_ok-made.ensures.put refl in
+    let second = begun g.P.Pen.Puts g.P.Pen.AtKey _ _ _ one (codes "row") (nid_data c.id.result) (c.in_ok-next.ensures.put _ one first) c.in_ok-leaf.ensures.put refl in
     rw c.id.ensures at (c.close.ensures.put _ _ second)

@@ -8,5 +8,5 @@ returns-clause-put g c =
     let len = natural c.args.piece.len in
     c.close_list.ensures.put _ (at ∷ len ∷ [])
     (c.in_ok-item-2.ensures.put _ _ (at ∷ []) len
-    (c.in_ok-comma-2.ensures.put _ (at ∷ []) (c.in_ok-item.ensures.put _ _ [] at (c.in_ok-comma.ensures.put _ [] c.in_ok-open_list.ensures.put) c.in_ok-made.ensures.put))
-    c.in_ok-made-2.ensures.put)
+    (c.in_ok-comma-2.ensures.put _ (at ∷ []) (c.in_ok-item.ensures.put _ _ [] at (c.in_ok-comma.ensures.put _ [] c.in_ok-open_list.ensures.put) c.in_ok-leaf.ensures.put))
+    c.in_ok-leaf-2.ensures.put)

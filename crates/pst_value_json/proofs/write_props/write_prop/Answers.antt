@@ -25,12 +25,12 @@ returns-clause-put g c =
     let placed : Members = and_member_if named (codes "places") l in
     let in_set : Members = and_member_if placed (codes "set") s in
     let typed : Members = and_member in_set (codes "type") (string (id_text p.kind)) in
-    let first = begun g.P.Pen.Puts g.P.Pen.AtKey _ _ _ no_members (codes "id") (string (id_text p.id)) c.in_ok-first.ensures.put c.in_ok-made.ensures.put refl in
+    let first = begun g.P.Pen.Puts g.P.Pen.AtKey _ _ _ no_members (codes "id") (string (id_text p.id)) c.in_ok-first.ensures.put c.in_ok-leaf.ensures.put refl in
     let second = c.in_ok-write_name_member.ensures.put _ one first refl in
     let third = c.in_ok-write_places_member.ensures.put _ named second (last_if one (codes "name") (codes "places") n refl refl) in
     let fourth = c.in_ok-write_set_member.ensures.put _ placed third (last_if named (codes "places") (codes "set") l (last_if one (codes "name") (codes "set") n refl refl) refl) in
     let at_type = c.in_ok-next.ensures.put _ in_set fourth in
-    let fifth = begun g.P.Pen.Puts g.P.Pen.AtKey _ _ _ in_set (codes "type") (string (id_text p.kind)) at_type c.in_ok-made-2.ensures.put
+    let fifth = begun g.P.Pen.Puts g.P.Pen.AtKey _ _ _ in_set (codes "type") (string (id_text p.kind)) at_type c.in_ok-leaf-2.ensures.put
     (last_if placed (codes "set") (codes "type") s (last_if named (codes "places") (codes "type") l (last_if one (codes "name") (codes "type") n refl refl) refl) refl) in
     let at_value = c.in_ok-next-2.ensures.put _ typed fifth in
     let sixth = begun g.P.Pen.Puts g.P.Pen.AtKey _ _ _ typed (codes "value") (value_data p.kind p.bytes) at_value c.in_ok-write_value.ensures.put

@@ -19,10 +19,10 @@ loop-value-preserved g c =
     record {
       list = (
         l.list.0 ++ d ∷ [],
-        c.in_ok-item.ensures.put _ _ l.list.0 d (c.in_ok-comma.ensures.put _ l.list.0 l.list.1) (rw c.single.ensures at c.in_ok-made.ensures.put),
+        c.in_ok-item.ensures.put _ _ l.list.0 d (c.in_ok-comma.ensures.put _ l.list.0 l.list.1) (rw c.single.ensures at c.in_ok-leaf.ensures.put),
         append_assoc l.list.0 (d ∷ []) behind ∙ ap (λ ds. l.list.0 ++ ds) (sym (ap (map shown) c.in-Some.ensures.steps.0)) ∙ l.list.2,
       );
-      kept = λ base kept. c.in_ok-item.ensures.kept base (c.in_ok-made.ensures.kept base (c.in_ok-comma.ensures.kept base (l.kept base kept)));
+      kept = λ base kept. c.in_ok-item.ensures.kept base (c.in_ok-leaf.ensures.kept base (c.in_ok-comma.ensures.kept base (l.kept base kept)));
     }
 
 pub returns-clause-put : goal.returns-clause-put
