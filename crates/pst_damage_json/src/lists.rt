@@ -6,7 +6,7 @@ ghost use Rattle.pst_value_json.specs.Parts.{list_data};
 ghost use Rattle.pst_damage_json.specs.Damage.{broken_data};
 ghost use Rattle.pst_damage_json.specs.Faults.{fault_data};
 
-use crate::faults::put_fault;
+use crate::faults::write_fault;
 use pst_damage::BrokenNode;
 use pst_fault::Fault;
 use pst_value_json::{put_comma, put_nid};
@@ -25,7 +25,7 @@ pub(crate) fn put_faults(
     let mut later = false;
     for fault in faults {
         put_comma(later, text)?;
-        put_fault(alloc, fault, text)?;
+        write_fault(alloc, fault, text)?;
         later = true;
     }
     text.push(b']')?;
@@ -39,7 +39,7 @@ fn put_broken(alloc: Global, broken: &BrokenNode, text: &mut Vec<u8>) -> Result<
         ≡ text.old.items ++ compact_text (broken_data broken.now)) }
 {
     text.extend_from_slice(b"{\"fault\":")?;
-    put_fault(alloc, &broken.fault, text)?;
+    write_fault(alloc, &broken.fault, text)?;
     text.extend_from_slice(b",\"node\":")?;
     put_nid(broken.nid, text)?;
     text.push(b'}')?;

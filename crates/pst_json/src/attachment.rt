@@ -1,11 +1,8 @@
 //! The attachments of a message, each as an object.
 
-ghost use Rattle.std.specs.Prelude.{◌≡◌, ◌++◌, Some, IfOk, OnOk, OnErr};
-ghost use Rattle.serde_json.specs.View.{view};
+ghost use Rattle.std.specs.Prelude.{◌≡◌, Some, IfOk, OnOk};
 ghost use Rattle.pst_ndb.specs.Views.{table_of_node, roots_of, IsIndexedBy};
 ghost use Rattle.pst_verify.specs.pst_msg.View.{node_of_attachment, attachment_shown, holder_left};
-ghost use Rattle.pst_value_json.specs.Kept.{BeginsWith};
-ghost use Rattle.pst_value_json.specs.Line.{row_text};
 ghost use Rattle.pst_value_json.specs.Object.{parts_data, KeysRise};
 ghost use Rattle.pst_value_json.specs.Props.{names_told, prop_rows_left};
 ghost use Rattle.pst_json.specs.Node.{embedded_there, attachment_data, filed_in_list as filed_below, listed_data};
@@ -14,10 +11,9 @@ ghost use Rattle.pst_json.specs.LastIndex.{IsLastIndex, IsLastIndex-prop};
 use crate::last_index::{LastIndex, most_values};
 use pst_ndb::SubIndex;
 use pst_value_json::{
-    Filed, Made, NameMap, Part, PropRows, Rows, Sink, Tree, prop_rows, put_object,
+    Filed, Made, NameMap, Part, Pen, PropRows, Rows, Sink, prop_rows, write_list,
 };
 use pst_verify::{Attachment, Attachments};
-use serde_json::Value as Doc;
 use std::alloc::{AllocError, Global};
 
 // The identifier of the message that an attachment embeds.
@@ -92,49 +88,35 @@ pub(crate) fn shown_attachment<S: Sink>(
     S::object(alloc, parts)
 }
 
-// An attachment in the list of a message as an object.
-fn listed_doc(
+// Writes an attachment in the list of a message, as an object. The index turns to its list.
+#[tactic(auto, unfolding(crate::specs::Node::attachment_data))]
+fn write_listed<P: Pen>(
     alloc: Global,
     attachment: Attachment,
     names: Option<NameMap>,
     files: bool,
     places: bool,
     index: &mut LastIndex,
-) -> Result<Doc, AllocError>
-    requires { IsLastIndex (table_of_node (node_of_attachment attachment)) index.old }
-    ensures known { IsLastIndex (table_of_node (node_of_attachment attachment.entry)) index.new }
-    ensures shown { let t = table_of_node (node_of_attachment attachment.entry) in
-        let shown = attachment_shown attachment.entry in let told = names_told names.entry in
-        IfOk result (λ d. view d ≡ listed_data told files places t shown) }
-{
-    let filed = filed_in_list(files, attachment.nid());
-    shown_attachment::<Tree>(alloc, attachment, names, filed, places, index)
-}
-
-// Puts an attachment in the list of a message behind a text, as `listed_doc` shows it.
-fn put_listed(
-    alloc: Global,
-    attachment: Attachment,
-    names: Option<NameMap>,
-    files: bool,
-    places: bool,
-    index: &mut LastIndex,
-    later: bool,
-    text: &mut Vec<u8>,
+    pen: &mut P,
 ) -> Result<(), AllocError>
     requires { IsLastIndex (table_of_node (node_of_attachment attachment)) index.old }
     ensures known { IsLastIndex (table_of_node (node_of_attachment attachment.entry)) index.new }
     ensures put { let t = table_of_node (node_of_attachment attachment.entry) in
         let shown = attachment_shown attachment.entry in let told = names_told names.entry in
-        OnOk result (text.new.items
-        ≡ text.old.items ++ row_text (listed_data told files places t shown) later) }
-    ensures kept { OnErr result (BeginsWith text.new.items text.old.items) }
+        OnOk result (P.Puts pen.old pen.new (listed_data told files places t shown)) }
+    ensures kept { (base : P) → P.Keeps base pen.old → P.Keeps base pen.new }
 {
     let node = attachment.node();
     index.turn(alloc, node, most_values(node))?;
     let filed = filed_in_list(files, attachment.nid());
-    let parts = attachment_parts(alloc, attachment, names, filed, places, &index.subs)?;
-    put_object(alloc, parts, later, text)
+    let pc = attachment.pc().indexed(&index.subs);
+    pen.first(alloc, "embedded", b"{\"embedded\":")?;
+    pen.made(alloc, &Made::Nid(embedded_nid(attachment)))?;
+    pen.next(alloc, "nid", b",\"nid\":")?;
+    pen.made(alloc, &Made::Nid(Some(attachment.nid())))?;
+    pen.next(alloc, "props", b",\"props\":")?;
+    write_list(alloc, prop_rows(&pc, names, filed, places), pen)?;
+    pen.close(alloc)
 }
 
 /// The attachments that are left, the names that their properties are shown with, whether files are told in place of their contents,
@@ -150,49 +132,32 @@ pub(crate) struct AttachmentRows<'a> {
         (table_of_node (holder_left attachments)) index },
 }
 
-#[tactic(auto, using(crate::proofs::IndexLemmas::last_of, pst_value_json::proofs::RowLemmas::puts_next))]
+#[tactic(auto, using(crate::proofs::IndexLemmas::last_of))]
 impl Rows for AttachmentRows<'_> {
     ghost use Rattle.pst_json.specs.Lists.{attachment_rows_left};
 
     ghost left = { attachment_rows_left };
 
-    fn next_doc(&mut self, alloc: Global) -> Result<Option<Doc>, AllocError> {
-        match self.attachments.next() {
-            Some(attachment) => {
-                let doc = listed_doc(
-                    alloc,
-                    attachment,
-                    self.names,
-                    self.files,
-                    self.places,
-                    &mut self.index,
-                )?;
-                Ok(Some(doc))
-            }
-            None => Ok(None),
-        }
-    }
-
-    // The properties of an attachment go to the text one by one.
-    fn put_next(
+    fn write_next<P: Pen>(
         &mut self,
         alloc: Global,
         later: bool,
-        text: &mut Vec<u8>,
+        pen: &mut P,
     ) -> Result<bool, AllocError> {
         let Some(attachment) = self.attachments.next() else {
             return Ok(false);
         };
-        put_listed(
+        pen.comma(later)?;
+        write_listed(
             alloc,
             attachment,
             self.names,
             self.files,
             self.places,
             &mut self.index,
-            later,
-            text,
+            pen,
         )?;
+        pen.item(alloc)?;
         Ok(true)
     }
 }

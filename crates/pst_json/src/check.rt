@@ -1,14 +1,13 @@
 //! The report of a check as a document.
 
-ghost use Rattle.std.specs.Prelude.{◌≡◌, IfOk};
+ghost use Rattle.std.specs.Prelude.{◌≡◌, IfOk, OnOk};
 ghost use Rattle.serde_json.specs.Data.{string};
 ghost use Rattle.serde_json.specs.View.{view};
-ghost use Rattle.pst_value_json.specs.Object.{parts_data, KeysRise};
 ghost use Rattle.pst_json.specs.Check.{lost_data, lost_rows, report_parts, order_data, check_data, check_line as line_of_check};
 
 use pst_amap::BitOrder;
 use pst_bytes::Span;
-use pst_value_json::{Line, Made, Part, Rows, Sink, Tree, put_object};
+use pst_value_json::{Line, Made, Part, Pen, Rows, Sink, Tree};
 use pst_verify::Report;
 use serde_json::Value as Doc;
 use std::alloc::{AllocError, Global};
@@ -20,17 +19,17 @@ pub(crate) struct LostRows<'a> {
     at: usize,
 }
 
-// What the object of a lost run is made of.
+// Writes a lost run, as an object.
 #[tactic(auto, unfolding(crate::specs::Check::lost_data))]
-fn lost_parts<'a>(alloc: Global, run: Span) -> Result<Vec<Part<LostRows<'a>>>, AllocError>
-    ensures shown { IfOk result (λ parts. parts_data lost_rows parts.items ≡ lost_data run) }
-    ensures keys { IfOk result (λ parts. KeysRise lost_rows parts.items) }
+fn write_lost<P: Pen>(alloc: Global, run: Span, pen: &mut P) -> Result<(), AllocError>
+    ensures put { OnOk result (P.Puts pen.old pen.new (lost_data run)) }
+    ensures kept { (base : P) → P.Keeps base pen.old → P.Keeps base pen.new }
 {
-    let parts = vec![in alloc;
-        Part::Value("at", Made::Natural(run.at)),
-        Part::Value("len", Made::Natural(run.len)),
-    ]?;
-    Ok(parts)
+    pen.first(alloc, "at", b"{\"at\":")?;
+    pen.made(alloc, &Made::Natural(run.at))?;
+    pen.next(alloc, "len", b",\"len\":")?;
+    pen.made(alloc, &Made::Natural(run.len))?;
+    pen.close(alloc)
 }
 
 impl LostRows<'_> {
@@ -48,27 +47,21 @@ impl LostRows<'_> {
     }
 }
 
-#[tactic(auto, using(pst_value_json::proofs::RowLemmas::puts_next))]
 impl Rows for LostRows<'_> {
     ghost left = { lost_rows };
 
-    fn next_doc(&mut self, alloc: Global) -> Result<Option<Doc>, AllocError> {
-        match self.next_run() {
-            Some(run) => Ok(Some(Tree::object(alloc, lost_parts(alloc, run)?)?)),
-            None => Ok(None),
-        }
-    }
-
-    fn put_next(
+    fn write_next<P: Pen>(
         &mut self,
         alloc: Global,
         later: bool,
-        text: &mut Vec<u8>,
+        pen: &mut P,
     ) -> Result<bool, AllocError> {
         let Some(run) = self.next_run() else {
             return Ok(false);
         };
-        put_object(alloc, lost_parts(alloc, run)?, later, text)?;
+        pen.comma(later)?;
+        write_lost(alloc, run, pen)?;
+        pen.item(alloc)?;
         Ok(true)
     }
 }

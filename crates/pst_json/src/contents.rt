@@ -1,8 +1,7 @@
 //! The messages of a folder as a document.
 
-ghost use Rattle.std.specs.Prelude.{◌≡◌, ◌++◌, true, Ok, Err, IfOk, OnErr, OnOk, IfErr, IfSome, option_map};
+ghost use Rattle.std.specs.Prelude.{◌≡◌, true, Ok, Err, IfOk, OnOk, IfErr, IfSome, option_map};
 ghost use Rattle.serde_json.specs.View.{view};
-ghost use Rattle.serde_json.specs.Written.{compact_text};
 ghost use Rattle.pst_block.specs.Table.{Table};
 ghost use Rattle.pst_ndb.specs.Views.{table_of_node, roots_of, IsIndexedBy};
 ghost use Rattle.pst_intact.specs.View.{table_of_intact, nodes_of_intact};
@@ -22,23 +21,21 @@ ghost use Rattle.pst_verify.specs.pst_msg.View.{tc_roots, node_of_message, messa
 ghost use Rattle.pst_json.specs.Contents.{text_there, listed_data, told_data, row_data, contents_data, contents_there, contents_of, contents_line as line_of_contents};
 ghost use Rattle.pst_json.specs.LastIndex.{IsLastIndex, last_in};
 ghost use Rattle.pst_json.specs.Told.{TellsDoc};
-ghost use Rattle.pst_value_json.specs.Kept.{BeginsWith};
+ghost use Rattle.pst_value_json.specs.Made.{made_data};
 
 use crate::fault::DocFault;
 use crate::last_index::LastIndex;
 use crate::listed_rows::ListedRows;
-use crate::texts::{CLASS, SENDER, SUBJECT, put_text_property, text_property_doc};
-use pst_damage_json::fault_doc;
+use crate::texts::{CLASS, SENDER, SUBJECT, text_property};
+use pst_damage_json::write_fault;
 use pst_fault::Fault;
 use pst_intact::Intact;
 use pst_msg::{Items, listing_nid};
 use pst_ndb::SubIndex;
-use pst_value_json::{
-    Line, Made, Part, Pc, Row, Sink, Tc, TcRows, Tree, nid_text, put_nid, put_null,
-};
+use pst_value_json::{Line, Made, Part, Pc, Pen, Row, Sink, Tc, TcRows, Tree};
 use pst_verify::{FOLDER, Message, is_type};
 use pst_whole::Lost;
-use serde_json::{Value as Doc, json};
+use serde_json::Value as Doc;
 use std::alloc::{AllocError, Global};
 
 // How many texts of a message are looked up, each of which may be a subnode.
@@ -84,150 +81,78 @@ fn properties_of<'a>(message: Option<Message<'a>>, index: &'a SubIndex) -> Optio
 }
 
 // The text of one of these properties; null where there are none.
-fn text_of(alloc: Global, pc: Option<Pc>, id: u16) -> Result<Doc, AllocError>
-    ensures { (t : Table) → IfSome pc.entry (λ p. table_of_node (node_of_pc p) ≡ t)
-        → IfOk result (λ d. view d ≡
-        text_there t (option_map (λ p. roots_of (node_of_pc p)) pc.entry) id) }
+fn text_of<'a>(pc: &Option<Pc<'a>>, id: u16) -> Made<'a>
+    ensures { (t : Table) → IfSome pc.now (λ p. table_of_node (node_of_pc p) ≡ t) → made_data result
+        ≡ text_there t (option_map (λ p. roots_of (node_of_pc p)) pc.now) id }
 {
     match pc {
-        Some(pc) => text_property_doc(alloc, &pc, id),
-        None => Ok(Doc::Null),
+        Some(pc) => text_property(pc, id),
+        None => Made::Null,
     }
 }
 
-// The message that a row names as an object.
+// Writes the message that a row names, as an object.
 #[tactic(auto, unfolding(crate::specs::Contents::listed_data))]
-fn listed_doc(
+fn write_listed<P: Pen>(
     alloc: Global,
     intact: &Intact,
     row: Row,
     index: &mut LastIndex,
-) -> Result<Doc, AllocError>
-    requires { IsLastIndex (table_of_intact intact.now) index.old }
-    ensures known { IsLastIndex (table_of_intact intact.now) index.new }
-    ensures shown { let t = table_of_intact intact.now in
-        IfOk result (λ d. view d ≡ listed_data t (nodes_of_intact intact.now)
-        (row_parts row.entry)) }
-{
-    let message = message_in(alloc, intact, row.id(), index)?;
-    let pc = properties_of(message, &index.subs);
-    let class = text_of(alloc, pc, CLASS)?;
-    let nid = nid_text(alloc, row.id())?;
-    let sender = text_of(alloc, pc, SENDER)?;
-    let subject = text_of(alloc, pc, SUBJECT)?;
-    json!(in alloc; {"class": class, "nid": nid, "sender": sender, "subject": subject})
-}
-
-// A fault, in place of the message with an identifier, as an object.
-#[tactic(auto, unfolding(crate::specs::Contents::told_data))]
-fn told_doc(alloc: Global, fault: &Fault, nid: u32) -> Result<Doc, AllocError>
-    ensures { IfOk result (λ d. view d ≡ told_data fault.now nid) }
-{
-    let fault = fault_doc(alloc, fault)?;
-    let nid = nid_text(alloc, nid)?;
-    json!(in alloc; {"fault": fault, "nid": nid})
-}
-
-/// What a row names as an object: the message, or what is told of it.
-#[tactic(auto, unfolding(crate::specs::Contents::row_data))]
-pub(crate) fn row_doc(
-    alloc: Global,
-    intact: &Intact,
-    lost: &Lost,
-    row: Row,
-    index: &mut LastIndex,
-) -> Result<Doc, AllocError>
-    requires { IsLastIndex (table_of_intact intact.now) index.old }
-    ensures known { IsLastIndex (table_of_intact intact.now) index.new }
-    ensures shown { let t = table_of_intact intact.now in
-        IfOk result (λ d. view d ≡ row_data t (nodes_of_intact intact.now) (lost_in lost.now)
-        (row_parts row.entry)) }
-{
-    match lost.told(row.id()) {
-        Some(fault) => told_doc(alloc, &fault, row.id()),
-        None => listed_doc(alloc, intact, row, index),
-    }
-}
-
-// Puts the text of one of these properties behind a text; null where there are none.
-fn put_text_of(
-    alloc: Global,
-    pc: &Option<Pc>,
-    id: u16,
-    text: &mut Vec<u8>,
-) -> Result<(), AllocError>
-    ensures put { (t : Table) → IfSome pc.now (λ p. table_of_node (node_of_pc p) ≡ t)
-        → OnOk result (text.new.items ≡ text.old.items
-        ++ compact_text (text_there t (option_map (λ p. roots_of (node_of_pc p)) pc.now) id)) }
-    ensures kept { OnErr result (BeginsWith text.new.items text.old.items) }
-{
-    match pc {
-        Some(pc) => put_text_property(alloc, pc, id, text),
-        None => put_null(text),
-    }
-}
-
-// Puts the message that a row names behind a text, as an object.
-#[tactic(auto, unfolding(crate::specs::Contents::listed_data))]
-fn put_listed(
-    alloc: Global,
-    intact: &Intact,
-    row: Row,
-    index: &mut LastIndex,
-    text: &mut Vec<u8>,
+    pen: &mut P,
 ) -> Result<(), AllocError>
     requires { IsLastIndex (table_of_intact intact.now) index.old }
     ensures known { IsLastIndex (table_of_intact intact.now) index.new }
     ensures put { let t = table_of_intact intact.now in
         let shown = listed_data t (nodes_of_intact intact.now) (row_parts row.entry) in
-        OnOk result (text.new.items ≡ text.old.items ++ compact_text shown) }
-    ensures kept { OnErr result (BeginsWith text.new.items text.old.items) }
+        OnOk result (P.Puts pen.old pen.new shown) }
+    ensures kept { (base : P) → P.Keeps base pen.old → P.Keeps base pen.new }
 {
     let message = message_in(alloc, intact, row.id(), index)?;
     let pc = properties_of(message, &index.subs);
-    text.extend_from_slice(b"{\"class\":")?;
-    put_text_of(alloc, &pc, CLASS, text)?;
-    text.extend_from_slice(b",\"nid\":")?;
-    put_nid(row.id(), text)?;
-    text.extend_from_slice(b",\"sender\":")?;
-    put_text_of(alloc, &pc, SENDER, text)?;
-    text.extend_from_slice(b",\"subject\":")?;
-    put_text_of(alloc, &pc, SUBJECT, text)?;
-    text.push(b'}')?;
-    Ok(())
+    pen.first(alloc, "class", b"{\"class\":")?;
+    pen.made(alloc, &text_of(&pc, CLASS))?;
+    pen.next(alloc, "nid", b",\"nid\":")?;
+    pen.made(alloc, &Made::Nid(Some(row.id())))?;
+    pen.next(alloc, "sender", b",\"sender\":")?;
+    pen.made(alloc, &text_of(&pc, SENDER))?;
+    pen.next(alloc, "subject", b",\"subject\":")?;
+    pen.made(alloc, &text_of(&pc, SUBJECT))?;
+    pen.close(alloc)
 }
 
-// Puts a fault behind a text, in place of the message with an identifier, as `told_doc` shows it.
-#[tactic(auto, using(crate::proofs::FolderLemmas::told_has_none))]
-fn put_told(alloc: Global, fault: &Fault, nid: u32, text: &mut Vec<u8>) -> Result<(), AllocError>
-    ensures put { OnOk result (text.new.items
-        ≡ text.old.items ++ compact_text (told_data fault.now nid)) }
-    ensures kept { OnErr result (BeginsWith text.new.items text.old.items) }
+// Writes a fault, in place of the message with an identifier, as an object.
+#[tactic(auto, unfolding(crate::specs::Contents::told_data))]
+fn write_told<P: Pen>(alloc: Global, fault: &Fault, nid: u32, pen: &mut P) -> Result<(), AllocError>
+    ensures put { OnOk result (P.Puts pen.old pen.new (told_data fault.now nid)) }
+    ensures kept { (base : P) → P.Keeps base pen.old → P.Keeps base pen.new }
 {
-    let shown = told_doc(alloc, fault, nid)?.to_vec(alloc)?;
-    text.extend_from_slice(&shown)
+    pen.first(alloc, "fault", b"{\"fault\":")?;
+    write_fault(alloc, fault, pen)?;
+    pen.next(alloc, "nid", b",\"nid\":")?;
+    pen.made(alloc, &Made::Nid(Some(nid)))?;
+    pen.close(alloc)
 }
 
-/// Puts what a row names behind a text, as `row_doc` shows it.
+/// Writes what a row names: the message, or what is told of it.
 #[tactic(auto, unfolding(crate::specs::Contents::row_data))]
-pub(crate) fn put_row(
+pub(crate) fn write_row<P: Pen>(
     alloc: Global,
     intact: &Intact,
     lost: &Lost,
     row: Row,
     index: &mut LastIndex,
-    text: &mut Vec<u8>,
+    pen: &mut P,
 ) -> Result<(), AllocError>
     requires { IsLastIndex (table_of_intact intact.now) index.old }
     ensures known { IsLastIndex (table_of_intact intact.now) index.new }
     ensures put { let t = table_of_intact intact.now in
         let shown = row_data t (nodes_of_intact intact.now) (lost_in lost.now) (row_parts row.entry) in
-        OnOk result (text.new.items ≡ text.old.items ++ compact_text shown) }
-    ensures kept { OnErr result (BeginsWith text.new.items text.old.items) }
+        OnOk result (P.Puts pen.old pen.new shown) }
+    ensures kept { (base : P) → P.Keeps base pen.old → P.Keeps base pen.new }
 {
     match lost.told(row.id()) {
-        Some(fault) => put_told(alloc, &fault, row.id(), text),
-        None => put_listed(alloc, intact, row, index, text),
+        Some(fault) => write_told(alloc, &fault, row.id(), pen),
+        None => write_listed(alloc, intact, row, index, pen),
     }
 }
 

@@ -13,14 +13,13 @@ ghost use Rattle.pst_json.specs.Folders.{is_shown};
 ghost use Rattle.pst_json.specs.LastIndex.{IsLastIndex, IsLastIndex-prop};
 ghost use Rattle.pst_json.specs.RowCounts.{AreCountsTrue, AreCountsTrue-prop};
 
-use crate::folders::{folder_doc, put_folder};
+use crate::folders::write_folder;
 use crate::last_index::LastIndex;
 use crate::row_counts::RowCounts;
 use pst_intact::{Intact, IntactFolder, IntactFolders};
-use pst_value_json::{Rows, put_comma};
+use pst_value_json::{Pen, Rows};
 use pst_verify::{Reach, find_reach};
 use pst_whole::Lost;
-use serde_json::Value as Doc;
 use std::alloc::{AllocError, Global};
 
 // How many bytes the row of a folder takes, where its name and its path are short and it has no subfolders.
@@ -151,46 +150,30 @@ impl Rows for FolderRows<'_> {
 
     ghost left = { folder_rows };
 
-    fn next_doc(&mut self, alloc: Global) -> Result<Option<Doc>, AllocError> {
-        match self.next_folder() {
-            Some(folder) => {
-                let doc = folder_doc(
-                    alloc,
-                    folder,
-                    &self.lost,
-                    self.reached,
-                    &mut self.counts,
-                    &mut self.index,
-                )?;
-                Ok(Some(doc))
-            }
-            None => Ok(None),
-        }
-    }
-
-    // A folder goes to the text member by member, without a tree. Room is taken for all before the first.
-    fn put_next(
+    // Room is taken for all before the first.
+    fn write_next<P: Pen>(
         &mut self,
         alloc: Global,
         later: bool,
-        text: &mut Vec<u8>,
+        pen: &mut P,
     ) -> Result<bool, AllocError> {
         let Some(folder) = self.next_folder() else {
             return Ok(false);
         };
         if !later {
-            text.reserve(ROOM.saturating_mul(self.reached.len()))?;
+            pen.room(ROOM.saturating_mul(self.reached.len()))?;
         }
-        put_comma(later, text)?;
-        put_folder(
+        pen.comma(later)?;
+        write_folder(
             alloc,
             folder,
             &self.lost,
             self.reached,
             &mut self.counts,
             &mut self.index,
-            text,
+            pen,
         )?;
+        pen.item(alloc)?;
         Ok(true)
     }
 }

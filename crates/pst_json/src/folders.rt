@@ -1,39 +1,32 @@
 //! The folders of a store as a document.
 
-ghost use Rattle.std.specs.Prelude.{◌≡◌, ◌++◌, None, IfOk, OnErr, OnOk, IfSome, length, map, option_map};
+ghost use Rattle.std.specs.Prelude.{◌≡◌, None, IfOk, OnOk, map};
 ghost use Rattle.serde_json.specs.View.{view};
-ghost use Rattle.serde_json.specs.Written.{compact_text};
-ghost use Rattle.pst_block.specs.Table.{Table};
 ghost use Rattle.pst_btree.specs.Order.{Rises};
 ghost use Rattle.pst_ndb.specs.NodeTable.{table_of_nodes, entries_of_nodes};
-ghost use Rattle.pst_ndb.specs.Views.{table_of_node, roots_of, top_of};
-ghost use Rattle.pst_value_json.specs.pst_tc.Tc.{node_of_tc};
-ghost use Rattle.pst_value_json.specs.pst_tc.Values.{tc_rows};
-ghost use Rattle.pst_verify.specs.pst_msg.Shown.{rows_there, folder_table};
-ghost use Rattle.pst_verify.specs.pst_msg.View.{tc_roots};
+ghost use Rattle.pst_ndb.specs.Views.{top_of};
+ghost use Rattle.pst_verify.specs.pst_msg.Shown.{folder_table};
 ghost use Rattle.pst_intact.specs.View.{table_of_intact, nodes_of_intact, intact_beside, intact_roots, intact_node};
 ghost use Rattle.pst_whole.specs.View.{lost_in};
 ghost use Rattle.pst_verify.specs.pst_reach.Levels.{reaches_of};
 ghost use Rattle.pst_verify.specs.pst_reach.Path.{reach_nid, path_in};
-ghost use Rattle.pst_json.specs.Folders.{row_nid, row_total, text_property, path_data, count_data, nids_data, table_told, folder_data, folders_data, folders_line as line_of_folders};
+ghost use Rattle.pst_json.specs.Folders.{row_total, text_property as text_told, path_data, count_data, nids_data, table_told, folder_data, folders_data, folders_line as line_of_folders};
 ghost use Rattle.pst_json.specs.LastIndex.{IsLastIndex};
 ghost use Rattle.pst_json.specs.RowCounts.{AreCountsTrue};
-ghost use Rattle.pst_value_json.specs.Kept.{BeginsWith};
-ghost use Rattle.pst_value_json.specs.Names.{nid_data};
-ghost use Rattle.pst_value_json.specs.Parts.{list_data};
+ghost use Rattle.pst_value_json.specs.Made.{made_data};
 
 use crate::folder_rows::FolderRows;
 use crate::last_index::LastIndex;
-use crate::nid_lists::{put_nid_list, put_nids_of};
+use crate::nid_lists::{write_nid_list, write_nids_of};
 use crate::row_counts::RowCounts;
-use crate::texts::{NAME, put_text_property, text_property_doc};
+use crate::texts::{NAME, text_property};
 use pst_fault::Fault;
 use pst_intact::{Intact, IntactFolder};
 use pst_msg::{FOLDER, Items, is_type, listing_nid};
-use pst_value_json::{Line, Part, Sink, Tc, Tree, nid_text, put_natural, put_nid, put_null};
+use pst_value_json::{Line, Made, Part, Pen, Sink, Tree};
 use pst_verify::{Reach, path_from_root};
 use pst_whole::Lost;
-use serde_json::{Value as Doc, json};
+use serde_json::Value as Doc;
 use std::alloc::{AllocError, Global};
 
 // How many rows a table of a folder has, 0 where it is not there; or memory is refused.
@@ -50,31 +43,6 @@ fn count_of(folder: &IntactFolder, items: Items, counts: &mut RowCounts) -> Resu
     }
 }
 
-// The identifiers of the rows of a table, as a list.
-fn row_nids_doc(alloc: Global, tc: &Tc) -> Result<Doc, AllocError>
-    ensures { let node = node_of_tc tc.now in
-        IfOk result (λ d. view d
-        ≡ list_data row_nid (tc_rows (table_of_node node) (roots_of node))) }
-{
-    let mut docs = Vec::new(alloc);
-    for row in tc.rows() {
-        docs.push(Doc::from(nid_text(alloc, row.id())?))?;
-    }
-    Ok(Doc::from(docs))
-}
-
-// Identifiers as a list.
-#[tactic(auto, using(crate::proofs::RowsLemmas::nids_more, crate::proofs::RowsLemmas::nids_end))]
-fn nid_list_doc(alloc: Global, nids: &[u32]) -> Result<Doc, AllocError>
-    ensures { IfOk result (λ d. view d ≡ list_data nid_data nids.now) }
-{
-    let mut docs = Vec::new(alloc);
-    for nid in nids {
-        docs.push(Doc::from(nid_text(alloc, *nid)?))?;
-    }
-    Ok(Doc::from(docs))
-}
-
 // What is told of a table of a folder.
 fn told_of_table(lost: &Lost, items: Items, nid: u32) -> Option<Fault>
     ensures { result ≡ table_told (lost_in lost.now) items nid }
@@ -86,192 +54,90 @@ fn told_of_table(lost: &Lost, items: Items, nid: u32) -> Option<Fault>
 }
 
 // How many rows a table of a folder has, 0 where it is not there; null where something is told of it.
-fn count_doc(
+fn count_made(
     folder: &IntactFolder,
     lost: &Lost,
     items: Items,
     counts: &mut RowCounts,
-) -> Result<Doc, AllocError>
+) -> Result<Made<'static>, AllocError>
     requires { AreCountsTrue (table_of_nodes (intact_beside folder.now)) counts.old }
     ensures known { AreCountsTrue (table_of_nodes (intact_beside folder.now)) counts.new }
     ensures shown { let nodes = intact_beside folder.now in let nid = top_of (intact_node folder.now) in
-        IfOk result (λ d. view d ≡ count_data (table_told (lost_in lost.now) items nid)
+        IfOk result (λ m. made_data m ≡ count_data (table_told (lost_in lost.now) items nid)
         (table_of_nodes nodes) (folder_table (entries_of_nodes nodes) items nid)) }
 {
     match told_of_table(lost, items, folder.nid()) {
-        Some(_) => Ok(Doc::Null),
-        None => Ok(Doc::from(count_of(folder, items, counts)?)),
+        Some(_) => Ok(Made::Null),
+        None => Ok(Made::Natural(count_of(folder, items, counts)?)),
     }
 }
 
-// The identifiers of the rows of such a table, of no rows where it is not there; null where something is told of it.
-fn nids_doc(
-    alloc: Global,
-    folder: &IntactFolder,
-    lost: &Lost,
-    items: Items,
-) -> Result<Doc, AllocError>
-    ensures { let nodes = intact_beside folder.now in let nid = top_of (intact_node folder.now) in
-        IfOk result (λ d. view d ≡ nids_data (table_told (lost_in lost.now) items nid)
-        (table_of_nodes nodes) (folder_table (entries_of_nodes nodes) items nid)) }
-{
-    if told_of_table(lost, items, folder.nid()).is_some() {
-        return Ok(Doc::Null);
-    }
-    match folder.table(items) {
-        Some(tc) => row_nids_doc(alloc, &tc),
-        None => Ok(Doc::from(Vec::<Doc>::new(alloc))),
-    }
-}
-
-// The path of a folder as a list, from the root folder down; null where that does not reach it.
-fn path_doc(alloc: Global, reached: &[Reach], nid: u32) -> Result<Doc, AllocError>
-    requires rise { Rises 0 None (map reach_nid reached.now) }
-    ensures { IfOk result (λ d. view d ≡ path_data (path_in reached.now nid)) }
-{
-    match path_from_root(alloc, reached, nid)? {
-        Some(path) => nid_list_doc(alloc, &path),
-        None => Ok(Doc::Null),
-    }
-}
-
-// The name of a folder, where it has one; else null. The index turns to the list of its subnodes.
-fn name_doc(alloc: Global, folder: &IntactFolder, index: &mut LastIndex) -> Result<Doc, AllocError>
-    requires { IsLastIndex (table_of_nodes (intact_beside folder.now)) index.old }
-    ensures known { IsLastIndex (table_of_nodes (intact_beside folder.now)) index.new }
-    ensures shown { let t = table_of_nodes (intact_beside folder.now) in
-        IfOk result (λ d. view d ≡ text_property t (intact_roots folder.now) NAME) }
-{
-    folder.is_sound();
-    let pc = folder.pc();
-    index.turn(alloc, pc.node(), 1)?;
-    text_property_doc(alloc, &pc.indexed(&index.subs), NAME)
-}
-
-/// A folder as an object.
-#[tactic(auto, unfolding(crate::specs::Folders::folder_data))]
-pub(crate) fn folder_doc(
-    alloc: Global,
-    folder: IntactFolder,
-    lost: &Lost,
-    reached: &[Reach],
-    counts: &mut RowCounts,
-    index: &mut LastIndex,
-) -> Result<Doc, AllocError>
-    requires rise { Rises 0 None (map reach_nid reached.now) }
-    requires known { AreCountsTrue (table_of_nodes (intact_beside folder)) counts.old }
-    requires index { IsLastIndex (table_of_nodes (intact_beside folder)) index.old }
-    ensures known { AreCountsTrue (table_of_nodes (intact_beside folder.entry)) counts.new }
-    ensures index { IsLastIndex (table_of_nodes (intact_beside folder.entry)) index.new }
-    ensures shown { let nodes = intact_beside folder.entry in let t = table_of_nodes nodes in
-        IfOk result (λ d. view d ≡ folder_data t (entries_of_nodes nodes) (lost_in lost.now)
-        reached.now (intact_roots folder.entry)) }
-{
-    let associated = count_doc(&folder, lost, Items::Associated, counts)?;
-    let messages = count_doc(&folder, lost, Items::Messages, counts)?;
-    let name = name_doc(alloc, &folder, index)?;
-    let nid = nid_text(alloc, folder.nid())?;
-    let path = path_doc(alloc, reached, folder.nid())?;
-    let subfolders = nids_doc(alloc, &folder, lost, Items::Subfolders)?;
-    json!(in alloc; {
-        "associated": associated,
-        "messages": messages,
-        "name": name,
-        "nid": nid,
-        "path": path,
-        "subfolders": subfolders,
-    })
-}
-
-// Puts the name of a folder behind a text, as `name_doc` shows it.
-fn put_name(
+// Writes the name of a folder, where it has one; else null. The index turns to the list of its subnodes.
+fn write_name<P: Pen>(
     alloc: Global,
     folder: &IntactFolder,
     index: &mut LastIndex,
-    text: &mut Vec<u8>,
+    pen: &mut P,
 ) -> Result<(), AllocError>
     requires { IsLastIndex (table_of_nodes (intact_beside folder.now)) index.old }
     ensures known { IsLastIndex (table_of_nodes (intact_beside folder.now)) index.new }
     ensures put { let t = table_of_nodes (intact_beside folder.now) in
-        let shown = text_property t (intact_roots folder.now) NAME in
-        OnOk result (text.new.items ≡ text.old.items ++ compact_text shown) }
-    ensures kept { OnErr result (BeginsWith text.new.items text.old.items) }
+        OnOk result (P.Puts pen.old pen.new (text_told t (intact_roots folder.now) NAME)) }
+    ensures kept { (base : P) → P.Keeps base pen.old → P.Keeps base pen.new }
 {
     folder.is_sound();
     let pc = folder.pc();
     index.turn(alloc, pc.node(), 1)?;
-    put_text_property(alloc, &pc.indexed(&index.subs), NAME, text)
+    pen.made(alloc, &text_property(&pc.indexed(&index.subs), NAME))
 }
 
-// Puts the path of a folder behind a text, as `path_doc` shows it.
-fn put_path(
+// Writes the path of a folder as a list, from the root folder down; null where that does not reach it.
+fn write_path<P: Pen>(
     alloc: Global,
     reached: &[Reach],
     nid: u32,
-    text: &mut Vec<u8>,
+    pen: &mut P,
 ) -> Result<(), AllocError>
     requires rise { Rises 0 None (map reach_nid reached.now) }
-    ensures put { OnOk result (text.new.items
-        ≡ text.old.items ++ compact_text (path_data (path_in reached.now nid))) }
-    ensures kept { OnErr result (BeginsWith text.new.items text.old.items) }
+    ensures put { OnOk result (P.Puts pen.old pen.new (path_data (path_in reached.now nid))) }
+    ensures kept { (base : P) → P.Keeps base pen.old → P.Keeps base pen.new }
 {
     match path_from_root(alloc, reached, nid)? {
-        Some(path) => put_nid_list(&path, text),
-        None => put_null(text),
+        Some(path) => write_nid_list(alloc, &path, pen),
+        None => pen.made(alloc, &Made::Null),
     }
 }
 
-// Puts how many rows a table of a folder has behind a text, as `count_doc` shows it.
-fn put_count(
+// Writes the identifiers of the rows of a table of a folder, of no rows where it is not there; null where something is told of it.
+fn write_nids<P: Pen>(
+    alloc: Global,
     folder: &IntactFolder,
     lost: &Lost,
     items: Items,
-    counts: &mut RowCounts,
-    text: &mut Vec<u8>,
-) -> Result<(), AllocError>
-    requires { AreCountsTrue (table_of_nodes (intact_beside folder.now)) counts.old }
-    ensures known { AreCountsTrue (table_of_nodes (intact_beside folder.now)) counts.new }
-    ensures put { let nodes = intact_beside folder.now in let nid = top_of (intact_node folder.now) in
-        let shown = count_data (table_told (lost_in lost.now) items nid) (table_of_nodes nodes)
-        (folder_table (entries_of_nodes nodes) items nid) in
-        OnOk result (text.new.items ≡ text.old.items ++ compact_text shown) }
-    ensures kept { OnErr result (BeginsWith text.new.items text.old.items) }
-{
-    match told_of_table(lost, items, folder.nid()) {
-        Some(_) => put_null(text),
-        None => put_natural(count_of(folder, items, counts)?, text),
-    }
-}
-
-// Puts the identifiers of the rows of such a table behind a text, as `nids_doc` shows them.
-fn put_nids(
-    folder: &IntactFolder,
-    lost: &Lost,
-    items: Items,
-    text: &mut Vec<u8>,
+    pen: &mut P,
 ) -> Result<(), AllocError>
     ensures put { let nodes = intact_beside folder.now in let nid = top_of (intact_node folder.now) in
         let shown = nids_data (table_told (lost_in lost.now) items nid) (table_of_nodes nodes)
         (folder_table (entries_of_nodes nodes) items nid) in
-        OnOk result (text.new.items ≡ text.old.items ++ compact_text shown) }
-    ensures kept { OnErr result (BeginsWith text.new.items text.old.items) }
+        OnOk result (P.Puts pen.old pen.new shown) }
+    ensures kept { (base : P) → P.Keeps base pen.old → P.Keeps base pen.new }
 {
     match told_of_table(lost, items, folder.nid()) {
-        Some(_) => put_null(text),
-        None => put_nids_of(&folder.table(items), text),
+        Some(_) => pen.made(alloc, &Made::Null),
+        None => write_nids_of(alloc, &folder.table(items), pen),
     }
 }
 
-/// Puts a folder behind a text, as an object.
+/// Writes a folder, as an object.
 #[tactic(auto, unfolding(crate::specs::Folders::folder_data))]
-pub(crate) fn put_folder(
+pub(crate) fn write_folder<P: Pen>(
     alloc: Global,
     folder: IntactFolder,
     lost: &Lost,
     reached: &[Reach],
     counts: &mut RowCounts,
     index: &mut LastIndex,
-    text: &mut Vec<u8>,
+    pen: &mut P,
 ) -> Result<(), AllocError>
     requires rise { Rises 0 None (map reach_nid reached.now) }
     requires known { AreCountsTrue (table_of_nodes (intact_beside folder)) counts.old }
@@ -281,23 +147,25 @@ pub(crate) fn put_folder(
     ensures put { let nodes = intact_beside folder.entry in let t = table_of_nodes nodes in
         let shown = folder_data t (entries_of_nodes nodes) (lost_in lost.now) reached.now
         (intact_roots folder.entry) in
-        OnOk result (text.new.items ≡ text.old.items ++ compact_text shown) }
-    ensures kept { OnErr result (BeginsWith text.new.items text.old.items) }
+        OnOk result (P.Puts pen.old pen.new shown) }
+    ensures kept { (base : P) → P.Keeps base pen.old → P.Keeps base pen.new }
 {
-    text.extend_from_slice(b"{\"associated\":")?;
-    put_count(&folder, lost, Items::Associated, counts, text)?;
-    text.extend_from_slice(b",\"messages\":")?;
-    put_count(&folder, lost, Items::Messages, counts, text)?;
-    text.extend_from_slice(b",\"name\":")?;
-    put_name(alloc, &folder, index, text)?;
-    text.extend_from_slice(b",\"nid\":")?;
-    put_nid(folder.nid(), text)?;
-    text.extend_from_slice(b",\"path\":")?;
-    put_path(alloc, reached, folder.nid(), text)?;
-    text.extend_from_slice(b",\"subfolders\":")?;
-    put_nids(&folder, lost, Items::Subfolders, text)?;
-    text.push(b'}')?;
-    Ok(())
+    pen.first(alloc, "associated", b"{\"associated\":")?;
+    pen.made(
+        alloc,
+        &count_made(&folder, lost, Items::Associated, counts)?,
+    )?;
+    pen.next(alloc, "messages", b",\"messages\":")?;
+    pen.made(alloc, &count_made(&folder, lost, Items::Messages, counts)?)?;
+    pen.next(alloc, "name", b",\"name\":")?;
+    write_name(alloc, &folder, index, pen)?;
+    pen.next(alloc, "nid", b",\"nid\":")?;
+    pen.made(alloc, &Made::Nid(Some(folder.nid())))?;
+    pen.next(alloc, "path", b",\"path\":")?;
+    write_path(alloc, reached, folder.nid(), pen)?;
+    pen.next(alloc, "subfolders", b",\"subfolders\":")?;
+    write_nids(alloc, &folder, lost, Items::Subfolders, pen)?;
+    pen.close(alloc)
 }
 
 // The document.

@@ -3,12 +3,11 @@
 ghost use Rattle.pst_intact.specs.View.{table_of_intact};
 ghost use Rattle.pst_json.specs.LastIndex.{IsLastIndex, IsLastIndex-prop};
 
-use crate::contents::{put_row, row_doc};
+use crate::contents::write_row;
 use crate::last_index::LastIndex;
 use pst_intact::Intact;
-use pst_value_json::{Rows, TcRows, put_comma};
+use pst_value_json::{Pen, Rows, TcRows};
 use pst_whole::Lost;
-use serde_json::Value as Doc;
 use std::alloc::{AllocError, Global};
 
 /// The messages that are left of those that a table lists, each as an object.
@@ -28,24 +27,11 @@ impl Rows for ListedRows<'_> {
 
     ghost left = { listed_rows };
 
-    fn next_doc(&mut self, alloc: Global) -> Result<Option<Doc>, AllocError> {
-        let Some(mut rows) = self.rows else {
-            return Ok(None);
-        };
-        let row = rows.next();
-        self.rows = Some(rows);
-        match row {
-            Some(row) => Ok(Some(row_doc(alloc, &self.intact, &self.lost, row, &mut self.index)?)),
-            None => Ok(None),
-        }
-    }
-
-    // A message goes to the text member by member, without a tree.
-    fn put_next(
+    fn write_next<P: Pen>(
         &mut self,
         alloc: Global,
         later: bool,
-        text: &mut Vec<u8>,
+        pen: &mut P,
     ) -> Result<bool, AllocError> {
         let Some(mut rows) = self.rows else {
             return Ok(false);
@@ -55,8 +41,9 @@ impl Rows for ListedRows<'_> {
         let Some(row) = row else {
             return Ok(false);
         };
-        put_comma(later, text)?;
-        put_row(alloc, &self.intact, &self.lost, row, &mut self.index, text)?;
+        pen.comma(later)?;
+        write_row(alloc, &self.intact, &self.lost, row, &mut self.index, pen)?;
+        pen.item(alloc)?;
         Ok(true)
     }
 }

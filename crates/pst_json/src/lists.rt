@@ -3,8 +3,7 @@
 ghost use Rattle.pst_json.specs.Lists.{list_left};
 
 use crate::attachment::AttachmentRows;
-use pst_value_json::{PropRows, Rows, TableRows};
-use serde_json::Value as Doc;
+use pst_value_json::{Pen, PropRows, Rows, TableRows};
 use std::alloc::{AllocError, Global};
 
 /// What is left of a list of a message.
@@ -23,25 +22,16 @@ pub(crate) enum MessageRows<'a> {
 impl Rows for MessageRows<'_> {
     ghost left = { list_left };
 
-    fn next_doc(&mut self, alloc: Global) -> Result<Option<Doc>, AllocError> {
-        match self {
-            MessageRows::Attachments(rows) => rows.next_doc(alloc),
-            MessageRows::Props(rows) => rows.next_doc(alloc),
-            MessageRows::Recipients(rows) => rows.next_doc(alloc),
-            MessageRows::Nobody => Ok(None),
-        }
-    }
-
-    fn put_next(
+    fn write_next<P: Pen>(
         &mut self,
         alloc: Global,
         later: bool,
-        text: &mut Vec<u8>,
+        pen: &mut P,
     ) -> Result<bool, AllocError> {
         match self {
-            MessageRows::Attachments(rows) => rows.put_next(alloc, later, text),
-            MessageRows::Props(rows) => rows.put_next(alloc, later, text),
-            MessageRows::Recipients(rows) => rows.put_next(alloc, later, text),
+            MessageRows::Attachments(rows) => rows.write_next(alloc, later, pen),
+            MessageRows::Props(rows) => rows.write_next(alloc, later, pen),
+            MessageRows::Recipients(rows) => rows.write_next(alloc, later, pen),
             MessageRows::Nobody => Ok(false),
         }
     }

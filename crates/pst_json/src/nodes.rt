@@ -1,45 +1,30 @@
 //! The nodes of a file as a document.
 
-ghost use Rattle.std.specs.Prelude.{◌≡◌, ◌++◌, IfOk, OnErr, OnOk};
+ghost use Rattle.std.specs.Prelude.{◌≡◌, IfOk, OnOk};
 ghost use Rattle.serde_json.specs.View.{view};
-ghost use Rattle.serde_json.specs.Written.{compact_text};
 ghost use Rattle.pst_btree.specs.Trees.{node_entries};
 ghost use Rattle.pst_json.specs.Nodes.{node_data, node_rows, nodes_data, nodes_line as line_of_nodes};
-ghost use Rattle.pst_value_json.specs.Kept.{BeginsWith};
 
 use pst_btree::{NodeEntry, NodeTree, Nodes};
-use pst_value_json::{Line, Part, Rows, Sink, Tree, nid_text, put_comma, put_natural, put_nid};
-use serde_json::{Value as Doc, json};
+use pst_value_json::{Line, Made, Part, Pen, Rows, Sink, Tree};
+use serde_json::Value as Doc;
 use std::alloc::{AllocError, Global};
 
-// A node as an object.
+// Writes a node, as an object.
 #[tactic(auto, unfolding(crate::specs::Nodes::node_data))]
-fn node_doc(alloc: Global, entry: &NodeEntry) -> Result<Doc, AllocError>
-    ensures { IfOk result (λ d. view d ≡ node_data entry.now) }
+fn write_node<P: Pen>(alloc: Global, entry: &NodeEntry, pen: &mut P) -> Result<(), AllocError>
+    ensures put { OnOk result (P.Puts pen.old pen.new (node_data entry.now)) }
+    ensures kept { (base : P) → P.Keeps base pen.old → P.Keeps base pen.new }
 {
-    let data = entry.bid_data;
-    let nid = nid_text(alloc, entry.nid)?;
-    let parent = nid_text(alloc, entry.parent)?;
-    let sub = entry.bid_sub;
-    json!(in alloc; {"data_bid": data, "nid": nid, "parent": parent, "sub_bid": sub})
-}
-
-// Puts a node behind a text, as an object.
-#[tactic(auto, unfolding(crate::specs::Nodes::node_data))]
-fn put_node(entry: &NodeEntry, text: &mut Vec<u8>) -> Result<(), AllocError>
-    ensures put { OnOk result (text.new.items ≡ text.old.items ++ compact_text (node_data entry.now)) }
-    ensures kept { OnErr result (BeginsWith text.new.items text.old.items) }
-{
-    text.extend_from_slice(b"{\"data_bid\":")?;
-    put_natural(entry.bid_data, text)?;
-    text.extend_from_slice(b",\"nid\":")?;
-    put_nid(entry.nid, text)?;
-    text.extend_from_slice(b",\"parent\":")?;
-    put_nid(entry.parent, text)?;
-    text.extend_from_slice(b",\"sub_bid\":")?;
-    put_natural(entry.bid_sub, text)?;
-    text.push(b'}')?;
-    Ok(())
+    pen.first(alloc, "data_bid", b"{\"data_bid\":")?;
+    pen.made(alloc, &Made::Natural(entry.bid_data))?;
+    pen.next(alloc, "nid", b",\"nid\":")?;
+    pen.made(alloc, &Made::Nid(Some(entry.nid)))?;
+    pen.next(alloc, "parent", b",\"parent\":")?;
+    pen.made(alloc, &Made::Nid(Some(entry.parent)))?;
+    pen.next(alloc, "sub_bid", b",\"sub_bid\":")?;
+    pen.made(alloc, &Made::Natural(entry.bid_sub))?;
+    pen.close(alloc)
 }
 
 /// The nodes that are left, each as an object.
@@ -49,25 +34,18 @@ pub(crate) struct NodeRows<'a>(Nodes<'a>);
 impl Rows for NodeRows<'_> {
     ghost left = { node_rows };
 
-    fn next_doc(&mut self, alloc: Global) -> Result<Option<Doc>, AllocError> {
-        match self.0.next() {
-            Some(entry) => Ok(Some(node_doc(alloc, &entry)?)),
-            None => Ok(None),
-        }
-    }
-
-    // A node goes to the text member by member, without a tree.
-    fn put_next(
+    fn write_next<P: Pen>(
         &mut self,
-        _alloc: Global,
+        alloc: Global,
         later: bool,
-        text: &mut Vec<u8>,
+        pen: &mut P,
     ) -> Result<bool, AllocError> {
         let Some(entry) = self.0.next() else {
             return Ok(false);
         };
-        put_comma(later, text)?;
-        put_node(&entry, text)?;
+        pen.comma(later)?;
+        write_node(alloc, &entry, pen)?;
+        pen.item(alloc)?;
         Ok(true)
     }
 }

@@ -1,16 +1,12 @@
 //! The texts among the properties of folders and messages.
 
-ghost use Rattle.std.specs.Prelude.{◌≡◌, ◌++◌, IfOk, OnErr, OnOk};
-ghost use Rattle.serde_json.specs.View.{view};
-ghost use Rattle.serde_json.specs.Written.{compact_text};
+ghost use Rattle.std.specs.Prelude.{◌≡◌};
 ghost use Rattle.pst_ndb.specs.Views.{table_of_node, roots_of};
+ghost use Rattle.pst_value_json.specs.Made.{made_data};
 ghost use Rattle.pst_value_json.specs.pst_pc.View.{node_of_pc};
-ghost use Rattle.pst_json.specs.Folders.{text_property};
-ghost use Rattle.pst_value_json.specs.Kept.{BeginsWith};
+ghost use Rattle.pst_json.specs.Folders.{text_property as text_told};
 
-use pst_value_json::{Pc, PropType, put_null, put_text, text_doc};
-use serde_json::Value as Doc;
-use std::alloc::{AllocError, Global};
+use pst_value_json::{Made, Pc, PropType};
 
 /// The name of a folder (PidTagDisplayName).
 pub(crate) const NAME: u16 = 0x3001;
@@ -29,31 +25,12 @@ pub const TEXT: PropType = PropType(0x001F);
 
 /// The text of the property with an identifier; null where there is none, or it has another type.
 #[tactic(auto, unfolding(crate::specs::Folders::text_property))]
-pub(crate) fn text_property_doc(alloc: Global, pc: &Pc, id: u16) -> Result<Doc, AllocError>
+pub(crate) fn text_property<'a>(pc: &Pc<'a>, id: u16) -> Made<'a>
     ensures { let node = node_of_pc pc.now in
-        IfOk result (λ d. view d ≡ text_property (table_of_node node) (roots_of node) id) }
+        made_data result ≡ text_told (table_of_node node) (roots_of node) id }
 {
     match pc.get(id) {
-        Some(prop) if prop.kind == TEXT => text_doc(alloc, prop.value),
-        _ => Ok(Doc::Null),
-    }
-}
-
-/// Puts the text of the property with an identifier behind a text, as `text_property_doc` shows it.
-#[tactic(auto, unfolding(crate::specs::Folders::text_property))]
-pub(crate) fn put_text_property(
-    alloc: Global,
-    pc: &Pc,
-    id: u16,
-    text: &mut Vec<u8>,
-) -> Result<(), AllocError>
-    ensures put { let node = node_of_pc pc.now in
-        let shown = text_property (table_of_node node) (roots_of node) id in
-        OnOk result (text.new.items ≡ text.old.items ++ compact_text shown) }
-    ensures kept { OnErr result (BeginsWith text.new.items text.old.items) }
-{
-    match pc.get(id) {
-        Some(prop) if prop.kind == TEXT => put_text(alloc, prop.value, text),
-        _ => put_null(text),
+        Some(prop) if prop.kind == TEXT => Made::Text(prop.value),
+        _ => Made::Null,
     }
 }

@@ -55,7 +55,7 @@ pub use compact::{line_text, put_comma, text};
 pub use digits::put_nid;
 pub use filed::{BODY, CONTENT, Filed, HEADERS, HTML, RTF, attachment_file, message_file};
 pub use laws::{cell_places_hold, prop_places_hold};
-pub use listing::Rows;
+pub use listing::{Rows, write_list};
 pub use names::nid_text;
 pub use parts::{Made, Part};
 pub use pens::Pen;

@@ -1,65 +1,52 @@
-//! Lists, made row by row.
+//! Lists, written row by row.
 
-ghost use Rattle.std.specs.Prelude.{◌≡◌, ◌++◌, List, IfOk, OnErr, OnOk};
+ghost use Rattle.std.specs.Prelude.{◌≡◌, List, IfOk, OnOk};
 ghost use Rattle.serde_json.specs.Data.{Data, array};
 ghost use Rattle.serde_json.specs.View.{view, items_of};
-ghost use Rattle.serde_json.specs.Written.{compact_text};
-ghost use Rattle.pst_value_json.specs.Rows.{TakesNext, PutsNext};
-ghost use Rattle.pst_value_json.specs.Kept.{BeginsWith};
+ghost use Rattle.pst_value_json.specs.Rows.{WritesNext};
 
+use crate::pens::Pen;
+use crate::trees::only;
 use serde_json::Value as Doc;
 use std::alloc::{AllocError, Global};
 
-/// The rows of a list, which are made one at a time.
+/// The rows of a list, which are written one at a time.
 pub trait Rows: Drop {
     /// The documents of the rows that are left.
     ghost left: { Self → List Data };
 
-    /// The document of the next row, if one is left.
-    fn next_doc(&mut self, alloc: Global) -> Result<Option<Doc>, AllocError>
-        ensures next { IfOk result (λ row. TakesNext row (left self.old) (left self.new)) };
-
-    /// Puts the next row behind a text, if one is left, and a comma before it where others stand there. Where memory is
-    /// refused, the text begins with what it had, and a part of the row may stand behind that.
-    fn put_next(
+    /// Writes the next row as an item of a list, if one is left, and whether one was.
+    fn write_next<P: Pen>(
         &mut self,
         alloc: Global,
         later: bool,
-        text: &mut Vec<u8>,
+        pen: &mut P,
     ) -> Result<bool, AllocError>
-        ensures put { IfOk result (λ more. PutsNext more later (left self.old) (left self.new)
-            text.old.items text.new.items) }
-        ensures kept { BeginsWith text.new.items text.old.items };
+        ensures put { (base : P) (done : List Data) → P.InList base pen.old later done
+            → IfOk result (λ more. WritesNext P.InList base pen.new more later done
+            (left self.old) (left self.new)) }
+        ensures kept { (base : P) → P.Keeps base pen.old → P.Keeps base pen.new };
+}
+
+/// Writes a list: beside what is written, memory is taken for one row at a time.
+pub fn write_list<R: Rows, P: Pen>(alloc: Global, rows: R, pen: &mut P) -> Result<(), AllocError>
+    ensures put { OnOk result (P.Puts pen.old pen.new (array (items_of (R.left rows)))) }
+    ensures kept { (base : P) → P.Keeps base pen.old → P.Keeps base pen.new }
+{
+    let mut rows = rows;
+    pen.open_list(alloc)?;
+    let mut later = false;
+    while rows.write_next(alloc, later, pen)? {
+        later = true;
+    }
+    pen.close_list(later)
 }
 
 /// A list as a tree.
 pub(crate) fn list_doc<R: Rows>(alloc: Global, rows: R) -> Result<Doc, AllocError>
     ensures { IfOk result (λ d. view d ≡ array (items_of (R.left rows))) }
 {
-    let mut rows = rows;
     let mut docs = Vec::new(alloc);
-    while let Some(doc) = rows.next_doc(alloc)? {
-        docs.push(doc)?;
-    }
-    Ok(Doc::from(docs))
-}
-
-/// Puts a list behind a text: beside the text, memory is taken for one row at a time.
-pub(crate) fn put_list<R: Rows>(
-    alloc: Global,
-    rows: R,
-    text: &mut Vec<u8>,
-) -> Result<(), AllocError>
-    ensures put { OnOk result (text.new.items
-        ≡ text.old.items ++ compact_text (array (items_of (R.left rows)))) }
-    ensures kept { OnErr result (BeginsWith text.new.items text.old.items) }
-{
-    text.push(b'[')?;
-    let mut rows = rows;
-    let mut later = false;
-    while rows.put_next(alloc, later, text)? {
-        later = true;
-    }
-    text.push(b']')?;
-    Ok(())
+    write_list(alloc, rows, &mut docs)?;
+    Ok(only(docs))
 }

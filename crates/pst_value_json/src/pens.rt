@@ -68,6 +68,12 @@ pub trait Pen {
             → OnOk result (Puts base self.new (object done)) }
         ensures kept { (base : Self) → Keeps base self.old → Keeps base self.new };
 
+    /// Room for so many bytes more, before the first item of a list, where a text is written.
+    fn room(&mut self, bytes: usize) -> Result<(), AllocError>
+        ensures put { (base : Self) (later : Bool) (done : List Data) → InList base self.old later done
+            → InList base self.new later done }
+        ensures kept { (base : Self) → Keeps base self.old → Keeps base self.new };
+
     /// A list begins.
     fn open_list(&mut self, alloc: Global) -> Result<(), AllocError>
         ensures put { OnOk result (InList self.old self.new false []) }
@@ -137,6 +143,10 @@ impl Pen for Vec<u8> {
     fn close(&mut self, _alloc: Global) -> Result<(), AllocError> {
         self.push(b'}')?;
         Ok(())
+    }
+
+    fn room(&mut self, bytes: usize) -> Result<(), AllocError> {
+        self.reserve(bytes)
     }
 
     fn open_list(&mut self, _alloc: Global) -> Result<(), AllocError> {

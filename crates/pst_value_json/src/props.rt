@@ -9,10 +9,9 @@ ghost use Rattle.pst_value_json.specs.declared.filed.Filed.TheVariants.{Nothing}
 ghost use Rattle.pst_value_json.specs.Parts.{list_data};
 ghost use Rattle.pst_value_json.specs.Props.{record_data, names_told, prop_rows_left};
 
-use crate::compact::put_comma;
 use crate::filed::Filed;
 use crate::listing::{Rows, list_doc};
-use crate::trees::only;
+use crate::pens::Pen;
 use crate::write_props::write_shown;
 use pst_names::NameMap;
 use pst_pc::{Pc, Props};
@@ -54,26 +53,18 @@ pub fn prop_rows<'a>(
 impl Rows for PropRows<'_> {
     ghost left = { prop_rows_left };
 
-    fn next_doc(&mut self, alloc: Global) -> Result<Option<Doc>, AllocError> {
-        let Some(prop) = self.props.next() else {
-            return Ok(None);
-        };
-        let mut docs = Vec::new(alloc);
-        write_shown(alloc, self.names, self.filed, self.places, prop, &mut docs)?;
-        Ok(Some(only(docs)))
-    }
-
-    fn put_next(
+    fn write_next<P: Pen>(
         &mut self,
         alloc: Global,
         later: bool,
-        text: &mut Vec<u8>,
+        pen: &mut P,
     ) -> Result<bool, AllocError> {
         let Some(prop) = self.props.next() else {
             return Ok(false);
         };
-        put_comma(later, text)?;
-        write_shown(alloc, self.names, self.filed, self.places, prop, text)?;
+        pen.comma(later)?;
+        write_shown(alloc, self.names, self.filed, self.places, prop, pen)?;
+        pen.item(alloc)?;
         Ok(true)
     }
 }

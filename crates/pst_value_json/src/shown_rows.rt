@@ -8,12 +8,10 @@ ghost use Rattle.pst_tc.specs.Values.{tc_columns};
 ghost use Rattle.pst_tc.specs.View.{column_of};
 ghost use Rattle.pst_value_json.specs.Columns.{AreShown};
 
-use crate::compact::put_comma;
 use crate::listing;
-use crate::trees::only;
+use crate::pens::Pen;
 use crate::write_cells::write_row;
 use pst_tc::{Column, Rows};
-use serde_json::Value as Doc;
 use std::alloc::{AllocError, Global};
 
 /// The rows of a table that are left, with the columns that are shown of each, and whether with the places of their cells.
@@ -56,26 +54,18 @@ impl listing::Rows for TableRows<'_> {
 
     ghost left = { table_rows_left };
 
-    fn next_doc(&mut self, alloc: Global) -> Result<Option<Doc>, AllocError> {
-        let Some(row) = self.rows.next() else {
-            return Ok(None);
-        };
-        let mut docs = Vec::new(alloc);
-        write_row(alloc, row, &self.columns, self.places, &mut docs)?;
-        Ok(Some(only(docs)))
-    }
-
-    fn put_next(
+    fn write_next<P: Pen>(
         &mut self,
         alloc: Global,
         later: bool,
-        text: &mut Vec<u8>,
+        pen: &mut P,
     ) -> Result<bool, AllocError> {
         let Some(row) = self.rows.next() else {
             return Ok(false);
         };
-        put_comma(later, text)?;
-        write_row(alloc, row, &self.columns, self.places, text)?;
+        pen.comma(later)?;
+        write_row(alloc, row, &self.columns, self.places, pen)?;
+        pen.item(alloc)?;
         Ok(true)
     }
 }

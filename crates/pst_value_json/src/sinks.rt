@@ -9,7 +9,7 @@ ghost use Rattle.pst_value_json.specs.Object.{put_part, parts_data, KeysRise, pa
 ghost use Rattle.pst_value_json.specs.Kept.{BeginsWith};
 
 use crate::compact::put_comma;
-use crate::listing::{Rows, list_doc, put_list};
+use crate::listing::{Rows, list_doc, write_list};
 use crate::parts::Part;
 use crate::put::put_key;
 use crate::put_values::put_made;
@@ -84,7 +84,7 @@ fn put_part_text<R: Rows>(
         }
         Part::Rows(key, rows) => {
             put_key(key, later, text)?;
-            put_list(alloc, rows, text)
+            write_list(alloc, rows, text)
         }
     }
 }

@@ -57,6 +57,10 @@ impl Pen for Vec<Doc> {
         put_member(alloc, self)
     }
 
+    fn room(&mut self, _bytes: usize) -> Result<(), AllocError> {
+        Ok(())
+    }
+
     fn open_list(&mut self, alloc: Global) -> Result<(), AllocError> {
         self.push(Doc::from(Vec::<Doc>::new(alloc)))?;
         Ok(())

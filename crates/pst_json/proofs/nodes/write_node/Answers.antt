@@ -1,0 +1,21 @@
+use Rattle.std.proofs.Common.{refl}
+use Rattle.std.specs.Prelude.{codes}
+use Rattle.serde_json.specs.Data.{Members, member, no_members}
+use Rattle.pst_value_json.specs.Names.{nid_data}
+use Rattle.pst_value_json.specs.Parts.{natural}
+use Rattle.pst_value_json.proofs.PenLemmas.{begun}
+use Rattle.pst_json.specs.Nodes.{node_data}
+use Rattle.pst_json.proofs.nodes.write_node.Goals as goal
+
+pub returns-clause-put : goal.returns-clause-put
+unfolding node_data
+returns-clause-put g c =
+    let entry = c.args.entry.now in
+    let one : Members = member (codes "data_bid") (natural entry.bid_data) no_members in
+    let two : Members = member (codes "data_bid") (natural entry.bid_data) (member (codes "nid") (nid_data entry.nid) no_members) in
+    let three : Members = member (codes "data_bid") (natural entry.bid_data) (member (codes "nid") (nid_data entry.nid) (member (codes "parent") (nid_data entry.parent) no_members)) in
+    let first = begun g.P.Pen.Puts g.P.Pen.AtKey _ _ _ no_members (codes "data_bid") (natural entry.bid_data) c.in_ok-first.ensures.put c.in_ok-made.ensures.put refl in
+    let second = begun g.P.Pen.Puts g.P.Pen.AtKey _ _ _ one (codes "nid") (nid_data entry.nid) (c.in_ok-next.ensures.put _ one first) c.in_ok-made-2.ensures.put refl in
+    let third = begun g.P.Pen.Puts g.P.Pen.AtKey _ _ _ two (codes "parent") (nid_data entry.parent) (c.in_ok-next-2.ensures.put _ two second) c.in_ok-made-3.ensures.put refl in
+    let fourth = begun g.P.Pen.Puts g.P.Pen.AtKey _ _ _ three (codes "sub_bid") (natural entry.bid_sub) (c.in_ok-next-3.ensures.put _ three third) c.in_ok-made-4.ensures.put refl in
+    c.close.ensures.put _ _ fourth
