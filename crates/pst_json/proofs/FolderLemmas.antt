@@ -1,21 +1,11 @@
--- What is told in place of a message, and the message that an attachment embeds.
-use Rattle.std.proofs.Common.{◌≡◌, ℕ, false, refl, ap}
+-- The message that an attachment embeds.
+use Rattle.std.proofs.Common.{◌≡◌, refl, ap}
 use Rattle.std.specs.Prelude.{Option, Some, None, option_map}
-use Rattle.serde_json.specs.Written.{has_float}
-use Rattle.pst_fault.specs.declared.fault.Fault.{Fault}
 use Rattle.pst_block.specs.Table.{Table}
 use Rattle.pst_ndb.specs.Roots.{Roots}
 use Rattle.pst_verify.specs.pst_msg.declared.object.Object.{Object}
 use Rattle.pst_verify.specs.pst_msg.Shown.{Shown, object_shown}
-use Rattle.pst_damage_json.specs.Faults.{fault_data}
-use Rattle.pst_json.specs.Contents.{told_data}
 use Rattle.pst_json.specs.Node.{nid_of_object}
-
-pub told_has_none : (f : Fault) (nid : ℕ) → has_float (told_data f nid) ≡ false
-unfolding told_data fault_data
-told_has_none f nid = refl
-
--- ---- the message that an attachment embeds
 
 pub embedded_there_is : (t : Table) (r : Roots) (o : Option Object) (s : Shown) → Some s ≡ option_map (object_shown t r) o → Some s.nid ≡ option_map nid_of_object o
 embedded_there_is t r None s is = absurd cc
