@@ -1,6 +1,6 @@
 -- The hierarchy tables of folders, each gone through once.
 use Rattle.std.proofs.Common.{◌≡◌, ℕ, Bool, true, false, cond, List, [], ◌∷◌, ◌++◌, map, Option, Some, None, refl, sym, ap, ◌∙◌, inl, inr, BTreeMap, BTreeSet}
-use Rattle.std.specs.Prelude.{nat_eq, is_some, option_map}
+use Rattle.std.specs.Prelude.{nat_eq, not, is_some, option_map}
 use Rattle.std.specs.List.{Contains, filter}
 use Rattle.std.specs.Option.{option_or}
 use Rattle.std.specs.Ordering.{nat_cmp}
@@ -178,3 +178,11 @@ pub table_taken_by : (depth parent : ℕ) (t u : Table) (nodes : List NodeEntry)
 table_taken_by depth parent t u nodes s key tables more m new next after alike is adds keeps takes are =
     let here : Takes depth (steps_named parent (folders_named nodes (tc_rows t s))) m next new after = (rw alike at takes) in
     table_taken t nodes s tables more m new (rw is at adds) keeps (rows_found depth parent (folders_named nodes (tc_rows t s)) m new next after here) are
+
+-- one that is not new was gone through before, and nothing is other than it was
+pub was_there : (added there : Bool) → added ≡ not there → added ≡ false → there ≡ true
+was_there added true e old = refl
+was_there added false e old = cc
+
+pub taken_before : (t : Table) (nodes : List NodeEntry) (tables more : BTreeSet ℕ) (m : BTreeMap ℕ Reach) → more.keys ≡ tables.keys → AreTaken t nodes tables m → AreTaken t nodes more m
+taken_before t nodes tables more m same are s was nid w = are s (rw same at was) nid w

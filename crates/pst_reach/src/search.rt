@@ -90,12 +90,10 @@ impl<'a> Search<'a> {
             return Ok(());
         };
         let key = key_of(table.node());
-        if self.tables.contains(&key) {
+        if !self.tables.insert(key)? {
             return Ok(());
         }
-        take_rows(&self.intact, &mut self.found, next, depth, parent, table)?;
-        let _new = self.tables.insert(key)?;
-        Ok(())
+        take_rows(&self.intact, &mut self.found, next, depth, parent, table)
     }
 
     // The folders at a depth, from those at the depth before.
