@@ -24,7 +24,7 @@ use Rattle.pst_msg.specs.declared.role.Role.{Role}
 use Rattle.pst_msg.specs.declared.role.Role.TheVariants.{Properties, Listed, Recipients, Attachments}
 use Rattle.pst_ndb.specs.Alike.{Alike}
 use Rattle.pst_msg.specs.Asked.{AreAskedTrue}
-use Rattle.pst_msg.specs.Broken.{context_part, held_part}
+use Rattle.pst_msg.specs.Broken.{context_part, held_part, retold}
 use Rattle.pst_msg.specs.Faults.{AreFaultsOf}
 use Rattle.pst_msg.specs.Keys.{Key, key, list_key, holds, has}
 use Rattle.pst_msg.specs.Roles.{role_number, role_with, role_fault}
@@ -119,7 +119,7 @@ known_list t keys limit node same holds is sound =
 from_none : (keys : Keys) (P : Type 0) (q : Key) → ((k : Key) → holds keys k ≡ false) → holds keys q ≡ true → P
 from_none keys P q none there = absurd (false≢true (sym (none q) ∙ there))
 
-pub nothing_known : (t : Table) (k : Known) → ((q : Key) → holds k.contexts q ≡ false) → ((q : Key) → holds k.messages q ≡ false) → ((q : Key) → holds k.attachments q ≡ false) → ((q : Key) → holds k.lists q ≡ false) → IsIndexIn t k.index → AreIndexes t k.indexes → AreMapsTrue t k.maps → AreAskedTrue t k.asked → AreFaultsOf at_node (context_part t) k.broken → AreFaultsOf at_node (held_part t) k.broken_lists → IsTrueOf t k
+pub nothing_known : (t : Table) (k : Known) → ((q : Key) → holds k.contexts q ≡ false) → ((q : Key) → holds k.messages q ≡ false) → ((q : Key) → holds k.attachments q ≡ false) → ((q : Key) → holds k.lists q ≡ false) → IsIndexIn t k.index → AreIndexes t k.indexes → AreMapsTrue t k.maps → AreAskedTrue t k.asked → AreFaultsOf at_node (context_part t) k.broken → AreFaultsOf retold (held_part t) k.broken_lists → IsTrueOf t k
 nothing_known t k contexts messages attachments lists index indexes maps asked broken broken_lists = record {
   contexts = λ role s there. from_none k.contexts _ _ contexts there;
   messages = λ s there. from_none k.messages _ _ messages there;
@@ -262,7 +262,7 @@ list_remembered t known new limit node same is sound none inside more kept =
 
 -- ---- one more fault of what messages hold in a list
 
-pub fault_remembered : (t : Table) (k : Known) (broken_lists : Faults) → IsTrueOf t k → AreFaultsOf at_node (held_part t) broken_lists → IsTrueOf t (record k { broken_lists = broken_lists })
+pub fault_remembered : (t : Table) (k : Known) (broken_lists : Faults) → IsTrueOf t k → AreFaultsOf retold (held_part t) broken_lists → IsTrueOf t (record k { broken_lists = broken_lists })
 fault_remembered t k broken_lists is faults = record {
   contexts = is.contexts;
   messages = is.messages;

@@ -19,7 +19,7 @@ use Rattle.pst_msg.specs.declared.object.Object.{Object}
 use Rattle.pst_msg.specs.declared.role.Role.{Role}
 use Rattle.pst_msg.specs.declared.role.Role.TheVariants.{Properties, Listed, Recipients, Attachments}
 use Rattle.pst_msg.specs.Asked.{AreAskedTrue}
-use Rattle.pst_msg.specs.Broken.{context_part, held_part}
+use Rattle.pst_msg.specs.Broken.{context_part, held_part, retold}
 use Rattle.pst_msg.specs.Faults.{AreFaultsOf}
 use Rattle.pst_msg.specs.Keys.{holds, has, data_key, list_key}
 use Rattle.pst_msg.specs.ListIndex.{IsIndexIn}
@@ -92,7 +92,7 @@ pub record IsTrueOf (t : Table) (k : Known) : Type 0 where
   pub asked : AreAskedTrue t k.asked
   -- each fault that is remembered is that of its context, or of what a message holds in its list
   pub broken : AreFaultsOf at_node (context_part t) k.broken
-  pub broken_lists : AreFaultsOf at_node (held_part t) k.broken_lists
+  pub broken_lists : AreFaultsOf retold (held_part t) k.broken_lists
   -- it is closed
   pub messages_in : (r : Roots) → WholeIn k.messages r → MessageIn t k r
   pub attachments_in : (r : Roots) → WholeIn k.attachments r → AttachmentIn t k r

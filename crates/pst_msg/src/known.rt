@@ -29,7 +29,8 @@ pub(crate) struct Known {
     pub(crate) asked: Asked,
     /// The faults of contexts, each by the number of its role.
     pub(crate) broken: Faults,
-    /// The faults of what messages hold in their lists of subnodes, by the list, where they are those of contexts.
+    /// The faults of what messages hold in their lists of subnodes, by the list: those of contexts, and those that name what is
+    /// missing there.
     pub(crate) broken_lists: Faults,
     /// How many contexts were checked, from the first on. It stays at its greatest value once it is there.
     pub(crate) count: u64,

@@ -128,7 +128,7 @@ fn go_on<'a>(
 }
 
 /// Checks a message of a checked file, and all that it holds. What is found without fault is remembered, and passed over
-/// where it is met again; so is a fault of what one of them holds, where it is that of a context.
+/// where it is met again; so is a fault of what one of them holds, where it is the same in each that has its list of subnodes.
 pub(crate) fn check_message(node: Node, known: &mut Known) -> Result<(), Fault>
     requires { IsTrueOf (table_of_node node) known.old }
     ensures known { IsTrueOf (table_of_node node.entry) known.new }

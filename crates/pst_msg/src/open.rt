@@ -14,7 +14,7 @@ ghost use Rattle.pst_msg.specs.Growth.{Grows};
 ghost use Rattle.pst_msg.specs.Known.{ContextIn, WholeIn, NamedIn, IsTrueOf};
 ghost use Rattle.pst_msg.specs.Values.{embedded_of};
 
-use crate::broken::part_of_list;
+use crate::broken::{part_of_list, told_of};
 use crate::context::once;
 use crate::frame::Frame;
 use crate::keys::{key_of, key_of_list};
@@ -93,7 +93,7 @@ fn open_list<'a>(
         IfOk result (λ o. IfSome o (IsOpened t known.new (roots_of node.entry) limit holder.entry)) }
 {
     if let Some(fault) = known.broken_lists.get(part_of_list(node)) {
-        return Err(fault.at_node(node.top()));
+        return Err(told_of(fault, node.top()));
     }
     open_held(node, limit, holder, known)
 }
