@@ -21,6 +21,7 @@ use Rattle.pst_msg.specs.Indexes.{AreIndexes}
 use Rattle.pst_msg.specs.ListIndex.{IsIndexIn}
 use Rattle.pst_msg.specs.declared.nid.TheConstants.{ATTACHMENTS, RECIPIENTS}
 use Rattle.pst_msg.specs.declared.role.Role.{Role}
+use Rattle.pst_msg.specs.declared.row_counts.RowCounts.{RowCounts}
 use Rattle.pst_msg.specs.declared.role.Role.TheVariants.{Properties, Listed, Recipients, Attachments}
 use Rattle.pst_ndb.specs.Alike.{Alike}
 use Rattle.pst_msg.specs.Asked.{AreAskedTrue}
@@ -28,6 +29,7 @@ use Rattle.pst_msg.specs.Broken.{context_part, held_part, retold}
 use Rattle.pst_msg.specs.Faults.{AreFaultsOf}
 use Rattle.pst_msg.specs.Keys.{Key, key, list_key, holds, has}
 use Rattle.pst_msg.specs.Roles.{role_number, role_with, role_fault}
+use Rattle.pst_msg.specs.RowCounts.{AreRowCounts}
 use Rattle.pst_msg.specs.Fault.{held_fault, below_message, message_at, attachment_at, message_fault, attachment_fault}
 use Rattle.pst_msg.specs.Known.{ListIn, MessagesAreTrue, AttachmentsAreTrue, ListsAreTrue, HeldIn, MessageIn, AttachmentIn, IsTrueOf}
 use Rattle.pst_msg.proofs.AlikeLemmas.{SameList, pc_alike, tc_alike, alike_law, held_alike, subnode_alike, row_alike, embedded_alike}
@@ -119,8 +121,8 @@ known_list t keys limit node same holds is sound =
 from_none : (keys : Keys) (P : Type 0) (q : Key) → ((k : Key) → holds keys k ≡ false) → holds keys q ≡ true → P
 from_none keys P q none there = absurd (false≢true (sym (none q) ∙ there))
 
-pub nothing_known : (t : Table) (k : Known) → ((q : Key) → holds k.contexts q ≡ false) → ((q : Key) → holds k.messages q ≡ false) → ((q : Key) → holds k.attachments q ≡ false) → ((q : Key) → holds k.lists q ≡ false) → IsIndexIn t k.index → AreIndexes t k.indexes → AreMapsTrue t k.maps → AreAskedTrue t k.asked → AreFaultsOf at_node (context_part t) k.broken → AreFaultsOf retold (held_part t) k.broken_lists → IsTrueOf t k
-nothing_known t k contexts messages attachments lists index indexes maps asked broken broken_lists = record {
+pub nothing_known : (t : Table) (k : Known) → ((q : Key) → holds k.contexts q ≡ false) → ((q : Key) → holds k.messages q ≡ false) → ((q : Key) → holds k.attachments q ≡ false) → ((q : Key) → holds k.lists q ≡ false) → IsIndexIn t k.index → AreIndexes t k.indexes → AreMapsTrue t k.maps → AreAskedTrue t k.asked → AreRowCounts t k.row_counts → AreFaultsOf at_node (context_part t) k.broken → AreFaultsOf retold (held_part t) k.broken_lists → IsTrueOf t k
+nothing_known t k contexts messages attachments lists index indexes maps asked row_counts broken broken_lists = record {
   contexts = λ role s there. from_none k.contexts _ _ contexts there;
   messages = λ s there. from_none k.messages _ _ messages there;
   attachments = λ s there. from_none k.attachments _ _ attachments there;
@@ -129,6 +131,7 @@ nothing_known t k contexts messages attachments lists index indexes maps asked b
   indexes = indexes;
   maps = maps;
   asked = asked;
+  row_counts = row_counts;
   broken = broken;
   broken_lists = broken_lists;
   messages_in = λ s there. from_none k.messages _ _ messages there;
@@ -148,6 +151,7 @@ aids_turned t k index maps asked broken is turned more kept faults = record {
   indexes = is.indexes;
   maps = more;
   asked = kept;
+  row_counts = is.row_counts;
   broken = faults;
   broken_lists = is.broken_lists;
   messages_in = λ s there. message_later t k _ s (λ q h. h) (λ q h. h) (is.messages_in s there);
@@ -165,6 +169,25 @@ indexes_turned t k indexes is turned = record {
   indexes = turned;
   maps = is.maps;
   asked = is.asked;
+  row_counts = is.row_counts;
+  broken = is.broken;
+  broken_lists = is.broken_lists;
+  messages_in = λ s there. message_later t k _ s (λ q h. h) (λ q h. h) (is.messages_in s there);
+  attachments_in = λ s there. attachment_later t k _ s (λ q h. h) (λ q h. h) (is.attachments_in s there);
+  lists_in = λ s there. held_later t k _ s (λ q h. h) (λ q h. h) (is.lists_in s there);
+}
+
+pub counts_turned : (t : Table) (k : Known) (row_counts : RowCounts) → IsTrueOf t k → AreRowCounts t row_counts → IsTrueOf t (record k { row_counts = row_counts })
+counts_turned t k row_counts is turned = record {
+  contexts = is.contexts;
+  messages = is.messages;
+  attachments = is.attachments;
+  lists = is.lists;
+  index = is.index;
+  indexes = is.indexes;
+  maps = is.maps;
+  asked = is.asked;
+  row_counts = turned;
   broken = is.broken;
   broken_lists = is.broken_lists;
   messages_in = λ s there. message_later t k _ s (λ q h. h) (λ q h. h) (is.messages_in s there);
@@ -190,6 +213,7 @@ context_remembered t role r k new count is none more kept = record {
   indexes = is.indexes;
   maps = is.maps;
   asked = is.asked;
+  row_counts = is.row_counts;
   broken = is.broken;
   broken_lists = is.broken_lists;
   messages_in = λ s there. message_later t k _ s kept (λ q h. h) (is.messages_in s there);
@@ -211,6 +235,7 @@ message_remembered t known new limit node same is sound none inside more kept =
       indexes = is.indexes;
       maps = is.maps;
       asked = is.asked;
+      row_counts = is.row_counts;
       broken = is.broken;
       broken_lists = is.broken_lists;
       messages_in = λ s in_new. message_later t known _ s (λ q h. h) (λ q h. h) (elim (more (key 0 s) in_new) [ inl was ↦ is.messages_in s was | inr e ↦ message_in_alike t known r s (alike_of_key 0 0 r s e).1 inside ]);
@@ -232,6 +257,7 @@ attachment_remembered t known new limit node same is sound none inside more kept
       indexes = is.indexes;
       maps = is.maps;
       asked = is.asked;
+      row_counts = is.row_counts;
       broken = is.broken;
       broken_lists = is.broken_lists;
       messages_in = λ s there. message_later t known _ s (λ q h. h) kept (is.messages_in s there);
@@ -253,6 +279,7 @@ list_remembered t known new limit node same is sound none inside more kept =
       indexes = is.indexes;
       maps = is.maps;
       asked = is.asked;
+      row_counts = is.row_counts;
       broken = is.broken;
       broken_lists = is.broken_lists;
       messages_in = λ s there. message_later t known _ s (λ q h. h) (λ q h. h) (is.messages_in s there);
@@ -272,6 +299,7 @@ fault_remembered t k broken_lists is faults = record {
   indexes = is.indexes;
   maps = is.maps;
   asked = is.asked;
+  row_counts = is.row_counts;
   broken = is.broken;
   broken_lists = faults;
   messages_in = λ s there. message_later t k _ s (λ q h. h) (λ q h. h) (is.messages_in s there);

@@ -11,6 +11,7 @@ pub mod AloneLemmas
 pub mod KeyLemmas
 pub mod IndexLemmas
 pub mod HeldLemmas
+pub mod RowCountLemmas
 pub mod KnownLemmas
 pub mod FaultsLemmas
 pub mod RetoldLemmas

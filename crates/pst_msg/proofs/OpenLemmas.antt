@@ -16,7 +16,7 @@ use Rattle.pst_ndb.specs.Roots.{Roots, subnode_of}
 use Rattle.pst_ndb.specs.Views.{table_of_node, sub_bid_of, roots_of}
 use Rattle.pst_pc.specs.Fault.{pc_fault}
 use Rattle.pst_tc.specs.Fault.{tc_fault}
-use Rattle.pst_tc.specs.Left.{tc_rows_left}
+use Rattle.pst_msg.specs.Rest.{rows_left}
 use Rattle.pst_tc.specs.Values.{RowParts, tc_rows}
 use Rattle.pst_msg.specs.declared.frame.Frame.{Frame}
 use Rattle.pst_msg.specs.declared.known.Known.{Known}
@@ -93,7 +93,7 @@ held_without t below r recipients is =
     then_none (if_there (tc_fault t) (subnode_of t r RECIPIENTS)) (if_there (attachments_fault t below r) (subnode_of t r ATTACHMENTS)) recipients
     ∙ ap (λ o. if_there (attachments_fault t below r) o) (sym is)
 
-pub opened : (t : Table) (k : Known) (f : Frame) (table : Roots) → table_of_node f.node ≡ t → sub_fault t f.limit (sub_bid_of f.node) ≡ None → if_there (tc_fault t) (subnode_of t (roots_of f.node) RECIPIENTS) ≡ None → subnode_of t (roots_of f.node) ATTACHMENTS ≡ Some table → tc_fault t table ≡ None → f.bid ≡ table.bid_data → tc_rows_left f.rest ≡ tc_rows t table → ContextIn k Properties (roots_of f.node) → ((s : Roots) → subnode_of t (roots_of f.node) RECIPIENTS ≡ Some s → ContextIn k Recipients s) → ContextIn k Attachments table → IsOpened t k (roots_of f.node) f.limit f.holder f
+pub opened : (t : Table) (k : Known) (f : Frame) (table : Roots) → table_of_node f.node ≡ t → sub_fault t f.limit (sub_bid_of f.node) ≡ None → if_there (tc_fault t) (subnode_of t (roots_of f.node) RECIPIENTS) ≡ None → subnode_of t (roots_of f.node) ATTACHMENTS ≡ Some table → tc_fault t table ≡ None → f.bid ≡ table.bid_data → rows_left f.rest ≡ tc_rows t table → ContextIn k Properties (roots_of f.node) → ((s : Roots) → subnode_of t (roots_of f.node) RECIPIENTS ≡ Some s → ContextIn k Recipients s) → ContextIn k Attachments table → IsOpened t k (roots_of f.node) f.limit f.holder f
 opened t k f table same sound recipients is none bid rows properties recipients_in there =
     let part = λ (b : ℕ). attachment_row_fault t (below_message t f.limit) (roots_of f.node) b in
     record {

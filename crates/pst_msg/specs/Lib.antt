@@ -11,6 +11,7 @@ pub mod Indexes
 pub mod Asked
 pub mod Faults
 pub mod Broken
+pub mod RowCounts
 pub mod Known
 pub mod Checker
 pub mod Counts
@@ -21,6 +22,7 @@ pub mod Left
 pub mod View
 pub mod NodeLookUps
 pub mod LookUps
+pub mod Rest
 pub mod Steps
 pub mod Frames
 pub use Rattle.pst_pc.specs as pst_pc

@@ -5,6 +5,7 @@ use crate::faults::Faults;
 use crate::indexes::Indexes;
 use crate::keys::Keys;
 use crate::list_index::ListIndex;
+use crate::row_counts::RowCounts;
 use pst_pc::Maps;
 use std::alloc::Global;
 
@@ -27,6 +28,8 @@ pub(crate) struct Known {
     pub(crate) maps: Maps,
     /// What contexts asked of their lists of subnodes.
     pub(crate) asked: Asked,
+    /// How many rows the attachment tables of messages have.
+    pub(crate) row_counts: RowCounts,
     /// The faults of contexts, each by the number of its role.
     pub(crate) broken: Faults,
     /// The faults of what messages hold in their lists of subnodes, by the list: those of contexts, and those that name what is
@@ -60,6 +63,7 @@ impl Known {
             indexes: Indexes::new(alloc),
             maps: Maps::new(alloc),
             asked: Asked::new(alloc),
+            row_counts: RowCounts::new(alloc),
             broken: Faults::new(alloc),
             broken_lists: Faults::new(alloc),
             count,

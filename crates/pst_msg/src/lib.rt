@@ -44,8 +44,10 @@ mod object;
 mod open;
 mod recipients;
 mod remember;
+mod rest;
 mod rising;
 mod role;
+mod row_counts;
 mod views;
 
 pub use attachment_view::Attachment;

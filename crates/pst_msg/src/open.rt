@@ -1,9 +1,12 @@
 //! What is found in a message, up to one that it embeds and that has to be gone through first.
 
 ghost use Rattle.std.specs.Prelude.{◌≡◌, None, Some, IfOk, IfErr, IfSome, IfNone};
+ghost use Rattle.pst_fault.specs.Fault.{no_memory};
 ghost use Rattle.pst_fault.specs.First.{IsFirst};
 ghost use Rattle.pst_subnode.specs.Tree.{sub_fault};
 ghost use Rattle.pst_ndb.specs.Views.{table_of_node, sub_bid_of, roots_of};
+ghost use Rattle.pst_tc.specs.Fault.{tc_fault};
+ghost use Rattle.pst_tc.specs.Values.{tc_rows};
 ghost use Rattle.pst_tc.specs.View.{row_parts};
 ghost use Rattle.pst_msg.specs.declared.role.Role.TheVariants.{Properties};
 ghost use Rattle.pst_msg.specs.Counts.{HasMessage, HasAttachment};
@@ -12,6 +15,7 @@ ghost use Rattle.pst_msg.specs.Frames.{IsOpened, EmbedsKnown, IsObjectOpened, At
 ghost use Rattle.pst_msg.specs.Grammar.{IsAttachmentRow};
 ghost use Rattle.pst_msg.specs.Growth.{Grows};
 ghost use Rattle.pst_msg.specs.Known.{ContextIn, WholeIn, NamedIn, IsTrueOf};
+ghost use Rattle.pst_msg.specs.Rest.{rows_left};
 ghost use Rattle.pst_msg.specs.Values.{embedded_of};
 
 use crate::broken::{part_of_list, told_of};
@@ -23,11 +27,26 @@ use crate::nid::{ATTACHMENT, ATTACHMENTS, is_type, named};
 use crate::object::{Object, embedded};
 use crate::recipients::check_recipients;
 use crate::remember::{refuse_held, remember_attachment, remember_held, remember_message};
+use crate::rest::Rest;
 use crate::role::Role;
 use pst_fault::{Fault, Kind};
 use pst_ndb::Node;
 use pst_pc::known_pc;
 use pst_tc::{Row, known_tc};
+
+// The rows of an attachment table without fault; where its data lies in several blocks, they are counted once.
+fn rows_of<'a>(table: Node<'a>, known: &mut Known) -> Result<Rest<'a>, Fault>
+    requires sound { tc_fault (table_of_node table) (roots_of table) ≡ None }
+    requires known { IsTrueOf (table_of_node table) known.old }
+    ensures known { IsTrueOf (table_of_node table.entry) known.new }
+    ensures grows { Grows (table_of_node table.entry) (λ nodes. Unit {0}) known.old known.new }
+    ensures left { let t = table_of_node table.entry in
+        IfOk result (λ rest. rows_left rest ≡ tc_rows t (roots_of table.entry)) }
+    ensures memory { IfErr result (λ f. f ≡ no_memory) }
+{
+    let most = known.row_counts.of(table)?;
+    Ok(Rest::of(known_tc(table).rows(), most))
+}
 
 // What a message holds in its list of subnodes, up to the rows of its attachment table; where it has none, the message is
 // remembered. A fault is known from then on.
@@ -58,11 +77,12 @@ fn open_held<'a>(
             if let Err(fault) = once(known, Role::Attachments, table) {
                 return Err(refuse_held(node, limit, fault, known));
             }
+            let rest = rows_of(table, known)?;
             Ok(Some(Frame {
                 holder,
                 node,
                 bid: table.bid_data(),
-                rest: known_tc(table).rows(),
+                rest,
                 limit,
             }))
         }
