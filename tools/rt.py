@@ -30,7 +30,9 @@ import subprocess
 import sys
 import tempfile
 
-from edits_together import Together
+sys.dont_write_bytecode = True  # nothing is written beside the sources
+
+from edits_together import Together  # noqa: E402
 
 # The kit's calls on which this stands: how a crate is proved, how its edits are tried, and how one is checked; and the sum of their
 # text. With the first kit the edits of a crate are one call, with the second each is a task among others.
@@ -222,7 +224,6 @@ def edits_added(together, made):
 
 
 def main(words):
-    sys.dont_write_bytecode = True
     rt = kit_rt()
     if rt is None:
         os.execvp("rt", ["rt", *words])
