@@ -20,8 +20,8 @@ ANSWER = re.compile(r"(?:\./)?proofs/(?P<of>\S+)/Answers\.antt:\d+:\d+: error: (
 
 
 class Function:
-    """A function of a source: its file and name, and the numbers of its first line, of that with the brace before its body, and of the
-    last, from 1 on."""
+    """A function of a source: its file and name, and the numbers of its first line, which is that of its first attribute where it has
+    any, of that with the brace before its body, and of the last, from 1 on."""
 
     def __init__(self, file, name, first, opens, last):
         self.file, self.name, self.first, self.opens, self.last = file, name, first, opens, last
@@ -49,10 +49,13 @@ def functions_of(file, text):
         if not begins or line.rstrip().endswith((";", "}")):
             continue
         margin = begins[1]
+        first = at
+        while first > 1 and lines[first - 2].startswith(margin + "#["):
+            first -= 1
         opens = next((i for i, it in enumerate(lines[at - 1 :], at) if opens_body(it, margin, i == at)), None)
         ends = next((i for i, it in enumerate(lines[at:], at + 1) if it == margin + "}"), None)
         if opens and ends and opens < ends:
-            found.append(Function(file, begins["name"], at, opens, ends))
+            found.append(Function(file, begins["name"], first, opens, ends))
     names = [it.name for it in found]
     for it in found:
         it.name = it.name if names.count(it.name) == 1 else None
@@ -145,22 +148,25 @@ class Together:
         return must_fail
 
     def refused(self, crate, group, flags, kept):
-        """Tries edits in one check, over a copy of what was proved, and gives those that are refused, as rt tells it of one."""
-        texts = sources(crate.folder)
+        """Tries edits in one check, over what was proved, and gives those that are refused, as rt tells it of one. Where rt tries a
+        crate's edits side by side it is over a copy, and where it tries them in turn over what the checks before it left."""
+        texts, linked = sources(crate.folder), getattr(self.rt, "linked", None)
         for edit, _ in group:
             # (one whose words another has written, too, is left out, so that nothing is told of it)
             if all(texts[file].count(old) == 1 for file, old, _ in edit.changes):
                 for file, old, new in edit.changes:
                     texts[file] = texts[file].replace(old, new)
         changed = {file: texts[file] for edit, _ in group for file, _, _ in edit.changes}
-        over = f"{kept}-together"
+        over = f"{kept}-together" if linked else kept
         try:
-            self.rt.linked(kept, over)
+            if linked:
+                linked(kept, over)
             ran = self.rt.checked(crate, changed, flags, over)
         except (OSError, shutil.Error):
             return {}
         finally:
-            shutil.rmtree(over, ignore_errors=True)
+            if linked:
+                shutil.rmtree(over, ignore_errors=True)
         lines = ran.stdout.rstrip("\n").split("\n")
         if ran.returncode != 1 or not lines[-1].startswith("logic=not-proved"):
             return {}
@@ -169,7 +175,7 @@ class Together:
             told = next((line for line in lines if any(it.is_told(line) for it in functions)), None)
             if told:
                 label = f"must-fail {crate.name}/{os.path.basename(edit.path)}"
-                came[edit.path] = self.rt.REFUSED, f"{label}: refused, as it must be: {told[:160]}"
+                came[edit.path] = getattr(self.rt, "REFUSED", True), f"{label}: refused, as it must be: {told[:160]}"
         return came
 
 

@@ -9,7 +9,8 @@
                                               seconds before the first one, and those of each that takes over 15
 
 A prover is told by its command line and its folder: a crate's own check and its tests run in crates/NAME, each try of an
-edit, or of several in one check, in a folder rt-edit-.., over what a proof of the crate left in a folder rt-edits-... Seconds are processor
+edit, or of several in one check, in a folder rt-edit-.., over what a proof of the crate left in a folder rt-edits-... (with a kit that
+tries a crate's edits in turn it is not told how many a check has, and the last one of them is of no edit). Seconds are processor
 seconds of the prover and of all that it started, as the system counts them, looked at five times a second; the last
 fifth of a second is missed. Beside other work they are up to a fifth more. A log has a line for each prover, and may be
 written by several runs: of what was proved twice the last counts.
@@ -32,7 +33,7 @@ ROOT = os.path.dirname(os.path.dirname(os.path.abspath(__file__)))
 TICKS = os.sysconf("SC_CLK_TCK")
 PAUSE = 0.2
 SLOW = 15
-OVER = re.compile(r"/rt-edits-[^/]*/(\w+)(-together)?$")
+OVER = re.compile(r"/rt-edits-[^/]*(?:/(\w+)(-together)?)?$")
 CHECKED = re.compile(r"checked (\S+), \d+ of \d+$")
 
 
@@ -82,9 +83,11 @@ def told_of(pid):
     crate = words[words.index("--crate-name") + 1]
     if "/rt-edit-" in folder:
         over = OVER.search(words[words.index("--incremental") + 1]) if "--incremental" in words else None
-        if over and over[2]:
-            return "edits together", crate
-        return f"edit {over[1] if over else 'from nothing'}", crate
+        if not over:
+            return "edit from nothing", crate
+        if not over[1]:
+            return "edits in turn", crate
+        return "edits together" if over[2] else f"edit {over[1]}", crate
     if "--crate-checked" in words:
         return "compile", crate
     return "tests" if "--test" in words else "check", crate
@@ -201,7 +204,8 @@ def row(crate, done):
     with one. How many are tried in one check is not seen."""
     last = lambda what: done.get(what, [None])[-1]
     edits = {name: last(f"edit {number}") for number, name in enumerate(edits_of(crate))}
-    tried, together = [it for it in edits.values() if it is not None], done.get("edits together", [])
+    tried = [it for it in edits.values() if it is not None]
+    together = [*done.get("edits together", []), *done.get("edits in turn", [])]
     others = sum(done.get("edit seed", [])[-2:]) + sum(done.get("edit from nothing", [])) + sum(together)
     lacks = (last("check") is None) + (has_tests(crate) and last("tests") is None) + (0 if together else len(edits) - len(tried))
     made = sum(sum(done.get(it, [])[-2:]) for it in ("compile", "link"))

@@ -36,7 +36,7 @@ from edits_together import Together  # noqa: E402
 
 # The kit's calls on which this stands: how a crate is proved, how its edits are tried, and how one is checked; and the sum of their
 # text. With the first kit the edits of a crate are one call, with the second each is a task among others.
-CALLS_OF_ONE = ["must_fail_all", "checked"], "7d0b5f82fb1ad6ecd9067b7c0a17cfb8398182febe9f64d448bae7199dd00088"
+CALLS_OF_ONE = ["must_fail", "must_fail_all", "checked"], "c71afacf31b6d7b1fda794a1b475bfd094e36770e5bc9d650546965b939015d6"
 CALLS_OF_TASKS = ["must_fail", "checked", "seeded", "add_edits"], "5b582855a7407fdd84f0bf28539b0a0c73d6c23e66c1f75bec6b287113b7420d"
 # A crate without anything: its check makes the folder in which rattle keeps its work.
 NOTHING = "#![tactic(auto)]\n//! Nothing.\n"
@@ -172,8 +172,8 @@ def lay(rt, proved, kept):
                 file.write(all_of.read(length))
 
 
-def edits_tried(rt, made):
-    """How `rt ci` tries a crate's edits, over what its proof has left where that is there."""
+def edits_tried(rt, together, made):
+    """How `rt ci` tries a crate's edits, over what its proof has left where that is there, and several in one check."""
 
     def must_fail_all(crate, edits, flags):
         if not edits or not os.path.isdir(left_by(crate)):
@@ -181,6 +181,7 @@ def edits_tried(rt, made):
         with tempfile.TemporaryDirectory(prefix="rt-edits-") as kept:
             lay(rt, left_by(crate), kept)
             shutil.rmtree(left_by(crate))
+            together.groups(crate, edits)
             tried = [rt.must_fail(crate, edit, flags, kept) for edit in edits]
             is_sound = not rt.checked(crate, {}, flags, kept).returncode
         return [it if is_sound and it[0] else rt.must_fail(crate, edit, flags) for edit, it in zip(edits, tried)]
@@ -230,14 +231,15 @@ def main(words):
     crate = rt.rtlib.Crate
     crate.below = remembered(crate.below)
     crate.stamp = remembered_sum(crate.stamp, rt.rtlib.files_of)
-    if is_known(rt, CALLS_OF_ONE):
+    known = next((it for it in (CALLS_OF_ONE, CALLS_OF_TASKS) if is_known(rt, it)), None)
+    together = Together(rt)
+    if known:
         rt.Crate.ci = crate_proved(rt, rt.Crate.ci)
-        rt.must_fail_all = edits_tried(rt, rt.must_fail_all)
-    elif is_known(rt, CALLS_OF_TASKS):
-        together = Together(rt)
-        rt.Crate.ci = crate_proved(rt, rt.Crate.ci)
-        rt.seeded = seeds_of_proofs(rt, rt.seeded)
         rt.must_fail = together.must_fail(rt.must_fail)
+    if known is CALLS_OF_ONE:
+        rt.must_fail_all = edits_tried(rt, together, rt.must_fail_all)
+    elif known is CALLS_OF_TASKS:
+        rt.seeded = seeds_of_proofs(rt, rt.seeded)
         rt.add_edits = edits_added(together, rt.add_edits)
     status = rt.main(words)
     sys.stdout.flush()

@@ -5,9 +5,15 @@ ghost use Rattle.std.specs.Prelude.{IsTrue};
 use std::fmt::Debug;
 use std::process::Abort;
 
+/// What a test ends with where memory was refused. What goes wrong in a helper ends the test, so that no caller has a way out to
+/// prove.
+pub(crate) const MEMORY: &str = "no memory";
+
 /// Stops the test where what is told is not what is wanted.
 pub(crate) fn is<R: Abort, T: PartialEq + Debug + Copy>(rt: &R, told: T, wanted: T) {
-    assert_eq!(rt; told, wanted);
+    if told != wanted {
+        panic!(rt; "told {told:?}, wanted {wanted:?}");
+    }
 }
 
 /// The same of a case, which is named where it differs.
@@ -17,12 +23,16 @@ pub(crate) fn is_at<R: Abort, C: Debug + Copy, T: PartialEq + Debug + Copy>(
     told: T,
     wanted: T,
 ) {
-    assert_eq!(rt; told, wanted, "{case:?}");
+    if told != wanted {
+        panic!(rt; "{case:?}: told {told:?}, wanted {wanted:?}");
+    }
 }
 
 /// The same of a case, which is named where it does not hold.
 pub(crate) fn holds_at<R: Abort, C: Debug + Copy>(rt: &R, case: C, told: bool)
     ensures { IsTrue told }
 {
-    assert!(rt; told, "{case:?}");
+    if !told {
+        panic!(rt; "{case:?} does not hold");
+    }
 }

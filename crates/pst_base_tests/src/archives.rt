@@ -1,10 +1,9 @@
 //! Heads of files in tar archives, against another program's.
 
-use crate::stores::digest_of;
+use crate::stores::{MEMORY, digest_of};
 use crate::told::{is, is_at};
 use pst_tar::{Entry, end, head, padding};
 use std::process::Abort;
-use std::test::Fail;
 
 // Names, sizes and times, and the SHA-256 of the header that GNU tar 1.34 writes of such a file, asked for the format ustar.
 const SHORT: [(&[u8], u64, u64, &str); 7] = [
@@ -177,28 +176,27 @@ const LONG: [(u64, usize, u64, u64, &str); 17] = [
 ];
 
 // Compares the SHA-256 of what stands before the bytes of a file.
-fn is_headed<R: Abort + AllocGlobal>(rt: &R, entry: Entry<'_>, want: &str) -> Result<(), Fail> {
-    let head = head(rt.alloc(), entry)?;
-    let told = digest_of(rt.alloc(), head.as_slice())?;
+fn is_headed<R: Abort + AllocGlobal>(rt: &R, entry: Entry<'_>, want: &str) {
+    let head = head(rt.alloc(), entry).expect(rt, MEMORY);
+    let told = digest_of(rt, rt.alloc(), head.as_slice());
     is_at(rt, (entry.number, entry.size), told.as_str(), want);
-    Ok(())
 }
 
 // With a name of so many letters n.
-fn is_long<R: Abort + AllocGlobal>(rt: &R, row: (u64, usize, u64, u64, &str)) -> Result<(), Fail> {
+fn is_long<R: Abort + AllocGlobal>(rt: &R, row: (u64, usize, u64, u64, &str)) {
     let (number, length, size, time, want) = row;
-    let name = vec![in rt.alloc(); b'n'; length]?;
+    let name = (vec![in rt.alloc(); b'n'; length]).expect(rt, MEMORY);
     let entry = Entry {
         number,
         name: &name,
         size,
         time,
     };
-    is_headed(rt, entry, want)
+    is_headed(rt, entry, want);
 }
 
 #[test]
-fn headers_are_those_of_gnu_tar(rt: HostRuntime) -> Result<(), Fail> {
+fn headers_are_those_of_gnu_tar(rt: HostRuntime) {
     for (name, size, time, want) in &SHORT {
         let entry = Entry {
             number: 0,
@@ -206,17 +204,15 @@ fn headers_are_those_of_gnu_tar(rt: HostRuntime) -> Result<(), Fail> {
             size: *size,
             time: *time,
         };
-        is_headed(&rt, entry, want)?;
+        is_headed(&rt, entry, want);
     }
-    Ok(())
 }
 
 #[test]
-fn what_is_too_long_stands_before_it(rt: HostRuntime) -> Result<(), Fail> {
+fn what_is_too_long_stands_before_it(rt: HostRuntime) {
     for row in &LONG {
-        is_long(&rt, *row)?;
+        is_long(&rt, *row);
     }
-    Ok(())
 }
 
 // How long files are, and how many zeros fill their last blocks.

@@ -1,10 +1,10 @@
 //! Check values and signatures, beside another program's and beside the definition.
 
+use crate::stores::MEMORY;
 use crate::told::{is, is_at};
 use pst_crc::*;
 use std::alloc::Global;
 use std::process::Abort;
-use std::test::Fail;
 
 // The check value bit by bit, as [MS-PST] 5.3 defines it.
 fn by_bits(bytes: &[u8]) -> u32 {
@@ -20,14 +20,14 @@ fn by_bits(bytes: &[u8]) -> u32 {
 }
 
 // Bytes that differ: 3, and then each time five times the last one and 3 more, modulo 256.
-fn uneven_bytes(alloc: Global, len: u32) -> Result<Vec<u8>, Fail> {
+fn uneven_bytes<R: Abort>(rt: &R, alloc: Global, len: u32) -> Vec<u8> {
     let mut bytes = Vec::new(alloc);
     let mut byte = 3u8;
     for _ in 0..len {
-        bytes.push(byte)?;
+        bytes.push(byte).expect(rt, MEMORY);
         byte = byte.wrapping_mul(5).wrapping_add(3);
     }
-    Ok(bytes)
+    bytes
 }
 
 // Bytes, and their check values.
@@ -76,13 +76,12 @@ const VALUES: [(usize, u32); 18] = [
 ];
 
 #[test]
-fn values_of_another_program(rt: HostRuntime) -> Result<(), Fail> {
-    let bytes = uneven_bytes(rt.alloc(), 11_195)?;
+fn values_of_another_program(rt: HostRuntime) {
+    let bytes = uneven_bytes(&rt, rt.alloc(), 11_195);
     for (len, want) in &VALUES {
         let front = bytes.get(..*len).expect(&rt, "too short");
         is_at(&rt, *len, check(front), *want);
     }
-    Ok(())
 }
 
 // The piece of this length from there on has the check value that it has bit by bit.
@@ -93,8 +92,8 @@ fn is_by_bits<R: Abort>(rt: &R, bytes: &[u8], start: usize, len: usize) {
 }
 
 #[test]
-fn many_at_a_time_as_one_by_one(rt: HostRuntime) -> Result<(), Fail> {
-    let bytes = uneven_bytes(rt.alloc(), 8192)?;
+fn many_at_a_time_as_one_by_one(rt: HostRuntime) {
+    let bytes = uneven_bytes(&rt, rt.alloc(), 8192);
     for start in 0..16 {
         for (first, end) in [(0, 65), (378, 400), (2996, 3006), (8176, 8177)] {
             for len in first..end {
@@ -102,5 +101,4 @@ fn many_at_a_time_as_one_by_one(rt: HostRuntime) -> Result<(), Fail> {
             }
         }
     }
-    Ok(())
 }

@@ -1,14 +1,13 @@
 //! The kinds of fault, and their lines.
 
+use crate::stores::MEMORY;
 use crate::told::is;
 use pst_fault::*;
 use std::alloc::Global;
 use std::process::Abort;
-use std::test::Fail;
 
-fn line_of(alloc: Global, kind: Kind, at: u64, bid: u64, nid: u32) -> Result<String, Fail> {
-    let place = Place { at, bid, nid };
-    Ok(Fault { kind, place }.to_string(alloc)?)
+fn line_of<R: Abort>(rt: &R, alloc: Global, fault: Fault) -> String {
+    fault.to_string(alloc).expect(rt, MEMORY)
 }
 
 // The line of each kind, in the order of the numbers.
@@ -94,24 +93,23 @@ const KINDS: [(Kind, &str); 28] = [
     ),
 ];
 
-fn has_line<R: Abort + AllocGlobal>(
-    rt: &R,
-    number: usize,
-    kind: Kind,
-    line: &str,
-) -> Result<(), Fail> {
+const PLACE: Place = Place {
+    at: 0x4c40,
+    bid: 8,
+    nid: 0x12d,
+};
+
+fn has_line<R: Abort + AllocGlobal>(rt: &R, number: usize, kind: Kind, line: &str) {
     is(rt, usize::from(kind.number()), number);
-    let text = line_of(rt.alloc(), kind, 0x4c40, 8, 0x12d)?;
+    let text = line_of(rt, rt.alloc(), Fault { kind, place: PLACE });
     is(rt, text.as_str(), line);
-    Ok(())
 }
 
 #[test]
-fn each_kind_prints_its_line(rt: HostRuntime) -> Result<(), Fail> {
+fn each_kind_prints_its_line(rt: HostRuntime) {
     for (i, (kind, line)) in KINDS.iter().enumerate() {
-        has_line(&rt, i + 1, *kind, line)?;
+        has_line(&rt, i + 1, *kind, line);
     }
-    Ok(())
 }
 
 // Numbers have no leading zeros, and are printed whole.
@@ -140,19 +138,18 @@ const WHOLE: [(Kind, u64, u64, u32, &str); 4] = [
     ),
 ];
 
-fn is_whole<R: Abort + AllocGlobal>(rt: &R, row: (Kind, u64, u64, u32, &str)) -> Result<(), Fail> {
+fn is_whole<R: Abort + AllocGlobal>(rt: &R, row: (Kind, u64, u64, u32, &str)) {
     let (kind, at, bid, nid, line) = row;
-    let text = line_of(rt.alloc(), kind, at, bid, nid)?;
+    let place = Place { at, bid, nid };
+    let text = line_of(rt, rt.alloc(), Fault { kind, place });
     is(rt, text.as_str(), line);
-    Ok(())
 }
 
 #[test]
-fn places_are_printed_whole(rt: HostRuntime) -> Result<(), Fail> {
+fn places_are_printed_whole(rt: HostRuntime) {
     for row in &WHOLE {
-        is_whole(&rt, *row)?;
+        is_whole(&rt, *row);
     }
-    Ok(())
 }
 
 #[test]

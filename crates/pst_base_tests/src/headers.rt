@@ -1,14 +1,13 @@
 //! Headers: the small store's, with bytes changed.
 
-use crate::stores::changed;
+use crate::stores::{changed, small};
 use crate::told::{holds, is, is_at};
 use pst_bytes::Image;
 use pst_fault::{Fault, Kind, Place};
 use pst_header::*;
-use pst_make::{Change, m0};
+use pst_make::Change;
 use std::alloc::Global;
 use std::process::Abort;
-use std::test::Fail;
 
 fn refused(kind: Kind, at: u64) -> Fault {
     let place = Place { at, bid: 0, nid: 0 };
@@ -36,13 +35,12 @@ const SMALL: Header = Header {
 };
 
 #[test]
-fn a_good_header_is_read(rt: HostRuntime) -> Result<(), Fail> {
-    let image = m0(rt.alloc())?;
+fn a_good_header_is_read(rt: HostRuntime) {
+    let image = small(&rt, rt.alloc());
     is(&rt, image.len(), 271_360);
     is(&rt, answer_of(&image), Ok(SMALL));
     is(&rt, SMALL.end(), 271_360);
     is(&rt, SMALL.amap_count(), 1);
-    Ok(())
 }
 
 // The mapped part ends where the last map's part ends, or where the file ends: both, its end, and how many maps it has.
@@ -74,22 +72,20 @@ fn the_mapped_part_ends(rt: HostRuntime) {
 // What is changed in the store, and its fault. A row that fails is told by its number, from 0 on.
 type Row = (&'static [Change<'static>], Option<(Kind, u64)>);
 
-fn is_told<R: Abort + AllocGlobal>(rt: &R, number: usize, row: &Row) -> Result<(), Fail> {
+fn is_told<R: Abort + AllocGlobal>(rt: &R, number: usize, row: &Row) {
     let (changes, fault) = *row;
-    let image = changed(rt.alloc(), changes)?;
+    let image = changed(rt, rt.alloc(), changes);
     let wanted = match fault {
         Some((kind, at)) => Some(refused(kind, at)),
         None => None,
     };
     is_at(rt, number, fault_of(&image), wanted);
-    Ok(())
 }
 
-fn are_told<R: Abort + AllocGlobal>(rt: &R, rows: &[Row]) -> Result<(), Fail> {
+fn are_told<R: Abort + AllocGlobal>(rt: &R, rows: &[Row]) {
     for (number, row) in rows.iter().enumerate() {
-        is_told(rt, number, row)?;
+        is_told(rt, number, row);
     }
-    Ok(())
 }
 
 // One field is changed, and the check values are made right again.
@@ -149,8 +145,8 @@ const SEALED: [Row; 13] = [
 ];
 
 #[test]
-fn the_first_fault_of_a_sealed_header(rt: HostRuntime) -> Result<(), Fail> {
-    are_told(&rt, &SEALED)
+fn the_first_fault_of_a_sealed_header(rt: HostRuntime) {
+    are_told(&rt, &SEALED);
 }
 
 const FLIPPED: [Row; 4] = [
@@ -161,8 +157,8 @@ const FLIPPED: [Row; 4] = [
 ];
 
 #[test]
-fn a_flipped_bit_breaks_a_check_value(rt: HostRuntime) -> Result<(), Fail> {
-    are_told(&rt, &FLIPPED)
+fn a_flipped_bit_breaks_a_check_value(rt: HostRuntime) {
+    are_told(&rt, &FLIPPED);
 }
 
 // What the fields of a header say, whatever stands before them.
@@ -174,12 +170,12 @@ fn fields_of(image: &[u8]) -> Option<Header> {
 }
 
 // Whether they fit, once the store is changed.
-fn fault_of_fields(alloc: Global, changes: &[Change]) -> Result<Option<Fault>, Fail> {
-    let image = changed(alloc, changes)?;
+fn fault_of_fields<R: Abort>(rt: &R, alloc: Global, changes: &[Change]) -> Option<Fault> {
+    let image = changed(rt, alloc, changes);
     if image.len() < 564 {
-        return Err(Fail::from("no header"));
+        rt.panic("no header");
     }
-    Ok(check_fields(Image::new(&image)).err())
+    check_fields(Image::new(&image)).err()
 }
 
 // No magic number, and with this no good maps.
@@ -192,16 +188,15 @@ const NO_MAPS: [Change<'static>; 3] = [
 ];
 
 #[test]
-fn the_fields_of_a_header_alone(rt: HostRuntime) -> Result<(), Fail> {
-    let image = changed(rt.alloc(), &NO_MAGIC)?;
+fn the_fields_of_a_header_alone(rt: HostRuntime) {
+    let image = changed(&rt, rt.alloc(), &NO_MAGIC);
     is(&rt, fields_of(&image), Some(SMALL));
-    is(&rt, fault_of_fields(rt.alloc(), &NO_MAGIC)?, None);
+    is(&rt, fault_of_fields(&rt, rt.alloc(), &NO_MAGIC), None);
     holds(&rt, is_amap_place(SMALL.last_amap));
     holds(&rt, is_last_amap(SMALL.last_amap, SMALL.eof));
     holds(&rt, !is_last_amap(SMALL.last_amap, 18_431));
     let fault = refused(Kind::MapsInvalid, 248);
-    is(&rt, fault_of_fields(rt.alloc(), &NO_MAPS)?, Some(fault));
-    Ok(())
+    is(&rt, fault_of_fields(&rt, rt.alloc(), &NO_MAPS), Some(fault));
 }
 
 // An earlier rule is told before a later one, and a file's length matters.
@@ -215,8 +210,8 @@ const LENGTHS: [Row; 6] = [
 ];
 
 #[test]
-fn lengths_of_a_file(rt: HostRuntime) -> Result<(), Fail> {
-    are_told(&rt, &LENGTHS)
+fn lengths_of_a_file(rt: HostRuntime) {
+    are_told(&rt, &LENGTHS);
 }
 
 // Behind the ninth map stands a page map, so the file may end neither in the map nor in the page map. Behind the eighth,
@@ -279,6 +274,6 @@ const BEHIND: [Row; 6] = [
 ];
 
 #[test]
-fn the_page_map_behind_a_map(rt: HostRuntime) -> Result<(), Fail> {
-    are_told(&rt, &BEHIND)
+fn the_page_map_behind_a_map(rt: HostRuntime) {
+    are_told(&rt, &BEHIND);
 }

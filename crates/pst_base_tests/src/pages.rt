@@ -1,14 +1,13 @@
 //! Pages of the small store, with bytes changed.
 
-use crate::stores::changed;
+use crate::stores::{changed, small};
 use crate::told::{is, is_at};
 use pst_bytes::{Image, Span};
 use pst_fault::{Fault, Kind, Place};
 use pst_header::{Bref, read_header};
-use pst_make::{Change, m0};
+use pst_make::Change;
 use pst_page::*;
 use std::process::Abort;
-use std::test::Fail;
 
 // Where the two root pages of a small store lie, and their identifiers.
 const NBT: Bref = Bref { bid: 4, ib: 0x4800 };
@@ -130,8 +129,8 @@ const BLOCKS: [BlockEntry; 2] = [
 ];
 
 #[test]
-fn a_page_of_nodes_is_read(rt: HostRuntime) -> Result<(), Fail> {
-    let bytes = m0(rt.alloc())?;
+fn a_page_of_nodes_is_read(rt: HostRuntime) {
+    let bytes = small(&rt, rt.alloc());
     let page = page_in(&bytes, NBT, PageKind::Nbt).expect(&rt, "no page");
     is(&rt, shape_of(&page), (2, 0, 32));
     is(&rt, place_of(&page, 1), Some((0x4820, 0x122)));
@@ -140,12 +139,11 @@ fn a_page_of_nodes_is_read(rt: HostRuntime) -> Result<(), Fail> {
     is(&rt, page.entry(1), bytes.get(0x4820..0x4840));
     is(&rt, page.entry(2), None);
     is(&rt, page.entry(255), None);
-    Ok(())
 }
 
 #[test]
-fn a_page_of_blocks_is_read(rt: HostRuntime) -> Result<(), Fail> {
-    let bytes = m0(rt.alloc())?;
+fn a_page_of_blocks_is_read(rt: HostRuntime) {
+    let bytes = small(&rt, rt.alloc());
     let page = page_in(&bytes, BBT, PageKind::Bbt).expect(&rt, "no page");
     is(&rt, shape_of(&page), (2, 0, 24));
     is(&rt, block_of(&page, 0), BLOCKS.first().copied());
@@ -153,7 +151,6 @@ fn a_page_of_blocks_is_read(rt: HostRuntime) -> Result<(), Fail> {
     is(&rt, page.entry(0), bytes.get(0x4a00..0x4a18));
     let again = known_in(&bytes).expect(&rt, "no page");
     is(&rt, again.entry(1), page.entry(1));
-    Ok(())
 }
 
 // A branch of one entry, that names the page of blocks; 0x4C00 exclusive or 12 is 0x4C0C.
@@ -171,13 +168,12 @@ const BRANCH: [Change<'static>; 5] = [
 ];
 
 #[test]
-fn a_branch_names_its_children(rt: HostRuntime) -> Result<(), Fail> {
-    let bytes = changed(rt.alloc(), &BRANCH)?;
+fn a_branch_names_its_children(rt: HostRuntime) {
+    let bytes = changed(&rt, rt.alloc(), &BRANCH);
     let page = opened_in(&bytes).expect(&rt, "no page");
     is(&rt, shape_of(&page), (1, 15, 24));
     is(&rt, child_of(&page, 0), Some(BBT));
     is(&rt, place_of(&page, 0), Some((0x4c00, 4)));
-    Ok(())
 }
 
 // What is read there, or no page and no fault where the header is bad.
@@ -198,22 +194,20 @@ type Row = (
     Option<Kind>,
 );
 
-fn is_told<R: Abort + AllocGlobal>(rt: &R, row: &Row) -> Result<(), Fail> {
+fn is_told<R: Abort + AllocGlobal>(rt: &R, row: &Row) {
     let (what, changes, bref, page, kind) = *row;
-    let image = changed(rt.alloc(), changes)?;
+    let image = changed(rt, rt.alloc(), changes);
     let wanted = match kind {
         Some(kind) => Some(fault_of(kind, bref)),
         None => None,
     };
     is_at(rt, what, fault_at(&image, bref, page), wanted);
-    Ok(())
 }
 
-fn are_told<R: Abort + AllocGlobal>(rt: &R, rows: &[Row]) -> Result<(), Fail> {
+fn are_told<R: Abort + AllocGlobal>(rt: &R, rows: &[Row]) {
     for row in rows {
-        is_told(rt, row)?;
+        is_told(rt, row);
     }
-    Ok(())
 }
 
 // What a page has behind its entries is changed, and its check value is made right again.
@@ -291,8 +285,8 @@ const SHAPES: [Row; 10] = [
 ];
 
 #[test]
-fn shapes_that_cannot_be(rt: HostRuntime) -> Result<(), Fail> {
-    are_told(&rt, &SHAPES)
+fn shapes_that_cannot_be(rt: HostRuntime) {
+    are_told(&rt, &SHAPES);
 }
 
 const TRAILERS: [Row; 10] = [
@@ -371,22 +365,22 @@ const TRAILERS: [Row; 10] = [
 const OTHER: Bref = Bref { bid: 6, ib: 0x4800 };
 
 #[test]
-fn trailers_that_are_wrong(rt: HostRuntime) -> Result<(), Fail> {
-    are_told(&rt, &TRAILERS)
+fn trailers_that_are_wrong(rt: HostRuntime) {
+    are_told(&rt, &TRAILERS);
 }
 
 // The fault of a page, how many pages were decoded, and the fault of its shape alone.
 type Decoded = (Option<Fault>, u64, Option<Fault>);
 
 // What decoding the page of nodes answers, and the count of decoded pages then, which was 7; and its shape alone.
-fn decoded(image: &[u8]) -> Result<Decoded, Fail> {
+fn decoded<R: Abort>(rt: &R, image: &[u8]) -> Decoded {
     let image = Image::new(image);
     if image.len() < NBT.ib + 512 {
-        return Err(Fail::from("no page"));
+        rt.panic("no page");
     }
     let mut pages = 7;
     let fault = decode_page(image, NBT, PageKind::Nbt, &mut pages).err();
-    Ok((fault, pages, check_shape(image, NBT, PageKind::Nbt).err()))
+    (fault, pages, check_shape(image, NBT, PageKind::Nbt).err())
 }
 
 const TRAILER: Option<Fault> = Some(Fault {
@@ -415,24 +409,17 @@ const DECODED: [(&[Change<'static>], Decoded); 4] = [
     ),
 ];
 
-fn is_decoded<R: Abort + AllocGlobal>(
-    rt: &R,
-    changes: &[Change],
-    wanted: Decoded,
-) -> Result<(), Fail> {
-    let image = changed(rt.alloc(), changes)?;
-    let told = decoded(&image)?;
-    is(rt, told, wanted);
-    Ok(())
+fn is_decoded<R: Abort + AllocGlobal>(rt: &R, changes: &[Change], wanted: Decoded) {
+    let image = changed(rt, rt.alloc(), changes);
+    is(rt, decoded(rt, &image), wanted);
 }
 
 // A page is counted whatever the answer is, and its shape is looked at whatever its trailer says.
 #[test]
-fn a_page_is_decoded_and_counted(rt: HostRuntime) -> Result<(), Fail> {
+fn a_page_is_decoded_and_counted(rt: HostRuntime) {
     for (changes, wanted) in &DECODED {
-        is_decoded(&rt, changes, *wanted)?;
+        is_decoded(&rt, changes, *wanted);
     }
-    Ok(())
 }
 
 // The file goes on behind the mapped part, which ends at 271,360.
@@ -505,13 +492,12 @@ fn place_in(image: &[u8], ib: u64) -> Option<Span> {
 }
 
 #[test]
-fn places_where_no_page_may_lie(rt: HostRuntime) -> Result<(), Fail> {
-    are_told(&rt, &PLACES)?;
-    let image = changed(rt.alloc(), &[Change::Grow(1024)])?;
+fn places_where_no_page_may_lie(rt: HostRuntime) {
+    are_told(&rt, &PLACES);
+    let image = changed(&rt, rt.alloc(), &[Change::Grow(1024)]);
     for at in [0x4400, 0x4440, 271_360 - 512] {
         is_at(&rt, at, place_in(&image, at), Some(Span { at, len: 512 }));
     }
-    Ok(())
 }
 
 const KEYS: [(PageKind, u64, u64); 6] = [

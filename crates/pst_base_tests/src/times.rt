@@ -1,9 +1,9 @@
 //! Times as text, against another program's.
 
+use crate::stores::MEMORY;
 use crate::told::{holds_at, is_at};
 use pst_time::{time_bytes, time_text};
 use std::process::Abort;
-use std::test::Fail;
 
 // Steps of 100 nanoseconds since 1601, and what Python's datetime makes of them.
 const TIMES: [(u64, &str); 24] = [
@@ -151,41 +151,36 @@ const DRAWN: [(u64, &str); 36] = [
 ];
 
 // A time has its text, which is asked for in both ways.
-fn has_text<R: Abort + AllocGlobal>(rt: &R, time: u64, text: &str) -> Result<(), Fail> {
-    let told = time_text(rt.alloc(), time)?;
+fn has_text<R: Abort + AllocGlobal>(rt: &R, time: u64, text: &str) {
+    let told = time_text(rt.alloc(), time).expect(rt, MEMORY);
     is_at(rt, time, told.as_deref(), Some(text));
-    let Some(bytes) = time_bytes(time) else {
-        return Err(Fail::from("no text"));
-    };
+    let bytes = time_bytes(time).expect(rt, "no text");
     is_at(rt, time, bytes.as_slice(), text.as_bytes());
-    Ok(())
 }
 
-fn have_their_texts<R: Abort + AllocGlobal>(rt: &R, times: &[(u64, &str)]) -> Result<(), Fail> {
+fn have_their_texts<R: Abort + AllocGlobal>(rt: &R, times: &[(u64, &str)]) {
     for (time, text) in times {
-        has_text(rt, *time, text)?;
+        has_text(rt, *time, text);
     }
-    Ok(())
 }
 
 #[test]
-fn times_have_their_texts(rt: HostRuntime) -> Result<(), Fail> {
-    have_their_texts(&rt, &TIMES)?;
-    have_their_texts(&rt, &MONTHS)?;
-    have_their_texts(&rt, &YEARS)?;
-    have_their_texts(&rt, &DRAWN)
+fn times_have_their_texts(rt: HostRuntime) {
+    have_their_texts(&rt, &TIMES);
+    have_their_texts(&rt, &MONTHS);
+    have_their_texts(&rt, &YEARS);
+    have_their_texts(&rt, &DRAWN);
 }
 
-fn has_none<R: Abort + AllocGlobal>(rt: &R, time: u64) -> Result<(), Fail> {
-    let told = time_text(rt.alloc(), time)?;
+fn has_none<R: Abort + AllocGlobal>(rt: &R, time: u64) {
+    let told = time_text(rt.alloc(), time).expect(rt, MEMORY);
     is_at(rt, time, told.as_deref(), None);
     holds_at(rt, time, time_bytes(time).is_none());
-    Ok(())
 }
 
 #[test]
-fn times_behind_the_year_9999_have_none(rt: HostRuntime) -> Result<(), Fail> {
-    has_none(&rt, 2_650_467_744_000_000_000)?;
-    has_none(&rt, 1 << 63)?;
-    has_none(&rt, u64::MAX)
+fn times_behind_the_year_9999_have_none(rt: HostRuntime) {
+    has_none(&rt, 2_650_467_744_000_000_000);
+    has_none(&rt, 1 << 63);
+    has_none(&rt, u64::MAX);
 }

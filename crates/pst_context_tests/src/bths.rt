@@ -3,7 +3,7 @@
 mod counts;
 mod made;
 
-use crate::made::{changed, m0_with};
+use crate::made::{MEMORY, changed, m0_with};
 use crate::opened::{heap_in, line_of_fault};
 use crate::told::is;
 use made::store;
@@ -14,7 +14,6 @@ use pst_make::Change;
 use pst_make::Change::{Cut, Set};
 use std::alloc::Global;
 use std::process::Abort;
-use std::test::Fail;
 
 // Whether a key of a BTH is found with its data, which has so many bytes.
 fn is_found(bth: &Bth, key: u32, data: Span, size: u8) -> bool {
@@ -22,41 +21,34 @@ fn is_found(bth: &Bth, key: u32, data: Span, size: u8) -> bool {
 }
 
 // The keys of a BTH, each with the place of its data.
-fn keys_of(alloc: Global, bth: &Bth, size: u8) -> Result<String, Fail> {
-    let mut keys = format!(in alloc; "yes:")?;
+fn keys_of<R: Abort>(rt: &R, alloc: Global, bth: &Bth, size: u8) -> String {
+    let mut keys = format!(in alloc; "yes:").expect(rt, MEMORY);
     for (key, data) in bth.records() {
         if !is_found(bth, key, data, size) {
-            return Err(Fail::from("not found"));
+            rt.panic("not found");
         }
         let at = data.at;
-        let more = format!(in alloc; " {key:x} {at:x}")?;
-        keys.push_str(&more)?;
+        let more = format!(in alloc; " {key:x} {at:x}").expect(rt, MEMORY);
+        keys.push_str(&more).expect(rt, MEMORY);
     }
-    Ok(keys)
+    keys
 }
 
 // What the BTH of a node is answered with, which its user's root names, or the line of its fault.
-fn answer(alloc: Global, image: &[u8], nid: u32, wide: bool) -> Result<String, Fail> {
-    let heap = heap_in(alloc, image, nid)?;
+fn answer<R: Abort>(rt: &R, alloc: Global, image: &[u8], nid: u32, wide: bool) -> String {
+    let heap = heap_in(rt, alloc, image, nid);
     let (key, ent) = if wide { (4, 4) } else { (2, 6) };
     match check_bth_at(&heap, heap.user_root_place(), heap.user_root(), key, ent) {
-        Ok(bth) => keys_of(alloc, &bth, ent),
-        Err(fault) => line_of_fault(alloc, fault),
+        Ok(bth) => keys_of(rt, alloc, &bth, ent),
+        Err(fault) => line_of_fault(rt, alloc, fault),
     }
 }
 
 // Whether the BTH of node 0x21 of such a store is answered with a line.
-fn is_answered<R: Abort>(
-    rt: &R,
-    alloc: Global,
-    items: &[&[u8]],
-    wide: bool,
-    line: &str,
-) -> Result<(), Fail> {
-    let image = store(alloc, items)?;
-    let told = answer(alloc, &image, 0x21, wide)?;
+fn is_answered<R: Abort>(rt: &R, alloc: Global, items: &[&[u8]], wide: bool, line: &str) {
+    let image = store(rt, alloc, items);
+    let told = answer(rt, alloc, &image, 0x21, wide);
     is(rt, told.as_str(), line);
-    Ok(())
 }
 
 const BAD_HEAD: &str = "no: 23 Bth at 0x4c0c bid 0x4 nid 0x21";
@@ -89,25 +81,18 @@ const FOLDER_ROWS: [(Change<'static>, &str); 6] = [
 ];
 
 // Whether the BTH of a node of the small store is answered with each line, a block changed.
-fn are_answered<R: Abort>(
-    rt: &R,
-    alloc: Global,
-    block: usize,
-    nid: u32,
-    rows: &[(Change, &str)],
-) -> Result<(), Fail> {
+fn are_answered<R: Abort>(rt: &R, alloc: Global, block: usize, nid: u32, rows: &[(Change, &str)]) {
     for (change, line) in rows {
-        let image = m0_with(alloc, block, &[*change])?;
-        let told = answer(alloc, &image, nid, false)?;
+        let image = m0_with(rt, alloc, block, &[*change]);
+        let told = answer(rt, alloc, &image, nid, false);
         is(rt, told.as_str(), *line);
     }
-    Ok(())
 }
 
 #[test]
-fn small_stores(rt: HostRuntime) -> Result<(), Fail> {
-    are_answered(&rt, rt.alloc(), 0, 0x21, &STORE_ROWS)?;
-    are_answered(&rt, rt.alloc(), 1, 0x122, &FOLDER_ROWS)
+fn small_stores(rt: HostRuntime) {
+    are_answered(&rt, rt.alloc(), 0, 0x21, &STORE_ROWS);
+    are_answered(&rt, rt.alloc(), 1, 0x122, &FOLDER_ROWS);
 }
 
 const HEAD: [u8; 8] = [0xb5, 2, 6, 1, 0x40, 0, 0, 0];
@@ -162,20 +147,20 @@ fn is_answered_of_two<R: Abort>(
     branch: &[Change],
     low: &[Change],
     line: &str,
-) -> Result<(), Fail> {
-    let branch = changed(alloc, &BRANCH, branch)?;
-    let low = changed(alloc, &LOW, low)?;
-    is_answered(rt, alloc, &[&HEAD, &branch, &low, &[], &HIGH], false, line)
+) {
+    let branch = changed(rt, alloc, &BRANCH, branch);
+    let low = changed(rt, alloc, &LOW, low);
+    is_answered(rt, alloc, &[&HEAD, &branch, &low, &[], &HIGH], false, line);
 }
 
 #[test]
-fn two_levels(rt: HostRuntime) -> Result<(), Fail> {
+fn two_levels(rt: HostRuntime) {
     let alloc = rt.alloc();
     for (branch, low, line) in TWO_LEVELS {
-        is_answered_of_two(&rt, alloc, branch, low, line)?;
+        is_answered_of_two(&rt, alloc, branch, low, line);
     }
     // A header item of 7 bytes.
-    is_answered(&rt, alloc, &[&[0xb5, 2, 6, 0, 0, 0, 0]], false, BAD_HEAD)
+    is_answered(&rt, alloc, &[&[0xb5, 2, 6, 0, 0, 0, 0]], false, BAD_HEAD);
 }
 
 // Header items of 15 levels, and of 16; a branch that names itself, once and twice.
@@ -195,12 +180,11 @@ const CIRCLES: [(&[&[u8]], &str); 3] = [
 ];
 
 #[test]
-fn circle_of_items(rt: HostRuntime) -> Result<(), Fail> {
+fn circle_of_items(rt: HostRuntime) {
     let alloc = rt.alloc();
     for (items, line) in CIRCLES {
-        is_answered(&rt, alloc, items, false, line)?;
+        is_answered(&rt, alloc, items, false, line);
     }
-    Ok(())
 }
 
 // Keys of 4 bytes, three levels: the root at 0x4c14 has branches at 0x4c24 and 0x4c34, and these have leaves at 0x4c3c, 0x4c4c
@@ -240,19 +224,18 @@ const THREE_LEVELS: [(&[&[u8]], &str); 3] = [
 ];
 
 #[test]
-fn three_levels(rt: HostRuntime) -> Result<(), Fail> {
+fn three_levels(rt: HostRuntime) {
     let alloc = rt.alloc();
     for (items, line) in THREE_LEVELS {
-        is_answered(&rt, alloc, items, true, line)?;
+        is_answered(&rt, alloc, items, true, line);
     }
-    Ok(())
 }
 
 // What is found in the BTH of two levels, by one who knows that it is one, and what is not there.
 #[tactic(auto, using(pst_fault::proofs::ToldLemmas::told_none))]
-fn found<R: Abort>(rt: &R, heap: &Heap) -> Result<(), Fail> {
+fn found<R: Abort>(rt: &R, heap: &Heap) {
     if check_bth(heap, 0x20, 2, 6).is_err() {
-        return Err(Fail::from("no tree"));
+        rt.panic("no tree");
     }
     let bth = known_bth(heap, 0x20, 2, 6);
     is(rt, bth.heap().node().nid(), 0x21);
@@ -260,24 +243,22 @@ fn found<R: Abort>(rt: &R, heap: &Heap) -> Result<(), Fail> {
     for key in [0, 2, 16, 31, 33, 0xfffe, 0x1_0000, 0xffff_ffff] {
         is(rt, bth.find(key), None);
     }
-    Ok(())
 }
 
 // A header item that nothing in the file names.
-fn missed(alloc: Global, heap: &Heap) -> Result<String, Fail> {
+fn missed<R: Abort>(rt: &R, alloc: Global, heap: &Heap) -> String {
     let Err(fault) = check_bth(heap, 0xc0, 2, 6) else {
-        return Err(Fail::from("an item"));
+        rt.panic("an item");
     };
-    line_of_fault(alloc, fault)
+    line_of_fault(rt, alloc, fault)
 }
 
 #[test]
-fn misses(rt: HostRuntime) -> Result<(), Fail> {
+fn misses(rt: HostRuntime) {
     let alloc = rt.alloc();
-    let image = store(alloc, &[&HEAD, &BRANCH, &LOW, &[], &HIGH])?;
-    let heap = heap_in(alloc, &image, 0x21)?;
-    found(&rt, &heap)?;
-    let told = missed(alloc, &heap)?;
+    let image = store(&rt, alloc, &[&HEAD, &BRANCH, &LOW, &[], &HIGH]);
+    let heap = heap_in(&rt, alloc, &image, 0x21);
+    found(&rt, &heap);
+    let told = missed(&rt, alloc, &heap);
     is(&rt, told.as_str(), "no: 22 HeapId at 0x0 bid 0x4 nid 0x21");
-    Ok(())
 }

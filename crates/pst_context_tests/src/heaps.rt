@@ -2,7 +2,7 @@
 
 mod shared;
 
-use crate::made::{m0_with, put, store_of};
+use crate::made::{MEMORY, m0_with, put, store_of};
 use crate::opened::{heap_in, line_of_fault, node_in};
 use crate::told::is;
 use pst_bytes::Span;
@@ -11,35 +11,33 @@ use pst_make::Change;
 use pst_make::Change::Set;
 use std::alloc::Global;
 use std::process::Abort;
-use std::test::Fail;
 
 // The client and the user's root of a heap, or the line of its fault; the client has to be 0xBC.
-fn line_of(alloc: Global, heap: &Heap) -> Result<String, Fail> {
+fn line_of<R: Abort>(rt: &R, alloc: Global, heap: &Heap) -> String {
     let line = match check_client(heap, 0xbc) {
         Ok(()) => {
             let client = heap.client();
             let root = heap.user_root();
-            format!(in alloc; "yes: {client:x} {root:x}")?
+            format!(in alloc; "yes: {client:x} {root:x}").expect(rt, MEMORY)
         }
-        Err(fault) => format!(in alloc; "client {fault}")?,
+        Err(fault) => format!(in alloc; "client {fault}").expect(rt, MEMORY),
     };
-    Ok(line)
+    line
 }
 
 // What the heap of node 0x21 is answered with, or the line of its fault.
-fn answer(alloc: Global, image: &[u8]) -> Result<String, Fail> {
-    let node = node_in(alloc, image, 0x21)?;
+fn answer<R: Abort>(rt: &R, alloc: Global, image: &[u8]) -> String {
+    let node = node_in(rt, alloc, image, 0x21);
     match check_heap(node) {
-        Ok(heap) => line_of(alloc, &heap),
-        Err(fault) => line_of_fault(alloc, fault),
+        Ok(heap) => line_of(rt, alloc, &heap),
+        Err(fault) => line_of_fault(rt, alloc, fault),
     }
 }
 
 // Whether the heap of node 0x21 is answered with a line.
-fn is_answered<R: Abort>(rt: &R, alloc: Global, image: &[u8], line: &str) -> Result<(), Fail> {
-    let told = answer(alloc, image)?;
+fn is_answered<R: Abort>(rt: &R, alloc: Global, image: &[u8], line: &str) {
+    let told = answer(rt, alloc, image);
     is(rt, told.as_str(), line);
-    Ok(())
 }
 
 const NO_HEAP: &str = "no: 21 Heap at 0x4c00 bid 0x4 nid 0x21";
@@ -70,23 +68,22 @@ const HEAP_ROWS: [(Change<'static>, &str); 12] = [
 ];
 
 #[test]
-fn fronts_and_maps(rt: HostRuntime) -> Result<(), Fail> {
+fn fronts_and_maps(rt: HostRuntime) {
     let alloc = rt.alloc();
     for (change, line) in HEAP_ROWS {
-        let image = m0_with(alloc, 0, &[change])?;
-        is_answered(&rt, alloc, &image, line)?;
+        let image = m0_with(&rt, alloc, 0, &[change]);
+        is_answered(&rt, alloc, &image, line);
     }
-    Ok(())
 }
 
 // What an identifier that names no item is answered with.
-fn no_item(alloc: Global, heap: &Heap, hid: u32) -> Result<String, Fail> {
+fn no_item<R: Abort>(rt: &R, alloc: Global, heap: &Heap, hid: u32) -> String {
     if heap.item_span(hid).is_some() {
-        return Err(Fail::from("an item"));
+        rt.panic("an item");
     }
     match heap.item(hid) {
-        Ok(_) => Err(Fail::from("an item")),
-        Err(fault) => line_of_fault(alloc, fault),
+        Ok(_) => rt.panic("an item"),
+        Err(fault) => line_of_fault(rt, alloc, fault),
     }
 }
 
@@ -119,20 +116,19 @@ fn items_in_turn<R: Abort>(rt: &R, heap: Heap) {
 
 // The spans lie at 0x4c00 and 0x4c40, with one item each.
 #[test]
-fn items_are_lent(rt: HostRuntime) -> Result<(), Fail> {
+fn items_are_lent(rt: HostRuntime) {
     let alloc = rt.alloc();
-    let image = store_of_two(alloc, &NEXT, 33)?;
-    let heap = heap_in(alloc, &image, 0x21)?;
+    let image = store_of_two(&rt, alloc, &NEXT, 33);
+    let heap = heap_in(&rt, alloc, &image, 0x21);
     heap.is_sound();
     let heap = known_heap(heap.node());
     items_of_two(&rt, &heap);
     items_in_turn(&rt, heap);
     // No number, a type that is not a heap's, an item behind the last one, a span behind the last one.
     for hid in [0, 0x10000, 0x21, 0x30, 0x40, 0x10040, 0x20020, 0xffff_ffe0] {
-        let told = no_item(alloc, &heap, hid)?;
+        let told = no_item(&rt, alloc, &heap, hid);
         is(&rt, told.as_str(), "no: 22 HeapId at 0x0 bid 0xe nid 0x21");
     }
-    Ok(())
 }
 
 const FIRST: [u8; 22] = [
@@ -142,9 +138,9 @@ const FIRST: [u8; 22] = [
 const NEXT: [u8; 11] = [3, 0, 7, 1, 0, 0, 0, 2, 0, 3, 0];
 
 // A store whose heap has a first block of 22 bytes and another one.
-fn store_of_two(alloc: Global, next: &[u8], total: u32) -> Result<Vec<u8>, Fail> {
-    let xblock = list_of(alloc, 1, 4, 1, total, Some(8))?;
-    store_of(alloc, &[(4, &FIRST), (8, next), (14, &xblock)], 14, 0)
+fn store_of_two<R: Abort>(rt: &R, alloc: Global, next: &[u8], total: u32) -> Vec<u8> {
+    let xblock = list_of(rt, alloc, 1, 4, 1, total, Some(8));
+    store_of(rt, alloc, &[(4, &FIRST), (8, next), (14, &xblock)], 14, 0)
 }
 
 const NO_NEXT: &str = "no: 21 Heap at 0x4c40 bid 0xe nid 0x21";
@@ -165,54 +161,55 @@ const ROWS_OF_TWO: [(&[u8], u32, &str); 7] = [
 const BRIEF: [u8; 11] = [0, 0, 0xec, 0xbc, 0, 0, 0, 0, 0, 0, 0];
 
 // The first span comes first, and has all 12 bytes of the header.
-fn first_spans<R: Abort>(rt: &R, alloc: Global) -> Result<(), Fail> {
-    let none = store_of(alloc, &[], 0, 0)?;
-    is_answered(rt, alloc, &none, "no: 21 Heap at 0x0 bid 0x0 nid 0x21")?;
-    let brief = store_of(alloc, &[(4, &BRIEF)], 4, 0)?;
-    is_answered(rt, alloc, &brief, NO_HEAP)
+fn first_spans<R: Abort>(rt: &R, alloc: Global) {
+    let none = store_of(rt, alloc, &[], 0, 0);
+    is_answered(rt, alloc, &none, "no: 21 Heap at 0x0 bid 0x0 nid 0x21");
+    let brief = store_of(rt, alloc, &[(4, &BRIEF)], 4, 0);
+    is_answered(rt, alloc, &brief, NO_HEAP);
 }
 
 // The second span lies at 0x4c40, and has no header of its own.
 #[test]
-fn several_spans(rt: HostRuntime) -> Result<(), Fail> {
+fn several_spans(rt: HostRuntime) {
     let alloc = rt.alloc();
     for (next, total, line) in ROWS_OF_TWO {
-        let image = store_of_two(alloc, next, total)?;
-        is_answered(&rt, alloc, &image, line)?;
+        let image = store_of_two(&rt, alloc, next, total);
+        is_answered(&rt, alloc, &image, line);
     }
-    first_spans(&rt, alloc)
+    first_spans(&rt, alloc);
 }
 
 // The body of an XBLOCK (level 1) or XXBLOCK (level 2) that names a block so many times, and then another.
-fn list_of(
+fn list_of<R: Abort>(
+    rt: &R,
     alloc: Global,
     level: u8,
     bid: u32,
     times: u32,
     total: u32,
     other: Option<u32>,
-) -> Result<Vec<u8>, Fail> {
-    let mut bytes = Vec::from_slice(alloc, &[1, level])?;
+) -> Vec<u8> {
+    let mut bytes = Vec::from_slice(alloc, &[1, level]).expect(rt, MEMORY);
     let more = if other.is_some() { 1 } else { 0 };
-    put(&mut bytes, u64::from(times.saturating_add(more)), 2)?;
-    put(&mut bytes, u64::from(total), 4)?;
+    put(rt, &mut bytes, u64::from(times.saturating_add(more)), 2);
+    put(rt, &mut bytes, u64::from(total), 4);
     for _ in 0..times {
-        put(&mut bytes, u64::from(bid), 8)?;
+        put(rt, &mut bytes, u64::from(bid), 8);
     }
     if let Some(bid) = other {
-        put(&mut bytes, u64::from(bid), 8)?;
+        put(rt, &mut bytes, u64::from(bid), 8);
     }
-    Ok(bytes)
+    bytes
 }
 
 const SPAN: [u8; 18] = [12, 0, 0xec, 0xbc, 0, 0, 0, 0, 0, 0, 0, 0, 0, 0, 0, 0, 12, 0];
 
 // 65,536 spans in block 18, and in block 22 one more, which is block 4 at 0x4c00 once more; node 0x21 has one of these.
-fn store_of_many(alloc: Global, bid_data: u64) -> Result<Vec<u8>, Fail> {
-    let many = list_of(alloc, 1, 4, 512, 9_216, None)?;
-    let one = list_of(alloc, 1, 4, 1, 18, None)?;
-    let most = list_of(alloc, 2, 10, 128, 1_179_648, None)?;
-    let over = list_of(alloc, 2, 10, 128, 1_179_666, Some(14))?;
+fn store_of_many<R: Abort>(rt: &R, alloc: Global, bid_data: u64) -> Vec<u8> {
+    let many = list_of(rt, alloc, 1, 4, 512, 9_216, None);
+    let one = list_of(rt, alloc, 1, 4, 1, 18, None);
+    let most = list_of(rt, alloc, 2, 10, 128, 1_179_648, None);
+    let over = list_of(rt, alloc, 2, 10, 128, 1_179_666, Some(14));
     let blocks: [(u64, &[u8]); 5] = [
         (4, &SPAN),
         (10, &many),
@@ -220,14 +217,14 @@ fn store_of_many(alloc: Global, bid_data: u64) -> Result<Vec<u8>, Fail> {
         (18, &most),
         (22, &over),
     ];
-    store_of(alloc, &blocks, bid_data, 0)
+    store_of(rt, alloc, &blocks, bid_data, 0)
 }
 
 #[test]
-fn most_spans(rt: HostRuntime) -> Result<(), Fail> {
+fn most_spans(rt: HostRuntime) {
     let alloc = rt.alloc();
-    let fits = store_of_many(alloc, 18)?;
-    is_answered(&rt, alloc, &fits, "yes: bc 0")?;
-    let more = store_of_many(alloc, 22)?;
-    is_answered(&rt, alloc, &more, "no: 21 Heap at 0x4c00 bid 0x16 nid 0x21")
+    let fits = store_of_many(&rt, alloc, 18);
+    is_answered(&rt, alloc, &fits, "yes: bc 0");
+    let more = store_of_many(&rt, alloc, 22);
+    is_answered(&rt, alloc, &more, "no: 21 Heap at 0x4c00 bid 0x16 nid 0x21");
 }

@@ -1,6 +1,6 @@
 //! Name maps of small stores, with bytes changed, and what their check and their look-ups answer.
 
-use crate::made::{changed, store_of};
+use crate::made::{MEMORY, changed, store_of};
 use crate::opened::{line_of_fault, node_in};
 use crate::told::is;
 use pst_make::Change;
@@ -10,7 +10,6 @@ use pst_pc::{Pc, check_pc};
 use pst_value::bytes_from;
 use std::alloc::Global;
 use std::process::Abort;
-use std::test::Fail;
 
 // A property context with the streams of a name map: the header of a heap, of a BTH, three records, a GUID, two entries, a
 // string, and the page map.
@@ -28,67 +27,65 @@ const MAP: [u8; 100] = [
 ];
 
 // A name: the GUID of its set, and the number or the bytes of the string.
-fn put_name(alloc: Global, line: &mut String, name: Name) -> Result<(), Fail> {
+fn put_name<R: Abort>(rt: &R, alloc: Global, line: &mut String, name: Name) {
     if let Some(set) = name.set {
-        line.push_str(" ")?;
+        line.push_str(" ").expect(rt, MEMORY);
         for byte in set.as_bytes() {
-            let digits = format!(in alloc; "{byte:02x}")?;
-            line.push_str(&digits)?;
+            let digits = format!(in alloc; "{byte:02x}").expect(rt, MEMORY);
+            line.push_str(&digits).expect(rt, MEMORY);
         }
     }
     match name.kind {
         NameKind::Num(number) => {
-            let text = format!(in alloc; " {number}")?;
-            line.push_str(&text)?;
+            let text = format!(in alloc; " {number}").expect(rt, MEMORY);
+            line.push_str(&text).expect(rt, MEMORY);
         }
         NameKind::Text(value) => {
-            line.push_str(" text ")?;
+            line.push_str(" text ").expect(rt, MEMORY);
             for byte in bytes_from(value) {
-                let digits = format!(in alloc; "{byte:02x}")?;
-                line.push_str(&digits)?;
+                let digits = format!(in alloc; "{byte:02x}").expect(rt, MEMORY);
+                line.push_str(&digits).expect(rt, MEMORY);
             }
         }
     }
-    Ok(())
 }
 
 // What is answered of the names of three properties.
-fn told(alloc: Global, names: NameMap) -> Result<String, Fail> {
-    let mut line = format!(in alloc; "yes")?;
+fn told<R: Abort>(rt: &R, alloc: Global, names: NameMap) -> String {
+    let mut line = format!(in alloc; "yes").expect(rt, MEMORY);
     for id in [0x8000, 0x8001, 0x8002] {
-        let text = format!(in alloc; ", {id:x}")?;
-        line.push_str(&text)?;
+        let text = format!(in alloc; ", {id:x}").expect(rt, MEMORY);
+        line.push_str(&text).expect(rt, MEMORY);
         if let Some(name) = names.name(id) {
-            put_name(alloc, &mut line, name)?;
+            put_name(rt, alloc, &mut line, name);
         }
     }
-    Ok(line)
+    line
 }
 
 // What is answered of them, with and without an index, or the line of the first fault.
-fn line_of<R: Abort>(rt: &R, alloc: Global, pc: &Pc) -> Result<String, Fail> {
+fn line_of<R: Abort>(rt: &R, alloc: Global, pc: &Pc) -> String {
     if let Err(fault) = check_names(alloc, pc) {
-        return line_of_fault(alloc, fault);
+        return line_of_fault(rt, alloc, fault);
     }
     let names = known_names(pc);
-    let line = told(alloc, names)?;
-    let index = names.index(alloc)?;
+    let line = told(rt, alloc, names);
+    let index = names.index(alloc).expect(rt, MEMORY);
     is(
         rt,
-        told(alloc, names.indexed(&index))?.as_str(),
+        told(rt, alloc, names.indexed(&index)).as_str(),
         line.as_str(),
     );
-    Ok(line)
+    line
 }
 
 // Whether the name map of node 0x21 of a store is answered with a line.
-fn is_answered<R: Abort>(rt: &R, alloc: Global, image: &[u8], line: &str) -> Result<(), Fail> {
-    let Ok(pc) = check_pc(node_in(alloc, image, 0x21)?) else {
-        return Err(Fail::from("no properties"));
+fn is_answered<R: Abort>(rt: &R, alloc: Global, image: &[u8], line: &str) {
+    let Ok(pc) = check_pc(node_in(rt, alloc, image, 0x21)) else {
+        rt.panic("no properties");
     };
-    let answer = line_of(rt, alloc, &pc)?;
+    let answer = line_of(rt, alloc, &pc);
     is(rt, answer.as_str(), line);
-    Ok(())
 }
 
 // Changes to that property context, and what is answered of it.
@@ -161,14 +158,13 @@ const ROWS: [(&[Change<'static>], &str); 15] = [
 ];
 
 #[test]
-fn small_maps(rt: HostRuntime) -> Result<(), Fail> {
+fn small_maps(rt: HostRuntime) {
     let alloc = rt.alloc();
     for (changes, line) in ROWS {
-        let map = changed(alloc, &MAP, changes)?;
-        let image = store_of(alloc, &[(4, &map)], 4, 0)?;
-        is_answered(&rt, alloc, &image, line)?;
+        let map = changed(&rt, alloc, &MAP, changes);
+        let image = store_of(&rt, alloc, &[(4, &map)], 4, 0);
+        is_answered(&rt, alloc, &image, line);
     }
-    Ok(())
 }
 
 // A property context with the entry stream alone, which is the data of a subnode: an XBLOCK that names two blocks twice, of 12
@@ -210,7 +206,7 @@ const PIECES: [([u8; 12], [u8; 4], &str); 3] = [
 ];
 
 #[test]
-fn entries_in_pieces(rt: HostRuntime) -> Result<(), Fail> {
+fn entries_in_pieces(rt: HostRuntime) {
     let alloc = rt.alloc();
     for (first, second, line) in PIECES {
         let blocks: [(u64, &[u8]); 5] = [
@@ -220,8 +216,7 @@ fn entries_in_pieces(rt: HostRuntime) -> Result<(), Fail> {
             (18, &XBLOCK),
             (22, &SUBNODES),
         ];
-        let image = store_of(alloc, &blocks, 4, 22)?;
-        is_answered(&rt, alloc, &image, line)?;
+        let image = store_of(&rt, alloc, &blocks, 4, 22);
+        is_answered(&rt, alloc, &image, line);
     }
-    Ok(())
 }

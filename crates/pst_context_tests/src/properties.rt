@@ -6,9 +6,9 @@ mod asked;
 mod lent;
 mod small;
 
-use crate::made::{changed, m0_with, put, store_of};
+use crate::made::{MEMORY, changed, m0_with, put, store_of};
 use crate::opened::{line_of_fault, node_in};
-use crate::told::is;
+use crate::told::is_line;
 use pst_fault::Fault;
 use pst_make::Change;
 use pst_make::Change::Set;
@@ -18,7 +18,6 @@ use pst_value::bytes_from;
 use small::{FOLDER_ROWS, STORE_ROWS};
 use std::alloc::Global;
 use std::process::Abort;
-use std::test::Fail;
 
 // Whether a property context has a property by its identifier.
 fn is_found(pc: &Pc, prop: Prop) -> bool {
@@ -29,109 +28,91 @@ fn is_found(pc: &Pc, prop: Prop) -> bool {
 }
 
 // A property: its identifier, type, place and bytes.
-fn line_of_prop(alloc: Global, prop: Prop) -> Result<String, Fail> {
+fn line_of_prop<R: Abort>(rt: &R, alloc: Global, prop: Prop) -> String {
     let (id, kind, at) = (prop.id, prop.kind.0, prop.at);
-    let mut line = format!(in alloc; ", {id:x} {kind:x} {at:x}:")?;
+    let mut line = format!(in alloc; ", {id:x} {kind:x} {at:x}:").expect(rt, MEMORY);
     for byte in bytes_from(prop.value) {
-        let digits = format!(in alloc; "{byte:02x}")?;
-        line.push_str(&digits)?;
+        let digits = format!(in alloc; "{byte:02x}").expect(rt, MEMORY);
+        line.push_str(&digits).expect(rt, MEMORY);
     }
-    Ok(line)
+    line
 }
 
 // The properties of a property context.
-fn line_of_pc(alloc: Global, pc: Pc) -> Result<String, Fail> {
-    let mut line = format!(in alloc; "yes")?;
+fn line_of_pc<R: Abort>(rt: &R, alloc: Global, pc: Pc) -> String {
+    let mut line = format!(in alloc; "yes").expect(rt, MEMORY);
     for prop in pc.props() {
         if !is_found(&pc, prop) {
-            return Err(Fail::from("another one"));
+            rt.panic("another one");
         }
-        let text = line_of_prop(alloc, prop)?;
-        line.push_str(&text)?;
+        let text = line_of_prop(rt, alloc, prop);
+        line.push_str(&text).expect(rt, MEMORY);
     }
-    Ok(line)
+    line
 }
 
 // The properties that a check answers, or the line of the first fault.
-fn line_of(alloc: Global, answer: Result<Pc, Fault>) -> Result<String, Fail> {
+fn line_of<R: Abort>(rt: &R, alloc: Global, answer: Result<Pc, Fault>) -> String {
     match answer {
-        Ok(pc) => line_of_pc(alloc, pc),
-        Err(fault) => line_of_fault(alloc, fault),
+        Ok(pc) => line_of_pc(rt, alloc, pc),
+        Err(fault) => line_of_fault(rt, alloc, fault),
     }
 }
 
 // What is answered of the properties of a node, with no index of its subnodes.
-fn line_alone(alloc: Global, node: Node) -> Result<String, Fail> {
-    line_of(alloc, check_pc(node))
+fn line_alone<R: Abort>(rt: &R, alloc: Global, node: Node) -> String {
+    line_of(rt, alloc, check_pc(node))
 }
 
 // With one that is lent to the node.
-fn line_indexed(alloc: Global, node: Node, index: &SubIndex) -> Result<String, Fail>
+fn line_indexed<R: Abort>(rt: &R, alloc: Global, node: Node, index: &SubIndex) -> String
     requires { IsIndexedBy node index.now }
 {
-    line_of(alloc, check_pc(node.indexed(index)))
+    line_of(rt, alloc, check_pc(node.indexed(index)))
 }
 
 // With one that is lent to what was found.
-fn line_lent(alloc: Global, node: Node, index: &SubIndex) -> Result<String, Fail>
+fn line_lent<R: Abort>(rt: &R, alloc: Global, node: Node, index: &SubIndex) -> String
     requires { IsIndexedBy node index.now }
 {
     match check_pc(node) {
-        Ok(pc) => line_of_pc(alloc, pc.indexed(index)),
-        Err(fault) => line_of_fault(alloc, fault),
+        Ok(pc) => line_of_pc(rt, alloc, pc.indexed(index)),
+        Err(fault) => line_of_fault(rt, alloc, fault),
     }
 }
 
 // With one, by who remembers page maps.
-fn line_with(alloc: Global, node: Node, index: &SubIndex) -> Result<String, Fail>
+fn line_with<R: Abort>(rt: &R, alloc: Global, node: Node, index: &SubIndex) -> String
     requires { IsIndexedBy node index.now }
 {
     let mut maps = Maps::new(alloc);
-    line_of(alloc, check_pc_with(node.indexed(index), &mut maps))
+    line_of(rt, alloc, check_pc_with(node.indexed(index), &mut maps))
 }
 
 // Whether the property context of a node is answered with a line, with no index of its subnodes, with one, and with one lent.
-fn is_answered<R: Abort>(
-    rt: &R,
-    alloc: Global,
-    image: &[u8],
-    nid: u32,
-    line: &str,
-) -> Result<(), Fail> {
-    let node = node_in(alloc, image, nid)?;
-    let told = line_alone(alloc, node)?;
-    is(rt, told.as_str(), line);
+fn is_answered<R: Abort>(rt: &R, alloc: Global, image: &[u8], nid: u32, line: &str) {
+    let node = node_in(rt, alloc, image, nid);
+    is_line(rt, line_alone(rt, alloc, node), line);
     let Ok(index) = node.index(alloc) else {
-        return Err(Fail::from("no memory"));
+        rt.panic("no memory");
     };
-    let told = line_indexed(alloc, node, &index)?;
-    is(rt, told.as_str(), line);
-    let told = line_lent(alloc, node, &index)?;
-    is(rt, told.as_str(), line);
-    let told = line_with(alloc, node, &index)?;
-    is(rt, told.as_str(), line);
-    Ok(())
+    is_line(rt, line_indexed(rt, alloc, node, &index), line);
+    is_line(rt, line_lent(rt, alloc, node, &index), line);
+    is_line(rt, line_with(rt, alloc, node, &index), line);
 }
 
 // Whether a node of the small store is answered with each line, a block changed.
-fn are_answered<R: Abort>(
-    rt: &R,
-    alloc: Global,
-    block: usize,
-    nid: u32,
-    rows: &[(Change, &str)],
-) -> Result<(), Fail> {
+fn are_answered<R: Abort>(rt: &R, alloc: Global, block: usize, nid: u32, rows: &[(Change, &str)]) {
     for (change, line) in rows {
-        let image = m0_with(alloc, block, &[*change])?;
-        is_answered(rt, alloc, &image, nid, line)?;
+        let image = m0_with(rt, alloc, block, &[*change]);
+        is_answered(rt, alloc, &image, nid, line);
     }
-    Ok(())
 }
 
 #[test]
-fn small_stores(rt: HostRuntime) -> Result<(), Fail> {
-    are_answered(&rt, rt.alloc(), 0, 0x21, &STORE_ROWS)?;
-    are_answered(&rt, rt.alloc(), 1, 0x122, &FOLDER_ROWS)
+fn small_stores(rt: HostRuntime) {
+    are_answered(&rt, rt.alloc(), 0, 0x21, &STORE_ROWS);
+    are_answered(&rt, rt.alloc(), 1, 0x122, &FOLDER_ROWS);
 }
 
 // A property context: the header of a heap, of a BTH, four records, items of 7, 16 and 4 bytes, and the page map.
@@ -159,8 +140,8 @@ const SUBNODES: [u8; 32] = [
 ];
 
 // A store of one node, 0x21, with this property context, whose bytes are changed; bit 0 of its block identifiers is set.
-fn store(alloc: Global, changes: &[Change]) -> Result<Vec<u8>, Fail> {
-    let properties = changed(alloc, &PROPERTIES, changes)?;
+fn store<R: Abort>(rt: &R, alloc: Global, changes: &[Change]) -> Vec<u8> {
+    let properties = changed(rt, alloc, &PROPERTIES, changes);
     let blocks: [(u64, &[u8]); 5] = [
         (4, &properties),
         (8, &[b'P', 0, b'S']),
@@ -168,7 +149,7 @@ fn store(alloc: Global, changes: &[Change]) -> Result<Vec<u8>, Fail> {
         (18, &XBLOCK),
         (22, &SUBNODES),
     ];
-    store_of(alloc, &blocks, 5, 23)
+    store_of(rt, alloc, &blocks, 5, 23)
 }
 
 // Changes to that property context, and what is answered of it.
@@ -192,13 +173,12 @@ const FAULT_ROWS: [(&[Change<'static>], &str); 4] = [
 ];
 
 #[test]
-fn first_faults(rt: HostRuntime) -> Result<(), Fail> {
+fn first_faults(rt: HostRuntime) {
     let alloc = rt.alloc();
     for (changes, line) in FAULT_ROWS {
-        let image = store(alloc, changes)?;
-        is_answered(&rt, alloc, &image, 0x21, line)?;
+        let image = store(&rt, alloc, changes);
+        is_answered(&rt, alloc, &image, 0x21, line);
     }
-    Ok(())
 }
 
 // A property context of three values in subnodes: the header of a heap, of a BTH, three records, and the page map.
@@ -212,20 +192,20 @@ const IN_SUBNODES: [u8; 54] = [
 ];
 
 // The body of a list: its level, how many entries, and their numbers of 8 bytes.
-fn list(alloc: Global, level: u8, count: u8, numbers: &[u64]) -> Result<Vec<u8>, Fail> {
-    let mut body = Vec::from_slice(alloc, &[2, level, count, 0, 0, 0, 0, 0])?;
+fn list<R: Abort>(rt: &R, alloc: Global, level: u8, count: u8, numbers: &[u64]) -> Vec<u8> {
+    let mut body = Vec::from_slice(alloc, &[2, level, count, 0, 0, 0, 0, 0]).expect(rt, MEMORY);
     for number in numbers {
-        put(&mut body, *number, 8)?;
+        put(rt, &mut body, *number, 8);
     }
-    Ok(body)
+    body
 }
 
 // A store of one node, 0x21, with these properties and four subnodes in two SLBLOCKs, their identifiers falling; the last of
 // them has this one.
-fn falling(alloc: Global, last: u64) -> Result<Vec<u8>, Fail> {
-    let whole = list(alloc, 1, 2, &[0x81, 26, 0x41, 30])?;
-    let first = list(alloc, 0, 2, &[0xa1, 0, 0, 0x81, 8, 0])?;
-    let next = list(alloc, 0, 2, &[0x61, 12, 0, last, 16, 0])?;
+fn falling<R: Abort>(rt: &R, alloc: Global, last: u64) -> Vec<u8> {
+    let whole = list(rt, alloc, 1, 2, &[0x81, 26, 0x41, 30]);
+    let first = list(rt, alloc, 0, 2, &[0xa1, 0, 0, 0x81, 8, 0]);
+    let next = list(rt, alloc, 0, 2, &[0x61, 12, 0, last, 16, 0]);
     let blocks: [(u64, &[u8]); 7] = [
         (4, &IN_SUBNODES),
         (8, b"81"),
@@ -235,7 +215,7 @@ fn falling(alloc: Global, last: u64) -> Result<Vec<u8>, Fail> {
         (26, &first),
         (30, &next),
     ];
-    store_of(alloc, &blocks, 4, 22)
+    store_of(rt, alloc, &blocks, 4, 22)
 }
 
 // The identifier of the last subnode, and what is answered.
@@ -248,30 +228,28 @@ const FALLING_ROWS: [(u64, &str); 2] = [
 ];
 
 #[test]
-fn values_in_a_list_that_falls(rt: HostRuntime) -> Result<(), Fail> {
+fn values_in_a_list_that_falls(rt: HostRuntime) {
     let alloc = rt.alloc();
     for (last, line) in FALLING_ROWS {
-        let image = falling(alloc, last)?;
-        is_answered(&rt, alloc, &image, 0x21, line)?;
+        let image = falling(&rt, alloc, last);
+        is_answered(&rt, alloc, &image, 0x21, line);
     }
-    Ok(())
 }
 
 #[test]
-fn values_are_lent(rt: HostRuntime) -> Result<(), Fail> {
+fn values_are_lent(rt: HostRuntime) {
     let alloc = rt.alloc();
-    let image = store(alloc, &[])?;
-    let Ok(pc) = check_pc(node_in(alloc, &image, 0x21)?) else {
-        return Err(Fail::from("no properties"));
+    let image = store(&rt, alloc, &[]);
+    let Ok(pc) = check_pc(node_in(&rt, alloc, &image, 0x21)) else {
+        rt.panic("no properties");
     };
     lent::absent(&rt, &pc);
-    lent::subject(&rt, &pc)?;
-    lent::guid(&rt, alloc, &pc)?;
+    lent::subject(&rt, &pc);
+    lent::guid(&rt, alloc, &pc);
     lent::body(&rt, &pc);
-    Ok(())
 }
 
 #[test]
-fn lists_are_asked(rt: HostRuntime) -> Result<(), Fail> {
-    asked::lists(&rt, rt.alloc())
+fn lists_are_asked(rt: HostRuntime) {
+    asked::lists(&rt, rt.alloc());
 }

@@ -5,7 +5,7 @@ ghost use Rattle.pst_heap.specs.View.{data_of};
 
 mod readers;
 
-use crate::made::{put, store_of};
+use crate::made::{MEMORY, put, store_of};
 use crate::opened::heap_in;
 use crate::told::{holds, is, is_at};
 use pst_bytes::Span;
@@ -15,7 +15,6 @@ use pst_heap::{Heap, Items};
 use pst_value::*;
 use std::alloc::Global;
 use std::process::Abort;
-use std::test::Fail;
 
 // HNIDs, 4 bytes each: of nothing; of items of 0, 1, 7, 8, 9, 15, 16 and 17 bytes, and of no item; of a subnode of 16 bytes
 // in pieces, of one without data, and of none; and of the subnode with texts.
@@ -90,32 +89,32 @@ const SUBNODES: [u8; 80] = [
 const LENGTHS: [u8; 8] = [0, 1, 7, 8, 9, 15, 16, 17];
 
 // Adds an item, its bytes counted from 0 on.
-fn add_item(items: &mut Vec<u8>, len: u8) -> Result<(), Fail> {
+fn add_item<R: Abort>(rt: &R, items: &mut Vec<u8>, len: u8) {
     for byte in 0..len {
-        items.push(byte)?;
+        items.push(byte).expect(rt, MEMORY);
     }
-    Ok(())
 }
 
 // The body of a heap: its header, RAW as its first item, the other items, and the page map.
-fn heap_body(alloc: Global) -> Result<Vec<u8>, Fail> {
-    let mut items = Vec::from_slice(alloc, &RAW)?;
-    let mut map = Vec::from_slice(alloc, &[9, 0, 0, 0, 12, 0, 68, 0])?;
+fn heap_body<R: Abort>(rt: &R, alloc: Global) -> Vec<u8> {
+    let mut items = Vec::from_slice(alloc, &RAW).expect(rt, MEMORY);
+    let mut map = Vec::from_slice(alloc, &[9, 0, 0, 0, 12, 0, 68, 0]).expect(rt, MEMORY);
     for len in LENGTHS {
-        add_item(&mut items, len)?;
-        put(&mut map, items.len().saturating_add(12) as u64, 2)?;
+        add_item(rt, &mut items, len);
+        put(rt, &mut map, items.len().saturating_add(12) as u64, 2);
     }
     let mut body = Vec::new(alloc);
-    put(&mut body, items.len().saturating_add(12) as u64, 2)?;
-    body.extend_from_slice(&[0xec, 0xbc, 0x20, 0, 0, 0, 0, 0, 0, 0])?;
-    body.extend_from_slice(&items)?;
-    body.extend_from_slice(&map)?;
-    Ok(body)
+    put(rt, &mut body, items.len().saturating_add(12) as u64, 2);
+    body.extend_from_slice(&[0xec, 0xbc, 0x20, 0, 0, 0, 0, 0, 0, 0])
+        .expect(rt, MEMORY);
+    body.extend_from_slice(&items).expect(rt, MEMORY);
+    body.extend_from_slice(&map).expect(rt, MEMORY);
+    body
 }
 
 // A store of one node, 0x21, with that heap and these subnodes.
-fn store(alloc: Global) -> Result<Vec<u8>, Fail> {
-    let heap = heap_body(alloc)?;
+fn store<R: Abort>(rt: &R, alloc: Global) -> Vec<u8> {
+    let heap = heap_body(rt, alloc);
     let blocks: [(u64, &[u8]); 9] = [
         (4, &heap),
         (8, &FRONT),
@@ -127,7 +126,7 @@ fn store(alloc: Global) -> Result<Vec<u8>, Fail> {
         (34, &TEXTS),
         (38, &SUBNODES),
     ];
-    store_of(alloc, &blocks, 4, 38)
+    store_of(rt, alloc, &blocks, 4, 38)
 }
 
 // What the four bytes at an offset have under a type.
@@ -147,13 +146,13 @@ fn checked(heap: &Heap, kind: u16, at: u64) -> Result<(), Fault>
 }
 
 // What the HNID of RAW with a number names, as bytes of any length.
-fn named<'a>(heap: &Heap<'a>, number: u64) -> Result<Value<'a>, Fail> {
+fn named<'a, R: Abort>(rt: &R, heap: &Heap<'a>, number: u64) -> Value<'a> {
     if heap.image().len() < 100_000 || number > 13 {
-        return Err(Fail::from("no such HNID"));
+        rt.panic("no such HNID");
     }
     match resolved(heap, 0x0102, 0x4c0c + 4 * number) {
-        Ok(value) => Ok(value),
-        Err(_) => Err(Fail::from("nothing is named")),
+        Ok(value) => value,
+        Err(_) => rt.panic("nothing is named"),
     }
 }
 
@@ -193,39 +192,38 @@ fn told<R: Abort>(rt: &R, heap: &Heap, kind: u16, at: u64) -> Option<u8> {
 }
 
 // What a type has in each of the HNIDs of RAW, as a row of ROWS.
-fn row_of<R: Abort>(rt: &R, alloc: Global, heap: &Heap, kind: u16) -> Result<Vec<u8>, Fail> {
+fn row_of<R: Abort>(rt: &R, alloc: Global, heap: &Heap, kind: u16) -> Vec<u8> {
     let mut row = Vec::new(alloc);
     for i in 0..13u64 {
         let Some(byte) = told(rt, heap, kind, 0x4c0c + 4 * i) else {
-            return Err(Fail::from("no byte of a row"));
+            rt.panic("no byte of a row");
         };
-        row.push(byte)?;
+        row.push(byte).expect(rt, MEMORY);
     }
-    Ok(row)
+    row
 }
 
 // The item of 8 bytes is the file's own memory, behind those of 0, 1 and 7.
-fn item_is_lent<R: Abort>(rt: &R, heap: &Heap) -> Result<(), Fail> {
-    let value = named(heap, 4)?;
+fn item_is_lent<R: Abort>(rt: &R, heap: &Heap) {
+    let value = named(rt, heap, 4);
     is(rt, value.at(), 0x4c4c);
     let Value::Whole(_, bytes) = value else {
-        return Err(Fail::from("in pieces"));
+        rt.panic("in pieces");
     };
     is(rt, bytes, [0u8, 1, 2, 3, 4, 5, 6, 7].as_slice());
-    Ok(())
 }
 
 #[test]
-fn types_have_lengths(rt: HostRuntime) -> Result<(), Fail> {
+fn types_have_lengths(rt: HostRuntime) {
     let alloc = rt.alloc();
-    let image = store(alloc)?;
-    let heap = heap_in(alloc, &image, 0x21)?;
+    let image = store(&rt, alloc);
+    let heap = heap_in(&rt, alloc, &image, 0x21);
     for (kinds, class, row) in ROWS {
         for kind in kinds {
             is_at(&rt, kind, PropType(*kind).class(), class);
-            let told = row_of(&rt, alloc, &heap, *kind)?;
+            let told = row_of(&rt, alloc, &heap, *kind);
             is_at(&rt, kind, told.as_slice(), row);
         }
     }
-    item_is_lent(&rt, &heap)
+    item_is_lent(&rt, &heap);
 }

@@ -39,7 +39,7 @@ use Rattle.pst_remains.proofs.NodeLemmas.{nodes_rise}
 use Rattle.pst_remains.proofs.TwinLemmas.{decoded_first, decoded_whole_law}
 use Rattle.pst_remains.proofs.WalkLemmas.{tree_no_place}
 use Rattle.pst_msg.specs.pst_names.declared.name_map.TheConstants.{NAME_MAP}
-use Rattle.pst_msg.specs.declared.nid.TheConstants.{STORE, ROOT}
+use Rattle.pst_msg.specs.pst_mail.declared.nid.TheConstants.{STORE, ROOT}
 use Rattle.pst_msg.specs.Fault.{messaging_fault, required_fault}
 use Rattle.pst_store.specs.Fault.{store_fault}
 use Rattle.pst_store.specs.Grammar.{IsStore}

@@ -13,8 +13,8 @@ use Rattle.pst_ndb.specs.Roots.{Roots}
 use Rattle.pst_remains.specs.declared.pages.Broken.{Broken}
 use Rattle.pst_tc.specs.Values.{tc_rows}
 use Rattle.pst_msg.specs.declared.faults.Faults.{Faults}
-use Rattle.pst_msg.specs.declared.items.Items.{Items}
-use Rattle.pst_msg.specs.declared.items.Items.TheVariants.{Subfolders, Messages, Associated}
+use Rattle.pst_msg.specs.pst_mail.declared.items.Items.{Items}
+use Rattle.pst_msg.specs.pst_mail.declared.items.Items.TheVariants.{Subfolders, Messages, Associated}
 use Rattle.pst_msg.specs.Broken.{roots_at}
 use Rattle.pst_msg.specs.Faults.{IsFaultOf, fault_kept, AreFaultsOf, IsTold}
 use Rattle.pst_msg.specs.Keys.{Key}

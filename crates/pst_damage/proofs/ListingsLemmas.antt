@@ -11,8 +11,8 @@ use Rattle.pst_block.specs.Table.{Table}
 use Rattle.pst_ndb.specs.Roots.{Roots}
 use Rattle.pst_remains.specs.declared.pages.Broken.{Broken}
 use Rattle.pst_tc.specs.Values.{RowParts, tc_rows}
-use Rattle.pst_msg.specs.declared.items.Items.{Items}
-use Rattle.pst_msg.specs.declared.items.Items.TheVariants.{Subfolders, Messages, Associated}
+use Rattle.pst_msg.specs.pst_mail.declared.items.Items.{Items}
+use Rattle.pst_msg.specs.pst_mail.declared.items.Items.TheVariants.{Subfolders, Messages, Associated}
 use Rattle.pst_msg.specs.Fault.{listed_item_fault}
 use Rattle.pst_msg.specs.Keys.{Key, key_cmp}
 use Rattle.pst_msg.proofs.ContentsLaws.{item_none, none_item}

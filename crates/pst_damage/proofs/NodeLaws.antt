@@ -22,9 +22,9 @@ use Rattle.pst_msg.specs.pst_pc.Fault.{pc_fault}
 use Rattle.pst_tc.specs.Fault.{tc_fault}
 use Rattle.pst_tc.specs.Values.{RowParts, tc_rows}
 use Rattle.pst_msg.specs.pst_names.declared.name_map.TheConstants.{NAME_MAP}
-use Rattle.pst_msg.specs.declared.items.Items.{Items}
-use Rattle.pst_msg.specs.declared.items.Items.TheVariants.{Subfolders, Messages, Associated}
-use Rattle.pst_msg.specs.declared.nid.TheConstants.{STORE, ROOT, FOLDER, SEARCH_FOLDER}
+use Rattle.pst_msg.specs.pst_mail.declared.items.Items.{Items}
+use Rattle.pst_msg.specs.pst_mail.declared.items.Items.TheVariants.{Subfolders, Messages, Associated}
+use Rattle.pst_msg.specs.pst_mail.declared.nid.TheConstants.{STORE, ROOT, FOLDER, SEARCH_FOLDER}
 use Rattle.pst_msg.specs.Fault.{listed_item_fault, items_fault, table_fault, folder_fault, message_fault, name_map_fault, required_fault, typed_node_fault, messaging_fault}
 use Rattle.pst_msg.specs.Nid.{is_type, named}
 use Rattle.pst_msg.specs.Values.{is_message, listing_of}

@@ -9,7 +9,7 @@ use Rattle.pst_ndb.specs.Roots.{Roots}
 use Rattle.pst_remains.specs.declared.pages.Broken.{Broken}
 use Rattle.pst_tc.specs.Values.{info_of, tc_records, row_parts_at, tc_rows}
 use Rattle.pst_tc.proofs.AlikeLaws.{rows_alike}
-use Rattle.pst_msg.specs.declared.items.Items.{Items}
+use Rattle.pst_msg.specs.pst_mail.declared.items.Items.{Items}
 use Rattle.pst_msg.specs.Fault.{listed_item_fault}
 use Rattle.pst_damage.specs.Folder.{row_damage}
 

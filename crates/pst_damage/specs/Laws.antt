@@ -17,7 +17,7 @@ use Rattle.pst_remains.specs.Decoded.{decoded_remains_of}
 use Rattle.pst_remains.specs.Laws.{first_in}
 use Rattle.pst_remains.specs.Remains.{RemainsParts, remains_of}
 use Rattle.pst_msg.specs.pst_names.declared.name_map.TheConstants.{NAME_MAP}
-use Rattle.pst_msg.specs.declared.nid.TheConstants.{STORE, ROOT}
+use Rattle.pst_msg.specs.pst_mail.declared.nid.TheConstants.{STORE, ROOT}
 use Rattle.pst_msg.specs.Fault.{required_fault}
 use Rattle.pst_store.specs.Fault.{store_fault}
 use Rattle.pst_store.specs.Grammar.{IsStore}

@@ -7,8 +7,8 @@ use Rattle.pst_block.specs.Table.{Table}
 use Rattle.pst_ndb.specs.Roots.{Roots}
 use Rattle.pst_remains.specs.declared.pages.Broken.{Broken}
 use Rattle.pst_tc.specs.Values.{tc_rows}
-use Rattle.pst_msg.specs.declared.items.Items.{Items}
-use Rattle.pst_msg.specs.declared.items.Items.TheVariants.{Subfolders, Messages, Associated}
+use Rattle.pst_msg.specs.pst_mail.declared.items.Items.{Items}
+use Rattle.pst_msg.specs.pst_mail.declared.items.Items.TheVariants.{Subfolders, Messages, Associated}
 use Rattle.pst_msg.specs.Keys.{Key, data_key, key_cmp}
 use Rattle.pst_damage.specs.declared.listings.Listings.{Listings}
 use Rattle.pst_damage.specs.Folder.{row_damage}

@@ -10,7 +10,7 @@ use Rattle.pst_ndb.specs.Fault.{node_fault}
 use Rattle.pst_ndb.specs.Roots.{entry_roots}
 use Rattle.pst_remains.specs.declared.pages.Broken.{Broken}
 use Rattle.pst_remains.specs.Pages.{page_before}
-use Rattle.pst_msg.specs.declared.nid.TheConstants.{STORE, ROOT}
+use Rattle.pst_msg.specs.pst_mail.declared.nid.TheConstants.{STORE, ROOT}
 use Rattle.pst_msg.specs.Nid.{named}
 use Rattle.pst_damage.specs.declared.broken.BrokenNode.{BrokenNode}
 use Rattle.pst_damage.specs.declared.whole.Whole.{Whole}

@@ -5,8 +5,8 @@ use Rattle.pst_page.specs.declared.entry.NodeEntry.{NodeEntry}
 use Rattle.pst_block.specs.Table.{Table}
 use Rattle.pst_remains.specs.declared.pages.Broken.{Broken}
 use Rattle.pst_tc.specs.Values.{tc_rows}
-use Rattle.pst_msg.specs.declared.items.Items.{Items}
-use Rattle.pst_msg.specs.declared.items.Items.TheVariants.{Subfolders, Messages, Associated}
+use Rattle.pst_msg.specs.pst_mail.declared.items.Items.{Items}
+use Rattle.pst_msg.specs.pst_mail.declared.items.Items.TheVariants.{Subfolders, Messages, Associated}
 use Rattle.pst_msg.specs.Broken.{roots_at}
 use Rattle.pst_msg.specs.Faults.{Parts, Retelling}
 use Rattle.pst_damage.specs.Folder.{row_damage}

@@ -26,7 +26,7 @@ use pst_ndb::Node;
 use pst_tc::{Row, known_tc};
 
 // A row of a folder's table: what lies behind a broken page is passed over.
-#[tactic(auto, unfolding(crate::specs::Folder::row_damage, pst_msg::specs::Fault::listed_item_fault, pst_ndb::specs::Roots::node_in))]
+#[tactic(auto, unfolding(crate::specs::Folder::row_damage, pst_mail::specs::Fault::listed_item_fault, pst_ndb::specs::Roots::node_in))]
 fn check_row(left: &Left, items: Items, bid: u64, row: Row) -> Result<(), Fault>
     ensures exact { let x = row_parts row.entry in
         Tells result (row_damage (left_nodes left.now) (left_pages left.now) items bid x) tt }

@@ -8,8 +8,8 @@ use Rattle.serde_json.specs.Written.{compact_text}
 use Rattle.pst_fault.specs.declared.kind.Kind.{Kind}
 use Rattle.pst_fault.specs.declared.kind.Kind.TheVariants.{Short, Magic, Version, Encoded, HeaderCheck, Root, MapsInvalid, PagePlace, PageTrailer, PageShape, KeyOrder, Overlap, BlockPlace, BlockTrailer, BlockMissing, DataTree, Subnode, Nesting, MapPage, MapMissing, Heap, HeapId, Bth, Property, Table, NodeMissing, NodeKind, NoMemory}
 use Rattle.pst_fault.specs.Kind.{kind_text}
-use Rattle.pst_value_json.specs.Object.{all_plain}
-use Rattle.pst_value_json.proofs.EscapeLemmas.{plain_append, plain_put}
+use Rattle.pst_value_json.specs.pst_text.Quoted.{all_plain}
+use Rattle.pst_value_json.proofs.pst_text.EscapeLemmas.{plain_append, plain_put}
 
 -- ---- a number in decimal
 

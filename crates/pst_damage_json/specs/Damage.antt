@@ -5,11 +5,11 @@ use Rattle.pst_damage.specs.declared.broken.BrokenNode.{BrokenNode}
 use Rattle.pst_damage.specs.declared.whole.Whole.{Whole}
 use Rattle.pst_damage.specs.Damage.{DamageParts}
 use Rattle.pst_damage_json.specs.Faults.{fault_data, fault_or_null}
-use Rattle.pst_value_json.specs.Line.{line_of}
-use Rattle.pst_value_json.specs.Names.{nid_data}
-use Rattle.pst_value_json.specs.Parts.{natural, list_data}
+use Rattle.pst_value_json.specs.pst_text.Line.{line_of}
+use Rattle.pst_value_json.specs.pst_text.Names.{nid_data}
+use Rattle.pst_value_json.specs.pst_text.Parts.{natural, list_data}
 use Rattle.pst_value_json.specs.Places.{member_if}
-use Rattle.pst_value_json.specs.Value.{hex_data}
+use Rattle.pst_value_json.specs.pst_text.Text.{hex_data}
 
 -- The members of each object stand in the order of their keys' bytes.
 

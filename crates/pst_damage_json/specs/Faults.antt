@@ -3,8 +3,8 @@ use Rattle.std.specs.Prelude.{Option, Some, None, codes}
 use Rattle.serde_json.specs.Data.{Data, null, string, object, member, no_members}
 use Rattle.pst_fault.specs.declared.fault.Fault.{Fault}
 use Rattle.pst_fault.specs.Kind.{number_of, kind_text}
-use Rattle.pst_value_json.specs.Names.{nid_data}
-use Rattle.pst_value_json.specs.Parts.{natural}
+use Rattle.pst_value_json.specs.pst_text.Names.{nid_data}
+use Rattle.pst_value_json.specs.pst_text.Parts.{natural}
 
 -- The place and the kind, by its name and its number. The members stand in the order of their keys' bytes.
 unfoldable pub fault_data : Fault → Data

@@ -4,7 +4,7 @@ ghost use Rattle.std.specs.Prelude.{◌≡◌, ◌++◌, IfOk, OnOk, codes, opti
 ghost use Rattle.serde_json.specs.Written.{compact_text};
 ghost use Rattle.pst_damage.specs.View.{damage_parts};
 ghost use Rattle.pst_value_json.specs.Object.{if_member_text};
-ghost use Rattle.pst_value_json.specs.Value.{hex_data};
+ghost use Rattle.pst_value_json.specs.pst_text.Text.{hex_data};
 ghost use Rattle.pst_damage_json.specs.Damage.{whole_data, damage_data, damage_line as line_of_damage};
 
 use crate::faults::put_fault_or_null;
@@ -85,7 +85,7 @@ fn put_damage(
 /// many folders, messages and nodes are whole. A fault is an object of its place, offset and identifier of a block as numbers
 /// and that of a node as a text, and of the name and the number of its kind. It is made fault by fault: beside the text,
 /// memory is taken for one name at a time.
-#[tactic(auto, unfolding(crate::specs::Damage::damage_line, pst_value_json::specs::Line::line_of))]
+#[tactic(auto, unfolding(crate::specs::Damage::damage_line, pst_text::specs::Line::line_of))]
 pub fn damage_line(
     alloc: Global,
     damage: &Damage,

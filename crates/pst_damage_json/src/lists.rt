@@ -2,7 +2,7 @@
 
 ghost use Rattle.std.specs.Prelude.{◌≡◌, ◌++◌, OnOk};
 ghost use Rattle.serde_json.specs.Written.{compact_text};
-ghost use Rattle.pst_value_json.specs.Parts.{list_data};
+ghost use Rattle.pst_value_json.specs.pst_text.Parts.{list_data};
 ghost use Rattle.pst_damage_json.specs.Damage.{broken_data};
 ghost use Rattle.pst_damage_json.specs.Faults.{fault_data};
 

@@ -10,40 +10,29 @@ mod tree;
 
 use self::shown::*;
 use self::tree::{Known, Tree};
+use crate::made::{MEMORY, add, add_numbers, blocks_in, image_of};
 use crate::told::{holds, is};
-use pst_block::{Blocks, check_blocks};
-use pst_btree::walk_blocks;
+use pst_block::Blocks;
 use pst_bytes::{Image, Span};
 use pst_datatree::*;
 use pst_fault::{Fault, Kind, Place};
-use pst_header::read_header;
-use pst_make::{BlockPlan, Plan, build};
-use pst_space::Claims;
+use pst_make::BlockPlan;
 use std::alloc::Global;
 use std::process::Abort;
-use std::test::Fail;
 
 // The node that faults are told of.
 const NODE: u32 = 0x122;
 
 // The body of an XBLOCK (level 1) or XXBLOCK (level 2) that names blocks.
-fn list_of(alloc: Global, level: u8, total: u32, bids: &[u64]) -> Result<Vec<u8>, Fail> {
-    let mut body = Vec::new(alloc);
-    body.push(1)?;
-    body.push(level)?;
+fn list_of<R: Abort>(rt: &R, alloc: Global, level: u8, total: u32, bids: &[u64]) -> Vec<u8> {
     let count = u16::try_from(bids.len()).unwrap_or(0);
-    for byte in count.to_le_bytes() {
-        body.push(byte)?;
-    }
-    for byte in total.to_le_bytes() {
-        body.push(byte)?;
-    }
-    for bid in bids {
-        for byte in bid.to_le_bytes() {
-            body.push(byte)?;
-        }
-    }
-    Ok(body)
+    let mut body = Vec::from_slice(alloc, &[1, level]).expect(rt, MEMORY);
+    body.extend_from_slice(&count.to_le_bytes())
+        .expect(rt, MEMORY);
+    body.extend_from_slice(&total.to_le_bytes())
+        .expect(rt, MEMORY);
+    add_numbers(rt, &mut body, bids);
+    body
 }
 
 // Data blocks: their identifiers, the byte that they hold, and how often.
@@ -55,64 +44,49 @@ type Named<'a> = &'a [(u64, usize)];
 // Internal blocks: their identifiers, levels and totals, and the blocks that they name.
 type Lists<'a> = &'a [(u64, u8, u32, Named<'a>)];
 
-fn bids_of(alloc: Global, named: Named) -> Result<Vec<u64>, Fail> {
+fn bids_of<R: Abort>(rt: &R, alloc: Global, named: Named) -> Vec<u64> {
     let mut bids = Vec::new(alloc);
     for (bid, times) in named {
         for _ in 0..*times {
-            bids.push(*bid)?;
+            bids.push(*bid).expect(rt, MEMORY);
         }
     }
-    Ok(bids)
+    bids
 }
 
-fn add(plan: &mut Plan, bid: u64, body: Vec<u8>) -> Result<(), Fail> {
-    plan.blocks.push(BlockPlan { bid, body })?;
-    Ok(())
-}
-
-fn image_of(alloc: Global, plan: &Plan) -> Result<Vec<u8>, Fail> {
-    let Ok(image) = build(alloc, plan) else {
-        return Err(Fail::from("no image"));
-    };
-    Ok(image)
+// A body of one byte, so many times.
+fn body_of<R: Abort>(rt: &R, alloc: Global, byte: u8, len: usize) -> Vec<u8> {
+    (vec![in alloc; byte; len]).expect(rt, MEMORY)
 }
 
 // A plan of data blocks and internal blocks, whose identifiers rise.
-fn plan_of(alloc: Global, bodies: Bodies, lists: Lists) -> Result<Plan, Fail> {
-    let mut plan = Plan {
-        blocks: Vec::new(alloc),
-        nodes: Vec::new(alloc),
-    };
+fn plan_of<R: Abort>(rt: &R, alloc: Global, bodies: Bodies, lists: Lists) -> Vec<BlockPlan> {
+    let mut plan = Vec::new(alloc);
     for (bid, byte, len) in bodies {
-        add(&mut plan, *bid, vec![in alloc; *byte; *len]?)?;
+        add(rt, &mut plan, *bid, body_of(rt, alloc, *byte, *len));
     }
     for (bid, level, total, named) in lists {
-        let bids = bids_of(alloc, named)?;
-        add(&mut plan, *bid, list_of(alloc, *level, *total, &bids)?)?;
+        let bids = bids_of(rt, alloc, named);
+        add(
+            rt,
+            &mut plan,
+            *bid,
+            list_of(rt, alloc, *level, *total, &bids),
+        );
     }
-    Ok(plan)
+    plan
 }
 
-fn store(alloc: Global, bodies: Bodies, lists: Lists) -> Result<Vec<u8>, Fail> {
-    image_of(alloc, &plan_of(alloc, bodies, lists)?)
-}
-
-// All blocks of a file, or the first fault.
-fn blocks_in<'a>(alloc: Global, image: Image<'a>) -> Result<Blocks<'a>, Fault> {
-    let header = read_header(image)?;
-    let mut claims = Claims::new(alloc, &header)?;
-    let (tree, entries) = walk_blocks(alloc, image, &header, &mut claims)?;
-    check_blocks(image, &header, tree, &entries, &mut claims)
+fn store<R: Abort>(rt: &R, alloc: Global, bodies: Bodies, lists: Lists) -> Vec<u8> {
+    image_of(rt, alloc, plan_of(rt, alloc, bodies, lists))
 }
 
 // What the check of a data tree answers, and how many internal blocks it expands.
-fn checked(alloc: Global, image: &[u8], bid: u64) -> Result<(Option<Fault>, u64), Fail> {
-    let Ok(blocks) = blocks_in(alloc, Image::new(image)) else {
-        return Err(Fail::from("no blocks"));
-    };
+fn checked<R: Abort>(rt: &R, alloc: Global, image: &[u8], bid: u64) -> (Option<Fault>, u64) {
+    let blocks = blocks_in(rt, alloc, Image::new(image));
     let mut seen = Seen::new(alloc);
     let fault = check_data(alloc, &blocks, bid, NODE, &mut seen).err();
-    Ok((fault, seen.expansions()))
+    (fault, seen.expansions())
 }
 
 fn fault_of(kind: Kind, at: u64, bid: u64) -> Option<Fault> {
@@ -121,19 +95,14 @@ fn fault_of(kind: Kind, at: u64, bid: u64) -> Option<Fault> {
 }
 
 // Where the body of a block lies.
-fn span_of(alloc: Global, image: &[u8], bid: u64) -> Result<Span, Fail> {
-    let Ok(blocks) = blocks_in(alloc, Image::new(image)) else {
-        return Err(Fail::from("no blocks"));
-    };
-    let Some(span) = blocks.span(bid) else {
-        return Err(Fail::from("no block"));
-    };
-    Ok(span)
+fn span_of<R: Abort>(rt: &R, alloc: Global, image: &[u8], bid: u64) -> Span {
+    blocks_in(rt, alloc, Image::new(image))
+        .span(bid)
+        .expect(rt, "no block")
 }
 
-fn place_of(alloc: Global, image: &[u8], bid: u64) -> Result<u64, Fail> {
-    let span = span_of(alloc, image, bid)?;
-    Ok(span.at)
+fn place_of<R: Abort>(rt: &R, alloc: Global, image: &[u8], bid: u64) -> u64 {
+    span_of(rt, alloc, image, bid).at
 }
 
 // A body of 8,176 bytes and one of 1 byte; and an XBLOCK of both, with their length or one byte less.
@@ -151,66 +120,70 @@ const FIRST: Span = Span {
 
 const SECOND: Span = Span { at: 0x6c00, len: 1 };
 
-fn lie_there<R: Abort>(rt: &R, alloc: Global, image: &[u8]) -> Result<(), Fail> {
-    is(rt, span_of(alloc, image, 4)?, FIRST);
-    is(rt, span_of(alloc, image, 8)?, SECOND);
-    Ok(())
+fn lie_there<R: Abort>(rt: &R, alloc: Global, image: &[u8]) {
+    is(rt, span_of(rt, alloc, image, 4), FIRST);
+    is(rt, span_of(rt, alloc, image, 8), SECOND);
 }
 
 #[test]
-fn a_value_in_two_pieces(rt: HostRuntime) -> Result<(), Fail> {
+fn a_value_in_two_pieces(rt: HostRuntime) {
     let alloc = rt.alloc();
-    let image = store(alloc, TWO_BODIES, OF_BOTH)?;
-    is(&rt, checked(alloc, &image, 0x0e)?, (None, 1));
-    lie_there(&rt, alloc, &image)?;
-    let tree = Tree::read(alloc, Image::new(&image), 0x0e)?;
+    let image = store(&rt, alloc, TWO_BODIES, OF_BOTH);
+    is(&rt, checked(&rt, alloc, &image, 0x0e), (None, 1));
+    lie_there(&rt, alloc, &image);
+    let tree = Tree::read(&rt, alloc, Image::new(&image), 0x0e);
     has_spans(&rt, &tree, &[FIRST, SECOND]);
+    is_in_two_pieces(&rt, tree.value());
+    is_advanced(&rt, tree.spans());
+}
 
-    let whole = tree.value();
-    is(&rt, (whole.len(), whole.at()), (8177, FIRST.at));
-    holds(&rt, !whole.is_empty());
-    has_bytes(&rt, &whole, &ENDS);
+fn is_in_two_pieces<R: Abort>(rt: &R, whole: Value) {
+    is(rt, (whole.len(), whole.at()), (8177, FIRST.at));
+    holds(rt, !whole.is_empty());
+    has_bytes(rt, &whole, &ENDS);
     let Value::Pieces(mut pieces) = whole else {
-        return Err(Fail::from("one slice"));
+        rt.panic("one slice");
     };
-    is(&rt, next_len(&mut pieces), Some(8176));
-    is(&rt, next_len(&mut pieces), Some(1));
-    is(&rt, next_len(&mut pieces), None);
+    is(rt, next_len(&mut pieces), Some(8176));
+    is(rt, next_len(&mut pieces), Some(1));
+    is(rt, next_len(&mut pieces), None);
+}
 
-    // Advanced, the same pieces are fewer bytes.
-    let mut rest = tree.spans();
+// Advanced, the same pieces are fewer bytes.
+fn is_advanced<R: Abort>(rt: &R, pieces: Pieces) {
+    let mut rest = pieces;
     let _first = rest.next();
     let late = Value::Pieces(rest);
-    is(&rt, (late.len(), late.at()), (1, SECOND.at));
-    is(&rt, late.byte(0), Some(0x62));
-    Ok(())
+    is(rt, (late.len(), late.at()), (1, SECOND.at));
+    is(rt, late.byte(0), Some(0x62));
 }
 
 // The last byte of the first body, and the only one of the second.
 const ENDS: [(u64, Option<u8>); 3] = [(8175, Some(0x61)), (8176, Some(0x62)), (8177, None)];
 
 #[test]
-fn parts_of_a_value(rt: HostRuntime) -> Result<(), Fail> {
+fn parts_of_a_value(rt: HostRuntime) {
     let alloc = rt.alloc();
-    let image = store(alloc, TWO_BODIES, OF_BOTH)?;
-    lie_there(&rt, alloc, &image)?;
-    let whole = Tree::read(alloc, Image::new(&image), 0x0e)?.value();
-
+    let image = store(&rt, alloc, TWO_BODIES, OF_BOTH);
+    lie_there(&rt, alloc, &image);
+    let whole = Tree::read(&rt, alloc, Image::new(&image), 0x0e).value();
     for (from, to, part) in PARTS {
         is(&rt, shown_part(&whole, from, to), part);
     }
-    holds(&rt, part_of(&whole, 8177, 8177)?.is_empty());
+    holds(&rt, part_of(&rt, &whole, 8177, 8177).is_empty());
+    has_parts_of_parts(&rt, &whole);
+}
 
-    // A part of a part counts from its first byte.
-    let within = shown_part(&part_of(&whole, 1, 8176)?, 2, 5);
-    is(&rt, within, Some((true, 3, 0x4c03, [Some(0x61); 2])));
-    let inner = shown_part(&part_of(&whole, 8170, 8177)?, 5, 7);
+// A part of a part counts from its first byte.
+fn has_parts_of_parts<R: Abort>(rt: &R, whole: &Value) {
+    let within = shown_part(&part_of(rt, whole, 1, 8176), 2, 5);
+    is(rt, within, Some((true, 3, 0x4c03, [Some(0x61); 2])));
+    let inner = shown_part(&part_of(rt, whole, 8170, 8177), 5, 7);
     is(
-        &rt,
+        rt,
         inner,
         Some((false, 2, 0x6bef, [Some(0x61), Some(0x62)])),
     );
-    Ok(())
 }
 
 // Parts of a value, from one number to another. Bytes of one body are one slice, and those of both are two. No bytes are an
@@ -230,32 +203,30 @@ const OFTEN_BODIES: Bodies<'static> = &[(4, 0x63, 1)];
 const OFTEN: Lists<'static> = &[(0x0a, 1, 1, &[(4, 1)]), (0x0e, 2, 1021, &[(0x0a, 1021)])];
 
 #[test]
-fn a_body_named_often(rt: HostRuntime) -> Result<(), Fail> {
+fn a_body_named_often(rt: HostRuntime) {
     let alloc = rt.alloc();
-    let image = store(alloc, OFTEN_BODIES, OFTEN)?;
-    is(&rt, checked(alloc, &image, 0x0e)?, (None, 2));
-    let tree = Tree::read(alloc, Image::new(&image), 0x0e)?;
+    let image = store(&rt, alloc, OFTEN_BODIES, OFTEN);
+    is(&rt, checked(&rt, alloc, &image, 0x0e), (None, 2));
+    let tree = Tree::read(&rt, alloc, Image::new(&image), 0x0e);
     is(&rt, tree.leaf_count(), 1021);
-    let body = span_of(alloc, &image, 4)?;
+    let body = span_of(&rt, alloc, &image, 4);
     is(&rt, tree.leaf(1020), Some(body));
     let Value::Pieces(pieces) = tree.value() else {
-        return Err(Fail::from("one slice"));
+        rt.panic("one slice");
     };
     is(&rt, count_of(&rt, pieces, 0x63), 1021);
-    Ok(())
 }
 
 #[test]
-fn one_body_with_bytes(rt: HostRuntime) -> Result<(), Fail> {
+fn one_body_with_bytes(rt: HostRuntime) {
     let alloc = rt.alloc();
-    let image = store(alloc, ONE_AND_NONE, LISTS_OF_ONE)?;
-    is(&rt, place_of(alloc, &image, 4)?, 0x4c00);
-    let mut known = Known::read(alloc, Image::new(&image))?;
+    let image = store(&rt, alloc, ONE_AND_NONE, LISTS_OF_ONE);
+    is(&rt, place_of(&rt, alloc, &image, 4), 0x4c00);
+    let mut known = Known::read(&rt, alloc, Image::new(&image));
     for (bid, told) in ONE_BODY {
-        let tree = known.tree(alloc, bid)?;
+        let tree = known.tree(&rt, alloc, bid);
         is(&rt, told_of(&tree), told);
     }
-    Ok(())
 }
 
 // A body of three bytes and an empty one.

@@ -5,6 +5,8 @@
 #[cfg(test)]
 mod data_trees;
 #[cfg(test)]
+mod made;
+#[cfg(test)]
 mod subnodes;
 #[cfg(test)]
 mod told;

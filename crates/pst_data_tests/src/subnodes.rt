@@ -8,19 +8,16 @@ mod tree;
 
 use self::Body::{Bytes, List};
 use self::tree::{Indexed, Known, Met, Tree};
+use crate::made::{MEMORY, add, add_numbers, blocks_in, image_of};
 use crate::told::is;
-use pst_block::{Blocks, check_blocks};
-use pst_btree::walk_blocks;
+use pst_block::Blocks;
 use pst_bytes::Image;
 use pst_datatree::Seen;
 use pst_fault::{Fault, Kind, Place};
-use pst_header::read_header;
-use pst_make::{BlockPlan, Plan, build};
-use pst_space::Claims;
+use pst_make::BlockPlan;
 use pst_subnode::*;
 use std::alloc::Global;
 use std::process::Abort;
-use std::test::Fail;
 
 // The node under which all is checked.
 const NODE: u32 = 0x21;
@@ -31,17 +28,11 @@ const FIRST: u64 = 0x4c00;
 const SECOND: u64 = 0x4c40;
 
 // A body of a list: btype, cLevel, cEnt, padding, then numbers of 8 bytes.
-fn list(alloc: Global, level: u8, count: u8, numbers: &[u64]) -> Result<Vec<u8>, Fail> {
-    let mut body = Vec::from_slice(alloc, &[2, level, count, 0, 0, 0, 0, 0])?;
-    for number in numbers {
-        body.extend_from_slice(&number.to_le_bytes())?;
-    }
-    Ok(body)
-}
-
-fn add(blocks: &mut Vec<BlockPlan>, bid: u64, body: Vec<u8>) -> Result<(), Fail> {
-    blocks.push(BlockPlan { bid, body })?;
-    Ok(())
+fn list<R: Abort>(rt: &R, alloc: Global, level: u8, count: u8, numbers: &[u64]) -> Vec<u8> {
+    let front = [2, level, count, 0, 0, 0, 0, 0];
+    let mut body = Vec::from_slice(alloc, &front).expect(rt, MEMORY);
+    add_numbers(rt, &mut body, numbers);
+    body
 }
 
 // The body of a block: a list of a level, with so many entries, and the numbers that they are; or any bytes.
@@ -54,52 +45,37 @@ enum Body<'a> {
 // Blocks by their identifiers.
 type Bodies<'a> = &'a [(u64, Body<'a>)];
 
-fn body_of(alloc: Global, body: Body) -> Result<Vec<u8>, Fail> {
+fn body_of<R: Abort>(rt: &R, alloc: Global, body: Body) -> Vec<u8> {
     match body {
-        List(level, count, numbers) => list(alloc, level, count, numbers),
-        Bytes(bytes) => Ok(Vec::from_slice(alloc, bytes)?),
+        List(level, count, numbers) => list(rt, alloc, level, count, numbers),
+        Bytes(bytes) => Vec::from_slice(alloc, bytes).expect(rt, MEMORY),
     }
 }
 
-fn plan_of(alloc: Global, bodies: Bodies) -> Result<Vec<BlockPlan>, Fail> {
+fn plan_of<R: Abort>(rt: &R, alloc: Global, bodies: Bodies) -> Vec<BlockPlan> {
     let mut plan = Vec::new(alloc);
     for (bid, body) in bodies {
-        add(&mut plan, *bid, body_of(alloc, *body)?)?;
+        add(rt, &mut plan, *bid, body_of(rt, alloc, *body));
     }
-    Ok(plan)
+    plan
 }
 
 // A store of these blocks.
-fn store(alloc: Global, bodies: Bodies) -> Result<Vec<u8>, Fail> {
-    image_of(alloc, plan_of(alloc, bodies)?)
-}
-
-fn image_of(alloc: Global, blocks: Vec<BlockPlan>) -> Result<Vec<u8>, Fail> {
-    let nodes = Vec::new(alloc);
-    let Ok(bytes) = build(alloc, &Plan { blocks, nodes }) else {
-        return Err(Fail::from("not made"));
-    };
-    Ok(bytes)
-}
-
-// All blocks of a store.
-fn blocks_in<'a>(alloc: Global, image: Image<'a>) -> Result<Blocks<'a>, Fault> {
-    let header = read_header(image)?;
-    let mut claims = Claims::new(alloc, &header)?;
-    let (tree, entries) = walk_blocks(alloc, image, &header, &mut claims)?;
-    check_blocks(image, &header, tree, &entries, &mut claims)
+fn store<R: Abort>(rt: &R, alloc: Global, bodies: Bodies) -> Vec<u8> {
+    image_of(rt, alloc, plan_of(rt, alloc, bodies))
 }
 
 // What the check answers of these blocks, and how many it expanded.
-fn answer_of(
+fn answer_of<R: Abort>(
+    rt: &R,
     alloc: Global,
     plan: Vec<BlockPlan>,
     bid: u64,
-) -> Result<(Result<u32, Fault>, u64), Fail> {
-    let bytes = image_of(alloc, plan)?;
-    let mut known = Known::read(alloc, Image::new(&bytes))?;
+) -> (Result<u32, Fault>, u64) {
+    let bytes = image_of(rt, alloc, plan);
+    let mut known = Known::read(rt, alloc, Image::new(&bytes));
     let answer = known.check(alloc, bid);
-    Ok((answer, known.expansions()))
+    (answer, known.expansions())
 }
 
 fn fault_of(kind: Kind, at: u64, bid: u64) -> Fault {
@@ -114,58 +90,53 @@ fn answers<R: Abort>(
     plan: Vec<BlockPlan>,
     bid: u64,
     wanted: (Result<u32, Fault>, u64),
-) -> Result<(), Fail> {
-    is(rt, answer_of(alloc, plan, bid)?, wanted);
-    Ok(())
+) {
+    is(rt, answer_of(rt, alloc, plan, bid), wanted);
 }
 
-fn is_refused<R: Abort>(
-    rt: &R,
-    alloc: Global,
-    bodies: Bodies,
-    bid: u64,
-    fault: Fault,
-) -> Result<(), Fail> {
-    let (answer, _) = answer_of(alloc, plan_of(alloc, bodies)?, bid)?;
+fn is_refused<R: Abort>(rt: &R, alloc: Global, bodies: Bodies, bid: u64, fault: Fault) {
+    let (answer, _) = answer_of(rt, alloc, plan_of(rt, alloc, bodies), bid);
     is(rt, answer, Err(fault));
-    Ok(())
 }
 
 // Lists that nest, each but the last with the next one below its only entry.
-fn chain(alloc: Global, lists: u64) -> Result<Vec<BlockPlan>, Fail> {
+fn chain<R: Abort>(rt: &R, alloc: Global, lists: u64) -> Vec<BlockPlan> {
     let mut plan = Vec::new(alloc);
     for k in 1..=lists {
         let bid = k.saturating_mul(4).saturating_add(2);
         let below = if k == lists { 0 } else { bid.saturating_add(4) };
-        add(&mut plan, bid, list(alloc, 0, 1, &[0x671, 0, below])?)?;
+        add(
+            rt,
+            &mut plan,
+            bid,
+            list(rt, alloc, 0, 1, &[0x671, 0, below]),
+        );
     }
-    Ok(plan)
+    plan
 }
 
 #[test]
-fn lists_nest_256_deep(rt: HostRuntime) -> Result<(), Fail> {
+fn lists_nest_256_deep(rt: HostRuntime) {
     let alloc = rt.alloc();
-    answers(&rt, alloc, chain(alloc, 256)?, 6, (Ok(256), 256))?;
+    answers(&rt, alloc, chain(&rt, alloc, 256), 6, (Ok(256), 256));
     is(&rt, LISTS, 256);
-    let (answer, _) = answer_of(alloc, chain(alloc, 257)?, 6)?;
+    let (answer, _) = answer_of(&rt, alloc, chain(&rt, alloc, 257), 6);
     is(&rt, answer, Err(fault_of(Kind::Nesting, 0, 6)));
-    Ok(())
 }
 
 // The identifier is told as the node has it, with its bit 0.
 #[test]
-fn a_list_below_itself(rt: HostRuntime) -> Result<(), Fail> {
+fn a_list_below_itself(rt: HostRuntime) {
     let bodies = [(6, List(0, 1, &[0x671, 0, 6]))];
     for bid in [6, 7] {
         let fault = fault_of(Kind::Nesting, 0, bid);
-        is_refused(&rt, rt.alloc(), &bodies, bid, fault)?;
+        is_refused(&rt, rt.alloc(), &bodies, bid, fault);
     }
-    Ok(())
 }
 
 // The data of an entry comes before its subnodes, and an entry before the next one.
 #[test]
-fn two_faults_of_one_list(rt: HostRuntime) -> Result<(), Fail> {
+fn two_faults_of_one_list(rt: HostRuntime) {
     let missing = fault_of(Kind::BlockMissing, 0, 0x100);
     let nesting = fault_of(Kind::Nesting, 0, 6);
     for (numbers, fault) in [
@@ -173,16 +144,15 @@ fn two_faults_of_one_list(rt: HostRuntime) -> Result<(), Fail> {
         ([0x692, 0, 6, 0x671, 0x100, 0], nesting),
         ([0x671, 0x100, 6, 0x692, 0, 6], missing),
     ] {
-        is_refused(&rt, rt.alloc(), &[(6, List(0, 2, &numbers))], 6, fault)?;
+        is_refused(&rt, rt.alloc(), &[(6, List(0, 2, &numbers))], 6, fault);
     }
-    Ok(())
 }
 
 // All below an entry comes before the next entry.
 #[test]
-fn depth_comes_first(rt: HostRuntime) -> Result<(), Fail> {
+fn depth_comes_first(rt: HostRuntime) {
     let fault = fault_of(Kind::BlockMissing, 0, 0x200);
-    is_refused(&rt, rt.alloc(), &DEEP, 6, fault)
+    is_refused(&rt, rt.alloc(), &DEEP, 6, fault);
 }
 
 const DEEP: [(u64, Body); 3] = [
@@ -201,23 +171,28 @@ const TWO_LEAVES: [(u64, Body); 5] = [
 ];
 
 #[test]
-fn a_list_of_two_leaves(rt: HostRuntime) -> Result<(), Fail> {
+fn a_list_of_two_leaves(rt: HostRuntime) {
     let alloc = rt.alloc();
-    answers(&rt, alloc, plan_of(alloc, &TWO_LEAVES)?, 6, (Ok(2), 4))?;
-    let bytes = store(alloc, &TWO_LEAVES)?;
-    let tree = Tree::read(alloc, Image::new(&bytes), 7)?;
-    let mut list = tree.subs(6);
-    for (nid, bid_data, bid_sub) in [(0x671, 4, 0), (0x692, 5, 0), (0x8025, 4, 18)] {
-        let sub = sub_of(nid, bid_data, bid_sub);
-        is(&rt, list.next(), sub);
-        is(&rt, tree.find(nid), sub);
-    }
-    is(&rt, list.next(), None);
+    answers(&rt, alloc, plan_of(&rt, alloc, &TWO_LEAVES), 6, (Ok(2), 4));
+    let bytes = store(&rt, alloc, &TWO_LEAVES);
+    let tree = Tree::read(&rt, alloc, Image::new(&bytes), 7);
+    has_entries(&rt, &tree);
     // One that is behind all, one that is before all, and one between two.
     for nid in [0x8045, 0x670, 0x672] {
         is(&rt, tree.find(nid), None);
     }
-    Ok(())
+}
+
+const ENTRIES: [(u32, u64, u64); 3] = [(0x671, 4, 0), (0x692, 5, 0), (0x8025, 4, 18)];
+
+fn has_entries<R: Abort>(rt: &R, tree: &Tree) {
+    let mut list = tree.subs(6);
+    for (nid, bid_data, bid_sub) in ENTRIES {
+        let sub = sub_of(nid, bid_data, bid_sub);
+        is(rt, list.next(), sub);
+        is(rt, tree.find(nid), sub);
+    }
+    is(rt, list.next(), None);
 }
 
 fn sub_of(nid: u32, bid_data: u64, bid_sub: u64) -> Option<Sub> {
@@ -230,15 +205,14 @@ fn sub_of(nid: u32, bid_data: u64, bid_sub: u64) -> Option<Sub> {
 
 // Identifiers that fall, in and across the SLBLOCKs: each is found all the same.
 #[test]
-fn a_list_that_falls(rt: HostRuntime) -> Result<(), Fail> {
+fn a_list_that_falls(rt: HostRuntime) {
     let alloc = rt.alloc();
-    let bytes = store(alloc, &FALLING)?;
-    let tree = Tree::read(alloc, Image::new(&bytes), 6)?;
+    let bytes = store(&rt, alloc, &FALLING);
+    let tree = Tree::read(&rt, alloc, Image::new(&bytes), 6);
     for nid in [0x8045, 0x8025, 0x692, 0x671] {
         is(&rt, tree.find(nid), sub_of(nid, 0, 0));
     }
     is(&rt, tree.find(0x673), None);
-    Ok(())
 }
 
 const FALLING: [(u64, Body); 3] = [
@@ -248,15 +222,20 @@ const FALLING: [(u64, Body); 3] = [
 ];
 
 #[test]
-fn no_block_has_no_subnodes(rt: HostRuntime) -> Result<(), Fail> {
+fn no_block_has_no_subnodes(rt: HostRuntime) {
     let alloc = rt.alloc();
-    let bytes = store(alloc, &TWO_LEAVES)?;
+    let bytes = store(&rt, alloc, &TWO_LEAVES);
     for bid in [0, 1] {
-        answers(&rt, alloc, plan_of(alloc, &TWO_LEAVES)?, bid, (Ok(0), 0))?;
-        let tree = Tree::read(alloc, Image::new(&bytes), bid)?;
+        answers(
+            &rt,
+            alloc,
+            plan_of(&rt, alloc, &TWO_LEAVES),
+            bid,
+            (Ok(0), 0),
+        );
+        let tree = Tree::read(&rt, alloc, Image::new(&bytes), bid);
         has_none(&rt, &tree, bid);
     }
-    Ok(())
 }
 
 fn has_none<R: Abort>(rt: &R, tree: &Tree, bid: u64) {
@@ -265,17 +244,16 @@ fn has_none<R: Abort>(rt: &R, tree: &Tree, bid: u64) {
 }
 
 #[test]
-fn a_list_without_entries(rt: HostRuntime) -> Result<(), Fail> {
+fn a_list_without_entries(rt: HostRuntime) {
     let alloc = rt.alloc();
     for level in [0, 1] {
-        let plan = plan_of(alloc, &[(6, List(level, 0, &[]))])?;
-        answers(&rt, alloc, plan, 6, (Ok(1), 1))?;
+        let plan = plan_of(&rt, alloc, &[(6, List(level, 0, &[]))]);
+        answers(&rt, alloc, plan, 6, (Ok(1), 1));
     }
-    Ok(())
 }
 
 #[test]
-fn laws_are_there(rt: HostRuntime) -> Result<(), Fail> {
+fn laws_are_there(rt: HostRuntime) {
     sub_decides();
     sub_is_one();
     deeper_has_none();
@@ -283,5 +261,4 @@ fn laws_are_there(rt: HostRuntime) -> Result<(), Fail> {
     found_has_none();
     subs_are_a_map();
     is(&rt, Heights::new(rt.alloc()).expansions(), 0);
-    Ok(())
 }

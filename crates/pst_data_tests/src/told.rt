@@ -7,12 +7,16 @@ use std::process::Abort;
 
 /// Stops the test where what is told is not what is wanted.
 pub(crate) fn is<R: Abort, T: PartialEq + Debug + Copy>(rt: &R, told: T, wanted: T) {
-    assert_eq!(rt; told, wanted);
+    if told != wanted {
+        panic!(rt; "told {told:?}, wanted {wanted:?}");
+    }
 }
 
 /// Stops the test where something does not hold.
 pub(crate) fn holds<R: Abort>(rt: &R, told: bool)
     ensures { IsTrue told }
 {
-    assert!(rt; told);
+    if !told {
+        panic!(rt; "it does not hold");
+    }
 }

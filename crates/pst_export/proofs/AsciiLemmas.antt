@@ -5,7 +5,7 @@ use Rattle.std.specs.Char.Utf16.{utf16_lossy_chars}
 use Rattle.std.proofs.lemmas.List.{drop_more}
 use Rattle.std.proofs.lemmas.Str.Ascii.{encode_ascii}
 use Rattle.pst_value.specs.Units.{units_of}
-use Rattle.pst_value_json.specs.Value.{utf8_of}
+use Rattle.pst_value_json.specs.pst_text.Text.{utf8_of}
 use Rattle.pst_export.proofs.TextLemmas.{low_next}
 
 -- a unit of ASCII is its byte

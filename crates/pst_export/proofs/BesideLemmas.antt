@@ -10,7 +10,7 @@ use Rattle.std.proofs.lemmas.List.{append_cancel_left}
 use Rattle.std.proofs.lemmas.List.Elements.{All-append, All-head, All-nil, All-tail}
 use Rattle.std.proofs.lemmas.List.Kept.{AllPairs-cons}
 use Rattle.std.proofs.lemmas.Slice.Eq.{bytes_eq-Decides}
-use Rattle.pst_value_json.specs.Names.{nid_text}
+use Rattle.pst_value_json.specs.pst_text.Names.{nid_text}
 use Rattle.pst_tar.specs.Archive.{Member}
 use Rattle.pst_export.specs.Held.{folder_in}
 use Rattle.pst_export.specs.Laws.{IsBeside, IsFolderOf}

@@ -15,7 +15,7 @@ use Rattle.pst_btree.specs.Entries.{node_key}
 use Rattle.pst_btree.specs.Order.{Rises}
 use Rattle.pst_subnode.specs.declared.check.TheConstants.{LISTS}
 use Rattle.pst_ndb.specs.Roots.{Roots, all_roots, entry_roots, node_in}
-use Rattle.pst_msg.specs.declared.nid.TheConstants.{STORE, MESSAGE, ASSOCIATED}
+use Rattle.pst_msg.specs.pst_mail.declared.nid.TheConstants.{STORE, MESSAGE, ASSOCIATED}
 use Rattle.pst_msg.specs.pst_names.declared.name_map.TheConstants.{NAME_MAP}
 use Rattle.pst_msg.specs.Fault.{message_fault, name_map_fault}
 use Rattle.pst_msg.specs.Nid.{is_type, type_of}
@@ -24,7 +24,7 @@ use Rattle.pst_msg.proofs.MessageLaws.{none_message}
 use Rattle.pst_intact.specs.Fault.{intact_fault, intact_node_fault}
 use Rattle.pst_verify.specs.pst_store.Kind.{of_kind}
 use Rattle.pst_value_json.specs.pst_names.Name.{NameParts, store_name}
-use Rattle.pst_json.specs.declared.fault.DocFault.{DocFault}
+use Rattle.pst_json.specs.pst_props.declared.fault.DocFault.{DocFault}
 use Rattle.pst_json.specs.pst_whole.Lost.{LostParts}
 use Rattle.pst_json.specs.Folders.{folders_line}
 use Rattle.pst_json.specs.Messages.{messages_text}

@@ -9,11 +9,11 @@ use Rattle.pst_ndb.specs.NodeTable.{table_of_nodes}
 use Rattle.pst_ndb.specs.Views.{table_of_node, nid_of, top_of, roots_of}
 use Rattle.pst_intact.specs.declared.folder.IntactFolder.{IntactFolder}
 use Rattle.pst_intact.specs.View.{intact_beside, intact_node, intact_roots}
-use Rattle.pst_json.specs.declared.fault.DocFault.{DocFault}
-use Rattle.pst_json.specs.declared.fault.DocFault.TheVariants.{NoFolder, NoNode, Bad, NoProperty, TooManyPaths, Memory}
+use Rattle.pst_json.specs.pst_props.declared.fault.DocFault.{DocFault}
+use Rattle.pst_json.specs.pst_props.declared.fault.DocFault.TheVariants.{NoFolder, NoNode, Bad, NoProperty, TooManyPaths, Memory}
 use Rattle.pst_json.specs.Node.{node_props_data}
 use Rattle.pst_json.specs.Told.{TellsDoc}
-use Rattle.pst_value_json.specs.Line.{line_of}
+use Rattle.pst_value_json.specs.pst_text.Line.{line_of}
 use Rattle.pst_value_json.specs.pst_names.Name.{NameParts}
 use Rattle.pst_value_json.specs.pst_pc.Values.{Property, id_of, props_of}
 use Rattle.pst_export.specs.Files.{file_at, named_file, path_of, value_file}

@@ -7,7 +7,7 @@ use Rattle.std.proofs.Math.Nat.{mod-lt}
 use Rattle.std.proofs.lemmas.Bool.{le-leb, ltb-false, ltb-true, ne_eqb}
 use Rattle.std.proofs.lemmas.List.Elements.{All-append, All-cons, All-head, All-nil, All-tail}
 use Rattle.std.proofs.lemmas.List.Folds.{list_all-append}
-use Rattle.pst_value_json.specs.Names.{nid_text}
+use Rattle.pst_value_json.specs.pst_text.Names.{nid_text}
 use Rattle.pst_export.specs.Held.{folder_in}
 use Rattle.pst_export.specs.Laws.{IsSafe, has_dots, is_letter, is_relative}
 

@@ -12,7 +12,7 @@ use Rattle.pst_tc.specs.Values.{RowParts, row_id_of, row_parts_at, tc_records, t
 use Rattle.pst_tc.proofs.TcLaws.{rise_of_rows, tc_law}
 use Rattle.pst_bth.specs.Rows.{row_key}
 use Rattle.pst_bth.specs.Values.{bth_records, record_at}
-use Rattle.pst_msg.specs.declared.object.Object.{Object}
+use Rattle.pst_msg.specs.pst_mail.declared.object.Object.{Object}
 use Rattle.pst_msg.specs.Grammar.{HasSubnode, IsAttachment, IsMessage, MayHaveTable}
 use Rattle.pst_msg.specs.Shown.{Shown, attachment_rows, object_shown, row_shown, rows_there}
 use Rattle.pst_msg.specs.Values.{embedded_of}
@@ -20,7 +20,7 @@ use Rattle.pst_msg.proofs.MessageLaws.{attachment_facts, message_facts}
 use Rattle.pst_value_json.specs.declared.filed.Filed.TheVariants.{Attachment}
 use Rattle.pst_value_json.specs.declared.filed.TheConstants.{HEADERS, BODY, HTML, RTF, CONTENT}
 use Rattle.pst_value_json.specs.Filed.{message_file, attachment_file}
-use Rattle.pst_value_json.specs.Line.{line_of}
+use Rattle.pst_value_json.specs.pst_text.Line.{line_of}
 use Rattle.pst_value_json.specs.pst_names.Name.{NameParts}
 use Rattle.pst_json.specs.Node.{message_data, attachment_data}
 use Rattle.pst_json.specs.Path.{message, attachment}

@@ -12,7 +12,7 @@ use Rattle.pst_btree.proofs.EntryLemmas.{with_contains}
 use Rattle.pst_ndb.specs.Roots.{Roots}
 use Rattle.pst_value_json.specs.declared.filed.TheConstants.{HEADERS, BODY, HTML, RTF, CONTENT}
 use Rattle.pst_value_json.specs.Filed.{message_file, attachment_file}
-use Rattle.pst_value_json.specs.Names.{nid_text}
+use Rattle.pst_value_json.specs.pst_text.Names.{nid_text}
 use Rattle.pst_value_json.specs.pst_pc.Values.{Property, id_of, props_of}
 use Rattle.pst_tar.specs.Archive.{Member}
 use Rattle.pst_export.specs.Files.{file_at, named_file, path_of, value_file}

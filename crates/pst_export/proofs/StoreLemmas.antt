@@ -6,9 +6,9 @@ use Rattle.std.proofs.lemmas.Bool.{false≢true, lt-ltb, le-ltb}
 use Rattle.pst_page.specs.declared.entry.NodeEntry.{NodeEntry}
 use Rattle.pst_block.specs.Table.{Table}
 use Rattle.pst_ndb.specs.Roots.{Roots}
-use Rattle.pst_json.specs.declared.fault.DocFault.TheVariants.{TooManyPaths}
+use Rattle.pst_json.specs.pst_props.declared.fault.DocFault.TheVariants.{TooManyPaths}
 use Rattle.pst_json.specs.pst_whole.Lost.{LostParts}
-use Rattle.pst_verify.specs.pst_msg.declared.nid.TheConstants.{MESSAGE, ASSOCIATED}
+use Rattle.pst_verify.specs.pst_msg.pst_mail.declared.nid.TheConstants.{MESSAGE, ASSOCIATED}
 use Rattle.pst_verify.specs.pst_msg.Nid.{is_type}
 use Rattle.pst_verify.specs.pst_msg.Values.{is_message}
 use Rattle.pst_verify.specs.pst_store.Kind.{of_kind}

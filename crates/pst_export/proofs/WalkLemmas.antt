@@ -8,9 +8,9 @@ use Rattle.pst_block.specs.Table.{Table}
 use Rattle.pst_ndb.specs.declared.node.Node.{Node}
 use Rattle.pst_ndb.specs.Views.{table_of_node, nid_of, top_of, roots_of}
 use Rattle.pst_json.specs.Path.{message, attachment}
-use Rattle.pst_verify.specs.pst_msg.declared.attachment_view.Attachment.{Attachment}
-use Rattle.pst_verify.specs.pst_msg.declared.attachments.Attachments.{Attachments}
-use Rattle.pst_verify.specs.pst_msg.declared.message_view.Message.{Message}
+use Rattle.pst_verify.specs.pst_msg.pst_mail.declared.attachment_view.Attachment.{Attachment}
+use Rattle.pst_verify.specs.pst_msg.pst_mail.declared.attachments.Attachments.{Attachments}
+use Rattle.pst_verify.specs.pst_msg.pst_mail.declared.message_view.Message.{Message}
 use Rattle.pst_verify.specs.pst_msg.Shown.{Shown, attachment_rows, object_shown, row_shown}
 use Rattle.pst_verify.specs.pst_msg.Values.{embedded_of}
 use Rattle.pst_verify.specs.pst_msg.View.{attachment_shown, attachments_left, holder_left, message_roots, message_shown, node_of_attachment, node_of_message}

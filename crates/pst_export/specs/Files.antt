@@ -7,7 +7,7 @@ use Rattle.pst_ndb.specs.Roots.{Roots}
 use Rattle.pst_value_json.specs.declared.filed.Filed.TheVariants.{Attachment}
 use Rattle.pst_value_json.specs.declared.filed.TheConstants.{HEADERS, BODY, HTML, RTF, CONTENT}
 use Rattle.pst_value_json.specs.Filed.{message_file, attachment_file}
-use Rattle.pst_value_json.specs.Line.{line_of}
+use Rattle.pst_value_json.specs.pst_text.Line.{line_of}
 use Rattle.pst_value_json.specs.pst_names.Name.{NameParts}
 use Rattle.pst_value_json.specs.pst_pc.Values.{Property, id_of, props_of}
 use Rattle.pst_json.specs.Node.{message_data, attachment_data}

@@ -4,7 +4,7 @@ use Rattle.std.specs.Prelude.{ℕ, zero, suc, Option, Some, None, option_map, Li
 use Rattle.std.specs.Prelude.{flat_map}
 use Rattle.pst_block.specs.Table.{Table}
 use Rattle.pst_ndb.specs.Roots.{Roots}
-use Rattle.pst_value_json.specs.Names.{nid_text}
+use Rattle.pst_value_json.specs.pst_text.Names.{nid_text}
 use Rattle.pst_json.specs.Path.{Place, message, attachment}
 use Rattle.pst_verify.specs.pst_msg.Shown.{Shown, row_shown, object_shown, attachment_rows}
 use Rattle.pst_verify.specs.pst_msg.Values.{embedded_of}

@@ -16,7 +16,7 @@ use Rattle.pst_store.specs.Parts.{StoreParts, entries_in, table_in}
 use Rattle.pst_intact.specs.Fault.{intact_fault}
 use Rattle.pst_whole.specs.Nodes.{whole_nodes}
 use Rattle.pst_value_json.specs.declared.filed.TheConstants.{HEADERS, BODY, HTML, RTF, CONTENT}
-use Rattle.pst_value_json.specs.Value.{utf8_of}
+use Rattle.pst_value_json.specs.pst_text.Text.{utf8_of}
 use Rattle.pst_value_json.specs.pst_names.Name.{NameParts}
 use Rattle.pst_value_json.specs.pst_pc.Values.{Property, id_of, props_of}
 use Rattle.pst_json.specs.pst_whole.Lost.{LostParts}

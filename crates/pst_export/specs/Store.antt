@@ -4,15 +4,15 @@ use Rattle.std.specs.Prelude.{flat_map}
 use Rattle.pst_page.specs.declared.entry.NodeEntry.{NodeEntry}
 use Rattle.pst_block.specs.Table.{Table}
 use Rattle.pst_ndb.specs.Roots.{Roots, all_roots}
-use Rattle.pst_value_json.specs.Line.{line_of}
+use Rattle.pst_value_json.specs.pst_text.Line.{line_of}
 use Rattle.pst_value_json.specs.pst_names.Name.{NameParts, store_name}
 use Rattle.pst_json.specs.pst_whole.Lost.{LostParts}
 use Rattle.pst_json.specs.Folders.{folders_line}
 use Rattle.pst_json.specs.Messages.{messages_text}
 use Rattle.pst_json.specs.Node.{node_props_data, props_line}
-use Rattle.pst_json.specs.declared.fault.DocFault.{DocFault}
-use Rattle.pst_json.specs.declared.fault.DocFault.TheVariants.{TooManyPaths}
-use Rattle.pst_verify.specs.pst_msg.declared.nid.TheConstants.{STORE, MESSAGE, ASSOCIATED}
+use Rattle.pst_json.specs.pst_props.declared.fault.DocFault.{DocFault}
+use Rattle.pst_json.specs.pst_props.declared.fault.DocFault.TheVariants.{TooManyPaths}
+use Rattle.pst_verify.specs.pst_msg.pst_mail.declared.nid.TheConstants.{STORE, MESSAGE, ASSOCIATED}
 use Rattle.pst_verify.specs.pst_msg.Nid.{is_type}
 use Rattle.pst_verify.specs.pst_msg.Values.{is_folder}
 use Rattle.pst_verify.specs.pst_store.Kind.{of_kind}

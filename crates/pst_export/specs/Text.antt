@@ -1,7 +1,7 @@
 -- What is left of a text of 16-bit units.
 use Rattle.std.specs.Prelude.{ℕ, List, ◌++◌}
 use Rattle.pst_value.specs.Units.{bytes_behind}
-use Rattle.pst_value_json.specs.Value.{utf8_of}
+use Rattle.pst_value_json.specs.pst_text.Text.{utf8_of}
 use Rattle.pst_export.specs.declared.text.TextLeft.{TextLeft}
 
 -- the bytes that are left

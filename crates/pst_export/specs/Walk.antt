@@ -4,8 +4,8 @@ use Rattle.pst_block.specs.Table.{Table}
 use Rattle.pst_ndb.specs.declared.node.Node.{Node}
 use Rattle.pst_ndb.specs.Views.{table_of_node, nid_of, roots_of}
 use Rattle.pst_json.specs.Path.{Place, message, attachment}
-use Rattle.pst_verify.specs.pst_msg.declared.attachment_view.Attachment.{Attachment}
-use Rattle.pst_verify.specs.pst_msg.declared.message_view.Message.{Message}
+use Rattle.pst_verify.specs.pst_msg.pst_mail.declared.attachment_view.Attachment.{Attachment}
+use Rattle.pst_verify.specs.pst_msg.pst_mail.declared.message_view.Message.{Message}
 use Rattle.pst_verify.specs.pst_msg.View.{node_of_message, node_of_attachment, attachments_left, holder_left}
 use Rattle.pst_export.specs.declared.walk.Holder.{Holder}
 use Rattle.pst_export.specs.declared.walk.Holder.TheVariants as holder

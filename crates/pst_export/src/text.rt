@@ -2,7 +2,7 @@
 
 ghost use Rattle.std.specs.Prelude.{◌≡◌, ◌+◌, ◌*◌, ◌<◌, ◌≤◌, IsTrue, ℕ, ◌++◌, List, IfOk, drop, length};
 ghost use Rattle.pst_value_json.specs.pst_datatree.Shown.{bytes_in};
-ghost use Rattle.pst_value_json.specs.Value.{utf8_of};
+ghost use Rattle.pst_value_json.specs.pst_text.Text.{utf8_of};
 ghost use Rattle.pst_export.specs.Text.{text_bytes};
 
 use pst_datatree::{Pieces, Value};

@@ -5,7 +5,7 @@ ghost use Rattle.std.specs.Char.Utf16.{is_low_surrogate, utf16_lossy_chars};
 ghost use Rattle.std.specs.Io.KnownBytes.{Appends};
 ghost use Rattle.pst_value.specs.Units.{units_of};
 ghost use Rattle.pst_value_json.specs.pst_datatree.Shown.{bytes_in};
-ghost use Rattle.pst_value_json.specs.Value.{utf8_of};
+ghost use Rattle.pst_value_json.specs.pst_text.Text.{utf8_of};
 ghost use Rattle.pst_json.specs.Output.{AppendsFront};
 ghost use Rattle.pst_export.specs.Text.{text_bytes};
 ghost use Rattle.pst_export.specs.Written.{Moves};

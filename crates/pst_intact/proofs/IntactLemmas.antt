@@ -16,9 +16,9 @@ use Rattle.pst_tc.specs.Fault.{tc_fault}
 use Rattle.pst_store.specs.pst_msg.pst_pc.Fault.{pc_fault}
 use Rattle.pst_store.specs.pst_msg.pst_names.declared.name_map.TheConstants.{NAME_MAP}
 use Rattle.pst_store.specs.pst_msg.pst_names.Fault.{names_fault}
-use Rattle.pst_store.specs.pst_msg.declared.items.Items.{Items}
-use Rattle.pst_store.specs.pst_msg.declared.items.Items.TheVariants.{Subfolders, Messages, Associated}
-use Rattle.pst_store.specs.pst_msg.declared.nid.TheConstants.{STORE, ROOT, FOLDER, SEARCH_FOLDER, MESSAGE, ASSOCIATED}
+use Rattle.pst_store.specs.pst_msg.pst_mail.declared.items.Items.{Items}
+use Rattle.pst_store.specs.pst_msg.pst_mail.declared.items.Items.TheVariants.{Subfolders, Messages, Associated}
+use Rattle.pst_store.specs.pst_msg.pst_mail.declared.nid.TheConstants.{STORE, ROOT, FOLDER, SEARCH_FOLDER, MESSAGE, ASSOCIATED}
 use Rattle.pst_store.specs.pst_msg.Fault.{message_fault, required_fault, name_map_fault, items_fault, table_fault, folder_fault, typed_node_fault, messaging_fault}
 use Rattle.pst_store.specs.pst_msg.Nid.{type_of, is_type}
 use Rattle.pst_store.specs.pst_msg.Values.{is_folder, is_message, listing_of}

@@ -10,9 +10,9 @@ use Rattle.pst_ndb.specs.Roots.{Roots, node_in, all_roots}
 use Rattle.pst_tc.specs.Fault.{tc_fault}
 use Rattle.pst_store.specs.pst_msg.pst_pc.Fault.{pc_fault}
 use Rattle.pst_store.specs.pst_msg.pst_names.declared.name_map.TheConstants.{NAME_MAP}
-use Rattle.pst_store.specs.pst_msg.declared.items.Items.{Items}
-use Rattle.pst_store.specs.pst_msg.declared.items.Items.TheVariants.{Subfolders, Messages, Associated}
-use Rattle.pst_store.specs.pst_msg.declared.nid.TheConstants.{FOLDER, SEARCH_FOLDER}
+use Rattle.pst_store.specs.pst_msg.pst_mail.declared.items.Items.{Items}
+use Rattle.pst_store.specs.pst_msg.pst_mail.declared.items.Items.TheVariants.{Subfolders, Messages, Associated}
+use Rattle.pst_store.specs.pst_msg.pst_mail.declared.nid.TheConstants.{FOLDER, SEARCH_FOLDER}
 use Rattle.pst_store.specs.pst_msg.Fault.{message_fault, name_map_fault}
 use Rattle.pst_store.specs.pst_msg.Nid.{is_type}
 use Rattle.pst_store.specs.pst_msg.Values.{is_message, listing_of}

@@ -9,7 +9,7 @@ use Rattle.pst_ndb.specs.declared.node_table.NodeTable.{NodeTable}
 use Rattle.pst_ndb.specs.NodeTable.{image_of_nodes, table_of_nodes, entries_of_nodes}
 use Rattle.pst_ndb.specs.Roots.{Roots}
 use Rattle.pst_ndb.specs.Views.{image_of_node, table_of_node, nid_of, top_of, roots_of, roots_left}
-use Rattle.pst_store.specs.pst_msg.declared.message_view.Message.{Message}
+use Rattle.pst_store.specs.pst_msg.pst_mail.declared.message_view.Message.{Message}
 use Rattle.pst_store.specs.pst_msg.Values.{is_folder, is_message}
 use Rattle.pst_store.specs.pst_msg.View.{node_of_message, message_roots}
 use Rattle.pst_store.specs.Kind.{of_kind}

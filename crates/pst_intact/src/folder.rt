@@ -30,7 +30,7 @@ impl<'a> IntactFolder<'a> {
     ghost use Rattle.pst_ndb.specs.Views.{image_of_node, table_of_node, top_of, nid_of, roots_of};
     ghost use Rattle.pst_tc.specs.Tc.{node_of_tc};
     ghost use Rattle.pst_store.specs.pst_msg.pst_pc.View.{node_of_pc};
-    ghost use Rattle.pst_store.specs.pst_msg.declared.items.Items.TheVariants.{Subfolders, Messages, Associated};
+    ghost use Rattle.pst_store.specs.pst_msg.pst_mail.declared.items.Items.TheVariants.{Subfolders, Messages, Associated};
     ghost use Rattle.pst_store.specs.pst_msg.Shown.{folder_table};
     ghost use Rattle.pst_store.specs.pst_msg.Values.{is_folder};
     ghost use Rattle.pst_store.specs.pst_msg.View.{tc_roots};
@@ -80,7 +80,7 @@ impl<'a> IntactFolder<'a> {
     }
 
     /// A table of it; None exactly for a search folder, and where the table's node is not among these nodes.
-    #[tactic(auto, using(crate::proofs::IntactLemmas::folder_tables), unfolding(pst_msg::specs::Shown::folder_table))]
+    #[tactic(auto, using(crate::proofs::IntactLemmas::folder_tables), unfolding(pst_mail::specs::Shown::folder_table))]
     pub fn table(&self, items: Items) -> Option<Tc<'a>>
         ensures roots { let nodes = entries_of_nodes (intact_beside self.now) in
             option_map tc_roots result ≡ folder_table nodes items (top_of (intact_node self.now)) }

@@ -1,14 +1,7 @@
-pub mod CheckLemmas
 pub mod FolderLemmas
-pub mod FoundLemmas
 pub mod HeadLemmas
-pub mod IndexLemmas
 pub mod ListingLemmas
 pub mod MessageLemmas
-pub mod NameLemmas
-pub mod NodeLemmas
 pub mod OutputLemmas
-pub mod PathLemmas
-pub mod PropertyLemmas
 pub mod RowCountLemmas
 pub mod RowsLemmas

@@ -5,12 +5,12 @@ use Rattle.std.specs.List.{concat}
 use Rattle.pst_page.specs.declared.entry.NodeEntry.{NodeEntry}
 use Rattle.pst_block.specs.Table.{Table}
 use Rattle.pst_ndb.specs.Roots.{Roots, all_roots}
-use Rattle.pst_verify.specs.pst_msg.declared.nid.TheConstants.{MESSAGE, ASSOCIATED}
+use Rattle.pst_verify.specs.pst_msg.pst_mail.declared.nid.TheConstants.{MESSAGE, ASSOCIATED}
 use Rattle.pst_verify.specs.pst_msg.Nid.{is_type}
 use Rattle.pst_verify.specs.pst_msg.Values.{is_message}
 use Rattle.pst_verify.specs.pst_store.Kind.{of_kind}
 use Rattle.pst_json.specs.Messages.{listed_in, messages_text, summary_data, summary_line, summary_lines}
-use Rattle.pst_value_json.specs.Line.{line_of}
+use Rattle.pst_value_json.specs.pst_text.Line.{line_of}
 
 -- those of type 04 are among the messages
 among_more : (r : Roots) (rs : List Roots) (m a : Bool) → is_type MESSAGE r.top ≡ m → of_kind (is_type MESSAGE) (of_kind is_message rs) ≡ of_kind (is_type MESSAGE) rs

@@ -19,7 +19,7 @@ use Rattle.pst_verify.specs.pst_msg.Shown.{attachment_rows}
 use Rattle.pst_json.specs.declared.row_counts.Held.{Held}
 use Rattle.pst_json.specs.declared.row_counts.RowCounts.{RowCounts}
 use Rattle.pst_json.specs.Folders.{row_total}
-use Rattle.pst_json.specs.Node.{recipient_nid}
+use Rattle.pst_props.specs.Node.{recipient_nid}
 use Rattle.pst_json.specs.RowCounts.{IsHeld, IsHeldBy, IsCountOf, AreCountsTrue}
 
 -- ---- the same data: as many rows

@@ -14,7 +14,7 @@ use Rattle.pst_verify.specs.pst_reach.Levels.{reaches_of}
 use Rattle.pst_verify.specs.pst_store.Kind.{of_kind}
 use Rattle.pst_whole.specs.Lost.{LostParts}
 use Rattle.pst_json.specs.Folders.{is_shown, shown_folders, folder_data}
-use Rattle.pst_value_json.specs.Names.{nid_data}
+use Rattle.pst_value_json.specs.pst_text.Names.{nid_data}
 
 -- ---- folders that pass a test
 

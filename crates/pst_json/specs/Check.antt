@@ -6,9 +6,9 @@ use Rattle.pst_amap.specs.declared.report.BitOrder.{BitOrder}
 use Rattle.pst_amap.specs.declared.report.BitOrder.TheVariants.{High, Low}
 use Rattle.pst_verify.specs.declared.report.Report.{Report}
 use Rattle.pst_json.specs.declared.check.LostRows.{LostRows}
-use Rattle.pst_value_json.specs.Parts.{natural, list_data}
-use Rattle.pst_value_json.specs.Line.{line_of}
-use Rattle.pst_value_json.specs.Value.{hex_data}
+use Rattle.pst_value_json.specs.pst_text.Parts.{natural, list_data}
+use Rattle.pst_value_json.specs.pst_text.Line.{line_of}
+use Rattle.pst_value_json.specs.pst_text.Text.{hex_data}
 
 -- ---- what is shown of a report
 
@@ -31,8 +31,11 @@ unfoldable pub lost_data : Span → Data
 lost_data s = object (member (codes "at") (natural s.at) (member (codes "len") (natural s.len) no_members))
 
 -- the runs from one on
+abbrev pub lost_left : LostRows → List Span
+lost_left rows = drop rows.at rows.runs.now
+
 abbrev pub lost_rows : LostRows → List Data
-lost_rows rows = map lost_data (drop rows.at rows.runs.now)
+lost_rows rows = map lost_data (lost_left rows)
 
 abbrev pub order_data : BitOrder → Data
 order_data High = string (codes "high")

@@ -6,8 +6,8 @@ use Rattle.pst_page.specs.declared.entry.NodeEntry.{NodeEntry}
 use Rattle.pst_block.specs.Table.{Table}
 use Rattle.pst_ndb.specs.Roots.{Roots, node_in}
 use Rattle.pst_value_json.specs.pst_tc.Values.{RowParts}
-use Rattle.pst_verify.specs.pst_msg.declared.items.Items.TheVariants.{Messages}
-use Rattle.pst_verify.specs.pst_msg.declared.nid.TheConstants.{FOLDER}
+use Rattle.pst_verify.specs.pst_msg.pst_mail.declared.items.Items.TheVariants.{Messages}
+use Rattle.pst_verify.specs.pst_msg.pst_mail.declared.nid.TheConstants.{FOLDER}
 use Rattle.pst_verify.specs.pst_msg.Left.{rows_of_rest}
 use Rattle.pst_verify.specs.pst_msg.Nid.{is_type}
 use Rattle.pst_verify.specs.pst_msg.Shown.{rows_there, folder_table}
@@ -18,13 +18,13 @@ use Rattle.pst_whole.specs.Lost.{LostParts, told_lost}
 use Rattle.pst_whole.specs.View.{lost_in}
 use Rattle.pst_damage_json.specs.Faults.{fault_data}
 use Rattle.pst_json.specs.declared.listed_rows.ListedRows.{ListedRows}
-use Rattle.pst_json.specs.declared.fault.DocFault.{DocFault}
-use Rattle.pst_json.specs.declared.fault.DocFault.TheVariants.{NoFolder, Bad}
+use Rattle.pst_props.specs.declared.fault.DocFault.{DocFault}
+use Rattle.pst_props.specs.declared.fault.DocFault.TheVariants.{NoFolder, Bad}
 use Rattle.pst_json.specs.declared.texts.TheConstants.{CLASS, SENDER, SUBJECT}
 use Rattle.pst_json.specs.Folders.{text_property, table_told}
-use Rattle.pst_json.specs.Told.{lined}
-use Rattle.pst_value_json.specs.Names.{nid_data}
-use Rattle.pst_value_json.specs.Parts.{list_data}
+use Rattle.pst_props.specs.Told.{lined}
+use Rattle.pst_value_json.specs.pst_text.Names.{nid_data}
+use Rattle.pst_value_json.specs.pst_text.Parts.{list_data}
 
 -- the text of a property of a node, where that is there
 abbrev pub text_there : Table → Option Roots → ℕ → Data

@@ -9,9 +9,9 @@ use Rattle.pst_btree.specs.Entries.{first_with}
 use Rattle.pst_ndb.specs.Roots.{Roots, all_roots}
 use Rattle.pst_value_json.specs.pst_pc.Values.{Property, id_of, props_of}
 use Rattle.pst_value_json.specs.pst_tc.Values.{RowParts}
-use Rattle.pst_verify.specs.pst_msg.declared.items.Items.{Items}
-use Rattle.pst_verify.specs.pst_msg.declared.items.Items.TheVariants.{Subfolders, Messages, Associated}
-use Rattle.pst_verify.specs.pst_msg.declared.nid.TheConstants.{FOLDER}
+use Rattle.pst_verify.specs.pst_msg.pst_mail.declared.items.Items.{Items}
+use Rattle.pst_verify.specs.pst_msg.pst_mail.declared.items.Items.TheVariants.{Subfolders, Messages, Associated}
+use Rattle.pst_verify.specs.pst_msg.pst_mail.declared.nid.TheConstants.{FOLDER}
 use Rattle.pst_verify.specs.pst_msg.Nid.{is_type, with_type}
 use Rattle.pst_verify.specs.pst_msg.Shown.{rows_there, folder_table}
 use Rattle.pst_verify.specs.pst_msg.Values.{is_folder, type_of_items}
@@ -21,10 +21,10 @@ use Rattle.pst_verify.specs.pst_reach.Levels.{reaches_of}
 use Rattle.pst_verify.specs.pst_reach.Path.{path_in, is_reached_in, is_lost_in}
 use Rattle.pst_whole.specs.Lost.{LostParts, told_lost}
 use Rattle.pst_json.specs.declared.texts.TheConstants.{NAME}
-use Rattle.pst_value_json.specs.Line.{line_of}
-use Rattle.pst_value_json.specs.Names.{nid_data}
-use Rattle.pst_value_json.specs.Parts.{natural, list_data}
-use Rattle.pst_value_json.specs.Value.{text_data}
+use Rattle.pst_value_json.specs.pst_text.Line.{line_of}
+use Rattle.pst_value_json.specs.pst_text.Names.{nid_data}
+use Rattle.pst_value_json.specs.pst_text.Parts.{natural, list_data}
+use Rattle.pst_value_json.specs.pst_text.Text.{text_data}
 
 -- the text of a property, where it is there and is text
 abbrev pub text_or_null : Option Property → Data

@@ -3,8 +3,8 @@ use Rattle.std.specs.Prelude.{ℕ, List, codes}
 use Rattle.serde_json.specs.Data.{Data, object, member, no_members}
 use Rattle.pst_header.specs.declared.header.Header.{Header}
 use Rattle.pst_header.specs.declared.header.Bref.{Bref}
-use Rattle.pst_value_json.specs.Line.{line_of}
-use Rattle.pst_value_json.specs.Parts.{natural}
+use Rattle.pst_value_json.specs.pst_text.Line.{line_of}
+use Rattle.pst_value_json.specs.pst_text.Parts.{natural}
 
 abbrev pub bref_data : Bref → Data
 bref_data b = object (member (codes "bid") (natural b.bid) (member (codes "ib") (natural b.ib) no_members))

@@ -1,28 +1,28 @@
-pub use Rattle.pst_value_json.specs.Line
-pub use Rattle.pst_value_json.specs.Parts
-pub use Rattle.pst_value_json.specs.Names
+pub use Rattle.pst_value_json.specs.pst_text.Line
+pub use Rattle.pst_value_json.specs.pst_text.Parts
+pub use Rattle.pst_value_json.specs.pst_text.Names
 pub use Rattle.pst_value_json.specs.Value
 pub use Rattle.pst_value_json.specs.Places
 pub use Rattle.pst_value_json.specs.Filed
 pub use Rattle.pst_value_json.specs.Props
 pub use Rattle.pst_value_json.specs.Cells
+pub use Rattle.pst_props.specs.Told
+pub use Rattle.pst_props.specs.LastIndex
+pub use Rattle.pst_props.specs.NamesIndex
+pub use Rattle.pst_props.specs.Path
+pub use Rattle.pst_props.specs.Node
+pub use Rattle.pst_props.specs.Found
+pub use Rattle.pst_props.specs.Property
+pub use Rattle.pst_props.specs.Lists
 pub mod Head
 pub mod Nodes
 pub mod Check
-pub mod Told
 pub mod Folders
 pub mod FolderRows
 pub mod Contents
 pub mod Messages
 pub mod Listings
 pub mod RowCounts
-pub mod LastIndex
-pub mod NamesIndex
-pub mod Path
-pub mod Node
-pub mod Found
-pub mod Property
-pub mod Lists
 pub mod Output
 pub use Rattle.pst_verify.specs as pst_verify
 pub use Rattle.pst_verify.specs.pst_store as pst_store
@@ -34,3 +34,4 @@ pub use Rattle.pst_whole.specs.pst_damage as pst_damage
 pub use Rattle.pst_whole.specs.pst_remains as pst_remains
 pub use Rattle.pst_value_json.specs.pst_pc as pst_pc
 pub use Rattle.pst_value_json.specs.pst_datatree as pst_datatree
+pub use Rattle.pst_props.specs as pst_props

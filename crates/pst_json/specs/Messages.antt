@@ -8,8 +8,8 @@ use Rattle.pst_btree.specs.Entries.{first_with}
 use Rattle.pst_ndb.specs.Roots.{Roots, all_roots, subnode_of}
 use Rattle.pst_value_json.specs.pst_pc.Values.{Property, id_of, props_of}
 use Rattle.pst_value_json.specs.pst_tc.Values.{RowParts}
-use Rattle.pst_verify.specs.pst_msg.declared.items.Items.TheVariants.{Messages}
-use Rattle.pst_verify.specs.pst_msg.declared.nid.TheConstants.{MESSAGE}
+use Rattle.pst_verify.specs.pst_msg.pst_mail.declared.items.Items.TheVariants.{Messages}
+use Rattle.pst_verify.specs.pst_msg.pst_mail.declared.nid.TheConstants.{MESSAGE}
 use Rattle.pst_verify.specs.pst_msg.Nid.{is_type}
 use Rattle.pst_verify.specs.pst_msg.Shown.{attachment_rows, rows_there, folder_table}
 use Rattle.pst_verify.specs.pst_msg.Values.{is_folder}
@@ -17,11 +17,11 @@ use Rattle.pst_verify.specs.pst_store.Kind.{of_kind}
 use Rattle.pst_json.specs.declared.messages.TheConstants.{RECEIVED, SENT, SIZE}
 use Rattle.pst_json.specs.declared.texts.TheConstants.{CLASS, SENDER, SUBJECT}
 use Rattle.pst_json.specs.Folders.{row_total, text_property}
-use Rattle.pst_json.specs.Node.{recipient_nid}
-use Rattle.pst_value_json.specs.Line.{line_of}
-use Rattle.pst_value_json.specs.Names.{nid_data}
-use Rattle.pst_value_json.specs.Parts.{natural, list_data}
-use Rattle.pst_value_json.specs.Time.{time_or_null, i32_or_null}
+use Rattle.pst_props.specs.Node.{recipient_nid}
+use Rattle.pst_value_json.specs.pst_text.Line.{line_of}
+use Rattle.pst_value_json.specs.pst_text.Names.{nid_data}
+use Rattle.pst_value_json.specs.pst_text.Parts.{natural, list_data}
+use Rattle.pst_value_json.specs.pst_text.Time.{time_or_null, i32_or_null}
 
 -- ---- the folders that list a message
 

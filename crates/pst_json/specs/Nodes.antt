@@ -4,9 +4,9 @@ use Rattle.serde_json.specs.Data.{Data, object, member, no_members}
 use Rattle.pst_page.specs.declared.entry.NodeEntry.{NodeEntry}
 use Rattle.pst_btree.specs.Nodes.{nodes_left}
 use Rattle.pst_json.specs.declared.nodes.NodeRows.{NodeRows}
-use Rattle.pst_value_json.specs.Names.{nid_data}
-use Rattle.pst_value_json.specs.Parts.{natural, list_data}
-use Rattle.pst_value_json.specs.Line.{line_of}
+use Rattle.pst_value_json.specs.pst_text.Names.{nid_data}
+use Rattle.pst_value_json.specs.pst_text.Parts.{natural, list_data}
+use Rattle.pst_value_json.specs.pst_text.Line.{line_of}
 
 -- the members stand in the order of their keys' bytes
 unfoldable pub node_data : NodeEntry → Data

@@ -12,7 +12,7 @@ use Rattle.pst_verify.specs.pst_msg.Shown.{attachment_rows}
 use Rattle.pst_json.specs.declared.row_counts.Held.{Held}
 use Rattle.pst_json.specs.declared.row_counts.RowCounts.{RowCounts}
 use Rattle.pst_json.specs.Folders.{row_total}
-use Rattle.pst_json.specs.Node.{recipient_nid}
+use Rattle.pst_props.specs.Node.{recipient_nid}
 
 -- a message has so many attachments and recipients
 abbrev pub IsHeld : Table → Roots → Held → Type 0

@@ -1,26 +1,16 @@
 //! The report of a check as a document.
 
-ghost use Rattle.std.specs.Prelude.{◌≡◌, IfOk};
+ghost use Rattle.std.specs.Prelude.{◌≡◌, IfOk, OnOk};
 ghost use Rattle.serde_json.specs.Data.{string};
 ghost use Rattle.serde_json.specs.View.{view};
 ghost use Rattle.pst_json.specs.Check.{lost_data, lost_rows, report_parts, order_data, check_data, check_line as line_of_check};
 
 use pst_amap::BitOrder;
 use pst_bytes::Span;
-use pst_value_json::{Line, Made, Part, Rows, Sink, Tree};
+use pst_value_json::{Leaf, Line, Made, Part, Pen, Rows, Sink, Tree, only, put_comma};
 use pst_verify::Report;
-use serde_json::{Value as Doc, json};
+use serde_json::Value as Doc;
 use std::alloc::{AllocError, Global};
-
-// A lost run as an object.
-#[tactic(auto, unfolding(crate::specs::Check::lost_data))]
-fn lost_doc(alloc: Global, run: &Span) -> Result<Doc, AllocError>
-    ensures { IfOk result (λ d. view d ≡ lost_data run.now) }
-{
-    let at = run.at;
-    let len = run.len;
-    json!(in alloc; {"at": at, "len": len})
-}
 
 /// The lost runs from one on, each as an object.
 #[derive(Drop)]
@@ -29,17 +19,58 @@ pub(crate) struct LostRows<'a> {
     at: usize,
 }
 
-#[tactic(auto, using(crate::proofs::CheckLemmas::lost_has_none))]
+// Writes a lost run, as an object.
+#[tactic(auto, unfolding(crate::specs::Check::lost_data))]
+fn write_lost<P: Pen>(alloc: Global, run: Span, pen: &mut P) -> Result<(), AllocError>
+    ensures put { OnOk result (P.Puts pen.old pen.new (lost_data run)) }
+    ensures kept { (base : P) → P.Keeps base pen.old → P.Keeps base pen.new }
+{
+    pen.first(alloc, "at", b"{\"at\":")?;
+    pen.leaf(alloc, &Leaf::Natural(run.at))?;
+    pen.next(alloc, "len", b",\"len\":")?;
+    pen.leaf(alloc, &Leaf::Natural(run.len))?;
+    pen.close(alloc)
+}
+
+impl LostRows<'_> {
+    ghost use Rattle.std.specs.Prelude.{◌≡◌, [], ◌∷◌, MatchOption};
+    ghost use Rattle.pst_json.specs.Check.{lost_left};
+
+    // The next run.
+    fn next_run(&mut self) -> Option<Span>
+        ensures { MatchOption result (lost_left self.old ≡ [])
+            (λ run. lost_left self.old ≡ run ∷ lost_left self.new) }
+    {
+        let run = *self.runs.get(self.at)?;
+        self.at += 1;
+        Some(run)
+    }
+}
+
 impl Rows for LostRows<'_> {
     ghost left = { lost_rows };
 
     fn next_doc(&mut self, alloc: Global) -> Result<Option<Doc>, AllocError> {
-        if self.at >= self.runs.len() {
+        let Some(run) = self.next_run() else {
             return Ok(None);
-        }
-        let doc = lost_doc(alloc, &self.runs[self.at])?;
-        self.at += 1;
-        Ok(Some(doc))
+        };
+        let mut docs = Vec::new(alloc);
+        write_lost(alloc, run, &mut docs)?;
+        Ok(Some(only(docs)))
+    }
+
+    fn put_next(
+        &mut self,
+        alloc: Global,
+        later: bool,
+        text: &mut Vec<u8>,
+    ) -> Result<bool, AllocError> {
+        let Some(run) = self.next_run() else {
+            return Ok(false);
+        };
+        put_comma(later, text)?;
+        write_lost(alloc, run, text)?;
+        Ok(true)
     }
 }
 

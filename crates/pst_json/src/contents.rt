@@ -4,35 +4,33 @@ ghost use Rattle.std.specs.Prelude.{◌≡◌, ◌++◌, true, Ok, Err, IfOk, On
 ghost use Rattle.serde_json.specs.View.{view};
 ghost use Rattle.serde_json.specs.Written.{compact_text};
 ghost use Rattle.pst_block.specs.Table.{Table};
-ghost use Rattle.pst_ndb.specs.Views.{table_of_node, roots_of, IsIndexedBy};
+ghost use Rattle.pst_ndb.specs.Views.{table_of_node, roots_of};
 ghost use Rattle.pst_intact.specs.View.{table_of_intact, nodes_of_intact};
 ghost use Rattle.pst_whole.specs.View.{lost_in};
 ghost use Rattle.pst_value_json.specs.pst_pc.View.{node_of_pc};
 ghost use Rattle.pst_value_json.specs.pst_tc.Tc.{node_of_tc};
 ghost use Rattle.pst_value_json.specs.pst_tc.View.{row_parts};
-ghost use Rattle.pst_verify.specs.pst_msg.declared.items.Items.TheVariants.{Messages};
+ghost use Rattle.pst_verify.specs.pst_msg.pst_mail.declared.items.Items.TheVariants.{Messages};
 ghost use Rattle.pst_verify.specs.pst_msg.Left.{rows_of_rest};
 ghost use Rattle.pst_verify.specs.pst_msg.Nid.{is_type as is_type_of};
-ghost use Rattle.pst_verify.specs.pst_msg.declared.nid.TheConstants.{FOLDER as FOLDER_KIND};
+ghost use Rattle.pst_verify.specs.pst_msg.pst_mail.declared.nid.TheConstants.{FOLDER as FOLDER_KIND};
 ghost use Rattle.pst_ndb.specs.Roots.{node_in};
 ghost use Rattle.pst_verify.specs.pst_msg.Shown.{rows_there, folder_table};
 ghost use Rattle.pst_verify.specs.pst_msg.Values.{is_message};
 ghost use Rattle.pst_verify.specs.pst_store.Kind.{node_of_kind};
 ghost use Rattle.pst_verify.specs.pst_msg.View.{tc_roots, node_of_message, message_roots};
 ghost use Rattle.pst_json.specs.Contents.{text_there, listed_data, told_data, row_data, contents_data, contents_there, contents_of, contents_line as line_of_contents};
-ghost use Rattle.pst_json.specs.LastIndex.{IsLastIndex, last_in};
-ghost use Rattle.pst_json.specs.Told.{TellsDoc};
-ghost use Rattle.pst_value_json.specs.Kept.{BeginsWith};
+ghost use Rattle.pst_props.specs.LastIndex.{IsLastIndex};
+ghost use Rattle.pst_props.specs.Told.{TellsDoc};
+ghost use Rattle.pst_value_json.specs.pst_text.Kept.{BeginsWith};
 
-use crate::fault::DocFault;
-use crate::last_index::LastIndex;
 use crate::listed_rows::ListedRows;
 use crate::texts::{CLASS, SENDER, SUBJECT, put_text_property, text_property_doc};
 use pst_damage_json::fault_doc;
 use pst_fault::Fault;
 use pst_intact::Intact;
-use pst_msg::{Items, listing_nid};
-use pst_ndb::SubIndex;
+use pst_msg::{Items, known_message, listing_nid};
+use pst_props::{DocFault, LastIndex};
 use pst_value_json::{
     Line, Made, Part, Pc, Row, Sink, Tc, TcRows, Tree, nid_text, put_nid, put_null,
 };
@@ -53,8 +51,6 @@ fn message_in<'a>(
 ) -> Result<Option<Message<'a>>, AllocError>
     requires { IsLastIndex (table_of_intact intact.now) index.old }
     ensures known { IsLastIndex (table_of_intact intact.now) index.new }
-    ensures index { IfOk result (λ m.
-        IfSome m (λ x. IsIndexedBy (node_of_message x) (last_in index.new))) }
     ensures roots { let nodes = nodes_of_intact intact.now in
         IfOk result (λ m. option_map message_roots m ≡ node_of_kind is_message nodes nid) }
     ensures table { let t = table_of_intact intact.now in
@@ -69,16 +65,19 @@ fn message_in<'a>(
     }
 }
 
-// The properties of a message, where that is there, which finds its subnodes by an index.
-fn properties_of<'a>(message: Option<Message<'a>>, index: &'a SubIndex) -> Option<Pc<'a>>
-    requires { IfSome message (λ m. IsIndexedBy (node_of_message m) index.now) }
+// The properties of a message, where that is there, which is lent its indexes.
+fn properties_of<'a>(message: Option<Message<'a>>, index: &'a LastIndex) -> Option<Pc<'a>>
+    requires { IfSome message (λ m. IsLastIndex (table_of_node (node_of_message m)) index.now) }
     ensures roots { option_map (λ p. roots_of (node_of_pc p)) result ≡
         option_map message_roots message.entry }
     ensures table { (t : Table) → IfSome message.entry (λ m. table_of_node (node_of_message m) ≡ t)
         → IfSome result (λ p. table_of_node (node_of_pc p) ≡ t) }
 {
     match message {
-        Some(message) => Some(message.indexed(index).pc()),
+        Some(message) => {
+            message.is_sound();
+            Some(known_message(index.lend(message.node())).pc())
+        }
         None => None,
     }
 }
@@ -110,7 +109,7 @@ fn listed_doc(
         (row_parts row.entry)) }
 {
     let message = message_in(alloc, intact, row.id(), index)?;
-    let pc = properties_of(message, &index.subs);
+    let pc = properties_of(message, index);
     let class = text_of(alloc, pc, CLASS)?;
     let nid = nid_text(alloc, row.id())?;
     let sender = text_of(alloc, pc, SENDER)?;
@@ -184,7 +183,7 @@ fn put_listed(
     ensures kept { OnErr result (BeginsWith text.new.items text.old.items) }
 {
     let message = message_in(alloc, intact, row.id(), index)?;
-    let pc = properties_of(message, &index.subs);
+    let pc = properties_of(message, index);
     text.extend_from_slice(b"{\"class\":")?;
     put_text_of(alloc, &pc, CLASS, text)?;
     text.extend_from_slice(b",\"nid\":")?;
@@ -329,7 +328,7 @@ fn shown_contents<'a, S: Sink>(
 /// each row of its contents table, in order of their identifiers, with the class of the message, its identifier, who sent it, and
 /// its subject, each a text or null; or, of a message of which something is told, with that fault and its identifier. Bad with what
 /// is told of the folder or of that table; NoFolder where there is no node of type 02 with the identifier.
-#[tactic(auto, using(crate::proofs::FoundLemmas::tells_fault))]
+#[tactic(auto, using(pst_props::proofs::FoundLemmas::tells_fault))]
 pub fn contents_doc<'a>(
     alloc: Global,
     intact: &Intact<'a>,
@@ -345,7 +344,7 @@ pub fn contents_doc<'a>(
 
 /// The line that shows the messages of a folder: the compact text of their document, and a line feed; or why there is none. It is
 /// made message by message: beside the text, memory is taken for one at a time.
-#[tactic(auto, using(crate::proofs::FoundLemmas::lined_fault), unfolding(crate::specs::Contents::contents_line))]
+#[tactic(auto, using(pst_props::proofs::FoundLemmas::lined_fault), unfolding(crate::specs::Contents::contents_line))]
 pub fn contents_line<'a>(
     alloc: Global,
     intact: &Intact<'a>,

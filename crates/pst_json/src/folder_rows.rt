@@ -10,13 +10,13 @@ ghost use Rattle.pst_intact.specs.View.{table_of_intact, nodes_of_intact, folder
 ghost use Rattle.pst_verify.specs.pst_reach.Levels.{reaches_of};
 ghost use Rattle.pst_verify.specs.pst_reach.Path.{reach_nid};
 ghost use Rattle.pst_json.specs.Folders.{is_shown};
-ghost use Rattle.pst_json.specs.LastIndex.{IsLastIndex, IsLastIndex-prop};
+ghost use Rattle.pst_props.specs.LastIndex.{IsLastIndex, IsLastIndex-prop};
 ghost use Rattle.pst_json.specs.RowCounts.{AreCountsTrue, AreCountsTrue-prop};
 
 use crate::folders::{folder_doc, put_folder};
-use crate::last_index::LastIndex;
 use crate::row_counts::RowCounts;
 use pst_intact::{Intact, IntactFolder, IntactFolders};
+use pst_props::LastIndex;
 use pst_value_json::{Rows, put_comma};
 use pst_verify::{Reach, find_reach};
 use pst_whole::Lost;
@@ -145,7 +145,7 @@ impl<'a> FolderRows<'a> {
     }
 }
 
-#[tactic(auto, using(crate::proofs::FolderLemmas::folder_has_none, crate::proofs::RowCountLemmas::counts_of, crate::proofs::IndexLemmas::last_of))]
+#[tactic(auto, using(crate::proofs::RowCountLemmas::counts_of, pst_props::proofs::IndexLemmas::last_of))]
 impl Rows for FolderRows<'_> {
     ghost use Rattle.pst_json.specs.FolderRows.{folder_rows};
 

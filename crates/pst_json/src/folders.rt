@@ -16,20 +16,20 @@ ghost use Rattle.pst_whole.specs.View.{lost_in};
 ghost use Rattle.pst_verify.specs.pst_reach.Levels.{reaches_of};
 ghost use Rattle.pst_verify.specs.pst_reach.Path.{reach_nid, path_in};
 ghost use Rattle.pst_json.specs.Folders.{row_nid, row_total, text_property, path_data, count_data, nids_data, table_told, folder_data, folders_data, folders_line as line_of_folders};
-ghost use Rattle.pst_json.specs.LastIndex.{IsLastIndex};
+ghost use Rattle.pst_props.specs.LastIndex.{IsLastIndex};
 ghost use Rattle.pst_json.specs.RowCounts.{AreCountsTrue};
-ghost use Rattle.pst_value_json.specs.Kept.{BeginsWith};
-ghost use Rattle.pst_value_json.specs.Names.{nid_data};
-ghost use Rattle.pst_value_json.specs.Parts.{list_data};
+ghost use Rattle.pst_value_json.specs.pst_text.Kept.{BeginsWith};
+ghost use Rattle.pst_value_json.specs.pst_text.Names.{nid_data};
+ghost use Rattle.pst_value_json.specs.pst_text.Parts.{list_data};
 
 use crate::folder_rows::FolderRows;
-use crate::last_index::LastIndex;
 use crate::nid_lists::{put_nid_list, put_nids_of};
 use crate::row_counts::RowCounts;
 use crate::texts::{NAME, put_text_property, text_property_doc};
 use pst_fault::Fault;
 use pst_intact::{Intact, IntactFolder};
-use pst_msg::{FOLDER, Items, is_type, listing_nid};
+use pst_msg::{FOLDER, Items, is_type, known_pc, listing_nid};
+use pst_props::LastIndex;
 use pst_value_json::{Line, Part, Sink, Tc, Tree, nid_text, put_natural, put_nid, put_null};
 use pst_verify::{Reach, path_from_root};
 use pst_whole::Lost;
@@ -145,7 +145,8 @@ fn name_doc(alloc: Global, folder: &IntactFolder, index: &mut LastIndex) -> Resu
     folder.is_sound();
     let pc = folder.pc();
     index.turn(alloc, pc.node(), 1)?;
-    text_property_doc(alloc, &pc.indexed(&index.subs), NAME)
+    pc.is_sound();
+    text_property_doc(alloc, &known_pc(index.lend(pc.node())), NAME)
 }
 
 /// A folder as an object.
@@ -200,7 +201,8 @@ fn put_name(
     folder.is_sound();
     let pc = folder.pc();
     index.turn(alloc, pc.node(), 1)?;
-    put_text_property(alloc, &pc.indexed(&index.subs), NAME, text)
+    pc.is_sound();
+    put_text_property(alloc, &known_pc(index.lend(pc.node())), NAME, text)
 }
 
 // Puts the path of a folder behind a text, as `path_doc` shows it.

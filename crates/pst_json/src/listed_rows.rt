@@ -1,11 +1,11 @@
 //! The messages that are left of those that a table lists, row by row.
 
 ghost use Rattle.pst_intact.specs.View.{table_of_intact};
-ghost use Rattle.pst_json.specs.LastIndex.{IsLastIndex, IsLastIndex-prop};
+ghost use Rattle.pst_props.specs.LastIndex.{IsLastIndex, IsLastIndex-prop};
 
 use crate::contents::{put_row, row_doc};
-use crate::last_index::LastIndex;
 use pst_intact::Intact;
+use pst_props::LastIndex;
 use pst_value_json::{Rows, TcRows, put_comma};
 use pst_whole::Lost;
 use serde_json::Value as Doc;
@@ -23,7 +23,6 @@ pub(crate) struct ListedRows<'a> {
         (table_of_intact intact) index },
 }
 
-#[tactic(auto, using(crate::proofs::FolderLemmas::row_has_none))]
 impl Rows for ListedRows<'_> {
     ghost use Rattle.pst_json.specs.Contents.{listed_rows};
 

@@ -4,9 +4,9 @@ ghost use Rattle.std.specs.Prelude.{◌≡◌, ◌++◌, OnErr, OnOk, IfSome, op
 ghost use Rattle.serde_json.specs.Written.{compact_text};
 ghost use Rattle.pst_block.specs.Table.{Table};
 ghost use Rattle.pst_ndb.specs.Views.{table_of_node, roots_of};
-ghost use Rattle.pst_value_json.specs.Kept.{BeginsWith};
-ghost use Rattle.pst_value_json.specs.Names.{nid_data};
-ghost use Rattle.pst_value_json.specs.Parts.{list_data};
+ghost use Rattle.pst_value_json.specs.pst_text.Kept.{BeginsWith};
+ghost use Rattle.pst_value_json.specs.pst_text.Names.{nid_data};
+ghost use Rattle.pst_value_json.specs.pst_text.Parts.{list_data};
 ghost use Rattle.pst_value_json.specs.pst_tc.Tc.{node_of_tc};
 ghost use Rattle.pst_value_json.specs.pst_tc.Values.{tc_rows};
 ghost use Rattle.pst_verify.specs.pst_msg.Shown.{rows_there};

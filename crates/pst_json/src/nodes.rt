@@ -5,7 +5,7 @@ ghost use Rattle.serde_json.specs.View.{view};
 ghost use Rattle.serde_json.specs.Written.{compact_text};
 ghost use Rattle.pst_btree.specs.Trees.{node_entries};
 ghost use Rattle.pst_json.specs.Nodes.{node_data, node_rows, nodes_data, nodes_line as line_of_nodes};
-ghost use Rattle.pst_value_json.specs.Kept.{BeginsWith};
+ghost use Rattle.pst_value_json.specs.pst_text.Kept.{BeginsWith};
 
 use pst_btree::{NodeEntry, NodeTree, Nodes};
 use pst_value_json::{Line, Part, Rows, Sink, Tree, nid_text, put_comma, put_natural, put_nid};
@@ -46,7 +46,6 @@ fn put_node(entry: &NodeEntry, text: &mut Vec<u8>) -> Result<(), AllocError>
 #[derive(Drop)]
 pub(crate) struct NodeRows<'a>(Nodes<'a>);
 
-#[tactic(auto, using(crate::proofs::NodeLemmas::node_has_none))]
 impl Rows for NodeRows<'_> {
     ghost left = { node_rows };
 

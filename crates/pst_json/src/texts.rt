@@ -6,7 +6,7 @@ ghost use Rattle.serde_json.specs.Written.{compact_text};
 ghost use Rattle.pst_ndb.specs.Views.{table_of_node, roots_of};
 ghost use Rattle.pst_value_json.specs.pst_pc.View.{node_of_pc};
 ghost use Rattle.pst_json.specs.Folders.{text_property};
-ghost use Rattle.pst_value_json.specs.Kept.{BeginsWith};
+ghost use Rattle.pst_value_json.specs.pst_text.Kept.{BeginsWith};
 
 use pst_value_json::{Pc, PropType, put_null, put_text, text_doc};
 use serde_json::Value as Doc;

@@ -7,7 +7,7 @@ mod messages;
 mod nested;
 
 use crate::makers::{Blocks, Entry, plan_of};
-use crate::told::is;
+use crate::told::{MEMORY, is};
 use pst_bytes::Image;
 use pst_fault::Fault;
 use pst_make::{Plan, build};
@@ -15,7 +15,6 @@ use pst_msg::*;
 use pst_ndb::check_ndb;
 use std::alloc::Global;
 use std::process::Abort;
-use std::test::Fail;
 
 // The count of contexts, or the first fault.
 fn contexts_of(alloc: Global, image: &[u8]) -> Result<u64, Fault> {
@@ -27,28 +26,22 @@ fn contexts_of(alloc: Global, image: &[u8]) -> Result<u64, Fault> {
 }
 
 // The same as a line.
-fn line_of(alloc: Global, image: &[u8]) -> Result<String, Fail> {
+fn line_of<R: Abort>(rt: &R, alloc: Global, image: &[u8]) -> String {
     match contexts_of(alloc, image) {
-        Ok(contexts) => Ok(format!(in alloc; "yes {contexts}")?),
-        Err(fault) => Ok(format!(in alloc; "{fault}")?),
+        Ok(contexts) => format!(in alloc; "yes {contexts}").expect(rt, MEMORY),
+        Err(fault) => format!(in alloc; "{fault}").expect(rt, MEMORY),
     }
 }
 
 // Whether the messaging of a plan is answered with a line.
-fn is_answered<R: Abort + AllocGlobal>(rt: &R, plan: &Plan, line: &str) -> Result<(), Fail> {
+fn is_answered<R: Abort + AllocGlobal>(rt: &R, plan: &Plan, line: &str) {
     let image = build(rt.alloc(), plan).expect(rt, "not made");
-    let told = line_of(rt.alloc(), &image)?;
+    let told = line_of(rt, rt.alloc(), &image);
     is(rt, told.as_str(), line);
-    Ok(())
 }
 
 // Whether that of the small store with these blocks and nodes is.
-fn are_answered<R: Abort + AllocGlobal>(
-    rt: &R,
-    blocks: Blocks,
-    nodes: &[Entry],
-    line: &str,
-) -> Result<(), Fail> {
-    let plan = plan_of(rt.alloc(), blocks, nodes)?;
-    is_answered(rt, &plan, line)
+fn are_answered<R: Abort + AllocGlobal>(rt: &R, blocks: Blocks, nodes: &[Entry], line: &str) {
+    let plan = plan_of(rt, rt.alloc(), blocks, nodes);
+    is_answered(rt, &plan, line);
 }

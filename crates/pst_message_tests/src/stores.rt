@@ -8,6 +8,7 @@ mod reached;
 
 use crate::makers::Body::{Bytes, List, Table};
 use crate::makers::{Entry, add_blocks, add_nodes, node_of};
+use crate::told::MEMORY;
 use bodies::{EMBEDS, PLAIN};
 use pst_bytes::Image;
 use pst_make::{Plan, build, m1_plan};
@@ -15,7 +16,7 @@ use pst_msg::check_messaging;
 use pst_ndb::check_ndb;
 use pst_store::*;
 use std::alloc::Global;
-use std::test::Fail;
+use std::process::Abort;
 
 // The nodes that are added: a search folder, and messages.
 const NODES: [Entry; 4] = [
@@ -25,25 +26,23 @@ const NODES: [Entry; 4] = [
     (0x20_0044, 16, 0),
 ];
 
-fn image_of(alloc: Global, plan: &Plan) -> Result<Vec<u8>, Fail> {
-    let Ok(image) = build(alloc, plan) else {
-        return Err(Fail::from("not made"));
-    };
-    Ok(image)
+fn image_of<R: Abort>(rt: &R, alloc: Global, plan: &Plan) -> Vec<u8> {
+    build(alloc, plan).expect(rt, "not made")
 }
 
 // Adds the contents table of the root folder, behind its hierarchy table.
-fn insert_contents(plan: &mut Plan) -> Result<(), Fail> {
+fn insert_contents<R: Abort>(rt: &R, plan: &mut Plan) {
     if plan.nodes.len() < 3 {
-        return Err(Fail::from("too few nodes"));
+        rt.panic("too few nodes");
     }
-    plan.nodes.insert(3, node_of(0x12e, 20, 0))?;
-    Ok(())
+    plan.nodes
+        .insert(3, node_of(0x12e, 20, 0))
+        .expect(rt, MEMORY);
 }
 
 // A store with a root folder, a folder below it, a search folder, two messages in the root folder and one that belongs to it. The
 // first message has two recipients and two attachments, the second of which has these properties, and a message below it.
-fn image(alloc: Global, attachment: &[u8]) -> Result<Vec<u8>, Fail> {
+fn image<R: Abort>(rt: &R, alloc: Global, attachment: &[u8]) -> Vec<u8> {
     let blocks = [
         (16, Bytes(&PLAIN)),
         (20, Table(&[0x20_0024, 0x20_0044])),
@@ -60,22 +59,22 @@ fn image(alloc: Global, attachment: &[u8]) -> Result<Vec<u8>, Fail> {
             ]),
         ),
     ];
-    let mut plan = m1_plan(alloc)?;
-    add_blocks(alloc, &mut plan, &blocks)?;
-    insert_contents(&mut plan)?;
-    add_nodes(&mut plan, &NODES)?;
-    image_of(alloc, &plan)
+    let mut plan = m1_plan(alloc).expect(rt, MEMORY);
+    add_blocks(rt, alloc, &mut plan, &blocks);
+    insert_contents(rt, &mut plan);
+    add_nodes(rt, &mut plan, &NODES);
+    image_of(rt, alloc, &plan)
 }
 
 // The store that a file is.
-fn store_of(alloc: Global, image: &[u8]) -> Result<Store<'_>, Fail> {
+fn store_of<'a, R: Abort>(rt: &R, alloc: Global, image: &'a [u8]) -> Store<'a> {
     let Ok(checked) = check_ndb(alloc, Image::new(image)) else {
-        return Err(Fail::from("no node database"));
+        rt.panic("no node database");
     };
     let ndb = checked.ndb;
     let mut work = checked.work;
     match check_messaging(alloc, &ndb, &mut work) {
-        Ok(()) => Ok(Store::known(ndb)),
-        Err(_) => Err(Fail::from("refused")),
+        Ok(()) => Store::known(ndb),
+        Err(_) => rt.panic("refused"),
     }
 }

@@ -14,11 +14,11 @@ use Rattle.pst_ndb.specs.Views.{table_of_node, roots_of}
 use Rattle.pst_msg.specs.declared.frame.Frame.{Frame}
 use Rattle.pst_msg.specs.declared.known.Known.{Known}
 use Rattle.pst_msg.specs.declared.role.Role.TheVariants.{Properties}
-use Rattle.pst_msg.specs.Fault.{held_fault, message_at, below_message}
+use Rattle.pst_mail.specs.Fault.{held_fault, message_at, below_message}
 use Rattle.pst_msg.specs.Known.{IsTrueOf}
 use Rattle.pst_msg.specs.Frames.{left_of, holder_of, IsFrame, IsBelow, IsStack, IsBrokenBy, AreBrokenBy, WaitFor}
 use Rattle.pst_msg.proofs.GrowLemmas.{by_first}
-use Rattle.pst_msg.proofs.LimitLemmas.{held_limit}
+use Rattle.pst_mail.proofs.LimitLemmas.{held_limit}
 use Rattle.pst_msg.proofs.OpenLemmas.{message_held}
 
 -- a first fault of what a message holds is that under the limit of a file

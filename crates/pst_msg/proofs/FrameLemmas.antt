@@ -15,15 +15,15 @@ use Rattle.pst_subnode.specs.declared.check.TheConstants.{LISTS}
 use Rattle.pst_ndb.specs.declared.node.Node.{Node}
 use Rattle.pst_ndb.specs.Roots.{Roots}
 use Rattle.pst_ndb.specs.Views.{table_of_node, roots_of}
-use Rattle.pst_tc.specs.declared.rows.Rows.{Rows}
-use Rattle.pst_tc.specs.Left.{tc_rows_left}
+use Rattle.pst_msg.specs.declared.rest.Rest.{Rest}
+use Rattle.pst_msg.specs.Rest.{rows_left}
 use Rattle.pst_tc.specs.Values.{RowParts}
 use Rattle.pst_msg.specs.declared.frame.Frame.{Frame}
 use Rattle.pst_msg.specs.declared.known.Known.{Known}
 use Rattle.pst_msg.specs.declared.role.Role.TheVariants.{Properties}
 use Rattle.pst_msg.specs.Counts.{HasMessage}
-use Rattle.pst_msg.specs.Fault.{attachment_row_fault, held_fault, message_at, below_message, message_fault, attachment_fault}
-use Rattle.pst_msg.specs.Grammar.{IsAttachmentRow}
+use Rattle.pst_mail.specs.Fault.{attachment_row_fault, held_fault, message_at, below_message, message_fault, attachment_fault}
+use Rattle.pst_mail.specs.Grammar.{IsAttachmentRow}
 use Rattle.pst_msg.specs.Growth.{Grows}
 use Rattle.pst_msg.specs.Known.{WholeIn, NamedIn, HeldIn, IsTrueOf}
 use Rattle.pst_msg.specs.Steps.{frame_steps}
@@ -125,32 +125,32 @@ stack_refused t root k f below e known refused is = below_refused t root k (root
 row_contains : (x : RowParts) (xs rest : List RowParts) → xs ≡ x ∷ rest → Contains xs x
 row_contains x xs rest is = rw is (contains_here x rest)
 
-pub row_of_frame : (t : Table) (k : Known) (f : Frame) (rest : Rows) (x : RowParts) → tc_rows_left f.rest ≡ x ∷ tc_rows_left rest → IsFrame t k None None f → IsAttachmentRow t (roots_of f.node) x
-row_of_frame t k f rest x rows is = is.within x (row_contains x (tc_rows_left f.rest) (tc_rows_left rest) rows)
+pub row_of_frame : (t : Table) (k : Known) (f : Frame) (rest : Rest) (x : RowParts) → rows_left f.rest ≡ x ∷ rows_left rest → IsFrame t k None None f → IsAttachmentRow t (roots_of f.node) x
+row_of_frame t k f rest x rows is = is.within x (row_contains x (rows_left f.rest) (rows_left rest) rows)
 
 -- what is left is that of the row, and then of the rows after it
-row_left : (t : Table) (f : Frame) (rest : Rows) (x : RowParts) → tc_rows_left f.rest ≡ x ∷ tc_rows_left rest → left_of t f ≡ (attachment_row_fault t (below_message t f.limit) (roots_of f.node) f.bid x then left_of t (with_rest f rest))
+row_left : (t : Table) (f : Frame) (rest : Rest) (x : RowParts) → rows_left f.rest ≡ x ∷ rows_left rest → left_of t f ≡ (attachment_row_fault t (below_message t f.limit) (roots_of f.node) f.bid x then left_of t (with_rest f rest))
 unfolding first_of
 row_left t f rest x rows = ap (λ xs. first_of (attachment_row_fault t (below_message t f.limit) (roots_of f.node) f.bid) xs) rows
 
 -- a row is left, or named, or the one that is gone through
-rows_step : (t : Table) (k : Known) (waits : Option Roots) (f : Frame) (rest : Rows) (x : RowParts) → tc_rows_left f.rest ≡ x ∷ tc_rows_left rest → IsFrame t k None None f → NamedIn t k.attachments (roots_of f.node) x ⊎ IsWaited waits t (roots_of f.node) x → (y : RowParts) → IsAttachmentRow t (roots_of f.node) y → NamedIn t k.attachments (roots_of f.node) y ⊎ (IsWaited waits t (roots_of f.node) y ⊎ Contains (tc_rows_left rest) y)
+rows_step : (t : Table) (k : Known) (waits : Option Roots) (f : Frame) (rest : Rest) (x : RowParts) → rows_left f.rest ≡ x ∷ rows_left rest → IsFrame t k None None f → NamedIn t k.attachments (roots_of f.node) x ⊎ IsWaited waits t (roots_of f.node) x → (y : RowParts) → IsAttachmentRow t (roots_of f.node) y → NamedIn t k.attachments (roots_of f.node) y ⊎ (IsWaited waits t (roots_of f.node) y ⊎ Contains (rows_left rest) y)
 rows_step t k waits f rest x rows is here y row =
     elim (is.attachments y row) [
       | inl there ↦ inl there
       | inr (inl never) ↦ absurd never
-      | inr (inr left) ↦ elim (by_first (λ z. x ≡ z) x y (tc_rows_left rest) refl (rw rows at left)) [
+      | inr (inr left) ↦ elim (by_first (λ z. x ≡ z) x y (rows_left rest) refl (rw rows at left)) [
         | inl one ↦ elim here [ inl there ↦ inl (rw (← one) there) | inr waited ↦ inr (inl (rw (← one) waited)) ]
         | inr later ↦ inr (inr later)
       ]
     ]
 
-with_row : (t : Table) (k : Known) (now : Option Fault) (waits : Option Roots) (f : Frame) (rest : Rows) (x : RowParts) → tc_rows_left f.rest ≡ x ∷ tc_rows_left rest → IsFrame t k None None f → attachment_row_fault t (below_message t f.limit) (roots_of f.node) f.bid x ≡ now → NamedIn t k.attachments (roots_of f.node) x ⊎ IsWaited waits t (roots_of f.node) x → IsFrame t k now waits (with_rest f rest)
+with_row : (t : Table) (k : Known) (now : Option Fault) (waits : Option Roots) (f : Frame) (rest : Rest) (x : RowParts) → rows_left f.rest ≡ x ∷ rows_left rest → IsFrame t k None None f → attachment_row_fault t (below_message t f.limit) (roots_of f.node) f.bid x ≡ now → NamedIn t k.attachments (roots_of f.node) x ⊎ IsWaited waits t (roots_of f.node) x → IsFrame t k now waits (with_rest f rest)
 with_row t k now waits f rest x rows is first here = record {
   table = is.table;
   sound = is.sound;
   first = is.first ∙ row_left t f rest x rows ∙ ap (λ o. o then left_of t (with_rest f rest)) first;
-  within = λ y w. is.within y (rw rows (contains_later x y (tc_rows_left rest) w));
+  within = λ y w. is.within y (rw rows (contains_later x y (rows_left rest) w));
   properties = is.properties;
   recipients = is.recipients;
   tables = is.tables;
@@ -158,20 +158,20 @@ with_row t k now waits f rest x rows is first here = record {
 }
 
 -- one that is remembered
-pub frame_step : (t : Table) (H : List NodeEntry → Type 0) (a b : Known) (f : Frame) (rest : Rows) (x : RowParts) → Grows t H a b → IsFrame t a None None f → tc_rows_left f.rest ≡ x ∷ tc_rows_left rest → IsRowKnown t b (roots_of f.node) f.limit f.bid x → IsFrame t b None None (with_rest f rest)
+pub frame_step : (t : Table) (H : List NodeEntry → Type 0) (a b : Known) (f : Frame) (rest : Rest) (x : RowParts) → Grows t H a b → IsFrame t a None None f → rows_left f.rest ≡ x ∷ rows_left rest → IsRowKnown t b (roots_of f.node) f.limit f.bid x → IsFrame t b None None (with_rest f rest)
 frame_step t H a b f rest x g is rows known = with_row t b None None f rest x rows (frame_later t H a b None None f g is) known.first (inl known.there)
 
-pub fewer_left : (t : Table) (f : Frame) (rest : Rows) (x : RowParts) (most : ℕ) → tc_rows_left f.rest ≡ x ∷ tc_rows_left rest → frame_steps t f ≤ most → frame_steps t (with_rest f rest) ≤ most
+pub fewer_left : (t : Table) (f : Frame) (rest : Rest) (x : RowParts) (most : ℕ) → rows_left f.rest ≡ x ∷ rows_left rest → frame_steps t f ≤ most → frame_steps t (with_rest f rest) ≤ most
 fewer_left t f rest x most rows h = omega (arith, h, fewer_steps t f rest x rows)
 
 -- one with a fault
-pub frame_refused : (t : Table) (k : Known) (f : Frame) (rest : Rows) (x : RowParts) (e : Fault) → IsTrueOf t k → IsFrame t k None None f → tc_rows_left f.rest ≡ x ∷ tc_rows_left rest → IsFirst (attachment_row_fault t (below_message t f.limit) (roots_of f.node) f.bid x) e → IsFirst (message_at t f.limit (roots_of f.node)) e
+pub frame_refused : (t : Table) (k : Known) (f : Frame) (rest : Rest) (x : RowParts) (e : Fault) → IsTrueOf t k → IsFrame t k None None f → rows_left f.rest ≡ x ∷ rows_left rest → IsFirst (attachment_row_fault t (below_message t f.limit) (roots_of f.node) f.bid x) e → IsFirst (message_at t f.limit (roots_of f.node)) e
 frame_refused t k f rest x e known is rows refused =
     rw (message_held t f.limit (roots_of f.node) (known.contexts Properties (roots_of f.node) is.properties), is.first, row_left t f rest x rows)
     (is_first_then (attachment_row_fault t (below_message t f.limit) (roots_of f.node) f.bid x) (left_of t (with_rest f rest)) e refused)
 
 -- one in whose attachment there is a message to be gone through first
-pub frame_opened : (t : Table) (H : List NodeEntry → Type 0) (a b : Known) (old f : Frame) (rest : Rows) (x : RowParts) (above : Frame) → Grows t H a b → IsFrame t a None None f → tc_rows_left f.rest ≡ x ∷ tc_rows_left rest → IsRowOpened t b (roots_of f.node) f.limit f.bid x above → roots_of f.node ≡ roots_of old.node → f.limit ≡ old.limit → f.holder ≡ old.holder → frame_steps t f ≤ frame_steps t old → IsWentOn t b old (with_rest f rest) above
+pub frame_opened : (t : Table) (H : List NodeEntry → Type 0) (a b : Known) (old f : Frame) (rest : Rest) (x : RowParts) (above : Frame) → Grows t H a b → IsFrame t a None None f → rows_left f.rest ≡ x ∷ rows_left rest → IsRowOpened t b (roots_of f.node) f.limit f.bid x above → roots_of f.node ≡ roots_of old.node → f.limit ≡ old.limit → f.holder ≡ old.holder → frame_steps t f ≤ frame_steps t old → IsWentOn t b old (with_rest f rest) above
 frame_opened t H a b old f rest x above g is rows one roots limit holder steps =
     let waited : IsWaited (holder_of above) t (roots_of f.node) x = rw one.holder one.found in
     let row : IsAttachmentRow t (roots_of f.node) x = row_of_frame t a f rest x rows is in
@@ -187,11 +187,11 @@ frame_opened t H a b old f rest x above g is rows one roots limit holder steps =
     }
 
 -- a message of which no row is left
-pub held_done : (t : Table) (k : Known) (f : Frame) → IsFrame t k None None f → tc_rows_left f.rest ≡ [] → held_fault t (below_message t f.limit) (roots_of f.node) ≡ None
+pub held_done : (t : Table) (k : Known) (f : Frame) → IsFrame t k None None f → rows_left f.rest ≡ [] → held_fault t (below_message t f.limit) (roots_of f.node) ≡ None
 unfolding first_of
 held_done t k f is rows = is.first ∙ ap (λ xs. first_of (attachment_row_fault t (below_message t f.limit) (roots_of f.node) f.bid) xs) rows
 
-pub held_in : (t : Table) (k : Known) (f : Frame) → IsFrame t k None None f → tc_rows_left f.rest ≡ [] → HeldIn t k (roots_of f.node)
+pub held_in : (t : Table) (k : Known) (f : Frame) → IsFrame t k None None f → rows_left f.rest ≡ [] → HeldIn t k (roots_of f.node)
 held_in t k f is rows = record {
   recipients = is.recipients;
   tables = is.tables;
@@ -234,7 +234,7 @@ pub row_of_message : (t : Table) (r : Roots) (x : RowParts) (a b c : Known) → 
 row_of_message t r x a b c row g h = grows_then t (λ nodes. HasMessage t nodes r) a b c g (grows_of t (λ nodes. HasMessage t nodes r × IsAttachmentRow t r x) (λ nodes. HasMessage t nodes r) b c (λ nodes held. (held, row)) h)
 
 -- the rows that are left, told by another iterator
-pub frame_same : (t : Table) (k : Known) (f : Frame) (rest : Rows) → tc_rows_left rest ≡ tc_rows_left f.rest → IsFrame t k None None f → IsFrame t k None None (with_rest f rest)
+pub frame_same : (t : Table) (k : Known) (f : Frame) (rest : Rest) → rows_left rest ≡ rows_left f.rest → IsFrame t k None None f → IsFrame t k None None (with_rest f rest)
 frame_same t k f rest same is = record {
   table = is.table;
   sound = is.sound;

@@ -5,18 +5,18 @@ use Rattle.std.proofs.lemmas.Bool.Decides.{nat_tests}
 use Rattle.pst_page.specs.declared.entry.NodeEntry.{NodeEntry}
 use Rattle.pst_block.specs.Table.{Table}
 use Rattle.pst_ndb.specs.declared.node.Node.{Node}
-use Rattle.pst_msg.specs.declared.object.Object.{Object}
+use Rattle.pst_mail.specs.declared.object.Object.{Object}
 use Rattle.pst_tc.specs.Values.{RowParts, tc_rows}
 use Rattle.pst_names.specs.declared.name_map.TheConstants.{NAME_MAP}
 use Rattle.pst_ndb.specs.Roots.{Roots, subnode_of, node_in, all_roots}
 use Rattle.pst_ndb.specs.Views.{roots_of}
-use Rattle.pst_msg.specs.Values.{embedded_of, is_message, listing_of}
-use Rattle.pst_msg.specs.declared.items.Items.{Items}
+use Rattle.pst_mail.specs.Values.{embedded_of, is_message, listing_of}
+use Rattle.pst_mail.specs.declared.items.Items.{Items}
 use Rattle.pst_msg.specs.declared.known.Known.{Known}
-use Rattle.pst_msg.specs.declared.nid.TheConstants.{STORE, ROOT, FOLDER, SEARCH_FOLDER, ATTACHMENTS, RECIPIENTS}
+use Rattle.pst_mail.specs.declared.nid.TheConstants.{STORE, ROOT, FOLDER, SEARCH_FOLDER, ATTACHMENTS, RECIPIENTS}
 use Rattle.pst_msg.specs.declared.role.Role.TheVariants.{Properties, Listed, Recipients, Attachments}
-use Rattle.pst_msg.specs.Nid.{type_of, is_type}
-use Rattle.pst_msg.specs.Grammar.{IsAttachmentRow}
+use Rattle.pst_mail.specs.Nid.{type_of, is_type}
+use Rattle.pst_mail.specs.Grammar.{IsAttachmentRow}
 use Rattle.pst_msg.specs.Counts.{HasMessage, node, embedded, HasAttachment, attached, Names, of_store, of_root, of_names, of_folder, of_search, of_message, of_attachment, listed, recipients, attachments, IsNode}
 use Rattle.pst_msg.specs.Growth.{Grows, FolderIn, NodeIn}
 use Rattle.pst_msg.proofs.CountLemmas.{grows_then, grows_of}

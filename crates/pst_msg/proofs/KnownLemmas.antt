@@ -8,31 +8,28 @@ use Rattle.pst_subnode.specs.Tree.{sub_fault}
 use Rattle.pst_ndb.specs.declared.node.Node.{Node}
 use Rattle.pst_ndb.specs.Views.{table_of_node, roots_of}
 use Rattle.pst_ndb.specs.Roots.{Roots}
-use Rattle.pst_pc.specs.pst_heap.declared.maps.Maps.{Maps}
 use Rattle.pst_pc.specs.pst_heap.Maps.{AreMapsTrue}
-use Rattle.pst_msg.specs.declared.asked.Asked.{Asked}
 use Rattle.pst_msg.specs.declared.faults.Faults.{Faults}
-use Rattle.pst_msg.specs.declared.items.Items.TheVariants.{Subfolders, Messages, Associated}
+use Rattle.pst_mail.specs.declared.items.Items.TheVariants.{Subfolders, Messages, Associated}
 use Rattle.pst_msg.specs.declared.keys.Keys.{Keys}
 use Rattle.pst_msg.specs.declared.known.Known.{Known}
-use Rattle.pst_msg.specs.declared.list_index.ListIndex.{ListIndex}
-use Rattle.pst_msg.specs.declared.indexes.Indexes.{Indexes}
 use Rattle.pst_msg.specs.Indexes.{AreIndexes}
-use Rattle.pst_msg.specs.ListIndex.{IsIndexIn}
-use Rattle.pst_msg.specs.declared.nid.TheConstants.{ATTACHMENTS, RECIPIENTS}
+use Rattle.pst_msg.specs.LastIndexes.{AreLastIndexes}
+use Rattle.pst_mail.specs.declared.nid.TheConstants.{ATTACHMENTS, RECIPIENTS}
 use Rattle.pst_msg.specs.declared.role.Role.{Role}
 use Rattle.pst_msg.specs.declared.role.Role.TheVariants.{Properties, Listed, Recipients, Attachments}
 use Rattle.pst_ndb.specs.Alike.{Alike}
 use Rattle.pst_msg.specs.Asked.{AreAskedTrue}
-use Rattle.pst_msg.specs.Broken.{context_part, held_part}
+use Rattle.pst_msg.specs.Broken.{context_part, held_part, retold}
 use Rattle.pst_msg.specs.Faults.{AreFaultsOf}
 use Rattle.pst_msg.specs.Keys.{Key, key, list_key, holds, has}
 use Rattle.pst_msg.specs.Roles.{role_number, role_with, role_fault}
-use Rattle.pst_msg.specs.Fault.{held_fault, below_message, message_at, attachment_at, message_fault, attachment_fault}
+use Rattle.pst_msg.specs.RowCounts.{AreRowCounts}
+use Rattle.pst_mail.specs.Fault.{held_fault, below_message, message_at, attachment_at, message_fault, attachment_fault}
 use Rattle.pst_msg.specs.Known.{ListIn, MessagesAreTrue, AttachmentsAreTrue, ListsAreTrue, HeldIn, MessageIn, AttachmentIn, IsTrueOf}
-use Rattle.pst_msg.proofs.AlikeLemmas.{SameList, pc_alike, tc_alike, alike_law, held_alike, subnode_alike, row_alike, embedded_alike}
+use Rattle.pst_mail.proofs.AlikeLemmas.{SameList, pc_alike, tc_alike, alike_law, held_alike, subnode_alike, row_alike, embedded_alike}
 use Rattle.pst_msg.proofs.KeyLemmas.{alike_of_key, same_list, has_same}
-use Rattle.pst_msg.proofs.LimitLemmas.{message_limit, attachment_limit, held_limit}
+use Rattle.pst_mail.proofs.LimitLemmas.{message_limit, attachment_limit, held_limit}
 
 -- one more is in the set; and none is taken away
 abbrev pub OneMore : Keys → Keys → Key → Type 0
@@ -119,8 +116,8 @@ known_list t keys limit node same holds is sound =
 from_none : (keys : Keys) (P : Type 0) (q : Key) → ((k : Key) → holds keys k ≡ false) → holds keys q ≡ true → P
 from_none keys P q none there = absurd (false≢true (sym (none q) ∙ there))
 
-pub nothing_known : (t : Table) (k : Known) → ((q : Key) → holds k.contexts q ≡ false) → ((q : Key) → holds k.messages q ≡ false) → ((q : Key) → holds k.attachments q ≡ false) → ((q : Key) → holds k.lists q ≡ false) → IsIndexIn t k.index → AreIndexes t k.indexes → AreMapsTrue t k.maps → AreAskedTrue t k.asked → AreFaultsOf at_node (context_part t) k.broken → AreFaultsOf at_node (held_part t) k.broken_lists → IsTrueOf t k
-nothing_known t k contexts messages attachments lists index indexes maps asked broken broken_lists = record {
+pub nothing_known : (t : Table) (k : Known) → ((q : Key) → holds k.contexts q ≡ false) → ((q : Key) → holds k.messages q ≡ false) → ((q : Key) → holds k.attachments q ≡ false) → ((q : Key) → holds k.lists q ≡ false) → AreLastIndexes t k.index → AreIndexes t k.indexes → AreMapsTrue t k.maps → AreAskedTrue t k.asked → AreRowCounts t k.row_counts → AreFaultsOf at_node (context_part t) k.broken → AreFaultsOf retold (held_part t) k.broken_lists → IsTrueOf t k
+nothing_known t k contexts messages attachments lists index indexes maps asked row_counts broken broken_lists = record {
   contexts = λ role s there. from_none k.contexts _ _ contexts there;
   messages = λ s there. from_none k.messages _ _ messages there;
   attachments = λ s there. from_none k.attachments _ _ attachments there;
@@ -129,47 +126,12 @@ nothing_known t k contexts messages attachments lists index indexes maps asked b
   indexes = indexes;
   maps = maps;
   asked = asked;
+  row_counts = row_counts;
   broken = broken;
   broken_lists = broken_lists;
   messages_in = λ s there. from_none k.messages _ _ messages there;
   attachments_in = λ s there. from_none k.attachments _ _ attachments there;
   lists_in = λ s there. from_none k.lists _ _ lists there;
-}
-
--- ---- other indexes, more page maps, more that was asked, and more faults
-
-pub aids_turned : (t : Table) (k : Known) (index : ListIndex) (maps : Maps) (asked : Asked) (broken : Faults) → IsTrueOf t k → IsIndexIn t index → AreMapsTrue t maps → AreAskedTrue t asked → AreFaultsOf at_node (context_part t) broken → IsTrueOf t (record k { index = index; maps = maps; asked = asked; broken = broken })
-aids_turned t k index maps asked broken is turned more kept faults = record {
-  contexts = is.contexts;
-  messages = is.messages;
-  attachments = is.attachments;
-  lists = is.lists;
-  index = turned;
-  indexes = is.indexes;
-  maps = more;
-  asked = kept;
-  broken = faults;
-  broken_lists = is.broken_lists;
-  messages_in = λ s there. message_later t k _ s (λ q h. h) (λ q h. h) (is.messages_in s there);
-  attachments_in = λ s there. attachment_later t k _ s (λ q h. h) (λ q h. h) (is.attachments_in s there);
-  lists_in = λ s there. held_later t k _ s (λ q h. h) (λ q h. h) (is.lists_in s there);
-}
-
-pub indexes_turned : (t : Table) (k : Known) (indexes : Indexes) → IsTrueOf t k → AreIndexes t indexes → IsTrueOf t (record k { indexes = indexes })
-indexes_turned t k indexes is turned = record {
-  contexts = is.contexts;
-  messages = is.messages;
-  attachments = is.attachments;
-  lists = is.lists;
-  index = is.index;
-  indexes = turned;
-  maps = is.maps;
-  asked = is.asked;
-  broken = is.broken;
-  broken_lists = is.broken_lists;
-  messages_in = λ s there. message_later t k _ s (λ q h. h) (λ q h. h) (is.messages_in s there);
-  attachments_in = λ s there. attachment_later t k _ s (λ q h. h) (λ q h. h) (is.attachments_in s there);
-  lists_in = λ s there. held_later t k _ s (λ q h. h) (λ q h. h) (is.lists_in s there);
 }
 
 -- ---- one more is remembered
@@ -190,6 +152,7 @@ context_remembered t role r k new count is none more kept = record {
   indexes = is.indexes;
   maps = is.maps;
   asked = is.asked;
+  row_counts = is.row_counts;
   broken = is.broken;
   broken_lists = is.broken_lists;
   messages_in = λ s there. message_later t k _ s kept (λ q h. h) (is.messages_in s there);
@@ -211,6 +174,7 @@ message_remembered t known new limit node same is sound none inside more kept =
       indexes = is.indexes;
       maps = is.maps;
       asked = is.asked;
+      row_counts = is.row_counts;
       broken = is.broken;
       broken_lists = is.broken_lists;
       messages_in = λ s in_new. message_later t known _ s (λ q h. h) (λ q h. h) (elim (more (key 0 s) in_new) [ inl was ↦ is.messages_in s was | inr e ↦ message_in_alike t known r s (alike_of_key 0 0 r s e).1 inside ]);
@@ -232,6 +196,7 @@ attachment_remembered t known new limit node same is sound none inside more kept
       indexes = is.indexes;
       maps = is.maps;
       asked = is.asked;
+      row_counts = is.row_counts;
       broken = is.broken;
       broken_lists = is.broken_lists;
       messages_in = λ s there. message_later t known _ s (λ q h. h) kept (is.messages_in s there);
@@ -253,6 +218,7 @@ list_remembered t known new limit node same is sound none inside more kept =
       indexes = is.indexes;
       maps = is.maps;
       asked = is.asked;
+      row_counts = is.row_counts;
       broken = is.broken;
       broken_lists = is.broken_lists;
       messages_in = λ s there. message_later t known _ s (λ q h. h) (λ q h. h) (is.messages_in s there);
@@ -262,7 +228,7 @@ list_remembered t known new limit node same is sound none inside more kept =
 
 -- ---- one more fault of what messages hold in a list
 
-pub fault_remembered : (t : Table) (k : Known) (broken_lists : Faults) → IsTrueOf t k → AreFaultsOf at_node (held_part t) broken_lists → IsTrueOf t (record k { broken_lists = broken_lists })
+pub fault_remembered : (t : Table) (k : Known) (broken_lists : Faults) → IsTrueOf t k → AreFaultsOf retold (held_part t) broken_lists → IsTrueOf t (record k { broken_lists = broken_lists })
 fault_remembered t k broken_lists is faults = record {
   contexts = is.contexts;
   messages = is.messages;
@@ -272,6 +238,7 @@ fault_remembered t k broken_lists is faults = record {
   indexes = is.indexes;
   maps = is.maps;
   asked = is.asked;
+  row_counts = is.row_counts;
   broken = is.broken;
   broken_lists = faults;
   messages_in = λ s there. message_later t k _ s (λ q h. h) (λ q h. h) (is.messages_in s there);

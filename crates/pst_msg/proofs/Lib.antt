@@ -1,9 +1,12 @@
-pub mod SubnodeLemmas
-pub mod MessageLemmas
-pub mod LimitLemmas
-pub mod MessageLaws
-pub mod ContentsLaws
-pub mod AlikeLemmas
+pub use Rattle.pst_mail.proofs.SubnodeLemmas
+pub use Rattle.pst_mail.proofs.MessageLemmas
+pub use Rattle.pst_mail.proofs.LimitLemmas
+pub use Rattle.pst_mail.proofs.MessageLaws
+pub use Rattle.pst_mail.proofs.ContentsLaws
+pub use Rattle.pst_mail.proofs.AlikeLemmas
+pub use Rattle.pst_mail.proofs.ViewLemmas
+pub use Rattle.pst_mail.proofs.FolderLemmas
+pub use Rattle.pst_mail.proofs.LookUpLaws
 pub mod InsertLemmas
 pub mod RisingLemmas
 pub mod KeyOrderLemmas
@@ -11,7 +14,9 @@ pub mod AloneLemmas
 pub mod KeyLemmas
 pub mod IndexLemmas
 pub mod HeldLemmas
+pub mod RowCountLemmas
 pub mod KnownLemmas
+pub mod AidLemmas
 pub mod FaultsLemmas
 pub mod RetoldLemmas
 pub mod AskedLemmas
@@ -26,8 +31,5 @@ pub mod NamedLemmas
 pub mod MessagingLemmas
 pub mod NamesLaws
 pub mod OneCount
-pub mod ViewLemmas
-pub mod FolderLemmas
-pub mod LookUpLaws
 pub use Rattle.pst_pc.proofs as pst_pc
 pub use Rattle.pst_names.proofs as pst_names

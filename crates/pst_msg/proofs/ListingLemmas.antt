@@ -10,16 +10,16 @@ use Rattle.pst_ndb.specs.Roots.{Roots}
 use Rattle.pst_ndb.specs.Alike.{Alike}
 use Rattle.pst_tc.specs.Values.{info_of, tc_records, row_parts_at, tc_rows}
 use Rattle.pst_tc.proofs.AlikeLaws.{rows_alike}
-use Rattle.pst_msg.specs.declared.items.Items.{Items}
-use Rattle.pst_msg.specs.declared.items.Items.TheVariants.{Subfolders}
+use Rattle.pst_mail.specs.declared.items.Items.{Items}
+use Rattle.pst_mail.specs.declared.items.Items.TheVariants.{Subfolders}
 use Rattle.pst_msg.specs.declared.keys.Keys.{Keys}
 use Rattle.pst_msg.specs.declared.role.Role.{Role}
 use Rattle.pst_msg.specs.declared.role.Role.TheVariants.{Properties, Listed, Recipients, Attachments}
-use Rattle.pst_msg.specs.Fault.{listed_item_fault}
+use Rattle.pst_mail.specs.Fault.{listed_item_fault}
 use Rattle.pst_msg.specs.Keys.{Key, data_key, holds}
 use Rattle.pst_msg.specs.Known.{ListingsAreTrue}
 use Rattle.pst_msg.specs.Roles.{role_number}
-use Rattle.pst_msg.proofs.ContentsLaws.{item_none, none_item}
+use Rattle.pst_mail.proofs.ContentsLaws.{item_none, none_item}
 use Rattle.pst_msg.proofs.KeyLemmas.{same_data}
 use Rattle.pst_msg.proofs.KnownLemmas.{OneMore, same_role}
 

@@ -8,9 +8,9 @@ use Rattle.pst_fault.proofs.FirstLemmas.{only_memory}
 use Rattle.pst_ndb.specs.declared.ndb.Ndb.{Ndb}
 use Rattle.pst_ndb.specs.Fault.{nodes_fault}
 use Rattle.pst_ndb.specs.Views.{table_of_ndb, nodes_of}
-use Rattle.pst_msg.specs.Fault.{messaging_fault}
-use Rattle.pst_msg.specs.Grammar.{Contents}
-use Rattle.pst_msg.proofs.ContentsLaws.{contents_law}
+use Rattle.pst_mail.specs.Fault.{messaging_fault}
+use Rattle.pst_mail.specs.Grammar.{Contents}
+use Rattle.pst_mail.proofs.ContentsLaws.{contents_law}
 
 pub found_contents : (ndb : Ndb) (result : Result (Unit {0}) Fault) → nodes_fault (table_of_ndb ndb) (nodes_of ndb) ≡ None → Tells result (messaging_fault (table_of_ndb ndb) (nodes_of ndb)) tt → OnOk result (Contents (table_of_ndb ndb) (nodes_of ndb))
 found_contents ndb (Ok x) trees told = (contents_law (table_of_ndb ndb) (nodes_of ndb) trees).1 told.0

@@ -8,9 +8,9 @@ use Rattle.pst_page.specs.declared.entry.NodeEntry.{NodeEntry}
 use Rattle.pst_block.specs.Table.{Table}
 use Rattle.pst_ndb.specs.Roots.{Roots}
 use Rattle.pst_msg.specs.declared.known.Known.{Known}
-use Rattle.pst_msg.specs.declared.nid.TheConstants.{FOLDER, SEARCH_FOLDER}
+use Rattle.pst_mail.specs.declared.nid.TheConstants.{FOLDER, SEARCH_FOLDER}
 use Rattle.pst_msg.specs.declared.role.Role.{Role}
-use Rattle.pst_msg.specs.Nid.{type_of, is_type}
+use Rattle.pst_mail.specs.Nid.{type_of, is_type}
 use Rattle.pst_msg.specs.Keys.{Key, key_cmp, keys_in, holds}
 use Rattle.pst_msg.specs.Known.{ContextIn, WholeIn, IsTrueOf}
 use Rattle.pst_msg.specs.Counts.{HasMessage, node, embedded, HasAttachment, attached, Names, of_store, of_root, of_names, of_folder, of_search, of_message, of_attachment, listed, recipients, attachments, IsNamed, IsRaised}

@@ -16,28 +16,28 @@ use Rattle.pst_ndb.specs.Roots.{Roots, subnode_of}
 use Rattle.pst_ndb.specs.Views.{table_of_node, sub_bid_of, roots_of}
 use Rattle.pst_pc.specs.Fault.{pc_fault}
 use Rattle.pst_tc.specs.Fault.{tc_fault}
-use Rattle.pst_tc.specs.Left.{tc_rows_left}
+use Rattle.pst_msg.specs.Rest.{rows_left}
 use Rattle.pst_tc.specs.Values.{RowParts, tc_rows}
 use Rattle.pst_msg.specs.declared.frame.Frame.{Frame}
 use Rattle.pst_msg.specs.declared.known.Known.{Known}
-use Rattle.pst_msg.specs.declared.nid.TheConstants.{ATTACHMENT, ATTACHMENTS, RECIPIENTS}
-use Rattle.pst_msg.specs.declared.object.Object.{Object}
+use Rattle.pst_mail.specs.declared.nid.TheConstants.{ATTACHMENT, ATTACHMENTS, RECIPIENTS}
+use Rattle.pst_mail.specs.declared.object.Object.{Object}
 use Rattle.pst_msg.specs.declared.role.Role.TheVariants.{Properties, Recipients, Attachments}
-use Rattle.pst_msg.specs.Nid.{is_type, named}
+use Rattle.pst_mail.specs.Nid.{is_type, named}
 use Rattle.pst_msg.specs.Counts.{embedded, attached}
-use Rattle.pst_msg.specs.Fault.{attachment_row_fault, attachments_fault, held_fault, message_part, embedded_fault, attachment_part, message_at, attachment_at, below_message, below_attachment, message_fault, attachment_fault}
+use Rattle.pst_mail.specs.Fault.{attachment_row_fault, attachments_fault, held_fault, message_part, embedded_fault, attachment_part, message_at, attachment_at, below_message, below_attachment, message_fault, attachment_fault}
 use Rattle.pst_msg.specs.Growth.{Grows}
 use Rattle.pst_msg.specs.Known.{ContextIn, WholeIn, IsTrueOf}
-use Rattle.pst_msg.specs.Values.{embedded_of}
+use Rattle.pst_mail.specs.Values.{embedded_of}
 use Rattle.pst_msg.specs.Steps.{message_steps}
 use Rattle.pst_msg.specs.Frames.{IsOpened, IsObjectOpened, AttachmentKnown, IsAttachmentOpened, IsRowKnown, IsRowOpened}
 use Rattle.pst_msg.proofs.CountLemmas.{grows_of}
 use Rattle.pst_msg.proofs.KnownLemmas.{known_attachment}
-use Rattle.pst_msg.proofs.LimitLemmas.{message_limit, held_limit}
-use Rattle.pst_msg.proofs.MessageLemmas.{message_is, attachment_is, below_message_is, below_attachment_is}
-use Rattle.pst_msg.proofs.SubnodeLemmas.{subnode_below}
+use Rattle.pst_mail.proofs.LimitLemmas.{message_limit, held_limit}
+use Rattle.pst_mail.proofs.MessageLemmas.{message_is, attachment_is, below_message_is, below_attachment_is}
+use Rattle.pst_mail.proofs.SubnodeLemmas.{subnode_below}
 use Rattle.pst_msg.proofs.StepLemmas.{opened_steps, embedded_steps, row_steps_is}
-use Rattle.pst_msg.proofs.ViewLemmas.{subnode_sound}
+use Rattle.pst_mail.proofs.ViewLemmas.{subnode_sound}
 
 -- ---- under the limit of a file
 
@@ -93,7 +93,7 @@ held_without t below r recipients is =
     then_none (if_there (tc_fault t) (subnode_of t r RECIPIENTS)) (if_there (attachments_fault t below r) (subnode_of t r ATTACHMENTS)) recipients
     ∙ ap (λ o. if_there (attachments_fault t below r) o) (sym is)
 
-pub opened : (t : Table) (k : Known) (f : Frame) (table : Roots) → table_of_node f.node ≡ t → sub_fault t f.limit (sub_bid_of f.node) ≡ None → if_there (tc_fault t) (subnode_of t (roots_of f.node) RECIPIENTS) ≡ None → subnode_of t (roots_of f.node) ATTACHMENTS ≡ Some table → tc_fault t table ≡ None → f.bid ≡ table.bid_data → tc_rows_left f.rest ≡ tc_rows t table → ContextIn k Properties (roots_of f.node) → ((s : Roots) → subnode_of t (roots_of f.node) RECIPIENTS ≡ Some s → ContextIn k Recipients s) → ContextIn k Attachments table → IsOpened t k (roots_of f.node) f.limit f.holder f
+pub opened : (t : Table) (k : Known) (f : Frame) (table : Roots) → table_of_node f.node ≡ t → sub_fault t f.limit (sub_bid_of f.node) ≡ None → if_there (tc_fault t) (subnode_of t (roots_of f.node) RECIPIENTS) ≡ None → subnode_of t (roots_of f.node) ATTACHMENTS ≡ Some table → tc_fault t table ≡ None → f.bid ≡ table.bid_data → rows_left f.rest ≡ tc_rows t table → ContextIn k Properties (roots_of f.node) → ((s : Roots) → subnode_of t (roots_of f.node) RECIPIENTS ≡ Some s → ContextIn k Recipients s) → ContextIn k Attachments table → IsOpened t k (roots_of f.node) f.limit f.holder f
 opened t k f table same sound recipients is none bid rows properties recipients_in there =
     let part = λ (b : ℕ). attachment_row_fault t (below_message t f.limit) (roots_of f.node) b in
     record {

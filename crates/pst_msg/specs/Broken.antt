@@ -1,12 +1,14 @@
 -- The faults of contexts, and of what messages hold in their lists of subnodes, as those of parts that any node may lead to.
-use Rattle.std.specs.Prelude.{ℕ, Bool, true, false}
+use Rattle.std.specs.Prelude.{◌≡◌, ℕ, Bool, true, false, if◌then◌else◌}
+use Rattle.pst_fault.specs.declared.fault.Fault.{Fault}
 use Rattle.pst_fault.specs.declared.kind.Kind.{Kind}
 use Rattle.pst_fault.specs.declared.kind.Kind.TheVariants.{Subnode, Heap, HeapId, Bth, Property, Table as BadTable}
+use Rattle.pst_fault.specs.Fault.{at_node}
 use Rattle.pst_block.specs.Table.{Table}
 use Rattle.pst_subnode.specs.declared.check.TheConstants.{LISTS}
 use Rattle.pst_ndb.specs.Roots.{Roots}
-use Rattle.pst_msg.specs.Fault.{held_fault, below_message}
-use Rattle.pst_msg.specs.Faults.{Parts}
+use Rattle.pst_mail.specs.Fault.{held_fault, below_message}
+use Rattle.pst_msg.specs.Faults.{Parts, Retelling}
 use Rattle.pst_msg.specs.Keys.{Key}
 use Rattle.pst_msg.specs.Roles.{role_with, role_fault}
 
@@ -35,3 +37,11 @@ is_of_a_context Bth = true
 is_of_a_context Property = true
 is_of_a_context BadTable = true
 is_of_a_context _ = false
+
+-- So it is told of another node that leads to the list: a fault of a context of that node, another one as it is.
+abbrev pub retold : Retelling
+retold nid f = if is_of_a_context f.kind then at_node nid f else f
+
+-- a fault that is told of a node: it is of a context, or names another node
+abbrev pub IsAlike : ℕ → Fault → Type 0
+IsAlike nid f = is_of_a_context f.kind ≡ false → f.place.nid ≡ nid → ⊥

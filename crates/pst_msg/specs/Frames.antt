@@ -11,26 +11,26 @@ use Rattle.pst_subnode.specs.Tree.{sub_fault}
 use Rattle.pst_ndb.specs.declared.node.Node.{Node}
 use Rattle.pst_ndb.specs.Roots.{Roots, subnode_of}
 use Rattle.pst_ndb.specs.Views.{table_of_node, sub_bid_of, roots_of}
-use Rattle.pst_tc.specs.declared.rows.Rows.{Rows}
-use Rattle.pst_tc.specs.Left.{tc_rows_left}
+use Rattle.pst_msg.specs.declared.rest.Rest.{Rest}
+use Rattle.pst_msg.specs.Rest.{rows_left}
 use Rattle.pst_tc.specs.Values.{RowParts}
 use Rattle.pst_msg.specs.declared.frame.Frame.{Frame}
 use Rattle.pst_msg.specs.declared.known.Known.{Known}
-use Rattle.pst_msg.specs.declared.nid.TheConstants.{ATTACHMENTS, RECIPIENTS}
-use Rattle.pst_msg.specs.declared.object.Object.{Object}
+use Rattle.pst_mail.specs.declared.nid.TheConstants.{ATTACHMENTS, RECIPIENTS}
+use Rattle.pst_mail.specs.declared.object.Object.{Object}
 use Rattle.pst_msg.specs.declared.role.Role.TheVariants.{Properties, Recipients, Attachments}
 use Rattle.pst_msg.specs.Counts.{HasMessage, HasAttachment}
-use Rattle.pst_msg.specs.Fault.{attachment_row_fault, held_fault, message_at, attachment_at, below_message}
-use Rattle.pst_msg.specs.Grammar.{IsAttachmentRow}
+use Rattle.pst_mail.specs.Fault.{attachment_row_fault, held_fault, message_at, attachment_at, below_message}
+use Rattle.pst_mail.specs.Grammar.{IsAttachmentRow}
 use Rattle.pst_msg.specs.Known.{ContextIn, WholeIn, NamedIn}
 use Rattle.pst_msg.specs.Steps.{frame_steps, message_steps, attachment_steps, row_steps, steps_below_message}
-use Rattle.pst_msg.specs.Values.{embedded_of}
+use Rattle.pst_mail.specs.Values.{embedded_of}
 
 -- ---- one message on the stack
 
 -- the first fault of the rows that are left
 abbrev pub left_of : Table → Frame → Option Fault
-left_of t f = first_of (attachment_row_fault t (below_message t f.limit) (roots_of f.node) f.bid) (tc_rows_left f.rest)
+left_of t f = first_of (attachment_row_fault t (below_message t f.limit) (roots_of f.node) f.bid) (rows_left f.rest)
 
 -- the attachment that embeds it, where one does
 abbrev pub holder_of : Frame → Option Roots
@@ -48,13 +48,13 @@ pub record IsFrame (t : Table) (k : Known) (now : Option Fault) (waits : Option 
   pub sound : sub_fault t f.limit (sub_bid_of f.node) ≡ None
   -- the first fault of what it holds is that of what is above it, and else of its rows that are left
   pub first : held_fault t (below_message t f.limit) (roots_of f.node) ≡ (now then left_of t f)
-  pub within : (x : RowParts) → Contains (tc_rows_left f.rest) x → IsAttachmentRow t (roots_of f.node) x
+  pub within : (x : RowParts) → Contains (rows_left f.rest) x → IsAttachmentRow t (roots_of f.node) x
   -- what it names is remembered, but for the rows that are left
   pub properties : ContextIn k Properties (roots_of f.node)
   pub recipients : (s : Roots) → subnode_of t (roots_of f.node) RECIPIENTS ≡ Some s → ContextIn k Recipients s
   pub tables : (s : Roots) → subnode_of t (roots_of f.node) ATTACHMENTS ≡ Some s → ContextIn k Attachments s
   pub attachments : (x : RowParts) → IsAttachmentRow t (roots_of f.node) x →
-      NamedIn t k.attachments (roots_of f.node) x ⊎ (IsWaited waits t (roots_of f.node) x ⊎ Contains (tc_rows_left f.rest) x)
+      NamedIn t k.attachments (roots_of f.node) x ⊎ (IsWaited waits t (roots_of f.node) x ⊎ Contains (rows_left f.rest) x)
 
 -- an attachment embeds this message, and its own properties are remembered
 pub record IsHolder (t : Table) (k : Known) (r : Roots) (a : Node) : Type 0 where
@@ -159,7 +159,7 @@ pub record IsRowOpened (t : Table) (k : Known) (r : Roots) (limit : ℕ) (bid : 
   pub reached : (nodes : List NodeEntry) → HasMessage t nodes r → IsAttachmentRow t r x → HasMessage t nodes (roots_of f.node)
 
 -- a message with these rows left
-abbrev pub with_rest : Frame → Rows → Frame
+abbrev pub with_rest : Frame → Rest → Frame
 with_rest f rest = record f { rest = rest }
 
 -- A message is gone on with, up to one in it that is put above it: what was left of it is what is left of both.

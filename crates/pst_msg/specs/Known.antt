@@ -11,23 +11,24 @@ use Rattle.pst_subnode.specs.Tree.{sub_fault}
 use Rattle.pst_ndb.specs.Roots.{Roots, subnode_of}
 use Rattle.pst_pc.specs.pst_heap.Maps.{AreMapsTrue}
 use Rattle.pst_tc.specs.Values.{RowParts, tc_rows}
-use Rattle.pst_msg.specs.declared.items.Items.{Items}
+use Rattle.pst_mail.specs.declared.items.Items.{Items}
 use Rattle.pst_msg.specs.declared.keys.Keys.{Keys}
 use Rattle.pst_msg.specs.declared.known.Known.{Known}
-use Rattle.pst_msg.specs.declared.nid.TheConstants.{ATTACHMENTS, RECIPIENTS}
-use Rattle.pst_msg.specs.declared.object.Object.{Object}
+use Rattle.pst_mail.specs.declared.nid.TheConstants.{ATTACHMENTS, RECIPIENTS}
+use Rattle.pst_mail.specs.declared.object.Object.{Object}
 use Rattle.pst_msg.specs.declared.role.Role.{Role}
 use Rattle.pst_msg.specs.declared.role.Role.TheVariants.{Properties, Listed, Recipients, Attachments}
 use Rattle.pst_msg.specs.Asked.{AreAskedTrue}
-use Rattle.pst_msg.specs.Broken.{context_part, held_part}
+use Rattle.pst_msg.specs.Broken.{context_part, held_part, retold}
 use Rattle.pst_msg.specs.Faults.{AreFaultsOf}
 use Rattle.pst_msg.specs.Keys.{holds, has, data_key, list_key}
-use Rattle.pst_msg.specs.ListIndex.{IsIndexIn}
+use Rattle.pst_msg.specs.LastIndexes.{AreLastIndexes}
 use Rattle.pst_msg.specs.Indexes.{AreIndexes}
 use Rattle.pst_msg.specs.Roles.{role_number, role_fault}
-use Rattle.pst_msg.specs.Values.{embedded_of}
-use Rattle.pst_msg.specs.Fault.{held_fault, below_message, message_fault, attachment_fault, listed_item_fault}
-use Rattle.pst_msg.specs.Grammar.{IsAttachmentRow}
+use Rattle.pst_msg.specs.RowCounts.{AreRowCounts}
+use Rattle.pst_mail.specs.Values.{embedded_of}
+use Rattle.pst_mail.specs.Fault.{held_fault, below_message, message_fault, attachment_fault, listed_item_fault}
+use Rattle.pst_mail.specs.Grammar.{IsAttachmentRow}
 
 -- a context is remembered in a role; a message, an attachment is remembered, whole; what a message holds is, by its list alone
 abbrev pub ContextIn : Known → Role → Roots → Type 0
@@ -86,13 +87,14 @@ pub record IsTrueOf (t : Table) (k : Known) : Type 0 where
   pub messages : MessagesAreTrue t k.messages
   pub attachments : AttachmentsAreTrue t k.attachments
   pub lists : ListsAreTrue t k.lists
-  pub index : IsIndexIn t k.index
+  pub index : AreLastIndexes t k.index
   pub indexes : AreIndexes t k.indexes
   pub maps : AreMapsTrue t k.maps
   pub asked : AreAskedTrue t k.asked
+  pub row_counts : AreRowCounts t k.row_counts
   -- each fault that is remembered is that of its context, or of what a message holds in its list
   pub broken : AreFaultsOf at_node (context_part t) k.broken
-  pub broken_lists : AreFaultsOf at_node (held_part t) k.broken_lists
+  pub broken_lists : AreFaultsOf retold (held_part t) k.broken_lists
   -- it is closed
   pub messages_in : (r : Roots) → WholeIn k.messages r → MessageIn t k r
   pub attachments_in : (r : Roots) → WholeIn k.attachments r → AttachmentIn t k r

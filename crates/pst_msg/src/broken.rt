@@ -1,8 +1,8 @@
 //! What is broken, as parts that any node may lead to.
 
-ghost use Rattle.std.specs.Prelude.{◌≡◌};
+ghost use Rattle.std.specs.Prelude.{◌≡◌, true};
 ghost use Rattle.pst_ndb.specs.Views.{roots_of};
-ghost use Rattle.pst_msg.specs.Broken.{roots_at, list_part, is_of_a_context as of_a_context};
+ghost use Rattle.pst_msg.specs.Broken.{roots_at, list_part, is_of_a_context as of_a_context, retold, IsAlike};
 
 use crate::faults::Part;
 use pst_fault::{Fault, Kind};
@@ -23,8 +23,8 @@ pub(crate) fn part_of_list(node: Node) -> Part
     ((0, node.bid_sub()), 0)
 }
 
-/// Whether a fault is that of a context: what names none, or another node than it should, is told of what it names.
-pub(crate) fn is_of_a_context(fault: Fault) -> bool
+// Whether a fault is that of a context: what names none, or another node than it should, is told of what it names.
+fn is_of_a_context(fault: Fault) -> bool
     ensures { result ≡ of_a_context fault.kind }
 {
     match fault.kind {
@@ -32,4 +32,22 @@ pub(crate) fn is_of_a_context(fault: Fault) -> bool
             true,
         _ => false,
     }
+}
+
+/// Whether a fault of what a message holds, which was told of this node, is the same in each message that has its list of subnodes:
+/// that of a context is, told of its own node, and so is one that names another node, which is what is missing there.
+pub(crate) fn is_alike(fault: Fault, nid: u32) -> bool
+    ensures { result ≡ true → IsAlike nid fault }
+{
+    is_of_a_context(fault) || fault.place.nid != nid
+}
+
+/// A fault of what a message holds, told of another node that has its list of subnodes.
+pub(crate) fn told_of(fault: Fault, nid: u32) -> Fault
+    ensures { result ≡ retold nid fault }
+{
+    if is_of_a_context(fault) {
+        return fault.at_node(nid);
+    }
+    fault
 }

@@ -10,27 +10,26 @@ ghost use Rattle.pst_ndb.specs.Views.{table_of_node, table_of_ndb, nodes_of, roo
 ghost use Rattle.pst_names.specs.declared.name_map.TheConstants.{NAME_MAP};
 ghost use Rattle.pst_msg.specs.declared.role.Role.TheVariants.{Properties};
 ghost use Rattle.pst_msg.specs.Counts.{Names, IsRaised};
-ghost use Rattle.pst_msg.specs.Fault.{required_fault, name_map_fault, typed_node_fault, messaging_fault};
-ghost use Rattle.pst_msg.specs.Grammar.{Contents};
+ghost use Rattle.pst_mail.specs.Fault.{required_fault, name_map_fault, typed_node_fault, messaging_fault};
+ghost use Rattle.pst_mail.specs.Grammar.{Contents};
 ghost use Rattle.pst_msg.specs.Growth.{Grows, PropertiesIn, NodeIn, AllIn};
 ghost use Rattle.pst_msg.specs.Known.{ContextIn, ListingsAreTrue, IsTrueOf};
 
 use crate::context::once;
 use crate::folder::check_folder;
 use crate::keys::Keys;
-use crate::kinds::is_message;
 use crate::known::Known;
 use crate::message::check_message;
-use crate::nid::{FOLDER, ROOT, SEARCH_FOLDER, STORE, is_type, named};
 use crate::role::Role;
 use pst_fault::{Fault, Kind};
+use pst_mail::{FOLDER, ROOT, SEARCH_FOLDER, STORE, is_message, is_type, named};
 use pst_names::{NAME_MAP, check_names};
 use pst_ndb::{Ndb, Node, Work};
 use pst_pc::known_pc;
 use std::alloc::Global;
 
 // A node that every store has.
-#[tactic(auto, unfolding(crate::specs::Fault::required_fault))]
+#[tactic(auto, unfolding(pst_mail::specs::Fault::required_fault))]
 fn check_required(ndb: &Ndb, nid: u32, known: &mut Known) -> Result<(), Fault>
     requires { IsTrueOf (table_of_ndb ndb.now) known.old }
     ensures known { IsTrueOf (table_of_ndb ndb.now) known.new }
@@ -51,7 +50,7 @@ fn check_required(ndb: &Ndb, nid: u32, known: &mut Known) -> Result<(), Fault>
 }
 
 /// Checks the name map of a node: its properties, then what they say.
-#[tactic(auto, unfolding(crate::specs::Fault::name_map_fault))]
+#[tactic(auto, unfolding(pst_mail::specs::Fault::name_map_fault))]
 pub(crate) fn check_map(node: Node, known: &mut Known) -> Result<(), Fault>
     requires { IsTrueOf (table_of_node node) known.old }
     ensures known { IsTrueOf (table_of_node node.entry) known.new }
@@ -85,7 +84,7 @@ fn check_name_map(ndb: &Ndb, known: &mut Known) -> Result<(), Fault>
 }
 
 // A node, by its type.
-#[tactic(auto, unfolding(crate::specs::Fault::typed_node_fault))]
+#[tactic(auto, unfolding(pst_mail::specs::Fault::typed_node_fault))]
 fn check_node(ndb: &Ndb, node: Node, known: &mut Known, listings: &mut Keys) -> Result<(), Fault>
     requires table { table_of_node node ≡ table_of_ndb ndb.now }
     requires known { IsTrueOf (table_of_ndb ndb.now) known.old }
@@ -133,7 +132,7 @@ fn check_nodes(ndb: &Ndb, known: &mut Known, listings: &mut Keys) -> Result<(), 
 }
 
 // The check, with the fault that it gives.
-#[tactic(auto, unfolding(crate::specs::Fault::messaging_fault))]
+#[tactic(auto, unfolding(pst_mail::specs::Fault::messaging_fault))]
 fn check_all(ndb: &Ndb, known: &mut Known, listings: &mut Keys) -> Result<(), Fault>
     requires known { IsTrueOf (table_of_ndb ndb.now) known.old }
     requires listings { ListingsAreTrue (table_of_ndb ndb.now) (nodes_of ndb.now) listings.old }

@@ -2,18 +2,18 @@
 
 use crate::check::check_map;
 use crate::context::once;
-use crate::items::Items;
 use crate::known::Known;
 use crate::message::check_message;
 use crate::role::Role;
 use pst_fault::Fault;
+use pst_mail::Items;
 use pst_ndb::Node;
 use std::alloc::Global;
 
 /// Checks contexts and messages one after another, and remembers what it found without fault, so that this is looked at once,
 /// in whatever order it is asked. A fault ends no more than the call that answers it: what was known before stays known, and the
 /// checker may be asked about the next node. It is remembered, too, by the blocks of the data and of the subnodes of the context that
-/// has it, in each role; and where it is that of a context in a message, by each list of subnodes in which a message holds what has it.
+/// has it, in each role; and where it is in what a message holds, by each list of subnodes in which a message holds what has it.
 /// So this is looked at once, and the fault told of each node that leads to it. All nodes that it is asked about have to be made of
 /// the same blocks.
 ///
@@ -32,7 +32,7 @@ impl Checker {
     ghost use Rattle.pst_pc.specs.Fault.{pc_fault};
     ghost use Rattle.pst_tc.specs.Fault.{tc_fault};
     ghost use Rattle.pst_msg.specs.Checker.{IsCheckerOf};
-    ghost use Rattle.pst_msg.specs.Fault.{name_map_fault, message_fault};
+    ghost use Rattle.pst_mail.specs.Fault.{name_map_fault, message_fault};
 
     /// One that knows nothing yet, so it may be asked about nodes of any blocks. No memory is taken.
     pub fn new(alloc: Global) -> Checker

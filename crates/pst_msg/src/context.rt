@@ -9,7 +9,7 @@ ghost use Rattle.pst_pc.specs.pst_heap.Maps.{AreMapsTrue};
 ghost use Rattle.pst_msg.specs.Asked.{AreAskedTrue};
 ghost use Rattle.pst_msg.specs.Broken.{context_part};
 ghost use Rattle.pst_msg.specs.Faults.{AreFaultsOf};
-ghost use Rattle.pst_msg.specs.ListIndex.{IsIndexIn};
+ghost use Rattle.pst_msg.specs.LastIndexes.{AreLastIndexes};
 ghost use Rattle.pst_msg.specs.Roles.{role_fault, role_number as number_of};
 ghost use Rattle.pst_msg.specs.Known.{ContextIn, IsTrueOf};
 ghost use Rattle.pst_msg.specs.Counts.{Names};
@@ -20,7 +20,7 @@ use crate::broken::part_of;
 use crate::faults::Faults;
 use crate::keys::{Key, key_of};
 use crate::known::Known;
-use crate::list_index::ListIndex;
+use crate::last_indexes::LastIndexes;
 use crate::role::{Role, check_context, role_number};
 use pst_fault::Fault;
 use pst_ndb::Node;
@@ -35,22 +35,22 @@ fn answers_by(
     key: Key,
     role: Role,
     node: Node,
-    index: &mut ListIndex,
+    index: &mut LastIndexes,
     asked: &Asked,
 ) -> Result<bool, Fault>
     requires block { key.0.0 ≡ bid_key (roots_of node).bid_data }
     requires role { key.1 ≡ number_of role }
-    requires index { IsIndexIn (table_of_node node) index.old }
+    requires index { AreLastIndexes (table_of_node node) index.old }
     requires asked { AreAskedTrue (table_of_node node) asked.now }
-    ensures index { IsIndexIn (table_of_node node.entry) index.new }
+    ensures index { AreLastIndexes (table_of_node node.entry) index.new }
     ensures known { let t = table_of_node node.entry in IfOk result (λ yes. yes ≡ true →
         role_fault t role (roots_of node.entry) ≡ None) }
     ensures memory { IfErr result (λ f. f ≡ no_memory) }
 {
     if asked.are_many(key) {
-        index.turn(alloc, node)?;
+        index.list.turn(alloc, node)?;
     }
-    Ok(asked.answers(key, role, index.lend(node)))
+    Ok(asked.answers(key, role, index.list.lend(node)))
 }
 
 // Checks the context of a node, unless its data is known, by another list that was asked for the same, to have no fault.
@@ -58,14 +58,14 @@ fn check_by(
     alloc: Global,
     role: Role,
     node: Node,
-    index: &mut ListIndex,
+    index: &mut LastIndexes,
     maps: &mut Maps,
     asked: &mut Asked,
 ) -> Result<(), Fault>
-    requires index { IsIndexIn (table_of_node node) index.old }
+    requires index { AreLastIndexes (table_of_node node) index.old }
     requires maps { AreMapsTrue (table_of_node node) maps.old }
     requires asked { AreAskedTrue (table_of_node node) asked.old }
-    ensures index { IsIndexIn (table_of_node node.entry) index.new }
+    ensures index { AreLastIndexes (table_of_node node.entry) index.new }
     ensures maps { AreMapsTrue (table_of_node node.entry) maps.new }
     ensures asked { AreAskedTrue (table_of_node node.entry) asked.new }
     ensures exact { let t = table_of_node node.entry in
@@ -86,16 +86,16 @@ fn check_anew(
     alloc: Global,
     role: Role,
     node: Node,
-    index: &mut ListIndex,
+    index: &mut LastIndexes,
     maps: &mut Maps,
     asked: &mut Asked,
     broken: &mut Faults,
 ) -> Result<(), Fault>
-    requires index { IsIndexIn (table_of_node node) index.old }
+    requires index { AreLastIndexes (table_of_node node) index.old }
     requires maps { AreMapsTrue (table_of_node node) maps.old }
     requires asked { AreAskedTrue (table_of_node node) asked.old }
     requires broken { AreFaultsOf at_node (context_part (table_of_node node)) broken.old }
-    ensures index { IsIndexIn (table_of_node node.entry) index.new }
+    ensures index { AreLastIndexes (table_of_node node.entry) index.new }
     ensures maps { AreMapsTrue (table_of_node node.entry) maps.new }
     ensures asked { AreAskedTrue (table_of_node node.entry) asked.new }
     ensures broken { AreFaultsOf at_node (context_part (table_of_node node.entry)) broken.new }

@@ -9,26 +9,25 @@ ghost use Rattle.pst_tc.specs.Fault.{tc_fault};
 ghost use Rattle.pst_tc.specs.Tc.{node_of_tc};
 ghost use Rattle.pst_tc.specs.Values.{tc_rows};
 ghost use Rattle.pst_tc.specs.View.{row_parts};
-ghost use Rattle.pst_msg.specs.declared.nid.TheConstants.{FOLDER};
+ghost use Rattle.pst_mail.specs.declared.nid.TheConstants.{FOLDER};
 ghost use Rattle.pst_msg.specs.declared.role.Role.TheVariants.{Listed};
 ghost use Rattle.pst_msg.specs.Counts.{IsNode};
-ghost use Rattle.pst_msg.specs.Fault.{listed_item_fault, items_fault, table_fault, folder_fault};
+ghost use Rattle.pst_mail.specs.Fault.{listed_item_fault, items_fault, table_fault, folder_fault};
 ghost use Rattle.pst_msg.specs.Growth.{FolderIn, Grows};
 ghost use Rattle.pst_msg.specs.Known.{ContextIn, ListingsAreTrue, IsTrueOf};
-ghost use Rattle.pst_msg.specs.Values.{listing_of};
+ghost use Rattle.pst_mail.specs.Values.{listing_of};
 
 use crate::context::once;
-use crate::items::{Items, listing_nid, may_list};
 use crate::keys::{Keys, key_of_data};
 use crate::known::Known;
-use crate::nid::named;
 use crate::role::{Role, role_number};
 use pst_fault::{Fault, Kind};
+use pst_mail::{Items, listing_nid, may_list, named};
 use pst_ndb::{Ndb, Node};
 use pst_tc::{Row, Tc, known_tc};
 
 // A row of a folder's table.
-#[tactic(auto, unfolding(crate::specs::Fault::listed_item_fault))]
+#[tactic(auto, unfolding(pst_mail::specs::Fault::listed_item_fault))]
 fn check_item(ndb: &Ndb, items: Items, bid: u64, row: Row) -> Result<(), Fault>
     ensures exact { let x = row_parts row.entry in
         Tells result (listed_item_fault (nodes_of ndb.now) items bid x) tt }
@@ -77,7 +76,7 @@ fn check_rows(ndb: &Ndb, items: Items, table: Node, listings: &mut Keys) -> Resu
 }
 
 // A table of a folder, where it is there.
-#[tactic(auto, unfolding(crate::specs::Fault::table_fault, crate::specs::Fault::items_fault))]
+#[tactic(auto, unfolding(pst_mail::specs::Fault::table_fault, pst_mail::specs::Fault::items_fault))]
 fn check_table(
     ndb: &Ndb,
     items: Items,
@@ -110,7 +109,7 @@ fn check_table(
 
 /// Checks a folder of a node database: its properties, then its three tables, each with its rows. What is found without fault
 /// is remembered, and passed over where it is met again.
-#[tactic(auto, unfolding(crate::specs::Fault::folder_fault))]
+#[tactic(auto, unfolding(pst_mail::specs::Fault::folder_fault))]
 pub(crate) fn check_folder(
     ndb: &Ndb,
     node: Node,

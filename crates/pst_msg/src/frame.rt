@@ -1,7 +1,7 @@
 //! A message that is being gone through.
 
+use crate::rest::Rest;
 use pst_ndb::Node;
-use pst_tc::Rows;
 
 /// A message whose properties, recipients and attachment table have no fault, and of whose rows some are left.
 #[derive(Drop)]
@@ -12,7 +12,7 @@ pub(crate) struct Frame<'a> {
     /// The identifier of the block of its attachment table's data.
     pub(crate) bid: u64,
     /// The rows of its attachment table that are left.
-    pub(crate) rest: Rows<'a>,
+    pub(crate) rest: Rest<'a>,
     /// How many lists of subnodes may nest below it.
     pub(crate) limit: u32,
 }

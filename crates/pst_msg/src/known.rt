@@ -4,7 +4,8 @@ use crate::asked::Asked;
 use crate::faults::Faults;
 use crate::indexes::Indexes;
 use crate::keys::Keys;
-use crate::list_index::ListIndex;
+use crate::last_indexes::LastIndexes;
+use crate::row_counts::RowCounts;
 use pst_pc::Maps;
 use std::alloc::Global;
 
@@ -19,17 +20,20 @@ pub(crate) struct Known {
     pub(crate) attachments: Keys,
     /// Lists of subnodes: what a message holds in one is without fault.
     pub(crate) lists: Keys,
-    /// The index of the list of subnodes that was asked about last for a context.
-    pub(crate) index: ListIndex,
+    /// The indexes of the list of subnodes and of the data that were asked about last for a context.
+    pub(crate) index: LastIndexes,
     /// Indexes of the lists of messages whose rows are being gone through.
     pub(crate) indexes: Indexes,
     /// The page maps of the data that contexts share.
     pub(crate) maps: Maps,
     /// What contexts asked of their lists of subnodes.
     pub(crate) asked: Asked,
+    /// How many rows the attachment tables of messages have.
+    pub(crate) row_counts: RowCounts,
     /// The faults of contexts, each by the number of its role.
     pub(crate) broken: Faults,
-    /// The faults of what messages hold in their lists of subnodes, by the list, where they are those of contexts.
+    /// The faults of what messages hold in their lists of subnodes, by the list: those of contexts, and those that name what is
+    /// missing there.
     pub(crate) broken_lists: Faults,
     /// How many contexts were checked, from the first on. It stays at its greatest value once it is there.
     pub(crate) count: u64,
@@ -55,10 +59,11 @@ impl Known {
             messages: Keys::new(alloc),
             attachments: Keys::new(alloc),
             lists: Keys::new(alloc),
-            index: ListIndex::none(),
+            index: LastIndexes::none(),
             indexes: Indexes::new(alloc),
             maps: Maps::new(alloc),
             asked: Asked::new(alloc),
+            row_counts: RowCounts::new(alloc),
             broken: Faults::new(alloc),
             broken_lists: Faults::new(alloc),
             count,

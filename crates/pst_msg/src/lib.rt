@@ -19,56 +19,39 @@
 #![tactic(auto)]
 
 mod asked;
-mod attachment_view;
-mod attachments;
 mod broken;
 mod check;
 mod checker;
 mod context;
+mod data_index;
 mod faults;
 mod folder;
-mod folder_view;
 mod frame;
-mod given;
 mod indexes;
-mod items;
 mod keys;
-mod kinds;
 mod known;
+mod last_indexes;
 mod laws;
 mod list_index;
 mod message;
-mod message_view;
-mod nid;
-mod object;
 mod open;
 mod recipients;
 mod remember;
+mod rest;
 mod rising;
 mod role;
-mod views;
+mod row_counts;
 
-pub use attachment_view::Attachment;
-pub use attachments::Attachments;
 pub use check::check_messaging;
 pub use checker::Checker;
 pub use faults::{Faults, Part};
-pub use folder_view::Folder;
-pub use given::{
-    attachment_gives, column_gives, folder_gives, message_gives, names_gives, node_gives, pc_gives,
+pub use laws::{counts_agree, named_are_contexts};
+pub use pst_mail::{
+    ASSOCIATED, Attachment, Attachments, FOLDER, Folder, Items, MESSAGE, Message, NAME_MAP, Name,
+    NameKind, NameMap, Object, Pc, ROOT, SEARCH_FOLDER, STORE, Tc, attachment_gives, column_gives,
+    contents_decide, folder_gives, is_folder, is_message, is_type, known_folder, known_message,
+    known_names, known_pc, limits_agree, listing_nid, may_list, message_gives, message_look_ups,
+    messages_are_of_keys, messages_decide, named, names_gives, node_gives, nodes_decide, pc_gives,
     row_gives, tc_gives,
 };
-pub use items::{Items, listing_nid, may_list};
-pub use kinds::{is_folder, is_message};
-pub use laws::{
-    contents_decide, counts_agree, limits_agree, message_look_ups, messages_are_of_keys,
-    messages_decide, named_are_contexts,
-};
-pub use message_view::Message;
-pub use nid::{ASSOCIATED, FOLDER, MESSAGE, ROOT, SEARCH_FOLDER, STORE, is_type, named};
-pub use object::Object;
-pub use pst_names::{NAME_MAP, Name, NameKind, NameMap, known_names};
-pub use pst_pc::{Pc, known_pc};
-pub use pst_tc::Tc;
 pub use role::Role;
-pub use views::{known_folder, known_message, nodes_decide};

@@ -95,6 +95,8 @@ impl ListIndex {
         if node.spans().size() <= FEW && !self.is_often_asked(list) {
             return Ok(());
         }
+        // The index before goes first, so that memory is taken for one.
+        *self = ListIndex::none();
         *self = ListIndex::of(alloc, node)?;
         Ok(())
     }

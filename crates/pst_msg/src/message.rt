@@ -6,13 +6,13 @@ ghost use Rattle.pst_fault.specs.declared.fault.Fault.{Fault as SpecFault};
 ghost use Rattle.pst_fault.specs.Fault.{no_memory};
 ghost use Rattle.pst_fault.specs.First.{IsFirst, Tells};
 ghost use Rattle.pst_ndb.specs.Views.{table_of_node, roots_of};
-ghost use Rattle.pst_tc.specs.Left.{tc_rows_left};
 ghost use Rattle.pst_msg.specs.Counts.{HasMessage};
 ghost use Rattle.pst_subnode.specs.declared.check.TheConstants.{LISTS};
-ghost use Rattle.pst_msg.specs.Fault.{held_fault, below_message, message_at, message_fault};
+ghost use Rattle.pst_mail.specs.Fault.{held_fault, below_message, message_at, message_fault};
 ghost use Rattle.pst_msg.specs.Frames.{IsFrame, HasHolder, HolderIn, AreBrokenBy, WaitFor, IsWentOn};
 ghost use Rattle.pst_msg.specs.Growth.{Grows};
 ghost use Rattle.pst_msg.specs.Known.{WholeIn, IsTrueOf};
+ghost use Rattle.pst_msg.specs.Rest.{rows_left};
 
 use crate::frame::Frame;
 use crate::known::Known;
@@ -27,7 +27,7 @@ fn finish(frame: &Frame, known: &mut Known) -> Result<(), Fault>
     requires known { IsTrueOf (table_of_node frame.now.node) known.old }
     requires frame { IsFrame (table_of_node frame.now.node) known.old None None frame.now }
     requires holder { HasHolder (table_of_node frame.now.node) known.old frame.now }
-    requires done { tc_rows_left frame.now.rest ≡ [] }
+    requires done { rows_left frame.now.rest ≡ [] }
     ensures known { IsTrueOf (table_of_node frame.now.node) known.new }
     ensures grows { Grows (table_of_node frame.now.node) (λ nodes. Unit {0}) known.old known.new }
     ensures there { OnOk result (WholeIn known.new.messages (roots_of frame.now.node)) }
@@ -52,7 +52,9 @@ fn turn_to(frame: &Frame, gone: u32, known: &mut Known) -> Result<(), Fault>
     if gone != 1 {
         return Ok(());
     }
-    known.indexes.turn(known.alloc, frame.node, &frame.rest)
+    known
+        .indexes
+        .turn(known.alloc, frame.node, frame.rest.rows())
 }
 
 // A fault in what a message holds is that of those which wait for it, too: it is known from then on of each.
@@ -128,7 +130,7 @@ fn go_on<'a>(
 }
 
 /// Checks a message of a checked file, and all that it holds. What is found without fault is remembered, and passed over
-/// where it is met again; so is a fault of what one of them holds, where it is that of a context.
+/// where it is met again; so is a fault of what one of them holds, where it is the same in each that has its list of subnodes.
 pub(crate) fn check_message(node: Node, known: &mut Known) -> Result<(), Fault>
     requires { IsTrueOf (table_of_node node) known.old }
     ensures known { IsTrueOf (table_of_node node.entry) known.new }

@@ -1,37 +1,55 @@
 //! What is found in a message, up to one that it embeds and that has to be gone through first.
 
 ghost use Rattle.std.specs.Prelude.{◌≡◌, None, Some, IfOk, IfErr, IfSome, IfNone};
+ghost use Rattle.pst_fault.specs.Fault.{no_memory};
 ghost use Rattle.pst_fault.specs.First.{IsFirst};
 ghost use Rattle.pst_subnode.specs.Tree.{sub_fault};
 ghost use Rattle.pst_ndb.specs.Views.{table_of_node, sub_bid_of, roots_of};
+ghost use Rattle.pst_tc.specs.Fault.{tc_fault};
+ghost use Rattle.pst_tc.specs.Values.{tc_rows};
 ghost use Rattle.pst_tc.specs.View.{row_parts};
 ghost use Rattle.pst_msg.specs.declared.role.Role.TheVariants.{Properties};
 ghost use Rattle.pst_msg.specs.Counts.{HasMessage, HasAttachment};
-ghost use Rattle.pst_msg.specs.Fault.{attachment_row_fault, held_fault, message_at, embedded_fault, attachment_at, below_message, below_attachment};
+ghost use Rattle.pst_mail.specs.Fault.{attachment_row_fault, held_fault, message_at, embedded_fault, attachment_at, below_message, below_attachment};
 ghost use Rattle.pst_msg.specs.Frames.{IsOpened, EmbedsKnown, IsObjectOpened, AttachmentKnown, IsAttachmentOpened, IsRowKnown, IsRowOpened};
-ghost use Rattle.pst_msg.specs.Grammar.{IsAttachmentRow};
+ghost use Rattle.pst_mail.specs.Grammar.{IsAttachmentRow};
 ghost use Rattle.pst_msg.specs.Growth.{Grows};
 ghost use Rattle.pst_msg.specs.Known.{ContextIn, WholeIn, NamedIn, IsTrueOf};
-ghost use Rattle.pst_msg.specs.Values.{embedded_of};
+ghost use Rattle.pst_msg.specs.Rest.{rows_left};
+ghost use Rattle.pst_mail.specs.Values.{embedded_of};
 
-use crate::broken::part_of_list;
+use crate::broken::{part_of_list, told_of};
 use crate::context::once;
 use crate::frame::Frame;
 use crate::keys::{key_of, key_of_list};
 use crate::known::Known;
-use crate::nid::{ATTACHMENT, ATTACHMENTS, is_type, named};
-use crate::object::{Object, embedded};
 use crate::recipients::check_recipients;
 use crate::remember::{refuse_held, remember_attachment, remember_held, remember_message};
+use crate::rest::Rest;
 use crate::role::Role;
 use pst_fault::{Fault, Kind};
+use pst_mail::{ATTACHMENT, ATTACHMENTS, Object, embedded, is_type, named};
 use pst_ndb::Node;
 use pst_pc::known_pc;
 use pst_tc::{Row, known_tc};
 
+// The rows of an attachment table without fault; where its data lies in several blocks, they are counted once.
+fn rows_of<'a>(table: Node<'a>, known: &mut Known) -> Result<Rest<'a>, Fault>
+    requires sound { tc_fault (table_of_node table) (roots_of table) ≡ None }
+    requires known { IsTrueOf (table_of_node table) known.old }
+    ensures known { IsTrueOf (table_of_node table.entry) known.new }
+    ensures grows { Grows (table_of_node table.entry) (λ nodes. Unit {0}) known.old known.new }
+    ensures left { let t = table_of_node table.entry in
+        IfOk result (λ rest. rows_left rest ≡ tc_rows t (roots_of table.entry)) }
+    ensures memory { IfErr result (λ f. f ≡ no_memory) }
+{
+    let most = known.row_counts.of(table)?;
+    Ok(Rest::of(known_tc(table).rows(), most))
+}
+
 // What a message holds in its list of subnodes, up to the rows of its attachment table; where it has none, the message is
 // remembered. A fault is known from then on.
-#[tactic(auto, unfolding(crate::specs::Fault::held_fault, crate::specs::Fault::attachments_fault))]
+#[tactic(auto, unfolding(pst_mail::specs::Fault::held_fault, pst_mail::specs::Fault::attachments_fault))]
 fn open_held<'a>(
     node: Node<'a>,
     limit: u32,
@@ -53,16 +71,17 @@ fn open_held<'a>(
     if let Err(fault) = check_recipients(node, known) {
         return Err(refuse_held(node, limit, fault, known));
     }
-    match known.index.subnode(node, ATTACHMENTS) {
+    match known.index.list.subnode(node, ATTACHMENTS) {
         Some(table) => {
             if let Err(fault) = once(known, Role::Attachments, table) {
                 return Err(refuse_held(node, limit, fault, known));
             }
+            let rest = rows_of(table, known)?;
             Ok(Some(Frame {
                 holder,
                 node,
                 bid: table.bid_data(),
-                rest: known_tc(table).rows(),
+                rest,
                 limit,
             }))
         }
@@ -93,13 +112,13 @@ fn open_list<'a>(
         IfOk result (λ o. IfSome o (IsOpened t known.new (roots_of node.entry) limit holder.entry)) }
 {
     if let Some(fault) = known.broken_lists.get(part_of_list(node)) {
-        return Err(fault.at_node(node.top()));
+        return Err(told_of(fault, node.top()));
     }
     open_held(node, limit, holder, known)
 }
 
 /// A message, which this attachment embeds if one does, unless it is remembered: up to the rows of its attachment table.
-#[tactic(auto, unfolding(crate::specs::Fault::message_part), using(crate::proofs::MessageLemmas::message_is))]
+#[tactic(auto, unfolding(pst_mail::specs::Fault::message_part), using(pst_mail::proofs::MessageLemmas::message_is))]
 pub(crate) fn open_message<'a>(
     node: Node<'a>,
     limit: u32,
@@ -129,7 +148,7 @@ pub(crate) fn open_message<'a>(
 }
 
 // The message that an attachment embeds.
-#[tactic(auto, unfolding(crate::specs::Fault::embedded_fault))]
+#[tactic(auto, unfolding(pst_mail::specs::Fault::embedded_fault))]
 fn open_embedded<'a>(
     node: Node<'a>,
     object: Object,
@@ -149,14 +168,14 @@ fn open_embedded<'a>(
     ensures open { let t = table_of_node node.entry in
         IfOk result (λ o. IfSome o (IsObjectOpened t known.new node.entry limit object)) }
 {
-    match known.index.subnode(node, object.nid) {
+    match known.index.list.subnode(node, object.nid) {
         Some(sub) => open_message(sub, limit - 1, Some(node), known),
         None => Err(named(Kind::NodeMissing, object.at, node.bid_data(), object.nid)),
     }
 }
 
 // An attachment that is not remembered.
-#[tactic(auto, unfolding(crate::specs::Fault::attachment_part), using(crate::proofs::MessageLemmas::attachment_is))]
+#[tactic(auto, unfolding(pst_mail::specs::Fault::attachment_part), using(pst_mail::proofs::MessageLemmas::attachment_is))]
 fn open_part<'a>(node: Node<'a>, limit: u32, known: &mut Known) -> Result<Option<Frame<'a>>, Fault>
     requires sound { sub_fault (table_of_node node) limit (sub_bid_of node) ≡ None }
     requires known { IsTrueOf (table_of_node node) known.old }
@@ -205,7 +224,7 @@ fn open_attachment<'a>(
 }
 
 /// A row of the attachment table of a message: the attachment that it names, up to a message that this embeds.
-#[tactic(auto, unfolding(crate::specs::Fault::attachment_row_fault), using(crate::proofs::SubnodeLemmas::found_limit, crate::proofs::SubnodeLemmas::found_sound, crate::proofs::MessageLemmas::below_message_is))]
+#[tactic(auto, unfolding(pst_mail::specs::Fault::attachment_row_fault), using(pst_mail::proofs::SubnodeLemmas::found_limit, pst_mail::proofs::SubnodeLemmas::found_sound, pst_mail::proofs::MessageLemmas::below_message_is))]
 pub(crate) fn open_row<'a>(
     node: Node<'a>,
     bid: u64,

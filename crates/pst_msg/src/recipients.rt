@@ -6,7 +6,7 @@ ghost use Rattle.pst_fault.specs.First.{Tells};
 ghost use Rattle.pst_ndb.specs.Roots.{Roots, subnode_of};
 ghost use Rattle.pst_ndb.specs.Views.{table_of_node, roots_of};
 ghost use Rattle.pst_tc.specs.Fault.{tc_fault};
-ghost use Rattle.pst_msg.specs.declared.nid.TheConstants.{RECIPIENTS};
+ghost use Rattle.pst_mail.specs.declared.nid.TheConstants.{RECIPIENTS};
 ghost use Rattle.pst_msg.specs.declared.role.Role.TheVariants.{Recipients};
 ghost use Rattle.pst_msg.specs.Counts.{HasMessage};
 ghost use Rattle.pst_msg.specs.Growth.{Grows};
@@ -14,9 +14,9 @@ ghost use Rattle.pst_msg.specs.Known.{ContextIn, IsTrueOf};
 
 use crate::context::once;
 use crate::known::Known;
-use crate::nid::RECIPIENTS;
 use crate::role::Role;
 use pst_fault::Fault;
+use pst_mail::RECIPIENTS;
 use pst_ndb::Node;
 
 /// Checks the recipient table of a message, where it is there.
@@ -31,7 +31,7 @@ pub(crate) fn check_recipients(node: Node, known: &mut Known) -> Result<(), Faul
     ensures exact { let t = table_of_node node.entry in
         Tells result (if_there (tc_fault t) (subnode_of t (roots_of node.entry) RECIPIENTS)) tt }
 {
-    match known.index.subnode(node, RECIPIENTS) {
+    match known.index.list.subnode(node, RECIPIENTS) {
         Some(table) => {
             once(known, Role::Recipients, table)?;
             Ok(())

@@ -7,11 +7,11 @@ ghost use Rattle.pst_subnode.specs.declared.check.TheConstants.{LISTS};
 ghost use Rattle.pst_subnode.specs.Tree.{sub_fault};
 ghost use Rattle.pst_ndb.specs.Views.{table_of_node, sub_bid_of, roots_of};
 ghost use Rattle.pst_msg.specs.declared.role.Role.TheVariants.{Properties};
-ghost use Rattle.pst_msg.specs.Fault.{held_fault, below_message, attachment_fault};
+ghost use Rattle.pst_mail.specs.Fault.{held_fault, below_message, attachment_fault};
 ghost use Rattle.pst_msg.specs.Growth.{Grows};
 ghost use Rattle.pst_msg.specs.Known.{ContextIn, WholeIn, HeldIn, AttachmentIn, IsTrueOf};
 
-use crate::broken::{is_of_a_context, part_of_list};
+use crate::broken::{is_alike, part_of_list};
 use crate::keys::{key_of, key_of_list};
 use crate::known::Known;
 use pst_fault::Fault;
@@ -74,7 +74,7 @@ pub(crate) fn remember_attachment(node: Node, known: &mut Known) -> Result<(), F
     known.attachments.put(key_of(0, node))
 }
 
-/// The fault of what a message holds is known from then on, by its list, where it is that of a context.
+/// The fault of what a message holds is known from then on, by its list, where it is the same in each message that has that.
 pub(crate) fn remember_broken(node: Node, fault: Fault, known: &mut Known) -> Result<(), Fault>
     requires known { IsTrueOf (table_of_node node) known.old }
     requires first { let t = table_of_node node in
@@ -83,7 +83,7 @@ pub(crate) fn remember_broken(node: Node, fault: Fault, known: &mut Known) -> Re
     ensures grows { Grows (table_of_node node.entry) (λ nodes. Unit {0}) known.old known.new }
     ensures memory { IfErr result (λ f. f ≡ no_memory) }
 {
-    if is_of_a_context(fault) {
+    if is_alike(fault, node.top()) {
         known.broken_lists.remember(part_of_list(node), fault)?;
     }
     Ok(())

@@ -8,8 +8,8 @@ ghost use Rattle.pst_pc.specs.pst_heap.Maps.{AreMapsTrue};
 ghost use Rattle.pst_tc.specs.Fault.{tc_fault};
 ghost use Rattle.pst_msg.specs.Roles.{role_number, role_fault};
 
-use crate::items::Items;
 use pst_fault::Fault;
+use pst_mail::Items;
 use pst_ndb::Node;
 use pst_pc::{Maps, check_pc_with};
 use pst_tc::check_tc_with;

@@ -6,4 +6,5 @@ pub mod SpaceLemmas
 pub mod UnitLemmas
 pub mod CountLemmas
 pub mod ListingLaws
+pub mod SpanLemmas
 pub use Rattle.pst_subnode.proofs as pst_subnode

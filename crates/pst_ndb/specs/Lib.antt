@@ -13,5 +13,6 @@ pub mod Views
 pub mod Known
 pub mod Counts
 pub mod Trees
+pub mod SpanIndex
 pub use Rattle.pst_block.specs as pst_block
 pub use Rattle.pst_subnode.specs as pst_subnode

@@ -9,10 +9,12 @@ use Rattle.pst_block.specs.Blocks.{table_of, image_of}
 use Rattle.pst_ndb.specs.declared.ndb.Ndb.{Ndb}
 use Rattle.pst_ndb.specs.declared.node.Node.{Node}
 use Rattle.pst_ndb.specs.declared.nodes.Nodes.{Nodes}
+use Rattle.pst_ndb.specs.declared.span_index.SpanIndex.{SpanIndex}
 use Rattle.pst_ndb.specs.Node.{NodeParts, entry_parts}
 use Rattle.pst_ndb.specs.NodeTable.{image_of_nodes, table_of_nodes, entries_of_nodes}
 use Rattle.pst_ndb.specs.Roots.{Roots, all_roots}
 use Rattle.pst_ndb.specs.Source.{entries_left}
+use Rattle.pst_ndb.specs.SpanIndex.{IsSpanIndexOf}
 use Rattle.pst_subnode.specs.declared.check.TheConstants.{LISTS}
 use Rattle.pst_subnode.specs.declared.index.SubIndex.{SubIndex}
 use Rattle.pst_subnode.specs.Index.{IsIndexOf}
@@ -68,6 +70,10 @@ height_of node = sub_height (table_of_node node) LISTS (sub_bid_of node)
 -- an index is one of its subnodes
 abbrev pub IsIndexedBy : Node → SubIndex → Type 0
 IsIndexedBy node index = IsIndexOf index (subs_of (table_of_node node) (sub_bid_of node))
+
+-- an index is one of the spans of its data
+abbrev pub IsSpanIndexedBy : Node → SpanIndex → Type 0
+IsSpanIndexedBy node index = IsSpanIndexOf index (table_of_node node) (data_bid_of node)
 
 -- ---- the nodes that an iterator has left: of which file and blocks, and which
 

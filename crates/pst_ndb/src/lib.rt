@@ -24,6 +24,7 @@ mod node_table;
 mod nodes;
 mod source;
 mod space;
+mod span_index;
 mod trees;
 
 pub use check::{Checked, Work, check_ndb};
@@ -33,4 +34,5 @@ pub use node::Node;
 pub use node_table::NodeTable;
 pub use nodes::Nodes;
 pub use pst_subnode::SubIndex;
+pub use span_index::SpanIndex;
 pub use trees::read_nodes;

@@ -8,7 +8,9 @@ ghost use Rattle.pst_subnode.specs.Index.{IsIndexOf};
 ghost use Rattle.pst_subnode.specs.List.{subs_of};
 ghost use Rattle.pst_subnode.specs.Tree.{sub_fault};
 ghost use Rattle.pst_subnode.proofs.IndexLemmas.{index_facts};
+ghost use Rattle.pst_ndb.specs.SpanIndex.{IsSpanIndexOf, span_index_facts};
 
+use crate::span_index::{SpanIndex, leaf_by};
 use pst_block::Blocks;
 use pst_btree::NodeEntry;
 use pst_bytes::{Image, Span};
@@ -29,9 +31,12 @@ pub struct Node<'a> {
     bid_sub: u64,
     // An index of its subnodes, where it was lent one.
     index: Option<&'a SubIndex>,
+    // An index of the spans of its data, where it was lent one.
+    spans: Option<&'a SpanIndex>,
     ghost content: { data_fault (table_of blocks) bid_data ≡ None },
     ghost subs: { sub_fault (table_of blocks) LISTS bid_sub ≡ None },
     ghost indexed: { IfSome index (λ i. IsIndexOf i.now (subs_of (table_of blocks) bid_sub)) } by { Prim.hlevel index_facts },
+    ghost span_indexed: { IfSome spans (λ i. IsSpanIndexOf i.now (table_of blocks) bid_data) } by { Prim.hlevel span_index_facts },
 }
 
 impl<'a> Node<'a> {
@@ -56,7 +61,8 @@ impl<'a> Node<'a> {
     ghost use Rattle.pst_ndb.specs.Fault.{node_fault};
     ghost use Rattle.pst_ndb.specs.Node.{entry_parts, sub_parts};
     ghost use Rattle.pst_ndb.specs.Roots.{subnode_of, sub_roots};
-    ghost use Rattle.pst_ndb.specs.Views.{image_of_node, table_of_node, top_of, nid_of, data_bid_of, sub_bid_of, parts_of, roots_of, height_of, IsIndexedBy};
+    ghost use Rattle.pst_ndb.specs.SpanIndex.{has_many_parts, holds_starts};
+    ghost use Rattle.pst_ndb.specs.Views.{image_of_node, table_of_node, top_of, nid_of, data_bid_of, sub_bid_of, parts_of, roots_of, height_of, IsIndexedBy, IsSpanIndexedBy};
 
     /// The node of an entry of the node B-tree.
     #[tactic(auto, using(crate::proofs::NodeLemmas::none_data, crate::proofs::NodeLemmas::none_subs))]
@@ -72,6 +78,7 @@ impl<'a> Node<'a> {
             bid_data: entry.bid_data,
             bid_sub: entry.bid_sub,
             index: None,
+            spans: None,
         }
     }
 
@@ -159,13 +166,43 @@ impl<'a> Node<'a> {
         Parts::of(&self.blocks, self.bid_data)
     }
 
-    /// The span with a number of its data, from 0 on; None exactly from `leaf_count` on.
+    /// The span with a number of its data, from 0 on; None exactly from `leaf_count` on. By the index that the node was lent it is
+    /// found in about log n steps, of n parts; where it was lent none, part by part.
     pub fn leaf(&self, n: u64) -> Option<Span>
         ensures value { result ≡
             slice_get (data_spans (table_of_node self.now) (data_bid_of self.now)) n }
         ensures inside { IfSome result (IsInside (table_of_node self.now).image) }
     {
-        leaf(&self.blocks, self.bid_data, n)
+        match self.spans {
+            Some(index) => leaf_by(&self.blocks, self.bid_data, index, n),
+            None => leaf(&self.blocks, self.bid_data, n),
+        }
+    }
+
+    /// An index of the spans of its data, to be lent to it (`span_indexed`): it is made in about as many steps as its data has
+    /// parts. Where these are 32 at most it holds nothing, and takes no memory. NoMemory, if memory runs out.
+    pub fn span_index(&self, alloc: Global) -> Result<SpanIndex, Fault>
+        ensures index { IfOk result (IsSpanIndexedBy self.now) }
+        ensures held { let t = table_of_node self.now in
+            IfOk result (λ i. holds_starts i ≡ has_many_parts t (data_bid_of self.now)) }
+        ensures memory { IfErr result (λ f. f ≡ no_memory) }
+    {
+        SpanIndex::of(alloc, &self.blocks, self.bid_data)
+    }
+
+    /// The same node, which is lent an index of the spans of its data, or of those of a node whose data is the same: `leaf` finds
+    /// them by this index from then on.
+    pub fn span_indexed(self, index: &'a SpanIndex) -> Node<'a>
+        requires { IsSpanIndexedBy self index.now }
+        ensures parts { parts_of result ≡ parts_of self.entry }
+        ensures roots { roots_of result ≡ roots_of self.entry }
+        ensures image { image_of_node result ≡ image_of_node self.entry }
+        ensures table { table_of_node result ≡ table_of_node self.entry }
+        ensures nid { nid_of result ≡ nid_of self.entry }
+    {
+        let mut node = self;
+        node.spans = Some(index);
+        node
     }
 
     /// The spans of its data by their numbers, for many look-ups in any order.
@@ -269,6 +306,7 @@ impl<'a> Node<'a> {
             bid_data: entry.bid_data,
             bid_sub: entry.bid_sub,
             index: None,
+            spans: None,
         }
     }
 }

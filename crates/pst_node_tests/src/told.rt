@@ -7,7 +7,9 @@ use std::process::Abort;
 
 /// Stops the test where what is told is not what is wanted.
 pub(crate) fn is<R: Abort, T: PartialEq + Debug + Copy>(rt: &R, told: T, wanted: T) {
-    assert_eq!(rt; told, wanted);
+    if told != wanted {
+        panic!(rt; "told {told:?}, wanted {wanted:?}");
+    }
 }
 
 /// The same of a case, which is named where it differs.
@@ -17,12 +19,16 @@ pub(crate) fn is_at<R: Abort, C: Debug + Copy, T: PartialEq + Debug + Copy>(
     told: T,
     wanted: T,
 ) {
-    assert_eq!(rt; told, wanted, "{case:?}");
+    if told != wanted {
+        panic!(rt; "{case:?}: told {told:?}, wanted {wanted:?}");
+    }
 }
 
 /// Stops the test where something does not hold.
 pub(crate) fn holds<R: Abort>(rt: &R, told: bool)
     ensures { IsTrue told }
 {
-    assert!(rt; told);
+    if !told {
+        panic!(rt; "it does not hold");
+    }
 }

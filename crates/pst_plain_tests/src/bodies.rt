@@ -1,20 +1,20 @@
 //! Bodies, encoded and decoded, beside what another program made of them.
 
-use crate::told::{holds_at, is, is_at};
+use crate::told::{MEMORY, holds_at, is, is_at};
 use pst_plain::{Codec, Decoder, Method, Pairs};
 use sha2::{Digest, Sha256};
 use std::alloc::Global;
-use std::test::Fail;
+use std::process::Abort;
 
 /// All bytes in order, again and again.
-pub(crate) fn rising(alloc: Global, len: usize) -> Result<Vec<u8>, Fail> {
+pub(crate) fn rising<R: Abort>(rt: &R, alloc: Global, len: usize) -> Vec<u8> {
     let mut bytes = Vec::new(alloc);
     let mut byte = 0u8;
     for _ in 0..len {
-        bytes.push(byte)?;
+        bytes.push(byte).expect(rt, MEMORY);
         byte = byte.wrapping_add(1);
     }
-    Ok(bytes)
+    bytes
 }
 
 #[test]
@@ -31,7 +31,7 @@ fn methods_of_numbers(rt: HostRuntime) {
 // All 256 bytes, encoded by another program: the SHA-256 of what it gave. The upper half of the low 32 bits of an identifier
 // counts, and what stands above them does not.
 #[test]
-fn bytes_of_another_program(rt: HostRuntime) -> Result<(), Fail> {
+fn bytes_of_another_program(rt: HostRuntime) {
     let alloc = rt.alloc();
     for (method, bid, want) in [
         (
@@ -60,17 +60,18 @@ fn bytes_of_another_program(rt: HostRuntime) -> Result<(), Fail> {
             "bec97f957e76746c4fcd76251706c44c9b3dbde7f47c524b124fe65e5a26f99a",
         ),
     ] {
-        let mut body = rising(alloc, 256)?;
-        Codec::new(alloc, method)?.encode(bid, &mut body);
+        let mut body = rising(&rt, alloc, 256);
+        Codec::new(alloc, method)
+            .expect(&rt, MEMORY)
+            .encode(bid, &mut body);
         let digest: [u8; 32] = Sha256::digest(&body);
-        let told = hex::encode(alloc, digest.as_slice())?;
+        let told = hex::encode(alloc, digest.as_slice()).expect(&rt, MEMORY);
         is_at(&rt, bid, told.as_str(), want);
     }
-    Ok(())
 }
 
 #[test]
-fn a_text_of_another_program(rt: HostRuntime) -> Result<(), Fail> {
+fn a_text_of_another_program(rt: HostRuntime) {
     let alloc = rt.alloc();
     for (method, bid, want) in [
         (
@@ -90,25 +91,24 @@ fn a_text_of_another_program(rt: HostRuntime) -> Result<(), Fail> {
         ),
     ] {
         let mut body = *b"Hello, world";
-        let codec = Codec::new(alloc, method)?;
+        let codec = Codec::new(alloc, method).expect(&rt, MEMORY);
         codec.encode(bid, &mut body);
         holds_at(&rt, bid, body == want);
         codec.decode(bid, &mut body);
         holds_at(&rt, bid, body == *b"Hello, world");
     }
-    Ok(())
 }
 
 // From no byte up to a full body; the key of a body that begins with 0xFFFF goes on with 0.
 #[test]
-fn what_is_encoded_is_decoded(rt: HostRuntime) -> Result<(), Fail> {
+fn what_is_encoded_is_decoded(rt: HostRuntime) {
     let alloc = rt.alloc();
     for len in [0, 1, 2, 255, 256, 257, 511, 8175, 8176] {
-        let body = rising(alloc, len)?;
+        let body = rising(&rt, alloc, len);
         for method in [Method::Permute, Method::Cyclic] {
-            let codec = Codec::new(alloc, method)?;
+            let codec = Codec::new(alloc, method).expect(&rt, MEMORY);
             for bid in [0, 4, 0xffff, 0xffff_0000, 0x1234_5678_9abc_def0] {
-                let mut changed = rising(alloc, len)?;
+                let mut changed = rising(&rt, alloc, len);
                 codec.encode(bid, &mut changed);
                 holds_at(&rt, len, len == 0 || changed.as_slice() != body.as_slice());
                 codec.decode(bid, &mut changed);
@@ -116,12 +116,11 @@ fn what_is_encoded_is_decoded(rt: HostRuntime) -> Result<(), Fail> {
             }
         }
     }
-    Ok(())
 }
 
 // By permutation all pairs are put together for 16 MiB and more; what is decoded is the same.
 #[test]
-fn a_text_by_each_decoder(rt: HostRuntime) -> Result<(), Fail> {
+fn a_text_by_each_decoder(rt: HostRuntime) {
     let alloc = rt.alloc();
     for (method, text) in [
         (
@@ -140,38 +139,38 @@ fn a_text_by_each_decoder(rt: HostRuntime) -> Result<(), Fail> {
             (1 << 40, true),
         ] {
             let mut body = text;
-            let decoder = Decoder::new(alloc, method, len)?;
+            let decoder = Decoder::new(alloc, method, len).expect(&rt, MEMORY);
             decoder.decode(4, &mut body);
             holds_at(&rt, len, body == *b"Hello, world");
             let by_pairs = matches!(decoder, Decoder::ByPairs(_));
             holds_at(&rt, len, by_pairs == (many && method == Method::Permute));
         }
     }
-    Ok(())
 }
 
 // Each pair of bytes, and bodies of some lengths, as one byte after another is decoded.
 #[test]
-fn pairs_as_single_bytes(rt: HostRuntime) -> Result<(), Fail> {
+fn pairs_as_single_bytes(rt: HostRuntime) {
     let alloc = rt.alloc();
-    let pairs = Pairs::new(alloc)?;
+    let pairs = Pairs::new(alloc).expect(&rt, MEMORY);
     let mut body = Vec::new(alloc);
     let mut other = Vec::new(alloc);
     for first in 0..=255u8 {
         for second in 0..=255u8 {
-            body.extend_from_slice(&[first, second])?;
-            other.extend_from_slice(&[first, second])?;
+            body.extend_from_slice(&[first, second]).expect(&rt, MEMORY);
+            other
+                .extend_from_slice(&[first, second])
+                .expect(&rt, MEMORY);
         }
     }
     pairs.decode(&mut body);
     Codec::Permute.decode(4, &mut other);
     holds_at(&rt, body.len(), body.as_slice() == other.as_slice());
     for len in [0, 1, 2, 3, 4, 5, 255, 8175, 8176] {
-        let mut body = rising(alloc, len)?;
-        let mut other = rising(alloc, len)?;
+        let mut body = rising(&rt, alloc, len);
+        let mut other = rising(&rt, alloc, len);
         pairs.decode(&mut body);
         Codec::Permute.decode(4, &mut other);
         holds_at(&rt, len, body.as_slice() == other.as_slice());
     }
-    Ok(())
 }

@@ -15,7 +15,7 @@ use Rattle.pst_btree.specs.Entries.{first_with}
 use Rattle.pst_ndb.specs.Roots.{Roots}
 use Rattle.pst_tc.specs.Values.{RowParts, info_of, tc_records, row_parts_at, tc_rows}
 use Rattle.pst_tc.proofs.AlikeLaws.{rows_alike}
-use Rattle.pst_store.specs.pst_msg.declared.items.Items.TheVariants.{Subfolders}
+use Rattle.pst_store.specs.pst_msg.pst_mail.declared.items.Items.TheVariants.{Subfolders}
 use Rattle.pst_store.specs.pst_msg.Shown.{folder_table}
 use Rattle.pst_store.specs.pst_msg.Values.{is_folder}
 use Rattle.pst_store.specs.Kind.{node_of_kind}

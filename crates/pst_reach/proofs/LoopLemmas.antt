@@ -13,7 +13,7 @@ use Rattle.pst_btree.specs.Order.{Rises}
 use Rattle.pst_ndb.specs.Counts.{capped}
 use Rattle.pst_ndb.specs.Roots.{Roots}
 use Rattle.pst_store.proofs.pst_msg.CountLemmas.{one_more}
-use Rattle.pst_store.specs.pst_msg.declared.nid.TheConstants.{ROOT, FOLDER, SEARCH_FOLDER}
+use Rattle.pst_store.specs.pst_msg.pst_mail.declared.nid.TheConstants.{ROOT, FOLDER, SEARCH_FOLDER}
 use Rattle.pst_store.specs.pst_msg.Nid.{type_of, is_type}
 use Rattle.pst_store.specs.pst_msg.Values.{is_folder}
 use Rattle.pst_reach.specs.declared.reached.Reach.{Reach}

@@ -14,7 +14,7 @@ use Rattle.pst_btree.specs.Order.{Rises}
 use Rattle.pst_btree.specs.Tree.{entries_of}
 use Rattle.pst_btree.proofs.RiseLemmas.{tree_rises}
 use Rattle.pst_ndb.specs.Roots.{node_in}
-use Rattle.pst_store.specs.pst_msg.declared.nid.TheConstants.{ROOT}
+use Rattle.pst_store.specs.pst_msg.pst_mail.declared.nid.TheConstants.{ROOT}
 use Rattle.pst_store.specs.Grammar.{IsStore}
 use Rattle.pst_store.specs.Parts.{StoreParts, table_in, entries_in}
 use Rattle.pst_reach.specs.declared.reached.Reach.{Reach}

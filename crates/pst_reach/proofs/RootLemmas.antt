@@ -11,7 +11,7 @@ use Rattle.pst_btree.specs.Entries.{first_with, node_key, node_with}
 use Rattle.pst_btree.specs.Order.{Rises}
 use Rattle.pst_ndb.specs.Counts.{capped}
 use Rattle.pst_ndb.specs.Roots.{Roots, entry_roots, node_in, all_roots}
-use Rattle.pst_store.specs.pst_msg.declared.nid.TheConstants.{ROOT}
+use Rattle.pst_store.specs.pst_msg.pst_mail.declared.nid.TheConstants.{ROOT}
 use Rattle.pst_store.specs.pst_msg.Values.{is_folder}
 use Rattle.pst_store.specs.Kind.{of_kind, node_of_kind}
 use Rattle.pst_reach.specs.declared.reached.Reach.{Reach}

@@ -6,9 +6,13 @@ use Rattle.std.specs.Ordering.{nat_cmp}
 use Rattle.std.specs.BTreeMap.{is_at}
 use Rattle.std.specs.Cmp.{unsigned_tied}
 use Rattle.pst_fault.proofs.GeneralLemmas.{number_of_test}
+use Rattle.std.specs.List.{filter}
+use Rattle.pst_page.specs.declared.entry.NodeEntry.{NodeEntry}
 use Rattle.pst_btree.specs.Entries.{first_with}
+use Rattle.pst_tc.specs.Values.{RowParts}
 use Rattle.pst_reach.specs.declared.reached.Reach.{Reach}
 use Rattle.pst_reach.specs.Levels.{Step, step_nid, step_from, steps_named, reached_by, by_rows}
+use Rattle.pst_reach.specs.Reach.{folders_named, is_folder_among}
 use Rattle.pst_reach.specs.Search.{found_in, is_in, found_with, new_with, Takes, TookAllBut}
 
 -- a row that names a folder which is found adds nothing
@@ -107,6 +111,14 @@ took_more depth steps left rest all m0 m new next0 next after is so_far takes = 
   where
     turned : (others : List Step) → steps ++ (rest ++ others) ≡ left ++ others
     turned others = sym (append_assoc steps rest others) ∙ ap (λ l. l ++ others) (sym is)
+
+-- the first of the rows that are left names a folder, or none
+pub one_named : (nodes : List NodeEntry) (parent : ℕ) (x : RowParts) (rows rest : List RowParts) → rows ≡ x ∷ rest → steps_named parent (folders_named nodes rows) ≡ steps_named parent (filter (is_folder_among nodes) (x.id ∷ [])) ++ steps_named parent (folders_named nodes rest)
+one_named nodes parent x rows rest is = ap (λ l. steps_named parent (folders_named nodes l)) is ∙ by_test (is_folder_among nodes x.id) (folders_named nodes rest)
+  where
+    by_test : (v : Bool) (others : List ℕ) → steps_named parent (cond v (x.id ∷ others) others) ≡ steps_named parent (cond v (x.id ∷ []) []) ++ steps_named parent others
+    by_test false others = refl
+    by_test true others = refl
 
 -- none is left
 pub took_all : (depth : ℕ) (left all : List Step) (m0 m : BTreeMap ℕ Reach) (next0 next : BTreeSet ℕ) → left ≡ [] → TookAllBut depth left all m0 next0 m next → Takes depth all m0 next0 m next

@@ -11,7 +11,7 @@ use Rattle.pst_page.specs.declared.entry.NodeEntry.{NodeEntry}
 use Rattle.pst_block.specs.Table.{Table}
 use Rattle.pst_btree.specs.Entries.{first_with}
 use Rattle.pst_btree.specs.Order.{Rises}
-use Rattle.pst_store.specs.pst_msg.declared.nid.TheConstants.{ROOT}
+use Rattle.pst_store.specs.pst_msg.pst_mail.declared.nid.TheConstants.{ROOT}
 use Rattle.pst_reach.specs.declared.reached.Reach.{Reach}
 use Rattle.pst_reach.specs.Reach.{folder_ids, subfolders_of, IsWay, IsDepth, MayBeParent, IsParent, IsReach, AreAllReached}
 use Rattle.pst_reach.specs.Levels.{Step, step_nid, step_from, steps_named, steps_from, reached_by, by_rows, root_reach, is_new, found, level, reaches_of}

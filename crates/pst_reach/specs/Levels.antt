@@ -5,7 +5,7 @@ use Rattle.std.specs.Option.{option_or}
 use Rattle.pst_page.specs.declared.entry.NodeEntry.{NodeEntry}
 use Rattle.pst_block.specs.Table.{Table}
 use Rattle.pst_btree.specs.Entries.{first_with}
-use Rattle.pst_store.specs.pst_msg.declared.nid.TheConstants.{ROOT, FOLDER}
+use Rattle.pst_store.specs.pst_msg.pst_mail.declared.nid.TheConstants.{ROOT, FOLDER}
 use Rattle.pst_store.specs.pst_msg.Nid.{is_type}
 use Rattle.pst_reach.specs.declared.reached.Reach.{Reach}
 use Rattle.pst_reach.specs.Reach.{folder_ids, subfolders_of}

@@ -7,8 +7,8 @@ use Rattle.pst_block.specs.Table.{Table}
 use Rattle.pst_btree.specs.Order.{Rises}
 use Rattle.pst_ndb.specs.Roots.{Roots, all_roots}
 use Rattle.pst_tc.specs.Values.{RowParts}
-use Rattle.pst_store.specs.pst_msg.declared.items.Items.TheVariants.{Subfolders}
-use Rattle.pst_store.specs.pst_msg.declared.nid.TheConstants.{ROOT}
+use Rattle.pst_store.specs.pst_msg.pst_mail.declared.items.Items.TheVariants.{Subfolders}
+use Rattle.pst_store.specs.pst_msg.pst_mail.declared.nid.TheConstants.{ROOT}
 use Rattle.pst_store.specs.pst_msg.Shown.{rows_there, folder_table}
 use Rattle.pst_store.specs.pst_msg.Values.{is_folder}
 use Rattle.pst_store.specs.Kind.{of_kind, node_of_kind}

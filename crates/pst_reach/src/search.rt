@@ -64,7 +64,7 @@ impl<'a> Search<'a> {
     ghost use Rattle.pst_intact.specs.View.{table_of_intact, nodes_of_intact};
     ghost use Rattle.pst_reach.specs.Levels.{steps_of, reaches_of, folders_in, folders_at};
     ghost use Rattle.pst_reach.specs.Reach.{folder_ids, is_folder_among};
-    ghost use Rattle.pst_store.specs.pst_msg.declared.nid.TheConstants.{ROOT as ROOT_NID};
+    ghost use Rattle.pst_store.specs.pst_msg.pst_mail.declared.nid.TheConstants.{ROOT as ROOT_NID};
     ghost use Rattle.pst_reach.specs.Search.{Takes, AreTaken, IsWithin, IsLevel};
 
     // The rows of the hierarchy table of a folder at the depth before.

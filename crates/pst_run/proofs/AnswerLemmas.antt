@@ -15,8 +15,8 @@ use Rattle.pst_ask.specs.declared.path.Path.{Path}
 use Rattle.pst_ask.specs.Ask.{Asked, damage, nids_of, report}
 use Rattle.pst_encoding.specs.declared.method.Method.{Method}
 use Rattle.pst_plain.specs.Twin.{method_of}
-use Rattle.pst_json.specs.declared.fault.DocFault.{DocFault}
-use Rattle.pst_json.specs.declared.fault.DocFault.TheVariants.{NoFolder, NoNode, NoProperty, TooManyPaths, Bad, Memory}
+use Rattle.pst_json.specs.pst_props.declared.fault.DocFault.{DocFault}
+use Rattle.pst_json.specs.pst_props.declared.fault.DocFault.TheVariants.{NoFolder, NoNode, NoProperty, TooManyPaths, Bad, Memory}
 use Rattle.pst_json.specs.Told.{TellsDoc}
 use Rattle.pst_run.specs.declared.refusal.Refusal.{Refusal}
 use Rattle.pst_run.specs.Refusal.{Refused, fault, is_memory, memory, refusal_for, refusal_of, refused_of}

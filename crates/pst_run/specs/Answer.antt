@@ -16,7 +16,7 @@ use Rattle.pst_json.specs.pst_store.Values.{store_in}
 use Rattle.pst_json.specs.pst_verify.Counts.{count_of}
 use Rattle.pst_json.specs.pst_whole.Lost.{LostParts, lost_of, nothing_lost}
 use Rattle.pst_json.specs.pst_whole.Nodes.{whole_nodes}
-use Rattle.pst_json.specs.declared.fault.DocFault.{DocFault}
+use Rattle.pst_json.specs.pst_props.declared.fault.DocFault.{DocFault}
 use Rattle.pst_export.specs.Export.{archive_in}
 use Rattle.pst_export.specs.Store.{export_told}
 use Rattle.pst_json.specs.Check.{ReportParts, check_line}

@@ -6,8 +6,8 @@ use Rattle.pst_fault.specs.declared.kind.Kind.{Kind}
 use Rattle.pst_fault.specs.declared.kind.Kind.TheVariants.{NoMemory}
 use Rattle.pst_export.specs.declared.fault.ExportFault.{ExportFault}
 use Rattle.pst_export.specs.declared.fault.ExportFault.TheVariants.{Output, Memory}
-use Rattle.pst_json.specs.declared.fault.DocFault.{DocFault}
-use Rattle.pst_json.specs.declared.fault.DocFault.TheVariants as doc
+use Rattle.pst_json.specs.pst_props.declared.fault.DocFault.{DocFault}
+use Rattle.pst_json.specs.pst_props.declared.fault.DocFault.TheVariants as doc
 use Rattle.pst_json.specs.declared.output.EmitFault.{EmitFault}
 use Rattle.pst_json.specs.declared.output.EmitFault.TheVariants.{Closed}
 use Rattle.pst_json.specs.Output.{emit_fault_text}

@@ -18,7 +18,7 @@ use Rattle.pst_ndb.specs.Roots.{Roots, entry_roots, node_in, all_roots}
 use Rattle.pst_ndb.specs.Views.{image_of_node, table_of_node, top_of, roots_of}
 use Rattle.pst_msg.specs.pst_pc.Fault.{pc_fault}
 use Rattle.pst_msg.proofs.pst_pc.PcLaws.{pc_none}
-use Rattle.pst_msg.specs.declared.nid.TheConstants.{STORE, ROOT}
+use Rattle.pst_msg.specs.pst_mail.declared.nid.TheConstants.{STORE, ROOT}
 use Rattle.pst_msg.specs.Values.{is_folder, is_message}
 use Rattle.pst_msg.specs.Fault.{message_fault, required_fault, name_map_fault, typed_node_fault, messaging_fault}
 use Rattle.pst_msg.specs.pst_names.declared.name_map.TheConstants.{NAME_MAP}

@@ -13,7 +13,7 @@ use Rattle.pst_amap.specs.Report.{Maps}
 use Rattle.pst_ndb.specs.Database.{IsSpelt, AllHaveTrees, blocks_in, claimed_units}
 use Rattle.pst_ndb.specs.Roots.{Roots}
 use Rattle.pst_msg.specs.pst_pc.Grammar.{IsPc}
-use Rattle.pst_msg.specs.declared.nid.TheConstants.{STORE, ROOT, FOLDER, SEARCH_FOLDER, MESSAGE, ASSOCIATED}
+use Rattle.pst_msg.specs.pst_mail.declared.nid.TheConstants.{STORE, ROOT, FOLDER, SEARCH_FOLDER, MESSAGE, ASSOCIATED}
 use Rattle.pst_msg.specs.Grammar.{HasProperties, MayHaveNames, IsFolder, IsMessage}
 use Rattle.pst_store.specs.Parts.{StoreParts, table_in, entries_in, used_in, HasNode}
 

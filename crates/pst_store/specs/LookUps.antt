@@ -3,9 +3,9 @@ use Rattle.std.specs.Prelude.{◌≡◌, ℕ, Option, Some, IfSome, option_map}
 use Rattle.pst_ndb.specs.declared.node.Node.{Node}
 use Rattle.pst_ndb.specs.Roots.{node_in, all_roots}
 use Rattle.pst_ndb.specs.Views.{image_of_node, table_of_node, nid_of, top_of, roots_of}
-use Rattle.pst_msg.specs.declared.folder_view.Folder.{Folder}
-use Rattle.pst_msg.specs.declared.message_view.Message.{Message}
-use Rattle.pst_msg.specs.declared.nid.TheConstants.{STORE, ROOT}
+use Rattle.pst_msg.specs.pst_mail.declared.folder_view.Folder.{Folder}
+use Rattle.pst_msg.specs.pst_mail.declared.message_view.Message.{Message}
+use Rattle.pst_msg.specs.pst_mail.declared.nid.TheConstants.{STORE, ROOT}
 use Rattle.pst_msg.specs.pst_pc.declared.pc.Pc.{Pc}
 use Rattle.pst_msg.specs.pst_pc.View.{node_of_pc}
 use Rattle.pst_msg.specs.pst_names.declared.name.Name.{Name}

@@ -10,8 +10,8 @@ use Rattle.pst_block.specs.Table.{Table}
 use Rattle.pst_ndb.specs.declared.ndb.Ndb.{Ndb}
 use Rattle.pst_ndb.specs.Roots.{Roots}
 use Rattle.pst_ndb.specs.Views.{image_of_ndb, header_of, table_of_ndb, nodes_of, image_of_node, table_of_node, nid_of, top_of, roots_left}
-use Rattle.pst_msg.specs.declared.folder_view.Folder.{Folder}
-use Rattle.pst_msg.specs.declared.message_view.Message.{Message}
+use Rattle.pst_msg.specs.pst_mail.declared.folder_view.Folder.{Folder}
+use Rattle.pst_msg.specs.pst_mail.declared.message_view.Message.{Message}
 use Rattle.pst_msg.specs.Values.{is_folder, is_message}
 use Rattle.pst_msg.specs.View.{node_of_message, message_roots, ndb_of_folder, folder_roots}
 use Rattle.pst_store.specs.declared.store.Store.{Store}

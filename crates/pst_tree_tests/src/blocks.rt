@@ -4,17 +4,17 @@ mod claims;
 mod many;
 mod steps;
 
+use crate::made::{MEMORY, changed, small};
 use crate::told::{is, is_at};
 use pst_block::*;
 use pst_btree::walk_blocks;
 use pst_bytes::{Image, Span};
 use pst_fault::{Fault, Kind, Place};
 use pst_header::{Header, read_header};
-use pst_make::{BlockPlan, Change, Plan, build, change_all, m0};
+use pst_make::{BlockPlan, Change, Plan, build};
 use pst_space::Claims;
 use std::alloc::Global;
 use std::process::Abort;
-use std::test::Fail;
 
 // The two blocks of a small store whose mapped part ends where the file does, after 271,360 bytes. Each takes 64 bytes.
 const FIRST: BlockEntry = BlockEntry {
@@ -38,13 +38,6 @@ const ENTRY_IB: usize = ENTRY + 8;
 
 const ENTRY_CB: usize = ENTRY + 16;
 
-// The small store, changed.
-fn changed(alloc: Global, changes: &[Change]) -> Result<Vec<u8>, Fail> {
-    let mut image = m0(alloc)?;
-    change_all(&mut image, changes)?;
-    Ok(image)
-}
-
 fn fault_of(kind: Kind, entry: BlockEntry) -> Fault {
     let place = Place {
         at: entry.ib,
@@ -63,27 +56,19 @@ fn blocks_in<'a>(alloc: Global, image: Image<'a>) -> Result<Blocks<'a>, Fault> {
 }
 
 // The fault of a store, changed.
-fn fault_in(alloc: Global, changes: &[Change]) -> Result<Option<Fault>, Fail> {
-    let image = changed(alloc, changes)?;
-    Ok(blocks_in(alloc, Image::new(&image)).err())
+fn fault_in<R: Abort>(rt: &R, alloc: Global, changes: &[Change]) -> Option<Fault> {
+    let image = changed(rt, alloc, changes);
+    blocks_in(alloc, Image::new(&image)).err()
 }
 
 // Stops the test where the fault of a block is another one.
-fn is_refused<R: Abort + AllocGlobal>(
-    rt: &R,
-    changes: &[Change],
-    kind: Kind,
-    entry: BlockEntry,
-) -> Result<(), Fail> {
-    let fault = fault_in(rt.alloc(), changes)?;
+fn is_refused<R: Abort + AllocGlobal>(rt: &R, changes: &[Change], kind: Kind, entry: BlockEntry) {
+    let fault = fault_in(rt, rt.alloc(), changes);
     is(rt, fault, Some(fault_of(kind, entry)));
-    Ok(())
 }
 
-fn is_good<R: Abort + AllocGlobal>(rt: &R, changes: &[Change]) -> Result<(), Fail> {
-    let fault = fault_in(rt.alloc(), changes)?;
-    is(rt, fault, None);
-    Ok(())
+fn is_good<R: Abort + AllocGlobal>(rt: &R, changes: &[Change]) {
+    is(rt, fault_in(rt, rt.alloc(), changes), None);
 }
 
 // The block of an entry, or its fault.
@@ -94,17 +79,14 @@ fn block_in<'a>(image: &'a [u8], entry: BlockEntry) -> Result<Block<'a>, Fault> 
 }
 
 #[test]
-fn a_block_is_read(rt: HostRuntime) -> Result<(), Fail> {
-    let bytes = m0(rt.alloc())?;
-    let Ok(block) = block_in(&bytes, SECOND) else {
-        return Err(Fail::from("no block"));
-    };
+fn a_block_is_read(rt: HostRuntime) {
+    let bytes = small(&rt, rt.alloc());
+    let block = block_in(&bytes, SECOND).expect(&rt, "no block");
     is(&rt, block.entry, SECOND);
     is(&rt, Some(block.body), bytes.get(0x4c40..0x4c66));
     // Bit 0 of the entry's identifier says nothing.
     let odd = BlockEntry { bid: 9, ..SECOND };
     is(&rt, block_in(&bytes, odd).err(), None);
-    Ok(())
 }
 
 // An empty body takes 64 bytes, and the largest 8,192.
@@ -134,8 +116,8 @@ const PLACES: [(u64, u16, Kind); 10] = [
 
 // The file goes on after the end of the mapped part.
 #[test]
-fn places_where_no_block_may_lie(rt: HostRuntime) -> Result<(), Fail> {
-    let bytes = changed(rt.alloc(), &[Change::Grow(64)])?;
+fn places_where_no_block_may_lie(rt: HostRuntime) {
+    let bytes = changed(&rt, rt.alloc(), &[Change::Grow(64)]);
     for (ib, cb, kind) in &PLACES {
         let entry = BlockEntry {
             bid: 8,
@@ -145,7 +127,6 @@ fn places_where_no_block_may_lie(rt: HostRuntime) -> Result<(), Fail> {
         let fault = block_in(&bytes, entry).err();
         is_at(&rt, *ib, fault, Some(fault_of(*kind, entry)));
     }
-    Ok(())
 }
 
 // The body of a block, by its entry and by its span.
@@ -182,17 +163,14 @@ fn are_small<'x, R: Abort>(rt: &R, blocks: &Blocks<'x>, bytes: &'x [u8]) {
 }
 
 #[test]
-fn the_blocks_of_a_small_store(rt: HostRuntime) -> Result<(), Fail> {
-    let bytes = m0(rt.alloc())?;
-    let Ok(blocks) = blocks_in(rt.alloc(), Image::new(&bytes)) else {
-        return Err(Fail::from("no blocks"));
-    };
+fn the_blocks_of_a_small_store(rt: HostRuntime) {
+    let bytes = small(&rt, rt.alloc());
+    let blocks = blocks_in(rt.alloc(), Image::new(&bytes)).expect(&rt, "no blocks");
     are_small(&rt, &blocks, &bytes);
-    Ok(())
 }
 
 #[test]
-fn a_block_on_another_block(rt: HostRuntime) -> Result<(), Fail> {
+fn a_block_on_another_block(rt: HostRuntime) {
     let changes = [Change::Set(ENTRY_IB, &[0x00, 0x4c]), Change::Page(0x4a00)];
     is_refused(
         &rt,
@@ -202,11 +180,11 @@ fn a_block_on_another_block(rt: HostRuntime) -> Result<(), Fail> {
             ib: 0x4c00,
             ..SECOND
         },
-    )
+    );
 }
 
 #[test]
-fn a_block_on_a_map_page(rt: HostRuntime) -> Result<(), Fail> {
+fn a_block_on_a_map_page(rt: HostRuntime) {
     let changes = [Change::Set(ENTRY_IB, &[0x00, 0x46]), Change::Page(0x4a00)];
     is_refused(
         &rt,
@@ -216,11 +194,11 @@ fn a_block_on_a_map_page(rt: HostRuntime) -> Result<(), Fail> {
             ib: 0x4600,
             ..SECOND
         },
-    )
+    );
 }
 
 #[test]
-fn a_block_on_a_page_of_a_tree(rt: HostRuntime) -> Result<(), Fail> {
+fn a_block_on_a_page_of_a_tree(rt: HostRuntime) {
     let changes = [Change::Set(ENTRY_IB, &[0xc0, 0x4b]), Change::Page(0x4a00)];
     is_refused(
         &rt,
@@ -230,25 +208,25 @@ fn a_block_on_a_page_of_a_tree(rt: HostRuntime) -> Result<(), Fail> {
             ib: 0x4bc0,
             ..SECOND
         },
-    )
+    );
 }
 
 // Of 0x1FF1 bytes, which are 8,177.
 #[test]
-fn a_body_that_is_too_large(rt: HostRuntime) -> Result<(), Fail> {
+fn a_body_that_is_too_large(rt: HostRuntime) {
     let changes = [Change::Set(ENTRY_CB, &[0xf1, 0x1f]), Change::Page(0x4a00)];
     is_refused(
         &rt,
         &changes,
         Kind::BlockPlace,
         BlockEntry { cb: 8177, ..SECOND },
-    )
+    );
 }
 
 #[test]
-fn the_first_of_two_bad_blocks_is_told(rt: HostRuntime) -> Result<(), Fail> {
+fn the_first_of_two_bad_blocks_is_told(rt: HostRuntime) {
     let changes = [Change::Flip(0x4c34), Change::Flip(0x4c74)];
-    is_refused(&rt, &changes, Kind::BlockTrailer, FIRST)
+    is_refused(&rt, &changes, Kind::BlockTrailer, FIRST);
 }
 
 const TRAILER_BID: usize = TRAILER + 8;
@@ -257,20 +235,19 @@ const TRAILER_BID: usize = TRAILER + 8;
 const FIELDS: [usize; 5] = [TRAILER, TRAILER + 2, TRAILER + 4, TRAILER_BID, 0x4c65];
 
 #[test]
-fn each_field_of_a_trailer_counts(rt: HostRuntime) -> Result<(), Fail> {
+fn each_field_of_a_trailer_counts(rt: HostRuntime) {
     for at in &FIELDS {
-        is_refused(&rt, &[Change::Flip(*at)], Kind::BlockTrailer, SECOND)?;
+        is_refused(&rt, &[Change::Flip(*at)], Kind::BlockTrailer, SECOND);
     }
-    Ok(())
 }
 
 #[test]
-fn padding_is_free(rt: HostRuntime) -> Result<(), Fail> {
+fn padding_is_free(rt: HostRuntime) {
     let padding = [1, 2, 3, 4, 5, 6, 7, 8, 9, 10];
-    is_good(&rt, &[Change::Set(0x4c66, &padding)])
+    is_good(&rt, &[Change::Set(0x4c66, &padding)]);
 }
 
 #[test]
-fn a_trailer_may_have_bit_0_of_its_bid(rt: HostRuntime) -> Result<(), Fail> {
-    is_good(&rt, &[Change::Flip(TRAILER_BID), Change::Block(0x4c40, 38)])
+fn a_trailer_may_have_bit_0_of_its_bid(rt: HostRuntime) {
+    is_good(&rt, &[Change::Flip(TRAILER_BID), Change::Block(0x4c40, 38)]);
 }

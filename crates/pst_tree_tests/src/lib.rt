@@ -5,6 +5,8 @@
 #[cfg(test)]
 mod blocks;
 #[cfg(test)]
+mod made;
+#[cfg(test)]
 mod maps;
 #[cfg(test)]
 mod told;

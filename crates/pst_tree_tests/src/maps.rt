@@ -2,18 +2,18 @@
 
 ghost use Rattle.std.specs.Prelude.{◌≡◌, length};
 
+use crate::made::{change, changed};
 use crate::told::{holds_at, is_at};
 use pst_amap::*;
 use pst_bytes::{Image, Span};
 use pst_fault::{Fault, Kind};
 use pst_header::{Header, read_header};
-use pst_make::{Change, change_all, m0};
+use pst_make::Change;
 use pst_space::Claims;
 use std::alloc::Global;
 use std::process::Abort;
-use std::test::Fail;
 
-fn claim(claims: &mut Claims, at: u64, len: u64) -> Result<(), Fail>
+fn claim<R: Abort>(rt: &R, claims: &mut Claims, at: u64, len: u64)
     ensures { length claims.new ≡ length claims.old }
 {
     let whole = at >= 17408 && at.is_multiple_of(64) && len.is_multiple_of(64) && len > 0;
@@ -22,51 +22,51 @@ fn claim(claims: &mut Claims, at: u64, len: u64) -> Result<(), Fail>
         || len > 1_000_000
         || (at - 17408) / 64 + len / 64 > claims.units()
     {
-        return Err(Fail::from("no whole units"));
+        rt.panic("no whole units");
     }
-    claims
-        .claim(Span { at, len })
-        .map_err(|_| Fail::from("on another"))
+    if claims.claim(Span { at, len }).is_err() {
+        rt.panic("on another");
+    }
 }
 
 // What the comparison answers of an image, after these spans are claimed; and whether a unit is claimed then.
-fn compared(
+fn compared<R: Abort>(
+    rt: &R,
     alloc: Global,
     image: &[u8],
     spans: &[(u64, u64)],
     unit: u64,
-) -> Result<(Result<MapReport, Fault>, bool), Fail> {
+) -> (Result<MapReport, Fault>, bool) {
     let image = Image::new(image);
     let Ok(header) = read_header(image) else {
-        return Err(Fail::from("no header"));
+        rt.panic("no header");
     };
-    let mut claims = Claims::new(alloc, &header)?;
+    let Ok(mut claims) = Claims::new(alloc, &header) else {
+        rt.panic("no memory");
+    };
     for (at, len) in spans {
-        claim(&mut claims, *at, *len)?;
+        claim(rt, &mut claims, *at, *len);
     }
     let report = compare(alloc, image, &header, &mut claims);
-    Ok((report, claims.is_claimed(unit)))
+    (report, claims.is_claimed(unit))
 }
 
 // The pages and blocks of the small store.
 const SMALL: [(u64, u64); 4] = [(0x4800, 512), (0x4a00, 512), (0x4c00, 64), (0x4c40, 64)];
 
-// The small store, changed.
-fn changed(alloc: Global, changes: &[Change]) -> Result<Vec<u8>, Fail> {
-    let mut image = m0(alloc)?;
-    change_all(&mut image, changes)?;
-    Ok(image)
-}
-
 // The small store with other bytes in its map, from the fifth on.
-fn small_store(alloc: Global, marks: &[u8]) -> Result<Vec<u8>, Fail> {
-    changed(alloc, &[Change::Set(0x4404, marks), Change::Page(0x4400)])
+fn small_store<R: Abort>(rt: &R, alloc: Global, marks: &[u8]) -> Vec<u8> {
+    changed(
+        rt,
+        alloc,
+        &[Change::Set(0x4404, marks), Change::Page(0x4400)],
+    )
 }
 
 // The fault, where a comparison ends with one.
-fn fault_of(alloc: Global, image: &[u8], spans: &[(u64, u64)]) -> Result<Option<Fault>, Fail> {
-    let (report, _) = compared(alloc, image, spans, 0)?;
-    Ok(report.err())
+fn fault_of<R: Abort>(rt: &R, alloc: Global, image: &[u8], spans: &[(u64, u64)]) -> Option<Fault> {
+    let (report, _) = compared(rt, alloc, image, spans, 0);
+    report.err()
 }
 
 // What a comparison reports, in plain values: the order of bits, how many old maps there are, what is lost, and whether a unit is
@@ -79,16 +79,14 @@ struct Told {
     claimed: bool,
 }
 
-fn told_of(alloc: Global, image: &[u8], spans: &[(u64, u64)], unit: u64) -> Result<Told, Fail> {
-    let (report, claimed) = compared(alloc, image, spans, unit)?;
-    match report {
-        Ok(report) => Ok(Told {
-            order: report.order,
-            old_maps: report.old_maps,
-            lost: report.lost,
-            claimed,
-        }),
-        Err(_) => Err(Fail::from("refused")),
+fn told_of<R: Abort>(rt: &R, alloc: Global, image: &[u8], spans: &[(u64, u64)], unit: u64) -> Told {
+    let (report, claimed) = compared(rt, alloc, image, spans, unit);
+    let report = report.expect(rt, "refused");
+    Told {
+        order: report.order,
+        old_maps: report.old_maps,
+        lost: report.lost,
+        claimed,
     }
 }
 
@@ -108,26 +106,19 @@ const MARKED: [(u8, BitOrder, &[Span]); 5] = [
     (0x83, BitOrder::Low, &[Span { at: 19904, len: 64 }]),
 ];
 
-fn is_marked<R: Abort + AllocGlobal>(
-    rt: &R,
-    byte: u8,
-    order: BitOrder,
-    lost: &[Span],
-) -> Result<(), Fail> {
-    let image = small_store(rt.alloc(), &[byte])?;
-    let told = told_of(rt.alloc(), &image, &SMALL, 33)?;
+fn is_marked<R: Abort + AllocGlobal>(rt: &R, byte: u8, order: BitOrder, lost: &[Span]) {
+    let image = small_store(rt, rt.alloc(), &[byte]);
+    let told = told_of(rt, rt.alloc(), &image, &SMALL, 33);
     is_at(rt, byte, (told.order, told.old_maps), (order, 0));
     is_at(rt, byte, told.lost.as_slice(), lost);
     holds_at(rt, byte, told.claimed);
-    Ok(())
 }
 
 #[test]
-fn what_is_claimed_is_marked(rt: HostRuntime) -> Result<(), Fail> {
+fn what_is_claimed_is_marked(rt: HostRuntime) {
     for (byte, order, lost) in &MARKED {
-        is_marked(&rt, *byte, *order, lost)?;
+        is_marked(&rt, *byte, *order, lost);
     }
-    Ok(())
 }
 
 // Neither order fits. The fault is told most significant bit first: with 0x01 that is the first block, though the other
@@ -140,19 +131,17 @@ const MISSING: [(u8, u64); 5] = [
     (0x01, 0x4c00),
 ];
 
-fn is_missing<R: Abort + AllocGlobal>(rt: &R, byte: u8, at: u64) -> Result<(), Fail> {
-    let image = small_store(rt.alloc(), &[byte])?;
-    let fault = fault_of(rt.alloc(), &image, &SMALL)?;
+fn is_missing<R: Abort + AllocGlobal>(rt: &R, byte: u8, at: u64) {
+    let image = small_store(rt, rt.alloc(), &[byte]);
+    let fault = fault_of(rt, rt.alloc(), &image, &SMALL);
     is_at(rt, byte, fault, Some(Fault::at(Kind::MapMissing, at)));
-    Ok(())
 }
 
 #[test]
-fn what_is_missing_is_told(rt: HostRuntime) -> Result<(), Fail> {
+fn what_is_missing_is_told(rt: HostRuntime) {
     for (byte, at) in &MISSING {
-        is_missing(&rt, *byte, *at)?;
+        is_missing(&rt, *byte, *at);
     }
-    Ok(())
 }
 
 // The blocks take units 32 to 40, so their marks lie in the fifth byte of the map and the first bit of the sixth.
@@ -191,29 +180,26 @@ const RUNS: [([u8; 3], &[Span]); 4] = [
     ),
 ];
 
-fn is_breached<R: Abort + AllocGlobal>(rt: &R, marks: [u8; 3], at: u64) -> Result<(), Fail> {
-    let image = small_store(rt.alloc(), &marks)?;
-    let fault = fault_of(rt.alloc(), &image, &BLOCKS)?;
+fn is_breached<R: Abort + AllocGlobal>(rt: &R, marks: [u8; 3], at: u64) {
+    let image = small_store(rt, rt.alloc(), &marks);
+    let fault = fault_of(rt, rt.alloc(), &image, &BLOCKS);
     is_at(rt, marks, fault, Some(Fault::at(Kind::MapMissing, at)));
-    Ok(())
 }
 
-fn is_lost<R: Abort + AllocGlobal>(rt: &R, marks: [u8; 3], lost: &[Span]) -> Result<(), Fail> {
-    let image = small_store(rt.alloc(), &marks)?;
-    let told = told_of(rt.alloc(), &image, &BLOCKS, 0)?;
+fn is_lost<R: Abort + AllocGlobal>(rt: &R, marks: [u8; 3], lost: &[Span]) {
+    let image = small_store(rt, rt.alloc(), &marks);
+    let told = told_of(rt, rt.alloc(), &image, &BLOCKS, 0);
     is_at(rt, marks, told.lost.as_slice(), lost);
-    Ok(())
 }
 
 #[test]
-fn bytes_are_seen_as_eight_units(rt: HostRuntime) -> Result<(), Fail> {
+fn bytes_are_seen_as_eight_units(rt: HostRuntime) {
     for (marks, at) in &BREACHES {
-        is_breached(&rt, *marks, *at)?;
+        is_breached(&rt, *marks, *at);
     }
     for (marks, lost) in &RUNS {
-        is_lost(&rt, *marks, lost)?;
+        is_lost(&rt, *marks, lost);
     }
-    Ok(())
 }
 
 // What is changed in a map page: the check value, the type twice, the signature, the identifier, and the page's own units.
@@ -226,19 +212,17 @@ const BAD: [&[Change<'static>]; 6] = [
     &[Change::Set(0x4400, &[0x7f]), Change::Page(0x4400)],
 ];
 
-fn is_bad<R: Abort + AllocGlobal>(rt: &R, number: usize, changes: &[Change]) -> Result<(), Fail> {
-    let image = changed(rt.alloc(), changes)?;
-    let fault = fault_of(rt.alloc(), &image, &SMALL)?;
+fn is_bad<R: Abort + AllocGlobal>(rt: &R, number: usize, changes: &[Change]) {
+    let image = changed(rt, rt.alloc(), changes);
+    let fault = fault_of(rt, rt.alloc(), &image, &SMALL);
     is_at(rt, number, fault, Some(Fault::at(Kind::MapPage, 0x4400)));
-    Ok(())
 }
 
 #[test]
-fn a_map_page_has_to_be_good(rt: HostRuntime) -> Result<(), Fail> {
+fn a_map_page_has_to_be_good(rt: HostRuntime) {
     for (number, changes) in BAD.iter().enumerate() {
-        is_bad(&rt, number, changes)?;
+        is_bad(&rt, number, changes);
     }
-    Ok(())
 }
 
 // What makes the small store one of two regions with no tree: its second allocation map is at 271,360.
@@ -258,8 +242,8 @@ const TWO_REGIONS: [Change<'static>; 9] = [
 ];
 
 // Puts a page of two types at one of the two places of the second region, whose units are marked by these bytes.
-fn put_second(image: &mut Vec<u8>, at: u64, kinds: [u8; 2], marks: [u8; 2]) -> Result<(), Fail> {
-    let page = usize::try_from(at)?;
+fn put_second<R: Abort>(rt: &R, image: &mut Vec<u8>, at: u64, kinds: [u8; 2], marks: [u8; 2]) {
+    let page = usize::try_from(at).expect(rt, "no such place");
     let changes = [
         Change::Set(271_360, &[0xff, 0x00, marks[0], marks[1]]),
         Change::Page(271_360),
@@ -267,15 +251,20 @@ fn put_second(image: &mut Vec<u8>, at: u64, kinds: [u8; 2], marks: [u8; 2]) -> R
         Change::Set(page.saturating_add(504), &at.to_le_bytes()),
         Change::Page(at),
     ];
-    change_all(image, &changes)?;
-    Ok(())
+    change(rt, image, &changes);
 }
 
 // Two regions with no tree, and such a page.
-fn two_regions(alloc: Global, at: u64, kinds: [u8; 2], marks: [u8; 2]) -> Result<Vec<u8>, Fail> {
-    let mut image = changed(alloc, &TWO_REGIONS)?;
-    put_second(&mut image, at, kinds, marks)?;
-    Ok(image)
+fn two_regions<R: Abort>(
+    rt: &R,
+    alloc: Global,
+    at: u64,
+    kinds: [u8; 2],
+    marks: [u8; 2],
+) -> Vec<u8> {
+    let mut image = changed(rt, alloc, &TWO_REGIONS);
+    put_second(rt, &mut image, at, kinds, marks);
+    image
 }
 
 // Both places, the first unit of a page there, and the bytes that mark its units.
@@ -298,10 +287,10 @@ fn is_old<R: Abort + AllocGlobal>(
     place: (u64, u64, [u8; 2]),
     kinds: [u8; 2],
     is_old: bool,
-) -> Result<(), Fail> {
+) {
     let (at, unit, marks) = place;
-    let image = two_regions(rt.alloc(), at, kinds, marks)?;
-    let told = told_of(rt.alloc(), &image, &[], unit)?;
+    let image = two_regions(rt, rt.alloc(), at, kinds, marks);
+    let told = told_of(rt, rt.alloc(), &image, &[], unit);
     let page = [Span { at, len: 512 }];
     let lost: &[Span] = if is_old { &[] } else { &page };
     is_at(rt, (kinds, at), told.lost.as_slice(), lost);
@@ -311,17 +300,15 @@ fn is_old<R: Abort + AllocGlobal>(
         (told.old_maps, told.claimed),
         (u64::from(is_old), is_old),
     );
-    Ok(())
 }
 
 #[test]
-fn old_map_pages_are_claimed(rt: HostRuntime) -> Result<(), Fail> {
+fn old_map_pages_are_claimed(rt: HostRuntime) {
     for place in &OLD_PLACES {
         for (kinds, old) in &TYPES {
-            is_old(&rt, *place, *kinds, *old)?;
+            is_old(&rt, *place, *kinds, *old);
         }
     }
-    Ok(())
 }
 
 // The first unit behind the map pages is claimed, so that its mark in the first map says the order of bits. A page whose
@@ -378,26 +365,22 @@ const ORDERS: [Order; 7] = [
     ),
 ];
 
-// The mark in the first map.
-fn set_mark(image: &mut Vec<u8>, mark: u8) -> Result<(), Fail> {
-    change_all(image, &[Change::Set(0x4402, &[mark]), Change::Page(0x4400)])?;
-    Ok(())
-}
-
-fn is_in_order<R: Abort + AllocGlobal>(rt: &R, row: &Order) -> Result<(), Fail> {
+fn is_in_order<R: Abort + AllocGlobal>(rt: &R, row: &Order) {
     let (mark, order, kind, marks, old_maps, lost) = *row;
-    let mut image = two_regions(rt.alloc(), 272_384, [0x82, kind], [marks, 0])?;
-    set_mark(&mut image, mark)?;
-    let told = told_of(rt.alloc(), &image, &[(0x4800, 64)], 0)?;
+    let mut image = two_regions(rt, rt.alloc(), 272_384, [0x82, kind], [marks, 0]);
+    change(
+        rt,
+        &mut image,
+        &[Change::Set(0x4402, &[mark]), Change::Page(0x4400)],
+    );
+    let told = told_of(rt, rt.alloc(), &image, &[(0x4800, 64)], 0);
     is_at(rt, marks, (told.order, told.old_maps), (order, old_maps));
     is_at(rt, marks, told.lost.as_slice(), lost);
-    Ok(())
 }
 
 #[test]
-fn one_order_is_read_everywhere(rt: HostRuntime) -> Result<(), Fail> {
+fn one_order_is_read_everywhere(rt: HostRuntime) {
     for row in &ORDERS {
-        is_in_order(&rt, row)?;
+        is_in_order(&rt, row);
     }
-    Ok(())
 }

@@ -5,17 +5,17 @@ mod lists;
 mod many;
 mod order;
 
+use crate::made::{MEMORY, change, small};
 use crate::told::is;
 use pst_btree::*;
 use pst_bytes::Image;
 use pst_fault::{Fault, Kind};
 use pst_header::{Bref, read_header};
-use pst_make::{Change, m0, set};
+use pst_make::{Change, set};
 use pst_page::PageKind;
 use pst_space::Claims;
 use std::alloc::Global;
 use std::process::Abort;
-use std::test::Fail;
 
 // The root page of its block B-tree.
 const BBT: Bref = Bref { bid: 8, ib: 0x4a00 };
@@ -36,40 +36,70 @@ fn page_type(kind: PageKind) -> u8 {
     }
 }
 
+// Writes bytes into an image.
+fn put<R: Abort>(rt: &R, image: &mut Vec<u8>, at: usize, bytes: &[u8]) {
+    set(image, at, bytes).expect(rt, "past the end");
+}
+
+fn put_number<R: Abort>(rt: &R, image: &mut Vec<u8>, at: usize, number: u64) {
+    put(rt, image, at, &number.to_le_bytes());
+}
+
+// The place of a page in an image.
+fn place_of<R: Abort>(rt: &R, bref: Bref) -> usize {
+    usize::try_from(bref.ib).expect(rt, "no such place")
+}
+
+// Writes the entries of a page, numbers of 8 bytes each.
+fn put_entries<const N: usize, R: Abort>(
+    rt: &R,
+    image: &mut Vec<u8>,
+    page: usize,
+    entries: &[[u64; N]],
+) {
+    let mut at = page;
+    for entry in entries {
+        for number in entry {
+            put_number(rt, image, at, *number);
+            at = at.saturating_add(8);
+        }
+    }
+}
+
 // Writes a page whose entries are numbers of 8 bytes each.
-fn put_page<const N: usize>(
+fn put_page<const N: usize, R: Abort>(
+    rt: &R,
     image: &mut Vec<u8>,
     kind: PageKind,
     bref: Bref,
     level: u8,
     entries: &[[u64; N]],
-) -> Result<(), Fail> {
-    let at = usize::try_from(bref.ib)?;
-    let width = N.saturating_mul(8);
-    for (i, entry) in entries.iter().enumerate() {
-        for (j, number) in entry.iter().enumerate() {
-            let offset = i.saturating_mul(width).saturating_add(j.saturating_mul(8));
-            set(image, at.saturating_add(offset), &number.to_le_bytes())?;
-        }
-    }
-    let count = u8::try_from(entries.len())?;
-    let width = u8::try_from(width)?;
-    set(image, at.saturating_add(488), &[count, 15, width, level])?;
+) {
+    let at = place_of(rt, bref);
+    put_entries(rt, image, at, entries);
+    let count = u8::try_from(entries.len()).expect(rt, "too many entries");
+    let width = u8::try_from(N.saturating_mul(8)).expect(rt, "too wide");
+    put(
+        rt,
+        image,
+        at.saturating_add(488),
+        &[count, 15, width, level],
+    );
     let page_type = page_type(kind);
-    set(image, at.saturating_add(496), &[page_type, page_type])?;
-    set(image, at.saturating_add(504), &bref.bid.to_le_bytes())?;
-    Ok(Change::Page(bref.ib).apply(image)?)
+    put(rt, image, at.saturating_add(496), &[page_type, page_type]);
+    put_number(rt, image, at.saturating_add(504), bref.bid);
+    change(rt, image, &[Change::Page(bref.ib)]);
 }
 
 // Sets the root of a tree in the header, and makes the header's check values right.
-fn set_root(image: &mut Vec<u8>, kind: PageKind, root: Bref) -> Result<(), Fail> {
+fn set_root<R: Abort>(rt: &R, image: &mut Vec<u8>, kind: PageKind, root: Bref) {
     let at = match kind {
         PageKind::Bbt => 232,
         PageKind::Nbt => 216,
     };
-    set(image, at, &root.bid.to_le_bytes())?;
-    set(image, at.saturating_add(8), &root.ib.to_le_bytes())?;
-    Ok(Change::Header.apply(image)?)
+    put_number(rt, image, at, root.bid);
+    put_number(rt, image, at.saturating_add(8), root.ib);
+    change(rt, image, &[Change::Header]);
 }
 
 // The entry of a branch: a key, and the page with this number.
@@ -105,20 +135,20 @@ fn blocks_fault(alloc: Global, image: &[u8]) -> Option<Fault> {
 }
 
 // A branch over three leaves, of which the second ends with this key. The third has the key 40 in the branch.
-fn three_leaves(alloc: Global, last: u64) -> Result<Vec<u8>, Fail> {
-    let mut image = m0(alloc)?;
+fn three_leaves<R: Abort>(rt: &R, alloc: Global, last: u64) -> Vec<u8> {
+    let mut image = small(rt, alloc);
     let root = [branch(4, 1), branch(20, 2), branch(40, 3)];
-    put_page(&mut image, PageKind::Bbt, page_at(0), 1, &root)?;
+    put_page(rt, &mut image, PageKind::Bbt, page_at(0), 1, &root);
     let leaves = [
         [empty_block(4), empty_block(8)],
         [empty_block(20), empty_block(last)],
         [empty_block(40), empty_block(44)],
     ];
     for (number, leaf) in (1..).zip(leaves) {
-        put_page(&mut image, PageKind::Bbt, page_at(number), 0, &leaf)?;
+        put_page(rt, &mut image, PageKind::Bbt, page_at(number), 0, &leaf);
     }
-    set_root(&mut image, PageKind::Bbt, page_at(0))?;
-    Ok(image)
+    set_root(rt, &mut image, PageKind::Bbt, page_at(0));
+    image
 }
 
 // The node B-tree of a file without the list of its nodes, likewise.
@@ -178,26 +208,27 @@ fn are_small_nodes<R: Abort>(rt: &R, tree: &NodeTree) {
 }
 
 #[test]
-fn the_trees_of_a_small_store(rt: HostRuntime) -> Result<(), Fail> {
-    let bytes = m0(rt.alloc())?;
-    let Ok((blocks, entries)) = blocks_in(rt.alloc(), Image::new(&bytes)) else {
-        return Err(Fail::from("no blocks"));
-    };
-    are_small_blocks(&rt, &blocks, &entries);
-    let Ok((nodes, entries)) = nodes_in(rt.alloc(), Image::new(&bytes)) else {
-        return Err(Fail::from("no nodes"));
-    };
-    is(&rt, entries.as_slice(), [STORE, FOLDER].as_slice());
-    are_small_nodes(&rt, &nodes);
-    claims::small_pages_are(&rt, &bytes)
+fn the_trees_of_a_small_store(rt: HostRuntime) {
+    let bytes = small(&rt, rt.alloc());
+    has_small_blocks(&rt, rt.alloc(), &bytes);
+    has_small_nodes(&rt, rt.alloc(), &bytes);
+    claims::small_pages_are(&rt, &bytes);
+}
+
+fn has_small_blocks<R: Abort>(rt: &R, alloc: Global, bytes: &[u8]) {
+    let (blocks, entries) = blocks_in(alloc, Image::new(bytes)).expect(rt, "no blocks");
+    are_small_blocks(rt, &blocks, &entries);
+}
+
+fn has_small_nodes<R: Abort>(rt: &R, alloc: Global, bytes: &[u8]) {
+    let (nodes, entries) = nodes_in(alloc, Image::new(bytes)).expect(rt, "no nodes");
+    is(rt, entries.as_slice(), [STORE, FOLDER].as_slice());
+    are_small_nodes(rt, &nodes);
 }
 
 #[test]
-fn the_node_tree_without_a_list(rt: HostRuntime) -> Result<(), Fail> {
-    let bytes = m0(rt.alloc())?;
-    let Ok(nodes) = node_tree_in(rt.alloc(), Image::new(&bytes)) else {
-        return Err(Fail::from("no nodes"));
-    };
+fn the_node_tree_without_a_list(rt: HostRuntime) {
+    let bytes = small(&rt, rt.alloc());
+    let nodes = node_tree_in(rt.alloc(), Image::new(&bytes)).expect(&rt, "no nodes");
     are_small_nodes(&rt, &nodes);
-    Ok(())
 }

@@ -4,8 +4,8 @@ use Rattle.std.specs.Prelude.{◌&&◌, ◌==◌, slice_index, if◌then◌else�
 use Rattle.std.proofs.lemmas.Bool.Decides.{nat_tests}
 use Rattle.json.specs.Run.{is_plain}
 use Rattle.uuid.specs.Text.{by_index, hex_digit, lower, nibble, digit_place, is_hyphen_place, hyphen, hyphenated_text}
-use Rattle.pst_value_json.specs.Object.{all_plain}
-use Rattle.pst_value_json.proofs.EscapeLemmas.{plain_append}
+use Rattle.pst_text.specs.Quoted.{all_plain}
+use Rattle.pst_text.proofs.EscapeLemmas.{plain_append}
 
 places_are_plain : (n : ℕ) (f : ℕ → ℕ) → ((k : ℕ) → is_plain (f k) ≡ true) → all_plain (by_index n f) ≡ true
 unfolding by_index

@@ -1,20 +1,11 @@
 pub mod CellLemmas
-pub mod CharacterLemmas
 pub mod ColumnLemmas
-pub mod DigitLemmas
-pub mod EscapeLemmas
+pub mod DocLemmas
 pub mod GuidLemmas
-pub mod HexLemmas
-pub mod KeptLemmas
-pub mod LaneLemmas
 pub mod MemberLemmas
-pub mod NameLemmas
 pub mod PartLemmas
-pub mod PlainLemmas
+pub mod PenLemmas
 pub mod PlaceLemmas
 pub mod PropLemmas
 pub mod RowLemmas
-pub mod TimeLemmas
-pub mod UnitLanes
-pub mod UnitLemmas
-pub mod ValueLemmas
+pub use Rattle.pst_text.proofs as pst_text

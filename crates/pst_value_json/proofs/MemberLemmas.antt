@@ -1,12 +1,14 @@
 -- An object whose text is put behind another, member by member.
 use Rattle.std.proofs.Common.{◌≡◌, ℕ, Bool, true, false, List, [], ◌∷◌, ◌++◌, refl, sym, ap, ◌∙◌, append_assoc, append-nil}
-use Rattle.std.specs.Prelude.{Option, Some, None, option_map}
+use Rattle.std.specs.Prelude.{Option, Some, None}
 use Rattle.serde_json.specs.Data.{Data, string, object, Members, member, no_members}
 use Rattle.serde_json.specs.Written.{compact_text, members_text, comma_if}
 use Rattle.json.specs.Print.{escape}
-use Rattle.pst_value_json.specs.Object.{all_plain, key_text, if_member_text, first_member_text}
-use Rattle.pst_value_json.specs.Places.{if_asked, member_if}
-use Rattle.pst_value_json.proofs.EscapeLemmas.{all_escaped}
+use Rattle.pst_text.specs.Quoted.{all_plain, key_text}
+use Rattle.pst_value_json.specs.Object.{if_member_text}
+use Rattle.pst_value_json.specs.Pen.{marked}
+use Rattle.pst_value_json.specs.Places.{member_if}
+use Rattle.pst_text.proofs.EscapeLemmas.{all_escaped}
 
 -- the object begins
 pub opened : (ms : Members) (text put : List ℕ) → put ≡ text ++ 123 ∷ [] → put ++ members_text false ms ≡ text ++ compact_text (object ms)
@@ -29,30 +31,11 @@ if_member_put k None ms text put whole is so_far = ap (λ l. l ++ members_text t
 if_member_put k (Some d) ms text put whole is so_far =
     member_put true k d ms text (text ++ key_text true k) put whole refl (is ∙ sym (append_assoc text (key_text true k) (compact_text d))) so_far
 
--- one that is there
-pub there_put : (k : List ℕ) (d : Data) (text key put : List ℕ) → key ≡ text ++ key_text true k → put ≡ key ++ compact_text d → put ≡ text ++ if_member_text k (Some d)
-there_put k d text key put keyed is = is ∙ ap (λ l. l ++ compact_text d) keyed ∙ append_assoc text (key_text true k) (compact_text d)
-
--- the first member of an object, which is there only where it is asked for
-pub first_put : {X : Type 0} (asked : Bool) (f : X → Data) (x : X) (k : List ℕ) (ms : Members) (text put whole : List ℕ)
-    → put ≡ text ++ first_member_text k (option_map f (if_asked asked x)) → text ++ members_text false (member_if k (option_map f (if_asked asked x)) ms) ≡ whole
-    → put ++ members_text asked ms ≡ whole
-first_put true f x k ms text put whole is so_far =
-    member_put false k (f x) ms text (text ++ key_text false k) put whole refl (is ∙ sym (append_assoc text (key_text false k) (compact_text (f x)))) so_far
-first_put false f x k ms text put whole is so_far = ap (λ l. l ++ members_text false ms) (is ∙ append-nil text) ∙ so_far
-
-pub first_there : (k : List ℕ) (d : Data) (text key put : List ℕ) → key ≡ text ++ key_text false k → put ≡ key ++ compact_text d → put ≡ text ++ first_member_text k (Some d)
-first_there k d text key put keyed is = is ∙ ap (λ l. l ++ compact_text d) keyed ∙ append_assoc text (key_text false k) (compact_text d)
-
 -- the object ends
 pub closed : (text put whole : List ℕ) → put ≡ text ++ 125 ∷ [] → text ++ members_text true no_members ≡ whole → put ≡ whole
 closed text put whole is so_far = is ∙ so_far
 
 -- ---- keys of which each byte stands for itself, put at once with what stands around them
-
--- in its quotes, and with its colon
-abbrev pub marked : List ℕ → List ℕ
-marked k = 34 ∷ (k ++ 34 ∷ 58 ∷ [])
 
 key_is_marked : (later : Bool) (k : List ℕ) → all_plain k ≡ true → key_text later k ≡ comma_if later ++ marked k
 key_is_marked later k all =
@@ -72,11 +55,3 @@ pub next_marked : (k : List ℕ) (d : Data) (ms : Members) (text key put whole :
     → text ++ members_text true (member k d ms) ≡ whole → put ++ members_text true ms ≡ whole
 next_marked k d ms text key put whole all keyed is so_far =
     member_put true k d ms text key put whole (keyed ∙ ap (λ l. text ++ l) (sym (key_is_marked true k all))) is so_far
-
--- one is put behind a comma that may be there
-pub later_marked : (later : Bool) (k : List ℕ) (d : Data) (ms : Members) (text comma key put whole : List ℕ) → all_plain k ≡ true
-    → comma ≡ text ++ comma_if later → key ≡ comma ++ marked k → put ≡ key ++ compact_text d
-    → text ++ members_text later (member k d ms) ≡ whole → put ++ members_text true ms ≡ whole
-later_marked later k d ms text comma key put whole all before keyed is so_far =
-    member_put later k d ms text key put whole
-    (keyed ∙ ap (λ l. l ++ marked k) before ∙ append_assoc text (comma_if later) (marked k) ∙ ap (λ l. text ++ l) (sym (key_is_marked later k all))) is so_far

@@ -1,10 +1,9 @@
 -- Where the pieces of values lie.
-use Rattle.std.proofs.Common.{◌≡◌, ℕ, ◌+◌, ◌<◌, ◌≤◌, List, [], ◌∷◌, ◌++◌, map, length, take, drop, Option, Some, None, refl, sym, ap, ◌∙◌, arith, inl, inr, length-take, length-drop, Bor}
+use Rattle.std.proofs.Common.{◌≡◌, ℕ, ◌+◌, ◌<◌, ◌≤◌, List, [], ◌∷◌, ◌++◌, map, length, take, drop, Option, Some, None, refl, sym, ap, subst, ◌∙◌, arith, inl, inr, length-take, length-drop, Bor}
 use Rattle.std.specs.Prelude.{IfSome, nat_lt, option_map, if◌then◌else◌, Result, Ok, Err, OnOk, ⊤}
 use Rattle.std.proofs.lemmas.Bool.{cases_lt}
 use Rattle.std.proofs.lemmas.List.{take_min}
 use Rattle.std.proofs.lemmas.Grind.{common_steps}
-use Rattle.serde_json.specs.Written.{compact_text}
 use Rattle.pst_bytes.specs.declared.Image.{Image}
 use Rattle.pst_bytes.specs.declared.span.Span.{Span}
 use Rattle.pst_bytes.specs.Image.{bytes_of, bytes_at, IsInside}
@@ -19,7 +18,7 @@ use Rattle.pst_pc.specs.Values.{spans_in}
 use Rattle.pst_tc.specs.Values.{tc_cell}
 use Rattle.pst_value.specs.View.{IsValueOf}
 use Rattle.pst_value_json.specs.Laws.{AreBytesAt, PropPlacesLaw, CellPlacesLaw}
-use Rattle.pst_value_json.specs.Places.{in_file, places_data, places_of, places_in, content_of, content_in}
+use Rattle.pst_value_json.specs.Places.{in_file, places_of, places_in, content_of, content_in}
 
 -- ---- spans without bytes
 
@@ -64,23 +63,33 @@ places_of_pieces (Pieces p) kept q keeps is inside =
     let same : KeepsBytes (Pieces p) (Pieces q) = rw is at keeps in
     kept_places (bytes_of (file_of p)) (bytes_of (file_of q)) (spans_left p) (spans_left q) same.0 (ap bytes_of same.1) inside
 
--- the pieces that stand there then are the value's
-pub pieces_put : {E : Type 0} (result : Result ⊤ E) (value kept : Value) (q : PiecesView) (text put : List ℕ) → KeepsBytes value kept → kept ≡ Pieces q
-    → OnOk result (put ≡ text ++ compact_text (places_data (spans_left q))) → OnOk result (map (in_file (bytes_of (file_of q))) (spans_left q) ≡ spans_left q)
-    → OnOk result (put ≡ text ++ compact_text (places_data (places_in value)))
-pieces_put (Ok u) value kept q text put keeps is shown inside = shown ∙ ap (λ l. text ++ compact_text (places_data l)) (sym (places_of_pieces value kept q keeps is inside))
-pieces_put (Err e) value kept q text put keeps is shown inside = tt
+-- what is so of its pieces is so of the value's
+pub pieces_shown : {E : Type 0} (result : Result ⊤ E) (X : List Span → Type 0) (value kept : Value) (q : PiecesView) → KeepsBytes value kept → kept ≡ Pieces q
+    → OnOk result (X (spans_left q)) → OnOk result (map (in_file (bytes_of (file_of q))) (spans_left q) ≡ spans_left q) → OnOk result (X (places_in value))
+pieces_shown (Ok u) X value kept q keeps is shown inside = subst X (sym (places_of_pieces value kept q keeps is inside)) shown
+pieces_shown (Err e) X value kept q keeps is shown inside = tt
 
-pub slice_put : {E : Type 0} (result : Result ⊤ E) (value kept : Value) (at : ℕ) (slice : Bor (List ℕ)) (text put : List ℕ) → KeepsBytes value kept → kept ≡ Whole at slice
-    → OnOk result (put ≡ text ++ compact_text (places_data (nonempty (record { at = at; len = length slice.now } ∷ []))))
-    → OnOk result (put ≡ text ++ compact_text (places_data (places_in value)))
-slice_put (Ok u) value kept at slice text put keeps is shown = shown ∙ ap (λ l. text ++ compact_text (places_data l)) (sym (places_of_slice value kept at slice keeps is))
-slice_put (Err e) value kept at slice text put keeps is shown = tt
+pub slice_shown : {E : Type 0} (result : Result ⊤ E) (X : List Span → Type 0) (value kept : Value) (at : ℕ) (slice : Bor (List ℕ)) → KeepsBytes value kept → kept ≡ Whole at slice
+    → OnOk result (X (nonempty (record { at = at; len = length slice.now } ∷ []))) → OnOk result (X (places_in value))
+slice_shown (Ok u) X value kept at slice keeps is shown = subst X (sym (places_of_slice value kept at slice keeps is)) shown
+slice_shown (Err e) X value kept at slice keeps is shown = tt
+
+-- a slice without bytes has no piece, and any other is one
+pub no_slice : (at len : ℕ) → len ≡ 0 → nonempty (record { at = at; len = len } ∷ []) ≡ []
+no_slice at len is = without_bytes (record { at = at; len = len }) [] (omega (arith, is))
+
+pub one_slice : (at len : ℕ) → 0 < len → nonempty (record { at = at; len = len } ∷ []) ≡ record { at = at; len = len } ∷ []
+one_slice at len some = with_bytes (record { at = at; len = len }) [] some
 
 -- ---- a span that lies in the file is all there
 
 pub all_in_file : (I : List ℕ) (s : Span) → IsInside I s → in_file I s ≡ s
 all_in_file I s inside = rw (length_bytes I s inside) refl
+
+-- and so are all, where those behind it are
+pub inside_more : (I J : List ℕ) (s : Span) (old new : List Span) → old ≡ s ∷ new → I ≡ J → IsInside J s → map (in_file I) new ≡ new → map (in_file I) old ≡ old
+inside_more I J s old new steps file inside rest =
+    ap (map (in_file I)) steps ∙ ap (λ x. x ∷ map (in_file I) new) (all_in_file I s (subst (λ K. IsInside K s) (sym file) inside)) ∙ ap (λ l. s ∷ l) rest ∙ sym steps
 
 -- ---- what a value shows
 

@@ -3,7 +3,7 @@ use Rattle.std.proofs.Common.{◌≡◌, ℕ, Bool, true, List, [], ◌∷◌, r
 use Rattle.serde_json.specs.Data.{Data}
 use Rattle.serde_json.specs.View.{items_of}
 use Rattle.serde_json.specs.Written.{compact_text, comma_if, items_text}
-use Rattle.pst_value_json.specs.Line.{row_text}
+use Rattle.pst_text.specs.Line.{row_text}
 use Rattle.pst_value_json.specs.Rows.{PutsNext, PutsItems}
 
 -- the next row is put behind the text

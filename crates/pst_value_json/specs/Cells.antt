@@ -1,6 +1,7 @@
 -- The rows of a table as a document, with the cells that they have ([MS-PST] 2.3.4).
 use Rattle.std.specs.Prelude.{ℕ, Bool, ◌%◌, List, [], ◌∷◌, ◌++◌, Option, Some, None, option_map, map, codes, if◌then◌else◌}
-use Rattle.serde_json.specs.Data.{Data, string, object, member, no_members}
+use Rattle.serde_json.specs.Data.{Data, string, object, Members, member, no_members}
+use Rattle.pst_bytes.specs.declared.span.Span.{Span}
 use Rattle.pst_block.specs.Table.{Table}
 use Rattle.pst_ndb.specs.Roots.{Roots}
 use Rattle.pst_ndb.specs.Views.{table_of_node, roots_of}
@@ -12,10 +13,11 @@ use Rattle.pst_tc.specs.View.{column_of}
 use Rattle.pst_tc.specs.Values.{ColumnParts, RowParts, tc_cell, tc_columns}
 use Rattle.pst_value_json.specs.declared.shown_rows.TableRows.{TableRows}
 use Rattle.pst_value_json.specs.Columns.{distinct_columns}
-use Rattle.pst_value_json.specs.Names.{nid_data, tag_text}
-use Rattle.pst_value_json.specs.Parts.{list_data}
+use Rattle.pst_text.specs.Names.{nid_data, tag_text}
+use Rattle.pst_text.specs.Parts.{list_data}
 use Rattle.pst_value_json.specs.Places.{Content, content_of, places_data, if_asked, member_if}
-use Rattle.pst_value_json.specs.Value.{value_data, hex_data}
+use Rattle.pst_text.specs.Text.{hex_data}
+use Rattle.pst_value_json.specs.Value.{value_data}
 
 -- ---- cells
 
@@ -34,6 +36,10 @@ abbrev pub cell_value : Cell → Data
 cell_value c =
     if has_width (cell_width_of (tag_kind c.tag)) c.width then value_data (tag_kind c.tag) c.content.bytes
     else hex_data c.content.bytes
+
+-- the members of an object that begins with places, where they are told
+abbrev pub placed_members : Bool → List Span → Members
+placed_members places spans = member_if (codes "places") (option_map places_data (if_asked places spans)) no_members
 
 -- its places where they are told, its tag and its value
 unfoldable pub cell_data : Bool → Cell → Data

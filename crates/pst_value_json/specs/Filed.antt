@@ -3,7 +3,7 @@ use Rattle.std.specs.Prelude.{ℕ, ◌&&◌, nat_eq, Option, Some, None, option_
 use Rattle.pst_value_json.specs.declared.filed.Filed.{Filed}
 use Rattle.pst_value_json.specs.declared.filed.Filed.TheVariants.{Nothing, Message, Attachment}
 use Rattle.pst_value_json.specs.declared.filed.TheConstants.{HEADERS, BODY, HTML, RTF, CONTENT, TEXT, BINARY}
-use Rattle.pst_value_json.specs.Names.{nid_text}
+use Rattle.pst_text.specs.Names.{nid_text}
 
 -- The file of a message that has the value of a property with this identifier and this type: its headers and its bodies.
 unfoldable pub message_file : ℕ → ℕ → Option (List ℕ)

@@ -1,12 +1,5 @@
-pub mod Names
-pub mod Parts
-pub mod Line
-pub mod Kept
-pub mod Plain
 pub mod Form
 pub mod Value
-pub mod Characters
-pub mod Time
 pub mod Places
 pub mod Filed
 pub mod Props
@@ -14,10 +7,13 @@ pub mod Columns
 pub mod Cells
 pub mod Laws
 pub mod Rows
+pub mod Leaf
 pub mod Made
 pub mod Object
+pub mod Pen
 pub use Rattle.pst_datatree.specs as pst_datatree
 pub use Rattle.pst_value.specs as pst_value
 pub use Rattle.pst_names.specs as pst_names
 pub use Rattle.pst_pc.specs as pst_pc
 pub use Rattle.pst_tc.specs as pst_tc
+pub use Rattle.pst_text.specs as pst_text

@@ -1,10 +1,9 @@
 -- An object, of the parts that it is made of.
-use Rattle.std.specs.Prelude.{◌≡◌, ℕ, Bool, true, false, Option, Some, None, List, [], ◌∷◌, ◌++◌}
-use Rattle.std.specs.List.{list_all}
-use Rattle.json.specs.Run.{is_plain}
-use Rattle.serde_json.specs.Data.{Data, string, array, object, Members, no_members, member, put}
+use Rattle.std.specs.Prelude.{◌≡◌, ℕ, Bool, true, Option, Some, None, List, [], ◌∷◌, ◌++◌}
+use Rattle.serde_json.specs.Data.{Data, array, object, Members, no_members, member, put}
 use Rattle.serde_json.specs.View.{items_of}
-use Rattle.serde_json.specs.Written.{compact_text, comma_if}
+use Rattle.serde_json.specs.Written.{compact_text}
+use Rattle.pst_text.specs.Quoted.{key_text}
 use Rattle.pst_value_json.specs.declared.parts.Part.{Part}
 use Rattle.pst_value_json.specs.declared.parts.Part.TheVariants.{Value, Rows}
 use Rattle.pst_value_json.specs.Made.{made_data}
@@ -41,14 +40,6 @@ KeysRise left parts = put_parts left no_members parts ≡ members_of_parts left 
 
 -- ---- its text, part by part
 
--- each byte stands for itself between quotes
-abbrev pub all_plain : List ℕ → Bool
-all_plain bytes = list_all is_plain bytes
-
--- a key, behind a comma if others stand before it
-abbrev pub key_text : Bool → List ℕ → List ℕ
-key_text later key = (comma_if later ++ compact_text (string key)) ++ 58 ∷ []
-
 abbrev pub part_text : {R : Type 0} → (R → List Data) → Bool → Part R → List ℕ
 part_text left later p = key_text later (part_key p) ++ compact_text (part_data left p)
 
@@ -56,8 +47,3 @@ part_text left later p = key_text later (part_key p) ++ compact_text (part_data 
 abbrev pub if_member_text : List ℕ → Option Data → List ℕ
 if_member_text key None = []
 if_member_text key (Some d) = key_text true key ++ compact_text d
-
--- one that may be there, before all others
-abbrev pub first_member_text : List ℕ → Option Data → List ℕ
-first_member_text key None = []
-first_member_text key (Some d) = key_text false key ++ compact_text d

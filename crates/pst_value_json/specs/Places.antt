@@ -9,7 +9,7 @@ use Rattle.pst_datatree.specs.declared.value_view.Value.TheVariants.{Whole, Piec
 use Rattle.pst_datatree.specs.Left.{spans_left, file_of}
 use Rattle.pst_datatree.specs.Shown.{bytes_in}
 use Rattle.pst_datatree.specs.Spans.{nonempty, joined_bytes}
-use Rattle.pst_value_json.specs.Parts.{natural, list_data}
+use Rattle.pst_text.specs.Parts.{natural, list_data}
 
 -- ---- the pieces of a value, in order, without those that have no byte
 

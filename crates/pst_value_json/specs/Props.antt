@@ -14,10 +14,11 @@ use Rattle.pst_pc.specs.View.{node_of_pc}
 use Rattle.pst_value_json.specs.declared.filed.Filed.{Filed}
 use Rattle.pst_value_json.specs.declared.props.PropRows.{PropRows}
 use Rattle.pst_value_json.specs.Filed.{file_told}
-use Rattle.pst_value_json.specs.Names.{id_text}
-use Rattle.pst_value_json.specs.Parts.{natural}
+use Rattle.pst_text.specs.Names.{id_text}
+use Rattle.pst_text.specs.Parts.{natural}
 use Rattle.pst_value_json.specs.Places.{places_of, places_data, if_asked, member_if}
-use Rattle.pst_value_json.specs.Value.{value_data, text_data, guid_data}
+use Rattle.pst_text.specs.Text.{text_data}
+use Rattle.pst_value_json.specs.Value.{value_data, guid_data}
 
 -- ---- a name: a number, or a text as a value of type 001F; and the GUID of its set, or null
 

@@ -1,28 +1,15 @@
 -- The JSON value of a property's value, by its type and its bytes.
-use Rattle.std.specs.Prelude.{ℕ, Option, Some, None, ◌%◌, List, length, nat_eq, codes, if◌then◌else◌, encode_utf8_all}
-use Rattle.std.specs.Char.Utf16.{utf16_lossy_chars}
+use Rattle.std.specs.Prelude.{ℕ, Option, Some, None, ◌%◌, List, length, nat_eq, codes, if◌then◌else◌}
 use Rattle.serde_json.specs.Data.{Data, null, boolean, string, object, member, no_members}
-use Rattle.hex.specs.Hex.{encode_lower}
 use Rattle.uuid.specs.Text.{lower, hyphenated_text}
 use Rattle.pst_value.specs.Read.{exactly, i16_of, i32_of, i64_of, u32_of, u64_of, bool_of, guid_of, object_of}
-use Rattle.pst_value.specs.Units.{units_of}
 use Rattle.pst_value.specs.Multi.{elements_of}
-use Rattle.pst_value_json.specs.Names.{nid_data}
-use Rattle.pst_value_json.specs.Parts.{natural, integer, list_data}
+use Rattle.pst_text.specs.Names.{nid_data}
+use Rattle.pst_text.specs.Parts.{natural, integer, list_data}
+use Rattle.pst_text.specs.Text.{hex_data, text_data}
 use Rattle.pst_value_json.specs.declared.form.Form.{Form}
 use Rattle.pst_value_json.specs.declared.form.Form.TheVariants.{Int16, Int32, Int64, Nat32, Nat64, Truth, Guid, Object, Text, Fixed, Open}
 use Rattle.pst_value_json.specs.Form.{form_of}
-
--- lower-case hexadecimal
-abbrev pub hex_data : List ℕ → Data
-hex_data bytes = string (encode_lower bytes)
-
--- the text that the 16-bit units spell, in UTF-8; a surrogate without a partner is U+FFFD
-abbrev pub utf8_of : List ℕ → List ℕ
-utf8_of bytes = encode_utf8_all (utf16_lossy_chars (units_of bytes))
-
-abbrev pub text_data : List ℕ → Data
-text_data bytes = string (utf8_of bytes)
 
 -- the hyphenated form in lower case
 abbrev pub guid_data : List ℕ → Data

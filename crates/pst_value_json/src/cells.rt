@@ -1,26 +1,22 @@
 //! The rows of a table as documents, with the cells that they have.
 
-ghost use Rattle.std.specs.Prelude.{◌≡◌, ◌++◌, IfOk, OnOk, map, option_map};
+ghost use Rattle.std.specs.Prelude.{◌≡◌, IfOk, map, option_map};
 ghost use Rattle.serde_json.specs.View.{view};
 ghost use Rattle.pst_ndb.specs.Views.{table_of_node, roots_of};
 ghost use Rattle.pst_tc.specs.Left.{columns_left};
 ghost use Rattle.pst_tc.specs.Tc.{node_of_tc};
 ghost use Rattle.pst_tc.specs.Values.{IsFirstColumn, tc_rows};
 ghost use Rattle.pst_tc.specs.View.{column_of, row_parts, tc_of_row};
-ghost use Rattle.pst_value_json.specs.Cells.{cell_with, cell_in, cell_content, cell_value, cell_data, cells_of, row_data, table_row_data, table_rows_left};
-ghost use Rattle.pst_value_json.specs.Columns.{has_tag, distinct_columns, AreShown};
-ghost use Rattle.pst_value_json.specs.Parts.{list_data};
+ghost use Rattle.pst_value_json.specs.Cells.{cell_content, table_row_data, table_rows_left};
+ghost use Rattle.pst_value_json.specs.Columns.{has_tag, distinct_columns};
+ghost use Rattle.pst_text.specs.Parts.{list_data};
 ghost use Rattle.pst_value_json.specs.Places.{content_in};
 
 use crate::listing::list_doc;
-use crate::names::{nid_text, tag_text};
-use crate::places::places_doc;
 use crate::shown_rows::TableRows;
-use crate::value::{hex_doc, value_doc};
 use pst_datatree::Value;
 use pst_tc::{Column, Columns, Row, Tc};
-use pst_value::PropType;
-use serde_json::{Map, Value as Doc, json, put};
+use serde_json::Value as Doc;
 use std::alloc::{AllocError, Global};
 
 // Whether a column with this tag is among these.
@@ -50,36 +46,6 @@ fn shown_columns(alloc: Global, columns: Columns) -> Result<Vec<Column>, AllocEr
     Ok(shown)
 }
 
-// The value of a cell.
-fn cell_value_doc(alloc: Global, column: Column, value: Value) -> Result<Doc, AllocError>
-    ensures { IfOk result (λ d.
-        view d ≡ cell_value (cell_with (column_of column) (content_in value.entry))) }
-{
-    let kind = PropType((column.tag % 0x1_0000) as u16);
-    if kind.cell_width() == Some(column.width) {
-        value_doc(alloc, kind, value)
-    } else {
-        hex_doc(alloc, value)
-    }
-}
-
-// A cell as an object.
-#[tactic(auto, unfolding(crate::specs::Cells::cell_data))]
-fn cell_doc(alloc: Global, column: Column, value: Value, places: bool) -> Result<Doc, AllocError>
-    ensures { IfOk result (λ d.
-        view d ≡ cell_data places (cell_with (column_of column) (content_in value.entry))) }
-{
-    let mut map = Map::new(alloc);
-    if places {
-        put(&mut map, alloc, "places", places_doc(alloc, value)?)?;
-    }
-    let tag = tag_text(alloc, column.tag)?;
-    put(&mut map, alloc, "tag", Doc::from(tag))?;
-    let shown = cell_value_doc(alloc, column, value)?;
-    put(&mut map, alloc, "value", shown)?;
-    Ok(Doc::from(map))
-}
-
 /// The value of the cell that a row has in a column, the first one with its tag. No column is gone through.
 #[tactic(auto, using(crate::proofs::PlaceLemmas::value_content))]
 pub(crate) fn cell_at<'a>(row: Row<'a>, column: Column) -> Option<Value<'a>>
@@ -90,57 +56,6 @@ pub(crate) fn cell_at<'a>(row: Row<'a>, column: Column) -> Option<Value<'a>>
         (row_parts row.entry).place.at (column_of column).tag }
 {
     row.cell_in(column)
-}
-
-// Puts the cell of a column behind others, where the row has it.
-fn push_cell(
-    alloc: Global,
-    column: Column,
-    value: Option<Value>,
-    places: bool,
-    docs: &mut Vec<Doc>,
-) -> Result<(), AllocError>
-    ensures { let cell = cell_in (column_of column) (option_map content_in value.entry) in
-        OnOk result (map view docs.new.items
-        ≡ map view docs.old.items ++ map (cell_data places) cell) }
-{
-    if let Some(value) = value {
-        docs.push(cell_doc(alloc, column, value, places)?)?;
-    }
-    Ok(())
-}
-
-// The cells that a row has in these columns, as a list of objects.
-fn cells_doc(alloc: Global, row: Row, columns: &[Column], places: bool) -> Result<Doc, AllocError>
-    requires { AreShown (tc_of_row row) columns.now }
-    ensures { let node = node_of_tc (tc_of_row row.entry) in
-        let cells = cells_of (table_of_node node) (roots_of node) (row_parts row.entry).place.at
-        (map column_of columns.now) in
-        IfOk result (λ d. view d ≡ list_data (cell_data places) cells) }
-{
-    let mut docs = Vec::new(alloc);
-    for column in columns {
-        push_cell(alloc, *column, cell_at(row, *column), places, &mut docs)?;
-    }
-    Ok(Doc::from(docs))
-}
-
-/// A row as an object, of the columns that are shown of its table.
-#[tactic(auto, unfolding(crate::specs::Cells::row_data))]
-pub(crate) fn row_doc(
-    alloc: Global,
-    row: Row,
-    columns: &[Column],
-    places: bool,
-) -> Result<Doc, AllocError>
-    requires { AreShown (tc_of_row row) columns.now }
-    ensures { let node = node_of_tc (tc_of_row row.entry) in
-        IfOk result (λ d. view d ≡ row_data places (table_of_node node) (roots_of node)
-        (map column_of columns.now) (row_parts row.entry)) }
-{
-    let cells = cells_doc(alloc, row, columns, places)?;
-    let id = nid_text(alloc, row.id())?;
-    json!(in alloc; {"cells": cells, "row": id})
 }
 
 /// All rows of a table; with the places of their cells where these are asked for.

@@ -3,7 +3,7 @@
 ghost use Rattle.std.specs.Prelude.{◌≡◌, IfOk, option_map, string_bytes};
 ghost use Rattle.pst_value_json.specs.Filed.{attachment_file as file_of_attachment, file_told as told, in_folder, message_file as file_of_message};
 
-use crate::names::nid_text;
+use pst_text::nid_text;
 use pst_value::PropType;
 use std::alloc::{AllocError, Global};
 

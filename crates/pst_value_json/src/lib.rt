@@ -25,49 +25,45 @@
 #![tactic(auto)]
 
 mod cells;
-mod compact;
-mod digits;
-mod eight;
-mod escape;
 mod filed;
 mod form;
 mod laws;
+mod leaf;
 mod listing;
-mod names;
 mod parts;
-mod places;
+mod pens;
 mod props;
-mod put;
-mod put_cells;
-mod put_places;
-mod put_props;
 mod put_values;
 mod scalar;
-mod shown;
 mod shown_rows;
+mod single;
 mod sinks;
-mod time;
-mod utf16;
-mod value;
+mod trees;
+mod write_cells;
+mod write_places;
+mod write_props;
+mod write_values;
 
 pub use cells::{table_doc, table_rows};
-pub use compact::{line_text, put_comma, text};
-pub use digits::put_nid;
 pub use filed::{BODY, CONTENT, Filed, HEADERS, HTML, RTF, attachment_file, message_file};
 pub use laws::{cell_places_hold, prop_places_hold};
+pub use leaf::Leaf;
 pub use listing::Rows;
-pub use names::nid_text;
 pub use parts::{Made, Part};
+pub use pens::Pen;
 pub use props::{PropRows, pc_doc, prop_rows};
 pub use pst_datatree::Value;
 pub use pst_names::{NameIndex, NameMap};
 pub use pst_pc::{Pc, Prop, check_pc};
 pub use pst_tc::{Row, Rows as TcRows, Tc, check_tc, tc_ids_rise, tc_is_of_keys};
+pub use pst_text::{
+    line_text, nid_text, put_comma, put_i32_or_null, put_key, put_natural, put_nid, put_null,
+    put_time_or_null, text,
+};
 pub use pst_value::PropType;
-pub use put::{put_key, put_natural, put_null};
-pub use put_values::put_text;
+pub use put_values::{put_leaf, put_text};
 pub use scalar::{text_doc, text_of};
 pub use shown_rows::TableRows;
 pub use sinks::{Line, Sink, Tree, put_object};
-pub use time::{i32_or_null_doc, put_i32_or_null, put_time_or_null, time_or_null_doc};
-pub use value::{hex_doc, value_doc};
+pub use trees::only;
+pub use write_values::{hex_doc, value_doc};

@@ -1,13 +1,12 @@
 //! Lists, made row by row.
 
-ghost use Rattle.std.specs.Prelude.{◌≡◌, ◌++◌, List, IfOk, OnErr, OnOk, IfSome, false};
+ghost use Rattle.std.specs.Prelude.{◌≡◌, ◌++◌, List, IfOk, OnErr, OnOk};
 ghost use Rattle.serde_json.specs.Data.{Data, array};
 ghost use Rattle.serde_json.specs.View.{view, items_of};
-ghost use Rattle.serde_json.specs.Written.{compact_text, has_float};
+ghost use Rattle.serde_json.specs.Written.{compact_text};
 ghost use Rattle.pst_value_json.specs.Rows.{TakesNext, PutsNext};
-ghost use Rattle.pst_value_json.specs.Kept.{BeginsWith};
+ghost use Rattle.pst_text.specs.Kept.{BeginsWith};
 
-use crate::compact::put_row;
 use serde_json::Value as Doc;
 use std::alloc::{AllocError, Global};
 
@@ -18,12 +17,10 @@ pub trait Rows: Drop {
 
     /// The document of the next row, if one is left.
     fn next_doc(&mut self, alloc: Global) -> Result<Option<Doc>, AllocError>
-        ensures next { IfOk result (λ row. TakesNext row (left self.old) (left self.new)) }
-        ensures plain { IfOk result (λ row. IfSome row (λ d. has_float (view d) ≡ false)) };
+        ensures next { IfOk result (λ row. TakesNext row (left self.old) (left self.new)) };
 
     /// Puts the next row behind a text, if one is left, and a comma before it where others stand there. Where memory is
     /// refused, the text begins with what it had, and a part of the row may stand behind that.
-    #[tactic(auto, using(crate::proofs::RowLemmas::puts_next))]
     fn put_next(
         &mut self,
         alloc: Global,
@@ -32,14 +29,7 @@ pub trait Rows: Drop {
     ) -> Result<bool, AllocError>
         ensures put { IfOk result (λ more. PutsNext more later (left self.old) (left self.new)
             text.old.items text.new.items) }
-        ensures kept { BeginsWith text.new.items text.old.items }
-    {
-        let Some(doc) = self.next_doc(alloc)? else {
-            return Ok(false);
-        };
-        put_row(alloc, &doc, later, text)?;
-        Ok(true)
-    }
+        ensures kept { BeginsWith text.new.items text.old.items };
 }
 
 /// A list as a tree.

@@ -1,20 +1,20 @@
-//! The JSON values of single values, by what they are.
+//! Values as they are shown, as trees.
 
 ghost use Rattle.std.specs.Prelude.{◌≡◌, IfOk, string_bytes};
+ghost use Rattle.std.specs.List.{concat};
 ghost use Rattle.hex.specs.Hex.{encode_lower};
 ghost use Rattle.serde_json.specs.View.{view};
-ghost use Rattle.pst_datatree.specs.Shown.{bytes_in};
-ghost use Rattle.std.specs.List.{concat};
 ghost use Rattle.pst_datatree.specs.Left.{slices_left};
+ghost use Rattle.pst_datatree.specs.Shown.{bytes_in};
 ghost use Rattle.pst_value.specs.Units.{units_of};
-ghost use Rattle.serde_json.specs.Data.{boolean};
-ghost use Rattle.pst_value.specs.Read.{exactly, i16_of, i32_of, i64_of, u32_of, u64_of, bool_of, guid_of, object_of};
-ghost use Rattle.pst_value_json.specs.Parts.{natural, integer};
-ghost use Rattle.pst_value_json.specs.Value.{hex_data, utf8_of, text_data, guid_data, object_data, null_or_hex, or_hex};
+ghost use Rattle.pst_value_json.specs.Leaf.{leaf_data};
+ghost use Rattle.pst_text.specs.Text.{hex_data, utf8_of, text_data};
+ghost use Rattle.pst_value_json.specs.Value.{object_data};
 
-use crate::names::nid_text;
+use crate::leaf::Leaf;
 use pst_datatree::{Pieces, Value};
-use pst_value::{as_bool, as_guid, as_i16, as_i32, as_i64, as_object, as_u32, as_u64, units16};
+use pst_text::{id_text, nid_text, tag_text};
+use pst_value::units16;
 use serde_json::{Value as Doc, json};
 use std::alloc::{AllocError, Global};
 
@@ -61,7 +61,7 @@ pub fn text_doc(alloc: Global, value: Value) -> Result<Doc, AllocError>
 }
 
 // The bytes of pieces in hexadecimal.
-#[tactic(auto, using(crate::proofs::HexLemmas::hex_goes_on, crate::proofs::HexLemmas::hex_ends))]
+#[tactic(auto, using(pst_text::proofs::HexLemmas::hex_goes_on, pst_text::proofs::HexLemmas::hex_ends))]
 fn hex_of_pieces(alloc: Global, pieces: Pieces) -> Result<String, AllocError>
     ensures { IfOk result (λ s. string_bytes s ≡ encode_lower (concat (slices_left pieces.entry))) }
 {
@@ -73,8 +73,8 @@ fn hex_of_pieces(alloc: Global, pieces: Pieces) -> Result<String, AllocError>
     Ok(text)
 }
 
-/// The bytes in hexadecimal.
-pub(crate) fn bytes_doc(alloc: Global, value: Value) -> Result<Doc, AllocError>
+// The bytes in hexadecimal.
+fn bytes_doc(alloc: Global, value: Value) -> Result<Doc, AllocError>
     ensures { IfOk result (λ d. view d ≡ hex_data (bytes_in value.entry)) }
 {
     let text = match value.with_bytes() {
@@ -82,93 +82,6 @@ pub(crate) fn bytes_doc(alloc: Global, value: Value) -> Result<Doc, AllocError>
         Value::Pieces(pieces) => hex_of_pieces(alloc, pieces)?,
     };
     Ok(Doc::from(text))
-}
-
-/// No value where there is no byte, and else the bytes in hexadecimal.
-pub(crate) fn bytes_or_null_doc(alloc: Global, value: Value) -> Result<Doc, AllocError>
-    ensures { IfOk result (λ d. view d ≡ null_or_hex (bytes_in value.entry)) }
-{
-    if value.len() == 0 {
-        return Ok(Doc::Null);
-    }
-    bytes_doc(alloc, value)
-}
-
-/// A signed number of 2 bytes.
-pub(crate) fn i16_doc(alloc: Global, value: Value) -> Result<Doc, AllocError>
-    ensures { IfOk result (λ d.
-        view d ≡ or_hex integer (exactly 2 i16_of (bytes_in value.entry)) (bytes_in value.entry)) }
-{
-    match as_i16(value) {
-        Some(n) => Ok(Doc::from(n)),
-        None => bytes_or_null_doc(alloc, value),
-    }
-}
-
-/// A signed number of 4 bytes.
-pub(crate) fn i32_doc(alloc: Global, value: Value) -> Result<Doc, AllocError>
-    ensures { IfOk result (λ d.
-        view d ≡ or_hex integer (exactly 4 i32_of (bytes_in value.entry)) (bytes_in value.entry)) }
-{
-    match as_i32(value) {
-        Some(n) => Ok(Doc::from(n)),
-        None => bytes_or_null_doc(alloc, value),
-    }
-}
-
-/// A signed number of 8 bytes.
-pub(crate) fn i64_doc(alloc: Global, value: Value) -> Result<Doc, AllocError>
-    ensures { IfOk result (λ d.
-        view d ≡ or_hex integer (exactly 8 i64_of (bytes_in value.entry)) (bytes_in value.entry)) }
-{
-    match as_i64(value) {
-        Some(n) => Ok(Doc::from(n)),
-        None => bytes_or_null_doc(alloc, value),
-    }
-}
-
-/// A number of 4 bytes.
-pub(crate) fn u32_doc(alloc: Global, value: Value) -> Result<Doc, AllocError>
-    ensures { IfOk result (λ d.
-        view d ≡ or_hex natural (exactly 4 u32_of (bytes_in value.entry)) (bytes_in value.entry)) }
-{
-    match as_u32(value) {
-        Some(n) => Ok(Doc::from(n)),
-        None => bytes_or_null_doc(alloc, value),
-    }
-}
-
-/// A number of 8 bytes.
-pub(crate) fn u64_doc(alloc: Global, value: Value) -> Result<Doc, AllocError>
-    ensures { IfOk result (λ d.
-        view d ≡ or_hex natural (exactly 8 u64_of (bytes_in value.entry)) (bytes_in value.entry)) }
-{
-    match as_u64(value) {
-        Some(n) => Ok(Doc::from(n)),
-        None => bytes_or_null_doc(alloc, value),
-    }
-}
-
-/// A truth value.
-pub(crate) fn bool_doc(alloc: Global, value: Value) -> Result<Doc, AllocError>
-    ensures { IfOk result (λ d.
-        view d ≡ or_hex boolean (exactly 1 bool_of (bytes_in value.entry)) (bytes_in value.entry)) }
-{
-    match as_bool(value) {
-        Some(truth) => Ok(Doc::from(truth)),
-        None => bytes_or_null_doc(alloc, value),
-    }
-}
-
-/// A GUID.
-pub(crate) fn guid_doc(alloc: Global, value: Value) -> Result<Doc, AllocError>
-    ensures { IfOk result (λ d. view d ≡
-        or_hex guid_data (exactly 16 guid_of (bytes_in value.entry)) (bytes_in value.entry)) }
-{
-    match as_guid(value) {
-        Some(guid) => Ok(Doc::from(format!(in alloc; "{guid}")?)),
-        None => bytes_or_null_doc(alloc, value),
-    }
 }
 
 // The subnode and the size of an object.
@@ -179,13 +92,24 @@ fn nid_and_size_doc(alloc: Global, nid: u32, size: u32) -> Result<Doc, AllocErro
     json!(in alloc; {"nid": nid, "size": size})
 }
 
-/// An object.
-pub(crate) fn object_doc(alloc: Global, value: Value) -> Result<Doc, AllocError>
-    ensures { IfOk result (λ d.
-        view d ≡ or_hex object_data (object_of (bytes_in value.entry)) (bytes_in value.entry)) }
+/// A value as it is shown.
+pub(crate) fn leaf_doc(alloc: Global, made: &Leaf) -> Result<Doc, AllocError>
+    ensures { IfOk result (λ d. view d ≡ leaf_data made.now) }
 {
-    match as_object(value) {
-        Some((nid, size)) => nid_and_size_doc(alloc, nid, size),
-        None => bytes_or_null_doc(alloc, value),
+    match made {
+        Leaf::Null => Ok(Doc::Null),
+        Leaf::Truth(truth) => Ok(Doc::from(*truth)),
+        Leaf::Natural(number) => Ok(Doc::from(*number)),
+        Leaf::Integer(number) => Ok(Doc::from(*number)),
+        Leaf::Nid(Some(nid)) => Ok(Doc::from(nid_text(alloc, *nid)?)),
+        Leaf::Nid(None) => Ok(Doc::Null),
+        Leaf::Id(id) => Ok(Doc::from(id_text(alloc, *id)?)),
+        Leaf::Tag(tag) => Ok(Doc::from(tag_text(alloc, *tag)?)),
+        Leaf::Word(word) => Ok(Doc::from(String::from_str(alloc, word)?)),
+        Leaf::Digest(digest) => Ok(Doc::from(hex::encode(alloc, *digest)?)),
+        Leaf::Guid(guid) => Ok(Doc::from(format!(in alloc; "{guid}")?)),
+        Leaf::Object(nid, size) => nid_and_size_doc(alloc, *nid, *size),
+        Leaf::Text(value) => text_doc(alloc, **value),
+        Leaf::Hex(value) => bytes_doc(alloc, **value),
     }
 }

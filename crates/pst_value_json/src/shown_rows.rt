@@ -8,11 +8,11 @@ ghost use Rattle.pst_tc.specs.Values.{tc_columns};
 ghost use Rattle.pst_tc.specs.View.{column_of};
 ghost use Rattle.pst_value_json.specs.Columns.{AreShown};
 
-use crate::cells::row_doc;
-use crate::compact::put_comma;
 use crate::listing;
-use crate::put_cells::put_table_row;
+use crate::trees::only;
+use crate::write_cells::write_row;
 use pst_tc::{Column, Rows};
+use pst_text::put_comma;
 use serde_json::Value as Doc;
 use std::alloc::{AllocError, Global};
 
@@ -50,20 +50,21 @@ impl<'a> TableRows<'a> {
     }
 }
 
-#[tactic(auto, unfolding(crate::specs::Cells::table_rows_left), using(crate::proofs::CellLemmas::row_has_none))]
+#[tactic(auto, unfolding(crate::specs::Cells::table_rows_left))]
 impl listing::Rows for TableRows<'_> {
     ghost use Rattle.pst_value_json.specs.Cells.{table_rows_left};
 
     ghost left = { table_rows_left };
 
     fn next_doc(&mut self, alloc: Global) -> Result<Option<Doc>, AllocError> {
-        match self.rows.next() {
-            Some(row) => Ok(Some(row_doc(alloc, row, &self.columns, self.places)?)),
-            None => Ok(None),
-        }
+        let Some(row) = self.rows.next() else {
+            return Ok(None);
+        };
+        let mut docs = Vec::new(alloc);
+        write_row(alloc, row, &self.columns, self.places, &mut docs)?;
+        Ok(Some(only(docs)))
     }
 
-    // A row goes to the text cell by cell, without a tree.
     fn put_next(
         &mut self,
         alloc: Global,
@@ -74,7 +75,7 @@ impl listing::Rows for TableRows<'_> {
             return Ok(false);
         };
         put_comma(later, text)?;
-        put_table_row(alloc, row, &self.columns, self.places, text)?;
+        write_row(alloc, row, &self.columns, self.places, text)?;
         Ok(true)
     }
 }

@@ -4,16 +4,16 @@ ghost use Rattle.std.specs.Prelude.{◌≡◌, ◌++◌, IfOk, OnErr, OnOk};
 ghost use Rattle.serde_json.specs.Data.{Data};
 ghost use Rattle.serde_json.specs.View.{view, members_view};
 ghost use Rattle.serde_json.specs.Written.{compact_text};
-ghost use Rattle.pst_value_json.specs.Line.{line_of, row_text};
-ghost use Rattle.pst_value_json.specs.Made.{made_data};
+ghost use Rattle.pst_text.specs.Line.{line_of, row_text};
 ghost use Rattle.pst_value_json.specs.Object.{put_part, parts_data, KeysRise, part_text};
-ghost use Rattle.pst_value_json.specs.Kept.{BeginsWith};
+ghost use Rattle.pst_text.specs.Kept.{BeginsWith};
 
-use crate::compact::put_comma;
-use crate::digits::{put_hex, put_nid_or_null};
+use crate::leaf::leaf_of;
 use crate::listing::{Rows, list_doc, put_list};
-use crate::parts::{Made, Part, made_doc};
-use crate::put::{put_key, put_natural, put_string};
+use crate::parts::Part;
+use crate::put_values::put_leaf;
+use crate::scalar::leaf_doc;
+use pst_text::{put_comma, put_key};
 use serde_json::{Map, Value as Doc};
 use std::alloc::{AllocError, Global};
 
@@ -47,7 +47,12 @@ fn put_member<R: Rows>(
         ≡ put_part R.left (members_view map.old.entries) part) }
 {
     match part {
-        Part::Value(key, made) => serde_json::put(map, alloc, key, made_doc(alloc, made)?),
+        Part::Value(key, made) => serde_json::put(
+            map,
+            alloc,
+            key,
+            leaf_doc(alloc, &leaf_of(&made))?,
+        ),
         Part::Rows(key, rows) => serde_json::put(map, alloc, key, list_doc(alloc, rows)?),
     }
 }
@@ -66,19 +71,6 @@ impl Sink for Tree {
     }
 }
 
-// Puts a value that is made at once behind a text.
-fn put_made(made: Made, text: &mut Vec<u8>) -> Result<(), AllocError>
-    ensures put { OnOk result (text.new.items ≡ text.old.items ++ compact_text (made_data made)) }
-    ensures kept { OnErr result (BeginsWith text.new.items text.old.items) }
-{
-    match made {
-        Made::Natural(number) => put_natural(number, text),
-        Made::Nid(nid) => put_nid_or_null(nid, text),
-        Made::Word(word) => put_string(word, text),
-        Made::Digest(digest) => put_hex(&digest, text),
-    }
-}
-
 // Puts a part behind a text, and a comma before it where others stand there.
 #[tactic(auto, using(crate::proofs::PartLemmas::put_on))]
 fn put_part_text<R: Rows>(
@@ -93,7 +85,7 @@ fn put_part_text<R: Rows>(
     match part {
         Part::Value(key, made) => {
             put_key(key, later, text)?;
-            put_made(made, text)
+            put_leaf(alloc, &leaf_of(&made), text)
         }
         Part::Rows(key, rows) => {
             put_key(key, later, text)?;
@@ -124,7 +116,7 @@ fn put_parts<R: Rows>(
 }
 
 /// Puts an object of these parts behind a text, part by part, and a comma before it where other items of a list stand there.
-#[tactic(auto, unfolding(crate::specs::Line::row_text))]
+#[tactic(auto, unfolding(pst_text::specs::Line::row_text))]
 pub fn put_object<R: Rows>(
     alloc: Global,
     parts: Vec<Part<R>>,
@@ -139,7 +131,7 @@ pub fn put_object<R: Rows>(
     put_parts(alloc, parts, text)
 }
 
-#[tactic(auto, unfolding(crate::specs::Line::line_of))]
+#[tactic(auto, unfolding(pst_text::specs::Line::line_of))]
 impl Sink for Line {
     type Out = Vec<u8>;
 

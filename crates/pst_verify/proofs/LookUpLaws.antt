@@ -6,8 +6,8 @@ use Rattle.pst_ndb.specs.Views.{image_of_node, image_of_ndb, header_of, table_of
 use Rattle.pst_reach.specs.pst_store.pst_msg.pst_names.declared.name_map.NameMap.{NameMap}
 use Rattle.pst_reach.specs.pst_store.pst_msg.pst_names.LookUps.{NameMapLookUps}
 use Rattle.pst_reach.specs.pst_store.pst_msg.pst_names.View.{node_of_names, names_roots}
-use Rattle.pst_reach.specs.pst_store.pst_msg.declared.folder_view.Folder.{Folder}
-use Rattle.pst_reach.specs.pst_store.pst_msg.declared.message_view.Message.{Message}
+use Rattle.pst_reach.specs.pst_store.pst_msg.pst_mail.declared.folder_view.Folder.{Folder}
+use Rattle.pst_reach.specs.pst_store.pst_msg.pst_mail.declared.message_view.Message.{Message}
 use Rattle.pst_reach.specs.pst_store.pst_msg.NodeLookUps.{NodeLookUps}
 use Rattle.pst_reach.specs.pst_store.pst_msg.LookUps.{FolderLookUps, ViewLookUps}
 use Rattle.pst_reach.specs.pst_store.pst_msg.View.{ndb_of_folder, node_of_message}

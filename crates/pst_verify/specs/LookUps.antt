@@ -21,9 +21,9 @@ use Rattle.pst_reach.specs.pst_store.pst_msg.pst_names.declared.name_map.TheCons
 use Rattle.pst_reach.specs.pst_store.pst_msg.pst_names.LookUps.{NameMapLookUps}
 use Rattle.pst_reach.specs.pst_store.pst_msg.pst_names.Name.{store_name}
 use Rattle.pst_reach.specs.pst_store.pst_msg.pst_names.View.{names_roots, name_parts, IsLentIn}
-use Rattle.pst_reach.specs.pst_store.pst_msg.declared.folder_view.Folder.{Folder}
-use Rattle.pst_reach.specs.pst_store.pst_msg.declared.message_view.Message.{Message}
-use Rattle.pst_reach.specs.pst_store.pst_msg.declared.nid.TheConstants.{STORE, ROOT}
+use Rattle.pst_reach.specs.pst_store.pst_msg.pst_mail.declared.folder_view.Folder.{Folder}
+use Rattle.pst_reach.specs.pst_store.pst_msg.pst_mail.declared.message_view.Message.{Message}
+use Rattle.pst_reach.specs.pst_store.pst_msg.pst_mail.declared.nid.TheConstants.{STORE, ROOT}
 use Rattle.pst_reach.specs.pst_store.pst_msg.NodeLookUps.{IsNodeOf, NodeLookUps}
 use Rattle.pst_reach.specs.pst_store.pst_msg.LookUps.{FolderLookUps, MessageLookUps, ViewLookUps}
 use Rattle.pst_reach.specs.pst_store.pst_msg.Values.{is_folder, is_message}

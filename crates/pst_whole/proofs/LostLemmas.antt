@@ -11,7 +11,7 @@ use Rattle.pst_btree.specs.Order.{Rises}
 use Rattle.pst_block.specs.Table.{Table}
 use Rattle.pst_remains.specs.declared.pages.Broken.{Broken}
 use Rattle.pst_remains.specs.Pages.{page_before}
-use Rattle.pst_intact.specs.pst_msg.declared.nid.TheConstants.{STORE, ROOT}
+use Rattle.pst_intact.specs.pst_msg.pst_mail.declared.nid.TheConstants.{STORE, ROOT}
 use Rattle.pst_damage.specs.declared.broken.BrokenNode.{BrokenNode}
 use Rattle.pst_damage.specs.Judged.{Judged, told_node, told_by, sound_by}
 use Rattle.pst_damage.specs.Laws.{told_nid, fault_told}

@@ -21,7 +21,7 @@ use Rattle.pst_remains.specs.Pages.{faults_of, page_before}
 use Rattle.pst_remains.specs.Remains.{RemainsParts, remains_of, block_tree_left, node_tree_left}
 use Rattle.pst_remains.proofs.LawLemmas.{whole_law}
 use Rattle.pst_remains.proofs.TwinLemmas.{decoded_whole_law}
-use Rattle.pst_intact.specs.pst_msg.declared.nid.TheConstants.{STORE, ROOT}
+use Rattle.pst_intact.specs.pst_msg.pst_mail.declared.nid.TheConstants.{STORE, ROOT}
 use Rattle.pst_intact.proofs.pst_store.StoreLaws.{table_is, entries_are}
 use Rattle.pst_damage.specs.declared.broken.BrokenNode.{BrokenNode}
 use Rattle.pst_damage.specs.Damage.{damage_in, damage_of}

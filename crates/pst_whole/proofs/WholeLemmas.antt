@@ -16,9 +16,9 @@ use Rattle.pst_remains.specs.declared.pages.Broken.{Broken}
 use Rattle.pst_intact.specs.pst_msg.pst_pc.Fault.{pc_fault}
 use Rattle.pst_tc.specs.Fault.{tc_fault}
 use Rattle.pst_intact.specs.pst_msg.pst_names.declared.name_map.TheConstants.{NAME_MAP}
-use Rattle.pst_intact.specs.pst_msg.declared.items.Items.{Items}
-use Rattle.pst_intact.specs.pst_msg.declared.items.Items.TheVariants.{Subfolders, Messages, Associated}
-use Rattle.pst_intact.specs.pst_msg.declared.nid.TheConstants.{STORE, FOLDER, SEARCH_FOLDER}
+use Rattle.pst_intact.specs.pst_msg.pst_mail.declared.items.Items.{Items}
+use Rattle.pst_intact.specs.pst_msg.pst_mail.declared.items.Items.TheVariants.{Subfolders, Messages, Associated}
+use Rattle.pst_intact.specs.pst_msg.pst_mail.declared.nid.TheConstants.{STORE, FOLDER, SEARCH_FOLDER}
 use Rattle.pst_intact.specs.pst_msg.Fault.{message_fault, name_map_fault}
 use Rattle.pst_intact.specs.pst_msg.Nid.{is_type, with_type}
 use Rattle.pst_intact.specs.pst_msg.Values.{is_message, listing_of, type_of_items}

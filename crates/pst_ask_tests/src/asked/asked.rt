@@ -1,10 +1,9 @@
 //! What accepted words ask for.
 
 use super::{lacks, words_of};
-use crate::told::is;
+use crate::told::{MEMORY, is};
 use pst_ask::{Ask, Kind, Lack, Order, Path, Request, parse};
 use std::process::Abort;
-use std::test::Fail;
 
 const CHECK: Ask = Ask::Check {
     strict: false,
@@ -31,40 +30,28 @@ const DAMAGE: Ask = Ask::Damage { digest: false };
 const DAMAGE_DIGEST: Ask = Ask::Damage { digest: true };
 
 // Compares what words ask for, of a file as it is, all of it.
-fn is_asked<R: Abort + AllocGlobal>(
-    rt: &R,
-    words: &[&str],
-    ask: Ask,
-    file: &str,
-) -> Result<(), Fail> {
+fn is_asked<R: Abort + AllocGlobal>(rt: &R, words: &[&str], ask: Ask, file: &str) {
     let expected = Request {
         ask,
         decode: false,
         whole: false,
         file,
     };
-    is_request(rt, words, expected)
+    is_request(rt, words, expected);
 }
 
 // Compares what words ask for of a file.
-fn is_request<R: Abort + AllocGlobal>(
-    rt: &R,
-    words: &[&str],
-    expected: Request<'_>,
-) -> Result<(), Fail> {
-    is_order(rt, words, Order::Show(expected))
+fn is_request<R: Abort + AllocGlobal>(rt: &R, words: &[&str], expected: Request<'_>) {
+    is_order(rt, words, Order::Show(expected));
 }
 
 // Compares what words ask for.
-fn is_order<R: Abort + AllocGlobal>(
-    rt: &R,
-    words: &[&str],
-    expected: Order<'_>,
-) -> Result<(), Fail> {
-    let words = words_of(rt.alloc(), words)?;
-    let order = parse(rt.alloc(), &words).map_err(|_| "refused")?;
+fn is_order<R: Abort + AllocGlobal>(rt: &R, words: &[&str], expected: Order<'_>) {
+    let words = words_of(rt, rt.alloc(), words);
+    let Ok(order) = parse(rt.alloc(), &words) else {
+        rt.panic("refused");
+    };
     is(rt, &order, &expected);
-    Ok(())
 }
 
 // Compares of which paths words ask for the properties, and whether with their places.
@@ -73,11 +60,11 @@ fn are_paths<R: Abort + AllocGlobal>(
     words: &[&str],
     (places, whole, decode): (bool, bool, bool),
     expected: &[&[u32]],
-) -> Result<(), Fail> {
+) {
     let mut paths = Vec::new(rt.alloc());
     for nids in expected {
-        let nids = Vec::from_slice(rt.alloc(), nids)?;
-        paths.push(Path { nids })?;
+        let nids = Vec::from_slice(rt.alloc(), nids).expect(rt, MEMORY);
+        paths.push(Path { nids }).expect(rt, MEMORY);
     }
     let expected = Request {
         ask: Ask::Props { places, paths },
@@ -85,7 +72,7 @@ fn are_paths<R: Abort + AllocGlobal>(
         whole,
         file: "a.pst",
     };
-    is_request(rt, words, expected)
+    is_request(rt, words, expected);
 }
 
 // Compares of which property words ask for the value.
@@ -95,8 +82,8 @@ fn is_value<R: Abort + AllocGlobal>(
     (text, whole, decode): (bool, bool, bool),
     nids: &[u32],
     id: u16,
-) -> Result<(), Fail> {
-    let nids = Vec::from_slice(rt.alloc(), nids)?;
+) {
+    let nids = Vec::from_slice(rt.alloc(), nids).expect(rt, MEMORY);
     let path = Path { nids };
     let expected = Request {
         ask: Ask::Value { text, path, id },
@@ -104,11 +91,11 @@ fn is_value<R: Abort + AllocGlobal>(
         whole,
         file: "a.pst",
     };
-    is_request(rt, words, expected)
+    is_request(rt, words, expected);
 }
 
 #[test]
-fn props_takes_paths_in_their_order(rt: HostRuntime) -> Result<(), Fail> {
+fn props_takes_paths_in_their_order(rt: HostRuntime) {
     for (words, flags, paths) in [
         (
             &["props", "a.pst", "0x12D"][..],
@@ -146,13 +133,12 @@ fn props_takes_paths_in_their_order(rt: HostRuntime) -> Result<(), Fail> {
             &[&[0x200024, 0x8025, u32::MAX]],
         ),
     ] {
-        are_paths(&rt, words, flags, paths)?;
+        are_paths(&rt, words, flags, paths);
     }
-    Ok(())
 }
 
 #[test]
-fn value_takes_a_path_and_a_property(rt: HostRuntime) -> Result<(), Fail> {
+fn value_takes_a_path_and_a_property(rt: HostRuntime) {
     for (words, flags, nids, id) in [
         (
             &["value", "a.pst", "0x21", "0037"][..],
@@ -186,37 +172,41 @@ fn value_takes_a_path_and_a_property(rt: HostRuntime) -> Result<(), Fail> {
             0x3701,
         ),
     ] {
-        is_value(&rt, words, flags, nids, id)?;
+        is_value(&rt, words, flags, nids, id);
     }
-    Ok(())
+}
+
+// Words, and the kind that they name.
+const EXPLAINED: [(&[&str], Option<Kind>); 9] = [
+    (&["explain"], None),
+    (&["explain", "14"], Some(Kind::BlockTrailer)),
+    (&["explain", "BlockTrailer"], Some(Kind::BlockTrailer)),
+    (&["explain", "--", "1"], Some(Kind::Short)),
+    (&["explain", "Encoded"], Some(Kind::Encoded(0))),
+    (&["explain", "28"], Some(Kind::NoMemory)),
+    (&["explain", "blocktrailer"], Some(Kind::BlockTrailer)),
+    (&["explain", "Encoded(1)"], Some(Kind::Encoded(0))),
+    (
+        &["explain", "no: 14 BlockTrailer"],
+        Some(Kind::BlockTrailer),
+    ),
+];
+
+// Words that name no kind.
+const NO_KINDS: [&str; 7] = ["", "0", "29", "99", "014", "no: 99", "BlockTraile"];
+
+#[test]
+fn explain_takes_a_kind_or_none(rt: HostRuntime) {
+    for (words, kind) in EXPLAINED {
+        is_order(&rt, words, Order::Explain(kind));
+    }
+    for word in NO_KINDS {
+        lacks(&rt, &["explain", word], Lack::Kind);
+    }
 }
 
 #[test]
-fn explain_takes_a_kind_or_none(rt: HostRuntime) -> Result<(), Fail> {
-    for (words, kind) in [
-        (&["explain"][..], None),
-        (&["explain", "14"], Some(Kind::BlockTrailer)),
-        (&["explain", "BlockTrailer"], Some(Kind::BlockTrailer)),
-        (&["explain", "--", "1"], Some(Kind::Short)),
-        (&["explain", "Encoded"], Some(Kind::Encoded(0))),
-        (&["explain", "28"], Some(Kind::NoMemory)),
-        (&["explain", "blocktrailer"], Some(Kind::BlockTrailer)),
-        (&["explain", "Encoded(1)"], Some(Kind::Encoded(0))),
-        (
-            &["explain", "no: 14 BlockTrailer"],
-            Some(Kind::BlockTrailer),
-        ),
-    ] {
-        is_order(&rt, words, Order::Explain(kind))?;
-    }
-    for word in ["", "0", "29", "99", "014", "no: 99", "BlockTraile"] {
-        lacks(&rt, &["explain", word], Lack::Kind)?;
-    }
-    Ok(())
-}
-
-#[test]
-fn each_command_takes_a_file_that_is_decoded_first(rt: HostRuntime) -> Result<(), Fail> {
+fn each_command_takes_a_file_that_is_decoded_first(rt: HostRuntime) {
     let (file, decode, whole) = ("a.pst", true, false);
     for (words, ask) in [
         (&["check", "--decode", "a.pst"][..], CHECK),
@@ -242,13 +232,12 @@ fn each_command_takes_a_file_that_is_decoded_first(rt: HostRuntime) -> Result<()
             whole,
             file,
         };
-        is_request(&rt, words, expected)?;
+        is_request(&rt, words, expected);
     }
-    Ok(())
 }
 
 #[test]
-fn what_is_whole_is_asked_for(rt: HostRuntime) -> Result<(), Fail> {
+fn what_is_whole_is_asked_for(rt: HostRuntime) {
     let (file, whole) = ("a.pst", true);
     for (words, ask, decode) in [
         (&["folders", "--whole", "a.pst"][..], Ask::Folders, false),
@@ -286,66 +275,66 @@ fn what_is_whole_is_asked_for(rt: HostRuntime) -> Result<(), Fail> {
             whole,
             file,
         };
-        is_request(&rt, words, expected)?;
+        is_request(&rt, words, expected);
     }
     are_paths(
         &rt,
         &["props", "--whole", "a.pst", "0x21", "--places", "0x122"],
         (true, true, false),
         &[&[0x21], &[0x122]],
-    )?;
+    );
     are_paths(
         &rt,
         &["props", "a.pst", "--decode", "0x21", "--whole"],
         (false, true, true),
         &[&[0x21]],
-    )?;
+    );
     is_value(
         &rt,
         &["value", "--whole", "--text", "a.pst", "0x21", "3001"],
         (true, true, false),
         &[0x21],
         0x3001,
-    )?;
+    );
     is_value(
         &rt,
         &["value", "a.pst", "0x21", "3001", "--whole", "--decode"],
         (false, true, true),
         &[0x21],
         0x3001,
-    )
+    );
 }
 
 #[test]
-fn each_command_is_asked_for(rt: HostRuntime) -> Result<(), Fail> {
-    is_asked(&rt, &["check", "a.pst"], CHECK, "a.pst")?;
-    is_asked(&rt, &["check", "a.pst", "--digest"], DIGEST, "a.pst")?;
+fn each_command_is_asked_for(rt: HostRuntime) {
+    is_asked(&rt, &["check", "a.pst"], CHECK, "a.pst");
+    is_asked(&rt, &["check", "a.pst", "--digest"], DIGEST, "a.pst");
     is_asked(
         &rt,
         &["check", "--digest", "--strict", "a.pst"],
         BOTH,
         "a.pst",
-    )?;
+    );
     for words in [
         &["check", "--strict", "a.pst"][..],
         &["check", "a.pst", "--strict"],
         &["check", "--strict", "--", "a.pst"],
     ] {
-        is_asked(&rt, words, STRICT, "a.pst")?;
+        is_asked(&rt, words, STRICT, "a.pst");
     }
-    is_asked(&rt, &["damage", "a.pst"], DAMAGE, "a.pst")?;
-    is_asked(&rt, &["damage", "--digest", "-"], DAMAGE_DIGEST, "-")?;
+    is_asked(&rt, &["damage", "a.pst"], DAMAGE, "a.pst");
+    is_asked(&rt, &["damage", "--digest", "-"], DAMAGE_DIGEST, "-");
     is_asked(
         &rt,
         &["damage", "a.pst", "--digest"],
         DAMAGE_DIGEST,
         "a.pst",
-    )?;
-    is_asked(&rt, &["head", "-"], Ask::Head, "-")?;
-    is_asked(&rt, &["nodes", ""], Ask::Nodes, "")?;
-    is_asked(&rt, &["folders", "--", "-h"], Ask::Folders, "-h")?;
-    is_asked(&rt, &["messages", "a.pst"], Ask::Messages, "a.pst")?;
-    is_asked(&rt, &["export", "-"], Ask::Export, "-")?;
+    );
+    is_asked(&rt, &["head", "-"], Ask::Head, "-");
+    is_asked(&rt, &["nodes", ""], Ask::Nodes, "");
+    is_asked(&rt, &["folders", "--", "-h"], Ask::Folders, "-h");
+    is_asked(&rt, &["messages", "a.pst"], Ask::Messages, "a.pst");
+    is_asked(&rt, &["export", "-"], Ask::Export, "-");
     let contents = Ask::Contents(0x8082);
-    is_asked(&rt, &["contents", "a b", "0x8082"], contents, "a b")
+    is_asked(&rt, &["contents", "a b", "0x8082"], contents, "a b");
 }

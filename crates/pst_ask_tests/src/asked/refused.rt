@@ -1,7 +1,8 @@
 //! The texts of words that are refused: no command, too few words, too many.
 
 use super::is_answered;
-use std::test::Fail;
+use crate::told::MEMORY;
+use std::process::Abort;
 
 // What is said of words that are refused, without the line that ends it.
 type Refused = (&'static [&'static str], &'static str);
@@ -243,13 +244,16 @@ Usage: pst_show explain [KIND]
     ),
 ];
 
+fn is_refused<R: Abort + AllocGlobal>(rt: &R, words: &[&str], said: &str) {
+    let text = format!(in rt.alloc(); "{said}\nFor more information, try '--help'.\n");
+    is_answered(rt, words, true, &text.expect(rt, MEMORY));
+}
+
 #[test]
-fn words_that_are_refused(rt: HostRuntime) -> Result<(), Fail> {
+fn words_that_are_refused(rt: HostRuntime) {
     for rows in [&NO_COMMAND[..], &TOO_FEW, &TOO_MANY] {
         for (words, said) in rows {
-            let text = format!(in rt.alloc(); "{said}\nFor more information, try '--help'.\n")?;
-            is_answered(&rt, words, true, &text)?;
+            is_refused(&rt, words, said);
         }
     }
-    Ok(())
 }

@@ -5,15 +5,15 @@ use super::{BRANCH, HEAD, HIGH, LOW, check_bth};
 use crate::opened::heap_in;
 use crate::told::is;
 use std::alloc::Global;
-use std::test::Fail;
+use std::process::Abort;
 
 // How many records the BTH of node 0x21 has.
-fn counted(alloc: Global, image: &[u8]) -> Result<u64, Fail> {
-    let heap = heap_in(alloc, image, 0x21)?;
+fn counted<R: Abort>(rt: &R, alloc: Global, image: &[u8]) -> u64 {
+    let heap = heap_in(rt, alloc, image, 0x21);
     let Ok(bth) = check_bth(&heap, heap.user_root(), 2, 6) else {
-        return Err(Fail::from("no BTH"));
+        rt.panic("no BTH");
     };
-    Ok(bth.count())
+    bth.count()
 }
 
 // The items of a heap, and how many records its BTH has: two leaves of two records each, and one without; a header that names
@@ -24,11 +24,10 @@ const COUNTS: [(&[&[u8]], u64); 2] = [
 ];
 
 #[test]
-fn records_are_counted(rt: HostRuntime) -> Result<(), Fail> {
+fn records_are_counted(rt: HostRuntime) {
     let alloc = rt.alloc();
     for (items, count) in COUNTS {
-        let image = store(alloc, items)?;
-        is(&rt, counted(alloc, &image)?, count);
+        let image = store(&rt, alloc, items);
+        is(&rt, counted(&rt, alloc, &image), count);
     }
-    Ok(())
 }

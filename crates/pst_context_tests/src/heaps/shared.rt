@@ -4,13 +4,13 @@ ghost use Rattle.pst_ndb.specs.Views.{table_of_ndb};
 ghost use Rattle.pst_heap.specs.Maps.{AreMapsTrue};
 
 use super::{SPAN, list_of};
-use crate::made::{add_block, add_node, image_of, plan_of};
+use crate::made::{MEMORY, add_block, add_node, image_of, plan_of};
 use crate::opened::{line_of_fault, ndb_in};
 use crate::told::is;
 use pst_heap::{Maps, check_heap_with};
 use pst_ndb::Ndb;
 use std::alloc::Global;
-use std::test::Fail;
+use std::process::Abort;
 
 // A file, and what is known of its page maps.
 #[derive(Drop)]
@@ -21,16 +21,16 @@ struct Known<'a> {
 }
 
 // What a node's data is answered with as a heap, by what is known.
-fn line_of(alloc: Global, known: &mut Known, nid: u32) -> Result<String, Fail> {
+fn line_of<R: Abort>(rt: &R, alloc: Global, known: &mut Known, nid: u32) -> String {
     let Some(node) = known.ndb.node(nid) else {
-        return Err(Fail::from("no node"));
+        rt.panic("no node");
     };
     match check_heap_with(node, &mut known.maps) {
         Ok(heap) => {
             let client = heap.client();
-            Ok(format!(in alloc; "yes: {client:x}")?)
+            format!(in alloc; "yes: {client:x}").expect(rt, MEMORY)
         }
-        Err(fault) => line_of_fault(alloc, fault),
+        Err(fault) => line_of_fault(rt, alloc, fault),
     }
 }
 
@@ -61,16 +61,16 @@ const LISTS: [(u64, u8, u32, u32, u32, Option<u32>); 7] = [
 // before those.
 const NODES: [(u32, u64); 4] = [(0x21, 38), (0x41, 42), (0x61, 38), (0x81, 46)];
 
-fn store(alloc: Global) -> Result<Vec<u8>, Fail> {
-    let mut plan = plan_of(alloc, &BLOCKS)?;
+fn store<R: Abort>(rt: &R, alloc: Global) -> Vec<u8> {
+    let mut plan = plan_of(rt, alloc, &BLOCKS);
     for (bid, level, named, times, total, other) in LISTS {
-        let body = list_of(alloc, level, named, times, total, other)?;
-        add_block(&mut plan, bid, body)?;
+        let body = list_of(rt, alloc, level, named, times, total, other);
+        add_block(rt, &mut plan, bid, body);
     }
     for (nid, bid_data) in NODES {
-        add_node(&mut plan, nid, bid_data, 0)?;
+        add_node(rt, &mut plan, nid, bid_data, 0);
     }
-    image_of(alloc, &plan)
+    image_of(rt, alloc, &plan)
 }
 
 const BAD_MAP: &str = "no: 21 Heap at 0x4c80 bid 0x2a nid 0x41";
@@ -85,16 +85,15 @@ const ROWS: [(u32, &str); 5] = [
 ];
 
 #[test]
-fn shared_spans(rt: HostRuntime) -> Result<(), Fail> {
+fn shared_spans(rt: HostRuntime) {
     let alloc = rt.alloc();
-    let image = store(alloc)?;
+    let image = store(&rt, alloc);
     let mut known = Known {
-        ndb: ndb_in(alloc, &image)?,
+        ndb: ndb_in(&rt, alloc, &image),
         maps: Maps::new(alloc),
     };
     for (nid, line) in ROWS {
-        let told = line_of(alloc, &mut known, nid)?;
+        let told = line_of(&rt, alloc, &mut known, nid);
         is(&rt, told.as_str(), line);
     }
-    Ok(())
 }

@@ -1,12 +1,12 @@
 //! What a property context lends: its properties by their identifiers, their bytes in the file's own memory.
 
+use crate::made::MEMORY;
 use crate::told::{holds, holds_at, is};
 use pst_datatree::Value;
 use pst_pc::Pc;
 use pst_value::{PropType, as_guid, as_i32, units16};
 use std::alloc::Global;
 use std::process::Abort;
-use std::test::Fail;
 
 // Identifiers that no property has.
 const ABSENT: [u16; 7] = [0, 0x36, 0x38, 0x1001, 0x3700, 0x3702, 0xffff];
@@ -18,21 +18,19 @@ pub(super) fn absent<R: Abort>(rt: &R, pc: &Pc) {
 }
 
 // The subject, in one piece.
-pub(super) fn subject<R: Abort>(rt: &R, pc: &Pc) -> Result<(), Fail> {
+pub(super) fn subject<R: Abort>(rt: &R, pc: &Pc) {
     let subject = pc.get(0x37).expect(rt, "no subject");
     let Value::Whole(_, bytes) = subject.value else {
-        return Err(Fail::from("in pieces"));
+        rt.panic("in pieces");
     };
     is(rt, bytes, [0x41, 0, 0, 0xd8].as_slice());
-    Ok(())
 }
 
-pub(super) fn guid<R: Abort>(rt: &R, alloc: Global, pc: &Pc) -> Result<(), Fail> {
+pub(super) fn guid<R: Abort>(rt: &R, alloc: Global, pc: &Pc) {
     let value = pc.get(0x3701).expect(rt, "no GUID").value;
     let guid = as_guid(value).expect(rt, "no GUID");
-    let text = format!(in alloc; "{guid}")?;
+    let text = format!(in alloc; "{guid}").expect(rt, MEMORY);
     is(rt, text.as_str(), "00020328-0000-0000-c000-000000000046");
-    Ok(())
 }
 
 // The body, in two pieces.

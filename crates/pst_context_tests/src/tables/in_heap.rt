@@ -4,7 +4,6 @@ use super::is_answered;
 use crate::made::m1_with;
 use pst_make::Change;
 use pst_make::Change::Set;
-use std::test::Fail;
 
 const AT_INFO: &str = "no: 25 Table at 0x4c8c bid 0xc nid 0x12d";
 
@@ -129,11 +128,10 @@ const TABLE_ROWS: [(&[Change<'static>], &str); 42] = [
 ];
 
 #[test]
-fn tables_in_a_heap(rt: HostRuntime) -> Result<(), Fail> {
+fn tables_in_a_heap(rt: HostRuntime) {
     let alloc = rt.alloc();
     for (changes, line) in TABLE_ROWS {
-        let image = m1_with(alloc, 2, changes)?;
-        is_answered(&rt, alloc, &image, 0x12d, line)?;
+        let image = m1_with(&rt, alloc, 2, changes);
+        is_answered(&rt, alloc, &image, 0x12d, line);
     }
-    Ok(())
 }

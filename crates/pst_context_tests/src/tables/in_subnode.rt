@@ -4,12 +4,11 @@ mod asked;
 mod rows;
 
 use super::is_answered;
-use crate::made::{add_block, add_blocks, add_node, changed, image_of, plan_of};
+use crate::made::{MEMORY, add_block, add_blocks, add_node, changed, image_of, plan_of};
 use pst_make::{Change, Plan, change_all};
 use rows::{IN_TWO_BLOCKS, OF_ALL_LENGTHS};
 use std::alloc::Global;
 use std::process::Abort;
-use std::test::Fail;
 
 // A table of three rows, 1 to 3, with one column: the header of a heap; TCINFO at 12, which names subnode 0x41 as the matrix; the
 // header of the row index at 42; its records at 50, 58 and 66, each with the number of a row; and the page map.
@@ -60,43 +59,41 @@ const SIBLOCK: [u8; 40] = [
 ];
 
 // Adds the blocks of the rows to a plan.
-fn add_rows(alloc: Global, plan: &mut Plan, blocks: &[Block]) -> Result<(), Fail> {
+fn add_rows<R: Abort>(rt: &R, alloc: Global, plan: &mut Plan, blocks: &[Block]) {
     for block in blocks {
-        let mut body = vec![in alloc; 0u8; block.len]?;
-        change_all(&mut body, block.changes)?;
-        add_block(plan, block.bid, body)?;
+        let mut body = (vec![in alloc; 0u8; block.len]).expect(rt, MEMORY);
+        change_all(&mut body, block.changes).expect(rt, MEMORY);
+        add_block(rt, plan, block.bid, body);
     }
-    Ok(())
 }
 
-fn store(alloc: Global, row: Row) -> Result<Vec<u8>, Fail> {
-    let table = changed(alloc, &TABLE, row.changes)?;
-    let mut plan = plan_of(alloc, &[(4, &table)])?;
-    add_rows(alloc, &mut plan, row.blocks)?;
-    add_blocks(alloc, &mut plan, row.lists)?;
+fn store<R: Abort>(rt: &R, alloc: Global, row: Row) -> Vec<u8> {
+    let table = changed(rt, alloc, &TABLE, row.changes);
+    let mut plan = plan_of(rt, alloc, &[(4, &table)]);
+    add_rows(rt, alloc, &mut plan, row.blocks);
+    add_blocks(rt, alloc, &mut plan, row.lists);
     let (none, data) = (slblock(0x61, 0), slblock(0x41, row.data));
     let subnodes: [(u64, &[u8]); 3] = [(30, &SIBLOCK), (34, &none), (38, &data)];
-    add_blocks(alloc, &mut plan, &subnodes)?;
-    add_node(&mut plan, 0x21, 4, 30)?;
-    image_of(alloc, &plan)
+    add_blocks(rt, alloc, &mut plan, &subnodes);
+    add_node(rt, &mut plan, 0x21, 4, 30);
+    image_of(rt, alloc, &plan)
 }
 
 // Whether each store is answered with its line.
-fn are_answered<R: Abort>(rt: &R, alloc: Global, rows: &[Row]) -> Result<(), Fail> {
+fn are_answered<R: Abort>(rt: &R, alloc: Global, rows: &[Row]) {
     for row in rows {
-        let image = store(alloc, *row)?;
-        is_answered(rt, alloc, &image, 0x21, row.line)?;
+        let image = store(rt, alloc, *row);
+        is_answered(rt, alloc, &image, 0x21, row.line);
     }
-    Ok(())
 }
 
 #[test]
-fn tables_in_subnodes(rt: HostRuntime) -> Result<(), Fail> {
-    are_answered(&rt, rt.alloc(), &IN_TWO_BLOCKS)?;
-    are_answered(&rt, rt.alloc(), &OF_ALL_LENGTHS)
+fn tables_in_subnodes(rt: HostRuntime) {
+    are_answered(&rt, rt.alloc(), &IN_TWO_BLOCKS);
+    are_answered(&rt, rt.alloc(), &OF_ALL_LENGTHS);
 }
 
 #[test]
-fn lists_are_asked(rt: HostRuntime) -> Result<(), Fail> {
-    asked::lists(&rt, rt.alloc())
+fn lists_are_asked(rt: HostRuntime) {
+    asked::lists(&rt, rt.alloc());
 }

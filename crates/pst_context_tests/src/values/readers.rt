@@ -28,18 +28,18 @@ const COUNTS: [(u16, &[u8], Option<u32>); 20] = [
 ];
 
 // The bytes of each value of a value of several, one after another, each behind its length.
-fn listed(alloc: Global, value: Value, kind: u16) -> Result<Vec<u8>, Fail> {
+fn listed<R: Abort>(rt: &R, alloc: Global, value: Value, kind: u16) -> Vec<u8> {
     let mut all = Vec::new(alloc);
     let Some(elements) = elements_from(value, PropType(kind)) else {
-        return Err(Fail::from("no list"));
+        rt.panic("no list");
     };
     for one in elements {
-        all.push((one.len() % 256) as u8)?;
+        all.push((one.len() % 256) as u8).expect(rt, MEMORY);
         for byte in bytes_from(one) {
-            all.push(byte)?;
+            all.push(byte).expect(rt, MEMORY);
         }
     }
-    Ok(all)
+    all
 }
 
 const HIGH: [u8; 8] = [0xfe, 0xff, 0xff, 0xff, 0xff, 0xff, 0xff, 0xff];
@@ -60,7 +60,7 @@ fn numbers_of_bytes<R: Abort>(rt: &R) {
 }
 
 #[test]
-fn bytes_are_read(rt: HostRuntime) -> Result<(), Fail> {
+fn bytes_are_read(rt: HostRuntime) {
     numbers_of_bytes(&rt);
     let text = Value::Whole(0, &[0x41, 0, 0, 0xd8, 0x42]);
     is(&rt, units16(text).next(), Some(0x41));
@@ -69,7 +69,6 @@ fn bytes_are_read(rt: HostRuntime) -> Result<(), Fail> {
         let value = Value::Whole(0, bytes);
         is_at(&rt, kind, multi_count(value, PropType(kind)), count);
     }
-    Ok(())
 }
 
 // The bytes of a value from one number to another, which it has.
@@ -94,13 +93,12 @@ fn parts_are_read<R: Abort>(rt: &R, whole: Value) {
 }
 
 // The GUID, and its bytes as two numbers of 8.
-fn guid_is_read<R: Abort>(rt: &R, alloc: Global, whole: Value) -> Result<(), Fail> {
+fn guid_is_read<R: Abort>(rt: &R, alloc: Global, whole: Value) {
     let guid = as_guid(whole).expect(rt, "no GUID");
-    let text = format!(in alloc; "{guid}")?;
+    let text = format!(in alloc; "{guid}").expect(rt, MEMORY);
     is(rt, text.as_str(), "00020328-0000-0000-c000-000000000046");
-    let numbers = listed(alloc, whole, 0x1014)?;
+    let numbers = listed(rt, alloc, whole, 0x1014);
     is(rt, numbers.as_slice(), NUMBERS.as_slice());
-    Ok(())
 }
 
 const NUMBERS: [u8; 18] = [
@@ -108,26 +106,25 @@ const NUMBERS: [u8; 18] = [
 ];
 
 // The two texts.
-fn texts_are_read<R: Abort>(rt: &R, alloc: Global, texts: Value) -> Result<(), Fail> {
+fn texts_are_read<R: Abort>(rt: &R, alloc: Global, texts: Value) {
     is(rt, multi_count(texts, PropType(0x101F)), Some(2));
-    let both = listed(alloc, texts, 0x101F)?;
+    let both = listed(rt, alloc, texts, 0x101F);
     let wanted = [2, b'A', 0, 4, b'B', 0, b'C', 0];
     is(rt, both.as_slice(), wanted.as_slice());
     let last = multi(texts, PropType(0x101F), 1).expect(rt, "no text");
     is(rt, units16(last).next(), Some(u16::from(b'B')));
     holds(rt, multi(texts, PropType(0x101F), 2).is_none());
-    Ok(())
 }
 
 #[test]
-fn pieces_are_read(rt: HostRuntime) -> Result<(), Fail> {
+fn pieces_are_read(rt: HostRuntime) {
     let alloc = rt.alloc();
-    let image = store(alloc)?;
-    let heap = heap_in(alloc, &image, 0x21)?;
-    let whole = named(&heap, 10)?;
+    let image = store(&rt, alloc);
+    let heap = heap_in(&rt, alloc, &image, 0x21);
+    let whole = named(&rt, &heap, 10);
     holds(&rt, matches!(whole, Value::Pieces(_)));
     parts_are_read(&rt, whole);
-    guid_is_read(&rt, alloc, whole)?;
-    let texts = named(&heap, 13)?;
-    texts_are_read(&rt, alloc, texts)
+    guid_is_read(&rt, alloc, whole);
+    let texts = named(&rt, &heap, 13);
+    texts_are_read(&rt, alloc, texts);
 }

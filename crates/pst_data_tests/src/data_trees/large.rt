@@ -16,36 +16,42 @@ const SHORT: Lists<'static> = &[
 ];
 
 #[test]
-fn a_million_empty_spans(rt: HostRuntime) -> Result<(), Fail> {
+fn a_million_empty_spans(rt: HostRuntime) {
     let alloc = rt.alloc();
-    let image = store(alloc, EMPTY_BODY, EMPTY)?;
-    let tree = Tree::read(alloc, Image::new(&image), 0x0e)?;
+    let image = store(&rt, alloc, EMPTY_BODY, EMPTY);
+    let tree = Tree::read(&rt, alloc, Image::new(&image), 0x0e);
     is(&rt, tree.leaf_count(), 1_042_441);
     is(&rt, tree.leaf(1_042_440), Some(Span { at: 0x4c00, len: 0 }));
     is(&rt, tree.leaf(1_042_441), None);
     let empty = tree.value();
     is(&rt, shown(&empty), (true, 0, 0, [None; 2]));
-    is(&rt, shown(&part_of(&empty, 0, 0)?), (true, 0, 0, [None; 2]));
+    is(
+        &rt,
+        shown(&part_of(&rt, &empty, 0, 0)),
+        (true, 0, 0, [None; 2]),
+    );
     is(&rt, number(&empty, 0, 2), None);
     has_slices(&rt, &empty, &[0]);
-    Ok(())
 }
 
 #[test]
-fn a_million_spans_of_one_byte(rt: HostRuntime) -> Result<(), Fail> {
+fn a_million_spans_of_one_byte(rt: HostRuntime) {
     let alloc = rt.alloc();
-    let image = store(alloc, SHORT_BODY, SHORT)?;
-    let long = Tree::read(alloc, Image::new(&image), 0x0e)?.value();
+    let image = store(&rt, alloc, SHORT_BODY, SHORT);
+    let long = Tree::read(&rt, alloc, Image::new(&image), 0x0e).value();
     is(&rt, extent(&long), (false, 1_042_441, 0x4c00));
     has_bytes(&rt, &long, &[(1_042_440, Some(0x63)), (1_042_441, None)]);
-    is(&rt, number(&long, 1_042_439, 2), Some(0x6363));
-    is(&rt, number(&long, 1_042_440, 2), None);
-    let last = part_of(&long, 1_040_441, 1_042_441)?;
-    is(&rt, extent(&last), (false, 2000, 0x4c00));
-    let one = part_of(&long, 1_042_440, 1_042_441)?;
-    is(&rt, extent(&one), (true, 1, 0x4c00));
+    ends_short(&rt, &long);
     is(&rt, len_of_all(long.slices()), 1_042_441);
-    Ok(())
+}
+
+fn ends_short<R: Abort>(rt: &R, long: &Value) {
+    is(rt, number(long, 1_042_439, 2), Some(0x6363));
+    is(rt, number(long, 1_042_440, 2), None);
+    let last = part_of(rt, long, 1_040_441, 1_042_441);
+    is(rt, extent(&last), (false, 2000, 0x4c00));
+    let one = part_of(rt, long, 1_042_440, 1_042_441);
+    is(rt, extent(&one), (true, 1, 0x4c00));
 }
 
 // How many bytes slices have in all.
@@ -67,19 +73,18 @@ const IN_THE_MIDDLE: Lists<'static> = &[
 ];
 
 #[test]
-fn one_span_with_bytes_among_a_million(rt: HostRuntime) -> Result<(), Fail> {
+fn one_span_with_bytes_among_a_million(rt: HostRuntime) {
     let alloc = rt.alloc();
-    let image = store(alloc, ONE_OF_ALL, IN_THE_MIDDLE)?;
-    let tree = Tree::read(alloc, Image::new(&image), 0x12)?;
+    let image = store(&rt, alloc, ONE_OF_ALL, IN_THE_MIDDLE);
+    let tree = Tree::read(&rt, alloc, Image::new(&image), 0x12);
     is(&rt, tree.leaf(521_220), Some(Span { at: 0x4c40, len: 3 }));
     let three = tree.value();
     is(&rt, shown(&three), (true, 3, 0x4c40, [Some(0x41); 2]));
     has_bytes(&rt, &three, &[(2, Some(0x41)), (3, None)]);
-    let part = part_of(&three, 1, 3)?;
+    let part = part_of(&rt, &three, 1, 3);
     is(&rt, part.at(), 0x4c41);
     is(&rt, number(&three, 1, 2), Some(0x4141));
     is(&rt, number(&three, 0, 4), None);
-    Ok(())
 }
 
 // The first span and the last of a million have a byte each, and no other has one.
@@ -93,14 +98,13 @@ const AT_BOTH_ENDS: Lists<'static> = &[
 ];
 
 #[test]
-fn spans_with_bytes_alone(rt: HostRuntime) -> Result<(), Fail> {
+fn spans_with_bytes_alone(rt: HostRuntime) {
     let alloc = rt.alloc();
-    let image = store(alloc, TWO_OF_ALL, AT_BOTH_ENDS)?;
-    let few = with_bytes_of(&Tree::read(alloc, Image::new(&image), 0x16)?);
+    let image = store(&rt, alloc, TWO_OF_ALL, AT_BOTH_ENDS);
+    let few = with_bytes_of(&Tree::read(&rt, alloc, Image::new(&image), 0x16));
     is(&rt, few.len(), 2);
     has_bytes(&rt, &few, &[(1, Some(0x41)), (2, None)]);
     has_slices(&rt, &few, &[1, 1]);
-    Ok(())
 }
 
 // The value of a tree, without the spans that have no bytes.
@@ -136,29 +140,29 @@ const OF_THREE: Lists<'static> = &[(0x12, 1, 8, &[(4, 1), (8, 1), (12, 1)])];
 
 // Numbers whose bytes lie in several bodies.
 #[test]
-fn numbers_across_pieces(rt: HostRuntime) -> Result<(), Fail> {
+fn numbers_across_pieces(rt: HostRuntime) {
     let alloc = rt.alloc();
-    let image = store(alloc, THREE_BODIES, OF_THREE)?;
+    let image = store(&rt, alloc, THREE_BODIES, OF_THREE);
     let image = Image::new(&image);
-    let tree = Tree::read(alloc, image, 0x12)?;
-    let eight = tree.value();
-    for (at, size, wanted) in NUMBERS {
-        is(&rt, number(&eight, at, size), wanted);
-    }
-    let two = value_of_leaf(&tree, image, 1)?;
+    let tree = Tree::read(&rt, alloc, image, 0x12);
+    has_numbers(&rt, &tree.value());
+    let two = value_of_leaf(&rt, &tree, image, 1);
     is(&rt, shown(&two), (true, 2, 0x4c40, [Some(0x22); 2]));
     is(&rt, number(&two, 0, 2), Some(0x2222));
     holds(&rt, empty_value(image).is_empty());
-    Ok(())
+}
+
+fn has_numbers<R: Abort>(rt: &R, eight: &Value) {
+    for (at, size, wanted) in NUMBERS {
+        is(rt, number(eight, at, size), wanted);
+    }
 }
 
 // The value of the span with a number.
-fn value_of_leaf<'a>(tree: &Tree<'a>, image: Image<'a>, n: u64) -> Result<Value<'a>, Fail> {
-    let Some(span) = tree.leaf(n) else {
-        return Err(Fail::from("no leaf"));
-    };
+fn value_of_leaf<'a, R: Abort>(rt: &R, tree: &Tree<'a>, image: Image<'a>, n: u64) -> Value<'a> {
+    let span = tree.leaf(n).expect(rt, "no leaf");
     let Some(_) = image.lend(span) else {
-        return Err(Fail::from("no bytes"));
+        rt.panic("no bytes");
     };
-    Ok(value_at(image, span))
+    value_at(image, span)
 }

@@ -14,15 +14,22 @@ const XBLOCKS: Lists<'static> = &[
 
 // An image of these, and of an XXBLOCK that names the XBLOCKs in turn 1,021 times: none, the first two, the last, the first two.
 // So every four have five spans.
-fn many_parts(alloc: Global) -> Result<Vec<u8>, Fail> {
+fn many_parts<R: Abort>(rt: &R, alloc: Global) -> Vec<u8> {
+    let mut plan = plan_of(rt, alloc, BODIES, XBLOCKS);
+    let children = children_of(rt, alloc);
+    add(rt, &mut plan, 0x1e, list_of(rt, alloc, 2, 2550, &children));
+    image_of(rt, alloc, plan)
+}
+
+fn children_of<R: Abort>(rt: &R, alloc: Global) -> Vec<u64> {
     let mut children = Vec::new(alloc);
     for _ in 0..255 {
-        children.extend_from_slice(&[0x12, 0x16, 0x1a, 0x17])?;
+        children
+            .extend_from_slice(&[0x12, 0x16, 0x1a, 0x17])
+            .expect(rt, MEMORY);
     }
-    children.push(0x12)?;
-    let mut plan = plan_of(alloc, BODIES, XBLOCKS)?;
-    add(&mut plan, 0x1e, list_of(alloc, 2, 2550, &children)?)?;
-    image_of(alloc, &plan)
+    children.push(0x12).expect(rt, MEMORY);
+    children
 }
 
 // How many bytes the span with a number has: those of the first, second, third, first and second block, over and over.
@@ -44,10 +51,10 @@ fn len_at(leaves: &mut Leaves, n: u64) -> Option<u64> {
 }
 
 #[test]
-fn spans_in_order_and_backwards(rt: HostRuntime) -> Result<(), Fail> {
+fn spans_in_order_and_backwards(rt: HostRuntime) {
     let alloc = rt.alloc();
-    let image = many_parts(alloc)?;
-    let tree = Tree::read(alloc, Image::new(&image), 0x1e)?;
+    let image = many_parts(&rt, alloc);
+    let tree = Tree::read(&rt, alloc, Image::new(&image), 0x1e);
     is(&rt, tree.leaf_count(), 1275);
     let mut forwards = tree.leaves();
     for n in 0..1277 {
@@ -62,14 +69,13 @@ fn spans_in_order_and_backwards(rt: HostRuntime) -> Result<(), Fail> {
     for n in [0, 1, 2, 5, 637, 1274, 1275] {
         is(&rt, backwards.leaf(n), tree.leaf(n));
     }
-    Ok(())
 }
 
 #[test]
-fn spans_out_of_order(rt: HostRuntime) -> Result<(), Fail> {
+fn spans_out_of_order(rt: HostRuntime) {
     let alloc = rt.alloc();
-    let image = many_parts(alloc)?;
-    let tree = Tree::read(alloc, Image::new(&image), 0x1e)?;
+    let image = many_parts(&rt, alloc);
+    let tree = Tree::read(&rt, alloc, Image::new(&image), 0x1e);
     // The last one first, so that all parts are passed at once; then steps of all lengths.
     let mut leaves = tree.leaves();
     is(&rt, len_at(&mut leaves, 1274), Some(2));
@@ -83,7 +89,6 @@ fn spans_out_of_order(rt: HostRuntime) -> Result<(), Fail> {
     for n in [42, 41, 640, 39, 1000, 3, 999, 1271, 0] {
         is(&rt, len_at(&mut fresh, n), len_of(n));
     }
-    Ok(())
 }
 
 const TWO_BODIES: Bodies<'static> = &[(4, 0x61, 1), (8, 0x62, 2)];
@@ -96,18 +101,24 @@ const FEW_PARTS: Lists<'static> = &[
 ];
 
 #[test]
-fn spans_of_one_part(rt: HostRuntime) -> Result<(), Fail> {
+fn spans_of_one_part(rt: HostRuntime) {
     let alloc = rt.alloc();
-    let image = store(alloc, TWO_BODIES, FEW_PARTS)?;
-    for (bid, [first, second, third]) in ONE_PART {
-        let mut leaves = Tree::read(alloc, Image::new(&image), bid)?.leaves();
-        is(&rt, len_at(&mut leaves, 2), third);
-        is(&rt, len_at(&mut leaves, 0), first);
-        is(&rt, len_at(&mut leaves, 1), second);
-        is(&rt, len_at(&mut leaves, 1), second);
-        is(&rt, len_at(&mut leaves, 0), first);
+    let image = store(&rt, alloc, TWO_BODIES, FEW_PARTS);
+    for (bid, lens) in ONE_PART {
+        let tree = Tree::read(&rt, alloc, Image::new(&image), bid);
+        has_lens(&rt, tree.leaves(), lens);
     }
-    Ok(())
+}
+
+// Stops the test where the first three spans have not these lengths.
+fn has_lens<R: Abort>(rt: &R, spans: Leaves, lens: [Option<u64>; 3]) {
+    let mut leaves = spans;
+    let [first, second, third] = lens;
+    is(rt, len_at(&mut leaves, 2), third);
+    is(rt, len_at(&mut leaves, 0), first);
+    is(rt, len_at(&mut leaves, 1), second);
+    is(rt, len_at(&mut leaves, 1), second);
+    is(rt, len_at(&mut leaves, 0), first);
 }
 
 // No block, data blocks, XBLOCKs, and XXBLOCKs without a span; and how many bytes their spans have.

@@ -4,16 +4,20 @@ use super::*;
 use crate::told::is;
 
 // The parts of a data tree: the block identifier of each, and behind it the length of each of its spans.
-fn parts_of(alloc: Global, image: &[u8], bid: u64) -> Result<Vec<u64>, Fail> {
-    let parts = Tree::read(alloc, Image::new(image), bid)?.parts();
+fn parts_of<R: Abort>(rt: &R, alloc: Global, image: &[u8], bid: u64) -> Vec<u64> {
+    let parts = Tree::read(rt, alloc, Image::new(image), bid).parts();
     let mut found = Vec::new(alloc);
     for i in 0..parts.count() {
-        found.push(parts.bid(i))?;
-        for slice in parts.spans(i) {
-            found.push(slice.len() as u64)?;
-        }
+        found.push(parts.bid(i)).expect(rt, MEMORY);
+        add_lens(rt, &mut found, parts.spans(i));
     }
-    Ok(found)
+    found
+}
+
+fn add_lens<R: Abort>(rt: &R, found: &mut Vec<u64>, spans: Pieces) {
+    for slice in spans {
+        found.push(slice.len() as u64).expect(rt, MEMORY);
+    }
 }
 
 // Identifiers, and the parts of their trees: in order, as often as they are named, and as they are written. What is no XXBLOCK
@@ -33,12 +37,11 @@ const LISTS: Lists<'static> = &[
 ];
 
 #[test]
-fn xblocks_of_an_xxblock(rt: HostRuntime) -> Result<(), Fail> {
+fn xblocks_of_an_xxblock(rt: HostRuntime) {
     let alloc = rt.alloc();
-    let image = store(alloc, ONE_AND_NONE, LISTS)?;
+    let image = store(&rt, alloc, ONE_AND_NONE, LISTS);
     for (bid, wanted) in PARTS {
-        let parts = parts_of(alloc, &image, bid)?;
+        let parts = parts_of(&rt, alloc, &image, bid);
         is(&rt, parts.as_slice(), wanted);
     }
-    Ok(())
 }

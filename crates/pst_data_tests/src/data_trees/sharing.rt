@@ -14,10 +14,10 @@ const SHARED: Lists<'static> = &[
 
 // For 2,000 nodes, and with either bit 0.
 #[test]
-fn shared_trees_are_expanded_once(rt: HostRuntime) -> Result<(), Fail> {
+fn shared_trees_are_expanded_once(rt: HostRuntime) {
     let alloc = rt.alloc();
-    let image = store(alloc, ONE_BYTE, SHARED)?;
-    let mut known = Known::read(alloc, Image::new(&image))?;
+    let image = store(&rt, alloc, ONE_BYTE, SHARED);
+    let mut known = Known::read(&rt, alloc, Image::new(&image));
     for nid in 0..2000u32 {
         let bid = 0x0e + u64::from(nid % 2);
         is(&rt, known.check(alloc, bid, nid), None);
@@ -25,11 +25,10 @@ fn shared_trees_are_expanded_once(rt: HostRuntime) -> Result<(), Fail> {
     is(&rt, known.expansions(), 2);
 
     // An XXBLOCK that an XXBLOCK names is none of its XBLOCKs, although it is known; the XBLOCK is, and is not counted again.
-    let fault = fault_of(Kind::DataTree, place_of(alloc, &image, 0x0e)?, 0x0e);
+    let fault = fault_of(Kind::DataTree, place_of(&rt, alloc, &image, 0x0e), 0x0e);
     is(&rt, known.check(alloc, 0x12, NODE), fault);
     is(&rt, known.expansions(), 3);
     is(&rt, known.check(alloc, 0x0a, NODE), None);
     is(&rt, known.expansions(), 3);
     known.keys_rise();
-    Ok(())
 }

@@ -53,11 +53,8 @@ pub(super) fn shown(value: &Value) -> Shown {
 }
 
 /// A part of a value.
-pub(super) fn part_of<'a>(value: &Value<'a>, from: u64, to: u64) -> Result<Value<'a>, Fail> {
-    let Some(part) = value.part(from, to) else {
-        return Err(Fail::from("no part"));
-    };
-    Ok(part)
+pub(super) fn part_of<'a, R: Abort>(rt: &R, value: &Value<'a>, from: u64, to: u64) -> Value<'a> {
+    value.part(from, to).expect(rt, "no part")
 }
 
 /// What a part of a value is.

@@ -17,15 +17,13 @@ ghost use Rattle.pst_datatree.specs.Data.{data_fault};
 
 impl<'a> Tree<'a> {
     /// The data tree of a block identifier.
-    pub(crate) fn read(alloc: Global, image: Image<'a>, bid: u64) -> Result<Tree<'a>, Fail> {
-        let Ok(blocks) = blocks_in(alloc, image) else {
-            return Err(Fail::from("no blocks"));
-        };
+    pub(crate) fn read<R: Abort>(rt: &R, alloc: Global, image: Image<'a>, bid: u64) -> Tree<'a> {
+        let blocks = blocks_in(rt, alloc, image);
         let mut seen = Seen::new(alloc);
         let Ok(()) = check_data(alloc, &blocks, bid, NODE, &mut seen) else {
-            return Err(Fail::from("no data tree"));
+            rt.panic("no data tree");
         };
-        Ok(Tree { blocks, bid })
+        Tree { blocks, bid }
     }
 
     /// Its value.
@@ -74,19 +72,16 @@ pub(crate) struct Known<'a> {
 }
 
 impl<'a> Known<'a> {
-    ghost use Rattle.std.specs.Prelude.{IfOk};
     ghost use Rattle.pst_block.specs.Blocks.{table_of};
     ghost use Rattle.pst_datatree.specs.Seen.{IsSeenTrue};
 
     /// Nothing yet.
-    pub(crate) fn read(alloc: Global, image: Image<'a>) -> Result<Known<'a>, Fail>
-        ensures { IfOk result (λ k. IsSeenTrue (table_of k.blocks) k.seen) }
+    pub(crate) fn read<R: Abort>(rt: &R, alloc: Global, image: Image<'a>) -> Known<'a>
+        ensures { IsSeenTrue (table_of result.blocks) result.seen }
     {
-        let Ok(blocks) = blocks_in(alloc, image) else {
-            return Err(Fail::from("no blocks"));
-        };
+        let blocks = blocks_in(rt, alloc, image);
         let seen = Seen::new(alloc);
-        Ok(Known { blocks, seen })
+        Known { blocks, seen }
     }
 
     /// What the check of a data tree answers.
@@ -98,15 +93,15 @@ impl<'a> Known<'a> {
     }
 
     /// A data tree without fault.
-    pub(crate) fn tree(&mut self, alloc: Global, bid: u64) -> Result<Tree<'a>, Fail>
+    pub(crate) fn tree<R: Abort>(&mut self, rt: &R, alloc: Global, bid: u64) -> Tree<'a>
         requires { IsSeenTrue (table_of self.old.blocks) self.old.seen }
         ensures { IsSeenTrue (table_of self.new.blocks) self.new.seen }
     {
         let Ok(()) = check_data(alloc, &self.blocks, bid, NODE, &mut self.seen) else {
-            return Err(Fail::from("no data tree"));
+            rt.panic("no data tree");
         };
         let blocks = self.blocks;
-        Ok(Tree { blocks, bid })
+        Tree { blocks, bid }
     }
 
     /// How many internal blocks have been expanded.

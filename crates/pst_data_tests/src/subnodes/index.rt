@@ -17,13 +17,12 @@ const LISTS_THAT_FALL: [(u64, Body); 5] = [
 ];
 
 #[test]
-fn a_list_that_falls_by_its_index(rt: HostRuntime) -> Result<(), Fail> {
+fn a_list_that_falls_by_its_index(rt: HostRuntime) {
     let alloc = rt.alloc();
-    let bytes = store(alloc, &LISTS_THAT_FALL)?;
-    let tree = Tree::read(alloc, Image::new(&bytes), 7)?;
-    are_found(&rt, &tree.indexed(alloc)?);
+    let bytes = store(&rt, alloc, &LISTS_THAT_FALL);
+    let tree = Tree::read(&rt, alloc, Image::new(&bytes), 7);
+    are_found(&rt, &tree.indexed(&rt, alloc));
     are_found(&rt, &tree.without_index());
-    Ok(())
 }
 
 fn are_found<R: Abort>(rt: &R, list: &Indexed)

@@ -13,29 +13,30 @@ struct Case<'a> {
 }
 
 // An SLBLOCK of entries with these identifiers.
-fn slblock_of(alloc: Global, nids: &[u64]) -> Result<Vec<u8>, Fail> {
+fn slblock_of<R: Abort>(rt: &R, alloc: Global, nids: &[u64]) -> Vec<u8> {
     let mut entries = Vec::new(alloc);
     for nid in nids {
-        entries.extend_from_slice(&[*nid, 0, 0])?;
+        entries.extend_from_slice(&[*nid, 0, 0]).expect(rt, MEMORY);
     }
-    list(alloc, 0, u8::try_from(nids.len())?, &entries)
+    let count = u8::try_from(nids.len()).expect(rt, "too many");
+    list(rt, alloc, 0, count, &entries)
 }
 
-fn blocks_of(alloc: Global, case: &Case) -> Result<Vec<BlockPlan>, Fail> {
+fn blocks_of<R: Abort>(rt: &R, alloc: Global, case: &Case) -> Vec<BlockPlan> {
     let mut plan = Vec::new(alloc);
     for (bid, first, second) in case.siblocks {
-        let body = list(alloc, 1, 2, &[0x21, *first, 0x41, *second])?;
-        add(&mut plan, *bid, body)?;
+        let body = list(rt, alloc, 1, 2, &[0x21, *first, 0x41, *second]);
+        add(rt, &mut plan, *bid, body);
     }
     for (bid, nids) in case.slblocks {
-        add(&mut plan, *bid, slblock_of(alloc, nids)?)?;
+        add(rt, &mut plan, *bid, slblock_of(rt, alloc, nids));
     }
-    Ok(plan)
+    plan
 }
 
-fn are_told<R: Abort>(rt: &R, alloc: Global, case: &Case) -> Result<(), Fail> {
-    let bytes = image_of(alloc, blocks_of(alloc, case)?)?;
-    let mut known = Known::read(alloc, Image::new(&bytes))?;
+fn are_told<R: Abort>(rt: &R, alloc: Global, case: &Case) {
+    let bytes = image_of(rt, alloc, blocks_of(rt, alloc, case));
+    let mut known = Known::read(rt, alloc, Image::new(&bytes));
     for (top, is_list) in case.asked {
         let told = known.check(alloc, *top);
         let place = FIRST.saturating_add(top.saturating_sub(6).saturating_mul(16));
@@ -46,12 +47,11 @@ fn are_told<R: Abort>(rt: &R, alloc: Global, case: &Case) -> Result<(), Fail> {
         };
         is(rt, told, answer);
     }
-    Ok(())
 }
 
 // Their identifiers fall. Each identifier stands once; or one stands in two SLBLOCKs, in one that is named twice, or twice in one.
 #[test]
-fn falling_slblocks_are_shared(rt: HostRuntime) -> Result<(), Fail> {
+fn falling_slblocks_are_shared(rt: HostRuntime) {
     let case = Case {
         siblocks: &[
             (6, 102, 106),
@@ -84,14 +84,14 @@ fn falling_slblocks_are_shared(rt: HostRuntime) -> Result<(), Fail> {
             (18, false),
         ],
     };
-    are_told(&rt, rt.alloc(), &case)
+    are_told(&rt, rt.alloc(), &case);
 }
 
 // SLBLOCKs that many SIBLOCKs name, one after another: a subnode that stands twice is told of the SIBLOCK, whatever order
 // its SLBLOCKs stand in and whatever is known of them; identifiers that fall, or lie between those of another, are no
 // fault.
 #[test]
-fn a_subnode_twice_in_shared_slblocks(rt: HostRuntime) -> Result<(), Fail> {
+fn a_subnode_twice_in_shared_slblocks(rt: HostRuntime) {
     let case = Case {
         siblocks: &[
             (6, 102, 106),
@@ -125,5 +125,5 @@ fn a_subnode_twice_in_shared_slblocks(rt: HostRuntime) -> Result<(), Fail> {
             (10, false),
         ],
     };
-    are_told(&rt, rt.alloc(), &case)
+    are_told(&rt, rt.alloc(), &case);
 }

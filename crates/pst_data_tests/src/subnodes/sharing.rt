@@ -4,46 +4,53 @@ use super::*;
 use crate::told::is;
 
 // 256 lists of 340 entries, each of which names the next list.
-fn wide_chain(alloc: Global) -> Result<Vec<BlockPlan>, Fail> {
+fn wide_chain<R: Abort>(rt: &R, alloc: Global) -> Vec<BlockPlan> {
     let mut plan = Vec::new(alloc);
     for k in 1..=256u64 {
         let below = if k == 256 { 0 } else { 4 * k + 6 };
-        let mut body = Vec::from_slice(alloc, &[2, 0, 84, 1, 0, 0, 0, 0])?;
-        for nid in 1..=340u64 {
-            for number in [nid, 0, below] {
-                body.extend_from_slice(&number.to_le_bytes())?;
-            }
-        }
-        add(&mut plan, 4 * k + 2, body)?;
+        add(rt, &mut plan, 4 * k + 2, wide_list(rt, alloc, below));
     }
-    Ok(plan)
+    plan
+}
+
+fn wide_list<R: Abort>(rt: &R, alloc: Global, below: u64) -> Vec<u8> {
+    let mut body = Vec::from_slice(alloc, &[2, 0, 84, 1, 0, 0, 0, 0]).expect(rt, MEMORY);
+    for nid in 1..=340u64 {
+        add_numbers(rt, &mut body, &[nid, 0, below]);
+    }
+    body
 }
 
 #[test]
-fn shared_lists_are_expanded_once(rt: HostRuntime) -> Result<(), Fail> {
+fn shared_lists_are_expanded_once(rt: HostRuntime) {
     let alloc = rt.alloc();
-    answers(&rt, alloc, wide_chain(alloc)?, 6, (Ok(256), 256))
+    answers(&rt, alloc, wide_chain(&rt, alloc), 6, (Ok(256), 256));
 }
 
 // The last list of a chain stands at the top too, and comes first there: below the chain it passes the limit, or just does
 // not.
 #[test]
-fn a_known_list_too_deep(rt: HostRuntime) -> Result<(), Fail> {
+fn a_known_list_too_deep(rt: HostRuntime) {
     let alloc = rt.alloc();
     let deep = Err(fault_of(Kind::Nesting, 0, 0x1000_0002));
     for (lists, wanted) in [(255, (Ok(256), 256)), (256, (deep, 257))] {
-        answers(&rt, alloc, below_a_list(alloc, lists)?, 0x1000_0002, wanted)?;
+        answers(
+            &rt,
+            alloc,
+            below_a_list(&rt, alloc, lists),
+            0x1000_0002,
+            wanted,
+        );
     }
-    Ok(())
 }
 
 // A chain below a list of two entries, the first of which is the last list of the chain.
-fn below_a_list(alloc: Global, lists: u64) -> Result<Vec<BlockPlan>, Fail> {
-    let mut plan = chain(alloc, lists)?;
+fn below_a_list<R: Abort>(rt: &R, alloc: Global, lists: u64) -> Vec<BlockPlan> {
+    let mut plan = chain(rt, alloc, lists);
     let last = lists.saturating_mul(4).saturating_add(2);
-    let body = list(alloc, 0, 2, &[0x31, 0, last, 0x51, 0, 6])?;
-    add(&mut plan, 0x1000_0002, body)?;
-    Ok(plan)
+    let body = list(rt, alloc, 0, 2, &[0x31, 0, last, 0x51, 0, 6]);
+    add(rt, &mut plan, 0x1000_0002, body);
+    plan
 }
 
 // A circle of an SLBLOCK and an SIBLOCK, one of two SLBLOCKs below an SIBLOCK that names the second of them, and a list below
@@ -63,7 +70,7 @@ const CIRCLES: [Bodies; 3] = [
 
 // The first from either block. Each block of a circle is met once before it is told.
 #[test]
-fn circles_are_told(rt: HostRuntime) -> Result<(), Fail> {
+fn circles_are_told(rt: HostRuntime) {
     let alloc = rt.alloc();
     let [two, three, one] = CIRCLES;
     for (bodies, bid, expansions) in [
@@ -78,12 +85,11 @@ fn circles_are_told(rt: HostRuntime) -> Result<(), Fail> {
         answers(
             &rt,
             alloc,
-            plan_of(alloc, bodies)?,
+            plan_of(&rt, alloc, bodies),
             bid,
             (nesting, expansions),
-        )?;
+        );
     }
-    Ok(())
 }
 
 // An SLBLOCK that two SIBLOCKs name and an entry, and an SIBLOCK above them.
@@ -96,26 +102,36 @@ const SHARED: [(u64, Body); 6] = [
     (26, List(0, 1, &[0x81, 0, 0x100])),
 ];
 
+const MISSING: Result<u32, Fault> = Err(Fault {
+    kind: Kind::BlockMissing,
+    place: Place {
+        at: 0,
+        bid: 0x100,
+        nid: NODE,
+    },
+});
+
+// Which lists are asked for, what is answered, and how many were expanded then.
+const ASKED: [(u64, Result<u32, Fault>, u64); 6] = [
+    (22, MISSING, 6),
+    (18, Ok(2), 6),
+    (19, Ok(2), 6),
+    (10, Ok(1), 6),
+    (6, Ok(1), 6),
+    (22, MISSING, 8),
+];
+
 // After a refusal nothing is left marked, and what is known is told again.
 #[test]
-fn slblocks_are_shared(rt: HostRuntime) -> Result<(), Fail> {
+fn slblocks_are_shared(rt: HostRuntime) {
     let alloc = rt.alloc();
-    let bytes = store(alloc, &SHARED)?;
-    let mut known = Known::read(alloc, Image::new(&bytes))?;
-    let missing = Err(fault_of(Kind::BlockMissing, 0, 0x100));
-    for (bid, answer, expansions) in [
-        (22, missing, 6),
-        (18, Ok(2), 6),
-        (19, Ok(2), 6),
-        (10, Ok(1), 6),
-        (6, Ok(1), 6),
-        (22, missing, 8),
-    ] {
+    let bytes = store(&rt, alloc, &SHARED);
+    let mut known = Known::read(&rt, alloc, Image::new(&bytes));
+    for (bid, answer, expansions) in ASKED {
         is(&rt, known.check(alloc, bid), answer);
         is(&rt, known.expansions(), expansions);
     }
     known.keys_rise();
-    Ok(())
 }
 
 fn told_at(kind: Kind, bid: u64, nid: u32) -> Result<u32, Fault> {
@@ -144,10 +160,10 @@ const BROKEN: [(u64, Body); 5] = [
 
 // What is broken is told of each node, and expanded for the first: the third list by each of its two identifiers.
 #[test]
-fn broken_lists_are_shared(rt: HostRuntime) -> Result<(), Fail> {
+fn broken_lists_are_shared(rt: HostRuntime) {
     let alloc = rt.alloc();
-    let bytes = store(alloc, &BROKEN)?;
-    let mut met = Met::read(alloc, Image::new(&bytes))?;
+    let bytes = store(&rt, alloc, &BROKEN);
+    let mut met = Met::read(&rt, alloc, Image::new(&bytes));
     is(&rt, met.check(alloc, 6, 0x41), missing_below(0x41));
     is(&rt, met.expansions(), 3);
     is(&rt, met.check(alloc, 6, 0x61), missing_below(0x61));
@@ -158,41 +174,50 @@ fn broken_lists_are_shared(rt: HostRuntime) -> Result<(), Fail> {
     is(&rt, met.expansions(), 5);
     is(&rt, met.check(alloc, 22, 0xe1), missing_below(0xe1));
     is(&rt, met.expansions(), 6);
-    Ok(())
 }
 
 // 256 lists may nest, but not below another list, though that was asked first.
 #[test]
-fn nesting_is_told_where_it_is(rt: HostRuntime) -> Result<(), Fail> {
+fn nesting_is_told_where_it_is(rt: HostRuntime) {
     let alloc = rt.alloc();
-    let mut plan = chain(alloc, 256)?;
-    add(&mut plan, 0x1000_0002, list(alloc, 0, 1, &[0x31, 0, 6])?)?;
-    let bytes = image_of(alloc, plan)?;
-    let mut met = Met::read(alloc, Image::new(&bytes))?;
+    let mut plan = chain(&rt, alloc, 256);
+    add_top(&rt, alloc, &mut plan);
+    let bytes = image_of(&rt, alloc, plan);
+    let mut met = Met::read(&rt, alloc, Image::new(&bytes));
     is(&rt, met.check(alloc, 0x1000_0002, 0x41), too_deep(0x41));
     is(&rt, met.check(alloc, 0x1000_0002, 0x61), too_deep(0x61));
     is(&rt, met.check(alloc, 6, 0x81), Ok(256));
     is(&rt, met.check(alloc, 0x1000_0002, 0xa1), too_deep(0xa1));
-    Ok(())
+}
+
+// A list above the first of a chain.
+fn add_top<R: Abort>(rt: &R, alloc: Global, plan: &mut Vec<BlockPlan>) {
+    add(rt, plan, 0x1000_0002, list(rt, alloc, 0, 1, &[0x31, 0, 6]));
+}
+
+// 256 lists that nest, below the last of which data is missing, and a list above them.
+fn broken_chain<R: Abort>(rt: &R, alloc: Global) -> Vec<BlockPlan> {
+    let mut plan = chain(rt, alloc, 255);
+    let below = 4 * 255 + 6;
+    add(
+        rt,
+        &mut plan,
+        below,
+        list(rt, alloc, 0, 1, &[0x21, 0x100, 0]),
+    );
+    plan.get_mut(254).expect(rt, "no list").body = list(rt, alloc, 0, 1, &[0x671, 0, below]);
+    add_top(rt, alloc, &mut plan);
+    plan
 }
 
 // Below the last of 256 lists data is missing. It is not reached below another list, whichever is asked first.
 #[test]
-fn a_fault_too_deep(rt: HostRuntime) -> Result<(), Fail> {
+fn a_fault_too_deep(rt: HostRuntime) {
     let alloc = rt.alloc();
-    let mut plan = chain(alloc, 255)?;
-    let below = 4 * 255 + 6;
-    add(&mut plan, below, list(alloc, 0, 1, &[0x21, 0x100, 0])?)?;
-    let Some(last) = plan.get_mut(254) else {
-        return Err(Fail::from("no list"));
-    };
-    last.body = list(alloc, 0, 1, &[0x671, 0, below])?;
-    add(&mut plan, 0x1000_0002, list(alloc, 0, 1, &[0x31, 0, 6])?)?;
-    let bytes = image_of(alloc, plan)?;
-    let mut met = Met::read(alloc, Image::new(&bytes))?;
+    let bytes = image_of(&rt, alloc, broken_chain(&rt, alloc));
+    let mut met = Met::read(&rt, alloc, Image::new(&bytes));
     is(&rt, met.check(alloc, 6, 0x41), missing_below(0x41));
     is(&rt, met.check(alloc, 0x1000_0002, 0x41), too_deep(0x41));
     is(&rt, met.check(alloc, 6, 0x61), missing_below(0x61));
     is(&rt, met.check(alloc, 0x1000_0002, 0x61), too_deep(0x61));
-    Ok(())
 }

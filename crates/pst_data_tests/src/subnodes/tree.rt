@@ -17,22 +17,18 @@ pub(crate) struct Known<'a> {
 }
 
 impl<'a> Known<'a> {
-    ghost use Rattle.std.specs.Prelude.{IfOk};
     ghost use Rattle.pst_block.specs.Blocks.{table_of};
     ghost use Rattle.pst_subnode.specs.Known.{AreBothTrue};
 
     /// Nothing yet.
-    pub(crate) fn read(alloc: Global, image: Image<'a>) -> Result<Known<'a>, Fail>
-        ensures { IfOk result (λ k. AreBothTrue (table_of k.blocks) k.seen k.heights) }
+    pub(crate) fn read<R: Abort>(rt: &R, alloc: Global, image: Image<'a>) -> Known<'a>
+        ensures { AreBothTrue (table_of result.blocks) result.seen result.heights }
     {
-        let Ok(blocks) = blocks_in(alloc, image) else {
-            return Err(Fail::from("no blocks"));
-        };
-        Ok(Known {
-            blocks,
+        Known {
+            blocks: blocks_in(rt, alloc, image),
             seen: Seen::new(alloc),
             heights: Heights::new(alloc),
-        })
+        }
     }
 
     /// What the check of a list answers.
@@ -71,33 +67,29 @@ pub(crate) struct Met<'a> {
 }
 
 impl<'a> Met<'a> {
-    ghost use Rattle.std.specs.Prelude.{IfOk};
     ghost use Rattle.pst_block.specs.Blocks.{table_of};
     ghost use Rattle.pst_subnode.specs.Faults.{AreSubFaultsTrue};
     ghost use Rattle.pst_subnode.specs.Known.{AreBothTrue};
 
     /// Nothing yet.
-    pub(crate) fn read(alloc: Global, image: Image<'a>) -> Result<Met<'a>, Fail>
-        ensures { IfOk result (λ k. AreBothTrue (table_of k.blocks) k.seen k.heights
-            × AreSubFaultsTrue (table_of k.blocks) k.faults) }
+    pub(crate) fn read<R: Abort>(rt: &R, alloc: Global, image: Image<'a>) -> Met<'a>
+        ensures known { AreBothTrue (table_of result.blocks) result.seen result.heights }
+        ensures met { AreSubFaultsTrue (table_of result.blocks) result.faults }
     {
-        let Ok(blocks) = blocks_in(alloc, image) else {
-            return Err(Fail::from("no blocks"));
-        };
-        Ok(Met {
-            blocks,
+        Met {
+            blocks: blocks_in(rt, alloc, image),
             seen: Seen::new(alloc),
             heights: Heights::new(alloc),
             faults: SubFaults::new(alloc),
-        })
+        }
     }
 
     /// What the check of a node's list answers.
     pub(crate) fn check(&mut self, alloc: Global, bid: u64, nid: u32) -> Result<u32, Fault>
-        requires { AreBothTrue (table_of self.old.blocks) self.old.seen self.old.heights
-            × AreSubFaultsTrue (table_of self.old.blocks) self.old.faults }
-        ensures { AreBothTrue (table_of self.new.blocks) self.new.seen self.new.heights
-            × AreSubFaultsTrue (table_of self.new.blocks) self.new.faults }
+        requires known { AreBothTrue (table_of self.old.blocks) self.old.seen self.old.heights }
+        requires met { AreSubFaultsTrue (table_of self.old.blocks) self.old.faults }
+        ensures known { AreBothTrue (table_of self.new.blocks) self.new.seen self.new.heights }
+        ensures met { AreSubFaultsTrue (table_of self.new.blocks) self.new.faults }
     {
         check_sub_with(
             alloc,
@@ -125,22 +117,19 @@ pub(crate) struct Tree<'a> {
 }
 
 impl<'a> Tree<'a> {
-    ghost use Rattle.std.specs.Prelude.{IfOk};
     ghost use Rattle.pst_block.specs.Blocks.{table_of};
     ghost use Rattle.pst_subnode.specs.Index.{IsIndexOf};
     ghost use Rattle.pst_subnode.specs.List.{subs_of};
 
     /// The list of a block identifier.
-    pub(crate) fn read(alloc: Global, image: Image<'a>, bid: u64) -> Result<Tree<'a>, Fail> {
-        let Ok(blocks) = blocks_in(alloc, image) else {
-            return Err(Fail::from("no blocks"));
-        };
+    pub(crate) fn read<R: Abort>(rt: &R, alloc: Global, image: Image<'a>, bid: u64) -> Tree<'a> {
+        let blocks = blocks_in(rt, alloc, image);
         let mut seen = Seen::new(alloc);
         let mut heights = Heights::new(alloc);
         let Ok(_) = check_sub(alloc, &blocks, bid, NODE, &mut seen, &mut heights) else {
-            return Err(Fail::from("no list"));
+            rt.panic("no list");
         };
-        Ok(Tree { blocks, bid })
+        Tree { blocks, bid }
     }
 
     /// Its entries, by another identifier of the same block, too.
@@ -154,17 +143,17 @@ impl<'a> Tree<'a> {
     }
 
     /// The list with an index of it.
-    pub(crate) fn indexed(&self, alloc: Global) -> Result<Indexed<'a>, Fail>
-        ensures { IfOk result (λ i. IsIndexOf i.index (subs_of (table_of i.blocks) i.bid)) }
+    pub(crate) fn indexed<R: Abort>(&self, rt: &R, alloc: Global) -> Indexed<'a>
+        ensures { IsIndexOf result.index (subs_of (table_of result.blocks) result.bid) }
     {
         let Ok(index) = SubIndex::of(alloc, &self.blocks, self.bid) else {
-            return Err(Fail::from("no memory"));
+            rt.panic("no memory");
         };
-        Ok(Indexed {
+        Indexed {
             blocks: self.blocks,
             bid: self.bid,
             index,
-        })
+        }
     }
 
     /// The list with an index that holds nothing.

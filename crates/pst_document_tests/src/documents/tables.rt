@@ -1,7 +1,7 @@
 //! The rows of the hierarchy table of a small store, with bytes of its block changed.
 
 use super::*;
-use pst_make::{build, m1_plan};
+use pst_make::{Plan, build, m1_plan, set};
 use pst_value_json::check_tc;
 
 // Bytes set from an offset of the table's block on.
@@ -44,29 +44,33 @@ const ROWS: [(&[Change], &str); 7] = [
     (&[(26, &[0]), (54, &[0])], "[]"),
 ];
 
-fn change_all(body: &mut [u8], changes: &[Change]) -> Result<(), Fail> {
+fn change_block<R: Abort>(rt: &R, plan: &mut Plan, changes: &[Change]) {
+    let Some(found) = plan.blocks.get_mut(2) else {
+        rt.panic("no block");
+    };
     for (at, bytes) in changes {
-        for (i, byte) in bytes.iter().enumerate() {
-            let there = body.get_mut(at.saturating_add(i)).ok_or("past the end")?;
-            *there = *byte;
-        }
+        set(&mut found.body, *at, bytes).expect(rt, "past the end");
     }
-    Ok(())
+}
+
+fn are_shown<R: Abort>(rt: &R, alloc: Global, changes: &[Change], shown: &str) {
+    let mut plan = m1_plan(alloc).expect(rt, MEMORY);
+    change_block(rt, &mut plan, changes);
+    let image = build(alloc, &plan).expect(rt, "not made");
+    let Ok(tc) = check_tc(node_of(rt, alloc, &image, 0x12d)) else {
+        rt.panic("no table");
+    };
+    let doc = table_doc(alloc, &tc, false).expect(rt, MEMORY);
+    is_shown(rt, alloc, &doc, shown);
+}
+
+fn all_are_shown<R: Abort>(rt: &R, alloc: Global, rows: &[(&[Change], &str)]) {
+    for (changes, shown) in rows {
+        are_shown(rt, alloc, changes, shown);
+    }
 }
 
 #[test]
-fn rows_are_shown(rt: HostRuntime) -> Result<(), Fail> {
-    let alloc = rt.alloc();
-    for (changes, shown) in ROWS {
-        let mut plan = m1_plan(alloc)?;
-        let found = plan.blocks.get_mut(2).expect(&rt, "no block");
-        change_all(&mut found.body, changes)?;
-        let image = build(alloc, &plan).expect(&rt, "not made");
-        let node = ndb_of(alloc, &image)?.node(0x12d).expect(&rt, "no node");
-        let Ok(tc) = check_tc(node) else {
-            return Err(Fail::from("no table"));
-        };
-        is_shown(&rt, alloc, &table_doc(alloc, &tc, false)?, shown)?;
-    }
-    Ok(())
+fn rows_are_shown(rt: HostRuntime) {
+    all_are_shown(&rt, rt.alloc(), &ROWS);
 }

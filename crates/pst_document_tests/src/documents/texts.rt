@@ -39,23 +39,36 @@ const TEXTS: [Row; 20] = [
     (0x001F, b"a\0\"", "\"a\""),
 ];
 
-#[test]
-fn texts_are_put(rt: HostRuntime) -> Result<(), Fail> {
-    let alloc = rt.alloc();
-    let image = store_of(alloc, &TEXTS)?;
-    let ndb = ndb_of(alloc, &image)?;
+// Whether a text is put so, whole and in pieces.
+fn are_put<R: Abort>(rt: &R, alloc: Global, whole: Value, pieces: Value, shown: &str) {
+    let mut text = Vec::from_slice(alloc, b"[").expect(rt, MEMORY);
+    put_text(alloc, whole, &mut text).expect(rt, MEMORY);
+    text.push(b',').expect(rt, MEMORY);
+    put_text(alloc, pieces, &mut text).expect(rt, MEMORY);
+    let wanted = format!(in alloc; "[{shown},{shown}").expect(rt, MEMORY);
+    is(rt, text.as_slice(), wanted.as_bytes());
+}
+
+fn is_put<R: Abort>(rt: &R, alloc: Global, ndb: &Ndb, nid: u32, row: &Row) {
+    let (_, bytes, shown) = *row;
+    let whole = Value::Whole(0, bytes);
+    let pieces = ndb.node(nid).expect(rt, "no node").bytes();
+    are_put(rt, alloc, whole, pieces, shown);
+    let doc = text_doc(alloc, whole).expect(rt, MEMORY);
+    is_shown(rt, alloc, &doc, shown);
+}
+
+fn all_are_put<R: Abort>(rt: &R, alloc: Global, rows: &[Row]) {
+    let image = store_of(rt, alloc, rows);
+    let ndb = ndb_of(rt, alloc, &image);
     let mut nid: u32 = 0x21;
-    for (_, bytes, shown) in TEXTS {
-        let whole = Value::Whole(0, bytes);
-        let pieces = ndb.node(nid).expect(&rt, "no node").bytes();
-        let mut text = Vec::from_slice(alloc, b"[")?;
-        put_text(alloc, whole, &mut text)?;
-        text.push(b',')?;
-        put_text(alloc, pieces, &mut text)?;
-        let wanted = format!(in alloc; "[{shown},{shown}")?;
-        is(&rt, text.as_slice(), wanted.as_bytes());
-        is_shown(&rt, alloc, &text_doc(alloc, whole)?, shown)?;
+    for row in rows {
+        is_put(rt, alloc, &ndb, nid, row);
         nid = nid.saturating_add(0x20);
     }
-    Ok(())
+}
+
+#[test]
+fn texts_are_put(rt: HostRuntime) {
+    all_are_put(&rt, rt.alloc(), &TEXTS);
 }

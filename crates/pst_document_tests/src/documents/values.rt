@@ -78,66 +78,108 @@ const ROWS: [Row; 36] = [
     (0x101F, &[1, 0, 0, 0, 99, 0, 0, 0], "\"0100000063000000\""),
 ];
 
-// The list block of a data tree of two blocks.
-fn list_of(alloc: Global, total: usize, bids: [u64; 2]) -> Result<Vec<u8>, Fail> {
-    let total = u32::try_from(total).map_err(|_| "too long")?;
-    let mut body = Vec::new(alloc);
-    body.extend_from_slice(&[1, 1, 2, 0])?;
-    body.extend_from_slice(&total.to_le_bytes())?;
-    for bid in bids {
-        body.extend_from_slice(&bid.to_le_bytes())?;
-    }
-    Ok(body)
+// The list block of a data tree of two blocks, the first of which has this identifier.
+fn list_of<R: Abort>(rt: &R, alloc: Global, total: usize, bid: u64) -> Vec<u8> {
+    let total = u32::try_from(total).expect(rt, "too long");
+    let next = bid.saturating_add(4);
+    let mut body = Vec::from_slice(alloc, &[1, 1, 2, 0]).expect(rt, MEMORY);
+    body.extend_from_slice(&total.to_le_bytes())
+        .expect(rt, MEMORY);
+    body.extend_from_slice(&bid.to_le_bytes())
+        .expect(rt, MEMORY);
+    body.extend_from_slice(&next.to_le_bytes())
+        .expect(rt, MEMORY);
+    body
 }
 
-/// A store with a node for each of the rows, whose data is the row's bytes in two blocks, cut in the middle.
-pub(super) fn store_of(alloc: Global, rows: &[Row]) -> Result<Vec<u8>, Fail> {
-    let mut blocks = Vec::new(alloc);
-    let mut lists = Vec::new(alloc);
-    let mut nodes = Vec::new(alloc);
-    let mut next: u64 = 4;
+fn add_block<R: Abort>(rt: &R, plan: &mut Plan, bid: u64, body: Vec<u8>) {
+    plan.blocks.push(BlockPlan { bid, body }).expect(rt, MEMORY);
+}
+
+// The bytes of a row, cut in the middle.
+fn add_halves<R: Abort>(rt: &R, alloc: Global, plan: &mut Plan, bid: u64, bytes: &[u8]) {
+    let (front, rest) = bytes.split_at(bytes.len() / 2);
+    let first = Vec::from_slice(alloc, front).expect(rt, MEMORY);
+    add_block(rt, plan, bid, first);
+    let second = Vec::from_slice(alloc, rest).expect(rt, MEMORY);
+    add_block(rt, plan, bid.saturating_add(4), second);
+}
+
+fn add_node<R: Abort>(rt: &R, plan: &mut Plan, nid: u32, bid_data: u64) {
+    plan.nodes
+        .push(NodePlan {
+            nid,
+            bid_data,
+            bid_sub: 0,
+            parent: 0,
+        })
+        .expect(rt, MEMORY);
+}
+
+// The blocks of all rows.
+fn add_pieces<R: Abort>(rt: &R, alloc: Global, plan: &mut Plan, rows: &[Row]) {
+    let mut bid: u64 = 4;
+    for (_, bytes, _) in rows {
+        add_halves(rt, alloc, plan, bid, bytes);
+        bid = bid.saturating_add(8);
+    }
+}
+
+// Their lists, and their nodes.
+fn add_lists<R: Abort>(rt: &R, alloc: Global, plan: &mut Plan, rows: &[Row]) {
+    let mut bid: u64 = 4;
     let mut list: u64 = 0x1002;
     let mut nid: u32 = 0x21;
     for (_, bytes, _) in rows {
-        let (front, rest) = bytes.split_at(bytes.len() / 2);
-        let bids = [next, next.saturating_add(4)];
-        for (bid, part) in bids.into_iter().zip([front, rest]) {
-            let body = Vec::from_slice(alloc, part)?;
-            blocks.push(BlockPlan { bid, body })?;
-        }
-        let body = list_of(alloc, bytes.len(), bids)?;
-        lists.push(BlockPlan { bid: list, body })?;
-        nodes.push(NodePlan {
-            nid,
-            bid_data: list,
-            bid_sub: 0,
-            parent: 0,
-        })?;
-        next = next.saturating_add(8);
+        let body = list_of(rt, alloc, bytes.len(), bid);
+        add_block(rt, plan, list, body);
+        add_node(rt, plan, nid, list);
+        bid = bid.saturating_add(8);
         list = list.saturating_add(4);
         nid = nid.saturating_add(0x20);
     }
-    for block in lists {
-        blocks.push(block)?;
+}
+
+/// A store with a node for each of the rows, whose data is the row's bytes in two blocks, cut in the middle.
+pub(super) fn store_of<R: Abort>(rt: &R, alloc: Global, rows: &[Row]) -> Vec<u8> {
+    let mut plan = Plan {
+        blocks: Vec::new(alloc),
+        nodes: Vec::new(alloc),
+    };
+    add_pieces(rt, alloc, &mut plan, rows);
+    add_lists(rt, alloc, &mut plan, rows);
+    build(alloc, &plan).expect(rt, "not made")
+}
+
+fn is_shown_as<R: Abort>(rt: &R, alloc: Global, kind: u16, value: Value, shown: &str) {
+    let doc = value_doc(alloc, PropType(kind), value).expect(rt, MEMORY);
+    is_shown(rt, alloc, &doc, shown);
+}
+
+// Whether the value of a row is shown so, in one slice and in pieces.
+fn is_shown_twice<R: Abort>(rt: &R, alloc: Global, ndb: &Ndb, nid: u32, row: &Row) {
+    let (kind, bytes, shown) = *row;
+    is_shown_as(rt, alloc, kind, Value::Whole(0, bytes), shown);
+    let value = ndb.node(nid).expect(rt, "no node").bytes();
+    is_shown_as(rt, alloc, kind, value, shown);
+    is(rt, matches!(value, Value::Pieces(_)), bytes.len() > 1);
+}
+
+// The rows are handed over: the proof of a function writes out, at each of its steps, the constants that it names.
+fn are_shown<R: Abort>(rt: &R, alloc: Global, rows: &[Row]) {
+    let image = store_of(rt, alloc, rows);
+    let ndb = ndb_of(rt, alloc, &image);
+    let mut nid: u32 = 0x21;
+    for row in rows {
+        is_shown_twice(rt, alloc, &ndb, nid, row);
+        nid = nid.saturating_add(0x20);
     }
-    build(alloc, &Plan { blocks, nodes }).map_err(|_| Fail::from("not made"))
 }
 
 #[test]
-fn values_are_shown(rt: HostRuntime) -> Result<(), Fail> {
+fn values_are_shown(rt: HostRuntime) {
     let alloc = rt.alloc();
-    let image = store_of(alloc, &ROWS)?;
-    let ndb = ndb_of(alloc, &image)?;
-    let mut nid: u32 = 0x21;
-    for (kind, bytes, shown) in ROWS {
-        let whole = Value::Whole(0, bytes);
-        is_shown(&rt, alloc, &value_doc(alloc, PropType(kind), whole)?, shown)?;
-        let value = ndb.node(nid).expect(&rt, "no node").bytes();
-        let pieces = value_doc(alloc, PropType(kind), value)?;
-        is_shown(&rt, alloc, &pieces, shown)?;
-        is(&rt, matches!(value, Value::Pieces(_)), bytes.len() > 1);
-        nid = nid.saturating_add(0x20);
-    }
-    let opaque = hex_doc(alloc, Value::Whole(0, &[]))?;
-    is_shown(&rt, alloc, &opaque, "\"\"")
+    are_shown(&rt, alloc, &ROWS);
+    let opaque = hex_doc(alloc, Value::Whole(0, &[])).expect(&rt, MEMORY);
+    is_shown(&rt, alloc, &opaque, "\"\"");
 }

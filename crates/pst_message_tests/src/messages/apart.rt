@@ -3,9 +3,9 @@
 use super::are_answered;
 use crate::makers::Body::{Apart, Bytes, List, Properties};
 use crate::makers::{Entry, Record};
+use crate::told::MEMORY;
 use std::alloc::Global;
 use std::process::Abort;
-use std::test::Fail;
 
 // Two messages, and three.
 const TWO: [Entry; 2] = [(0x20_0024, 12, 30), (0x20_0044, 12, 34)];
@@ -17,24 +17,18 @@ const THREE: [Entry; 3] = [
 ];
 
 // The records of a property context of 2,410 bytes and more: the first value, a GUID, is in subnode 0x41, all others are numbers.
-fn many_records(alloc: Global) -> Result<Vec<Record>, Fail> {
+fn many_records<R: Abort>(rt: &R, alloc: Global) -> Vec<Record> {
     let mut records = Vec::new(alloc);
-    records.push((1, 0x48, 0x41))?;
+    records.push((1, 0x48, 0x41)).expect(rt, MEMORY);
     for id in 2..302_u16 {
-        records.push((id, 3, 7))?;
+        records.push((id, 3, 7)).expect(rt, MEMORY);
     }
-    Ok(records)
+    records
 }
 
 // Messages that share these. In the first two lists subnode 0x41 has the data 16; the third has one subnode, with this data.
-fn share_data<R: Abort + AllocGlobal>(
-    rt: &R,
-    nid: u32,
-    data: u64,
-    messages: &[Entry],
-    line: &str,
-) -> Result<(), Fail> {
-    let records = many_records(rt.alloc())?;
+fn share_data<R: Abort + AllocGlobal>(rt: &R, nid: u32, data: u64, messages: &[Entry], line: &str) {
+    let records = many_records(rt, rt.alloc());
     let blocks = [
         (12, Properties(&records, &[])),
         (16, Bytes(&[7; 16])),
@@ -43,18 +37,18 @@ fn share_data<R: Abort + AllocGlobal>(
         (34, List(&[(0x21, 20, 0), (0x41, 16, 0)])),
         (38, List(&[(nid, data, 0)])),
     ];
-    are_answered(rt, &blocks, messages, line)
+    are_answered(rt, &blocks, messages, line);
 }
 
 #[test]
-fn data_by_lists_of_their_own(rt: HostRuntime) -> Result<(), Fail> {
-    share_data(&rt, 0x41, 16, &TWO, "yes 4")?;
-    share_data(&rt, 0x41, 16, &THREE, "yes 5")?;
+fn data_by_lists_of_their_own(rt: HostRuntime) {
+    share_data(&rt, 0x41, 16, &TWO, "yes 4");
+    share_data(&rt, 0x41, 16, &THREE, "yes 5");
     // The third list has no such subnode, or one whose data is too short.
     let line = "no: 17 Subnode at 0x4c98 bid 0xc nid 0x200064";
-    share_data(&rt, 0x61, 16, &THREE, line)?;
+    share_data(&rt, 0x61, 16, &THREE, line);
     let line = "no: 24 Property at 0x4c94 bid 0xc nid 0x200064";
-    share_data(&rt, 0x41, 20, &THREE, line)
+    share_data(&rt, 0x41, 20, &THREE, line);
 }
 
 // Messages that share the table of two recipients, whose row matrix is subnode 0x41. In the first two lists of the table that has
@@ -65,7 +59,7 @@ fn share_a_table<R: Abort + AllocGlobal>(
     data: u64,
     messages: &[Entry],
     line: &str,
-) -> Result<(), Fail> {
+) {
     let blocks = [
         (12, Properties(&[], &[])),
         (16, Bytes(&[1, 0, 0, 0, 0x80, 2, 0, 0, 0, 0x80])),
@@ -78,23 +72,23 @@ fn share_a_table<R: Abort + AllocGlobal>(
         (46, List(&[(0x41, 17, 0)])),
         (50, List(&[(nid, data, 0)])),
     ];
-    are_answered(rt, &blocks, messages, line)
+    are_answered(rt, &blocks, messages, line);
 }
 
 #[test]
-fn tables_by_lists_of_their_own(rt: HostRuntime) -> Result<(), Fail> {
-    share_a_table(&rt, 0x41, 16, &TWO, "yes 6")?;
-    share_a_table(&rt, 0x41, 16, &THREE, "yes 8")?;
+fn tables_by_lists_of_their_own(rt: HostRuntime) {
+    share_a_table(&rt, 0x41, 16, &TWO, "yes 6");
+    share_a_table(&rt, 0x41, 16, &THREE, "yes 8");
     // The third list has no matrix, or another one, whose second row is not that of the record.
     let line = "no: 17 Subnode at 0x4d1a bid 0x14 nid 0x200064";
-    share_a_table(&rt, 0x61, 16, &THREE, line)?;
+    share_a_table(&rt, 0x61, 16, &THREE, line);
     let line = "no: 25 Table at 0x4d44 bid 0x14 nid 0x200064";
-    share_a_table(&rt, 0x41, 24, &THREE, line)
+    share_a_table(&rt, 0x41, 24, &THREE, line);
 }
 
 // Folders that share the data of a table of one subfolder, whose row matrix is subnode 0x41, each under a list of its own: in the
 // second one that has this data.
-fn share_a_listing<R: Abort + AllocGlobal>(rt: &R, data: u64, line: &str) -> Result<(), Fail> {
+fn share_a_listing<R: Abort + AllocGlobal>(rt: &R, data: u64, line: &str) {
     let blocks = [
         (12, Apart(&[0x142])),
         (16, Bytes(&[0x42, 1, 0, 0, 0x80])),
@@ -103,13 +97,13 @@ fn share_a_listing<R: Abort + AllocGlobal>(rt: &R, data: u64, line: &str) -> Res
         (34, List(&[(0x41, data, 0)])),
     ];
     let nodes = [(0x12d, 12, 30), (0x142, 8, 0), (0x14d, 12, 34)];
-    are_answered(rt, &blocks, &nodes, line)
+    are_answered(rt, &blocks, &nodes, line);
 }
 
 #[test]
-fn listings_by_lists_of_their_own(rt: HostRuntime) -> Result<(), Fail> {
-    share_a_listing(&rt, 16, "yes 4")?;
+fn listings_by_lists_of_their_own(rt: HostRuntime) {
+    share_a_listing(&rt, 16, "yes 4");
     // The second list has another matrix, whose row is not that of the record.
     let line = "no: 25 Table at 0x4cb7 bid 0xc nid 0x14d";
-    share_a_listing(&rt, 20, line)
+    share_a_listing(&rt, 20, line);
 }

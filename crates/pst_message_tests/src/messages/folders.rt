@@ -2,44 +2,43 @@
 
 use super::is_answered;
 use crate::makers::node_of;
+use crate::told::MEMORY;
 use pst_make::{Plan, m0_plan, m1_plan, m2_plan, set};
 use std::alloc::Global;
 use std::process::Abort;
-use std::test::Fail;
 
 // Gives the row of a table in block 12 this identifier, in the row index and in the row matrix.
-fn set_row(plan: &mut Plan, row: u8) -> Result<(), Fail> {
+fn set_row<R: Abort>(rt: &R, plan: &mut Plan, row: u8) {
     let Some(table) = plan.blocks.get_mut(2) else {
-        return Err(Fail::from("no block"));
+        rt.panic("no block");
     };
-    set(&mut table.body, 58, &[row])?;
-    set(&mut table.body, 66, &[row])?;
-    Ok(())
+    set(&mut table.body, 58, &[row]).expect(rt, MEMORY);
+    set(&mut table.body, 66, &[row]).expect(rt, MEMORY);
 }
 
-fn set_nodes(alloc: Global, plan: &mut Plan, nodes: &[(u32, u64)]) -> Result<(), Fail> {
+fn set_nodes<R: Abort>(rt: &R, alloc: Global, plan: &mut Plan, nodes: &[(u32, u64)]) {
     plan.nodes = Vec::new(alloc);
     for (nid, bid_data) in nodes {
-        plan.nodes.push(node_of(*nid, *bid_data, 0))?;
+        plan.nodes
+            .push(node_of(*nid, *bid_data, 0))
+            .expect(rt, MEMORY);
     }
-    Ok(())
 }
 
 // Whether the small store with a table of one row, in block 12, whose record of the row index is at 0x4cba, and with these nodes is
 // answered as a row says.
-fn with_row<R: Abort + AllocGlobal>(rt: &R, case: &Row) -> Result<(), Fail> {
+fn with_row<R: Abort + AllocGlobal>(rt: &R, case: &Row) {
     let (row, nodes, line) = *case;
-    let mut plan = m1_plan(rt.alloc())?;
-    set_row(&mut plan, row)?;
-    set_nodes(rt.alloc(), &mut plan, nodes)?;
-    is_answered(rt, &plan, line)
+    let mut plan = m1_plan(rt.alloc()).expect(rt, MEMORY);
+    set_row(rt, &mut plan, row);
+    set_nodes(rt, rt.alloc(), &mut plan, nodes);
+    is_answered(rt, &plan, line);
 }
 
-fn with_rows<R: Abort + AllocGlobal>(rt: &R, cases: &[Row]) -> Result<(), Fail> {
+fn with_rows<R: Abort + AllocGlobal>(rt: &R, cases: &[Row]) {
     for case in cases {
-        with_row(rt, case)?;
+        with_row(rt, case);
     }
-    Ok(())
 }
 
 // The low byte of the row's identifier, whose high one is 1; the nodes, each with the block of its data; and what is answered.
@@ -137,15 +136,15 @@ const TABLE_ROWS: [Row<'static>; 15] = [
     ),
 ];
 
-fn plan_is_answered<R: Abort + AllocGlobal>(rt: &R, plan: Plan, line: &str) -> Result<(), Fail> {
-    is_answered(rt, &plan, line)
+fn plan_is_answered<R: Abort + AllocGlobal>(rt: &R, plan: Plan, line: &str) {
+    is_answered(rt, &plan, line);
 }
 
 #[test]
-fn folders(rt: HostRuntime) -> Result<(), Fail> {
-    plan_is_answered(&rt, m0_plan(rt.alloc())?, "yes 2")?;
-    plan_is_answered(&rt, m1_plan(rt.alloc())?, "yes 3")?;
-    plan_is_answered(&rt, m2_plan(rt.alloc())?, "yes 3")?;
-    with_rows(&rt, &REQUIRED_ROWS)?;
-    with_rows(&rt, &TABLE_ROWS)
+fn folders(rt: HostRuntime) {
+    plan_is_answered(&rt, m0_plan(rt.alloc()).expect(&rt, MEMORY), "yes 2");
+    plan_is_answered(&rt, m1_plan(rt.alloc()).expect(&rt, MEMORY), "yes 3");
+    plan_is_answered(&rt, m2_plan(rt.alloc()).expect(&rt, MEMORY), "yes 3");
+    with_rows(&rt, &REQUIRED_ROWS);
+    with_rows(&rt, &TABLE_ROWS);
 }

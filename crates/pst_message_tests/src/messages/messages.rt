@@ -4,7 +4,6 @@ use super::are_answered;
 use crate::makers::Body::{Bytes, List, Properties, Table};
 use crate::makers::Entry;
 use std::process::Abort;
-use std::test::Fail;
 
 // Whether a store of messages is answered with a line. Blocks: 12 properties, none; 16 four bytes; 20 a table of rows with these
 // identifiers, the record of the first at 0x4d37; 24 other properties; 30 and 34 two lists.
@@ -14,7 +13,7 @@ fn is_answered<'x, R: Abort + AllocGlobal>(
     lists: [&'x [Entry]; 2],
     messages: &[Entry],
     line: &str,
-) -> Result<(), Fail> {
+) {
     let [first, other] = lists;
     let blocks = [
         (12, Properties(&[], &[])),
@@ -24,7 +23,7 @@ fn is_answered<'x, R: Abort + AllocGlobal>(
         (30, List(first)),
         (34, List(other)),
     ];
-    are_answered(rt, &blocks, messages, line)
+    are_answered(rt, &blocks, messages, line);
 }
 
 // The rows of the table, the entries of the first list, and what is answered of a message with that.
@@ -78,15 +77,15 @@ const ROWS: [Row<'static>; 11] = [
 const BAD: [Entry; 1] = [(0x671, 16, 0)];
 
 #[test]
-fn messages(rt: HostRuntime) -> Result<(), Fail> {
+fn messages(rt: HostRuntime) {
     for (ids, entries, line) in &ROWS {
         let lists: [&[Entry]; 2] = [entries, &[(0x41, 16, 0)]];
-        is_answered(&rt, ids, lists, &[(0x20_0024, 12, 30)], line)?;
+        is_answered(&rt, ids, lists, &[(0x20_0024, 12, 30)], line);
     }
     // An associated message is one, and a node of another type is none.
     let line = "no: 21 Heap at 0x4cc0 bid 0x10 nid 0x200028";
-    is_answered(&rt, &[], [&BAD, &BAD], &[(0x20_0028, 12, 30)], line)?;
-    is_answered(&rt, &[], [&BAD, &BAD], &[(0x20_0025, 12, 30)], "yes 2")
+    is_answered(&rt, &[], [&BAD, &BAD], &[(0x20_0028, 12, 30)], line);
+    is_answered(&rt, &[], [&BAD, &BAD], &[(0x20_0025, 12, 30)], "yes 2");
 }
 
 // The second of two messages, whose first has the data 12 and the list 30: that they share their data, their list, or both. The other
@@ -112,10 +111,9 @@ const FIRST: [Entry; 2] = [(0x671, 20, 0), (0x8025, 24, 0)];
 const OTHER: [Entry; 2] = [(0x671, 20, 0), (0x8045, 24, 0)];
 
 #[test]
-fn shared(rt: HostRuntime) -> Result<(), Fail> {
+fn shared(rt: HostRuntime) {
     for (message, line) in &SHARED {
         let both = [(0x20_0024, 12, 30), *message];
-        is_answered(&rt, &[0x8025], [&FIRST, &OTHER], &both, line)?;
+        is_answered(&rt, &[0x8025], [&FIRST, &OTHER], &both, line);
     }
-    Ok(())
 }

@@ -3,18 +3,18 @@
 use super::{change_block, is_answered};
 use crate::makers::Body::Bytes;
 use crate::makers::{add_blocks, add_nodes};
+use crate::told::MEMORY;
 use pst_make::Change::Set;
 use pst_make::{Change, Plan, m2_plan};
 use std::alloc::Global;
 use std::process::Abort;
-use std::test::Fail;
 
 // The store with a name map, whose block lies at 0x4c80, with bytes of it and of the root folder's block changed.
-fn changed(alloc: Global, folder: &[Change], map: &[Change]) -> Result<Plan, Fail> {
-    let mut plan = m2_plan(alloc)?;
-    change_block(&mut plan, 1, folder)?;
-    change_block(&mut plan, 2, map)?;
-    Ok(plan)
+fn changed<R: Abort>(rt: &R, alloc: Global, folder: &[Change], map: &[Change]) -> Plan {
+    let mut plan = m2_plan(alloc).expect(rt, MEMORY);
+    change_block(rt, &mut plan, 1, folder);
+    change_block(rt, &mut plan, 2, map);
+    plan
 }
 
 // Changes to the root folder and to the map, and what is answered. The map has its GUID at 0x4cac, two entries at 0x4cbc and a
@@ -85,18 +85,17 @@ const ROWS: [Row<'static>; 12] = [
     ),
 ];
 
-fn is_row<R: Abort + AllocGlobal>(rt: &R, row: &Row) -> Result<(), Fail> {
+fn is_row<R: Abort + AllocGlobal>(rt: &R, row: &Row) {
     let (folder, map, line) = *row;
-    let plan = changed(rt.alloc(), folder, map)?;
-    is_answered(rt, &plan, line)
+    let plan = changed(rt, rt.alloc(), folder, map);
+    is_answered(rt, &plan, line);
 }
 
 #[test]
-fn small_maps(rt: HostRuntime) -> Result<(), Fail> {
+fn small_maps(rt: HostRuntime) {
     for row in &ROWS {
-        is_row(&rt, row)?;
+        is_row(&rt, row);
     }
-    Ok(())
 }
 
 // The same with a hierarchy table, whose data is that of the map and no table.
@@ -109,37 +108,35 @@ const BEFORE_THE_NODES: [Row<'static>; 2] = [
     ),
 ];
 
-fn is_row_with_a_table<R: Abort + AllocGlobal>(rt: &R, row: &Row) -> Result<(), Fail> {
+fn is_row_with_a_table<R: Abort + AllocGlobal>(rt: &R, row: &Row) {
     let (folder, map, line) = *row;
-    let mut plan = changed(rt.alloc(), folder, map)?;
-    add_nodes(&mut plan, &[(0x12d, 12, 0)])?;
-    is_answered(rt, &plan, line)
+    let mut plan = changed(rt, rt.alloc(), folder, map);
+    add_nodes(rt, &mut plan, &[(0x12d, 12, 0)]);
+    is_answered(rt, &plan, line);
 }
 
 #[test]
-fn a_map_comes_before_the_nodes(rt: HostRuntime) -> Result<(), Fail> {
+fn a_map_comes_before_the_nodes(rt: HostRuntime) {
     for row in &BEFORE_THE_NODES {
-        is_row_with_a_table(&rt, row)?;
+        is_row_with_a_table(&rt, row);
     }
-    Ok(())
 }
 
 // Gives the node of the map these blocks of data and of subnodes.
-fn set_map(plan: &mut Plan, bid_data: u64, bid_sub: u64) -> Result<(), Fail> {
+fn set_map<R: Abort>(rt: &R, plan: &mut Plan, bid_data: u64, bid_sub: u64) {
     let Some(node) = plan.nodes.get_mut(1) else {
-        return Err(Fail::from("no node"));
+        rt.panic("no node");
     };
     node.bid_data = bid_data;
     node.bid_sub = bid_sub;
-    Ok(())
 }
 
 // A map without streams, which has the same data as the root folder: one context.
 #[test]
-fn a_map_without_streams(rt: HostRuntime) -> Result<(), Fail> {
-    let mut plan = m2_plan(rt.alloc())?;
-    set_map(&mut plan, 8, 0)?;
-    is_answered(&rt, &plan, "yes: 2 3 3 1 0 high, 0 2 1")
+fn a_map_without_streams(rt: HostRuntime) {
+    let mut plan = m2_plan(rt.alloc()).expect(&rt, MEMORY);
+    set_map(&rt, &mut plan, 8, 0);
+    is_answered(&rt, &plan, "yes: 2 3 3 1 0 high, 0 2 1");
 }
 
 // A property context with the entry stream alone, which is the data of a subnode: an XBLOCK that names two blocks twice, of 12
@@ -176,37 +173,30 @@ const PIECES: [([u8; 12], [u8; 4], &str); 2] = [
 ];
 
 // The block of the map is another one.
-fn set_body(alloc: Global, plan: &mut Plan, bytes: &[u8]) -> Result<(), Fail> {
+fn set_body<R: Abort>(rt: &R, alloc: Global, plan: &mut Plan, bytes: &[u8]) {
     let Some(block) = plan.blocks.get_mut(2) else {
-        return Err(Fail::from("no block"));
+        rt.panic("no block");
     };
-    block.body = Vec::from_slice(alloc, bytes)?;
-    Ok(())
+    block.body = Vec::from_slice(alloc, bytes).expect(rt, MEMORY);
 }
 
-fn in_pieces<'x, R: Abort + AllocGlobal>(
-    rt: &R,
-    first: &'x [u8],
-    second: &'x [u8],
-    line: &str,
-) -> Result<(), Fail> {
+fn in_pieces<'x, R: Abort + AllocGlobal>(rt: &R, first: &'x [u8], second: &'x [u8], line: &str) {
     let blocks = [
         (16, Bytes(first)),
         (20, Bytes(second)),
         (26, Bytes(&XBLOCK)),
         (30, Bytes(&SUBNODES)),
     ];
-    let mut plan = m2_plan(rt.alloc())?;
-    set_map(&mut plan, 12, 30)?;
-    set_body(rt.alloc(), &mut plan, &STREAM)?;
-    add_blocks(rt.alloc(), &mut plan, &blocks)?;
-    is_answered(rt, &plan, line)
+    let mut plan = m2_plan(rt.alloc()).expect(rt, MEMORY);
+    set_map(rt, &mut plan, 12, 30);
+    set_body(rt, rt.alloc(), &mut plan, &STREAM);
+    add_blocks(rt, rt.alloc(), &mut plan, &blocks);
+    is_answered(rt, &plan, line);
 }
 
 #[test]
-fn entries_in_pieces(rt: HostRuntime) -> Result<(), Fail> {
+fn entries_in_pieces(rt: HostRuntime) {
     for (first, second, line) in &PIECES {
-        in_pieces(&rt, first, second, line)?;
+        in_pieces(&rt, first, second, line);
     }
-    Ok(())
 }

@@ -5,12 +5,9 @@ use crate::told::is_at;
 use pst_fault::{Fault, Kind, Place};
 
 #[test]
-fn what_lies_behind_the_end_says_nothing(rt: HostRuntime) -> Result<(), Fail> {
-    let mut image = m0(rt.alloc())?;
-    for _ in 0..64 {
-        image.push(0xff)?;
-    }
-    is_answered(&rt, rt.alloc(), &image, GOOD)
+fn what_lies_behind_the_end_says_nothing(rt: HostRuntime) {
+    let behind = [Change::Grow(64), Change::Set(271_360, &[0xff; 64])];
+    is_answered_with(&rt, rt.alloc(), &behind, GOOD);
 }
 
 fn fault(kind: Kind, at: u64, bid: u64) -> Option<Fault> {
@@ -20,8 +17,8 @@ fn fault(kind: Kind, at: u64, bid: u64) -> Option<Fault> {
 
 // The fronts of the small store, as they are: the header says where the file ends.
 #[test]
-fn a_file_that_was_cut(rt: HostRuntime) -> Result<(), Fail> {
-    let image = m0(rt.alloc())?;
+fn a_file_that_was_cut(rt: HostRuntime) {
+    let image = small(&rt, rt.alloc());
     for n in 0..4240_usize {
         let front = image.get(..64 * n).expect(&rt, "too short");
         let answer = fault_in(rt.alloc(), front);
@@ -32,30 +29,30 @@ fn a_file_that_was_cut(rt: HostRuntime) -> Result<(), Fail> {
         };
         is_at(&rt, n, answer, wanted);
     }
-    Ok(())
 }
 
 // Lets the header say where the file ends.
-fn put_end(image: &mut Vec<u8>, len: u64) -> Result<(), Fail> {
-    set(image, 184, &len.to_le_bytes())?;
-    Change::Header.apply(image)?;
-    Ok(())
+fn put_end<R: Abort>(rt: &R, image: &mut Vec<u8>, len: u64) {
+    change(
+        rt,
+        image,
+        &[Change::Set(184, &len.to_le_bytes()), Change::Header],
+    );
 }
 
 // The fronts of the small store, where the header says that the file ends there.
 #[test]
-fn a_file_that_ends_early(rt: HostRuntime) -> Result<(), Fail> {
-    let mut image = m0(rt.alloc())?;
+fn a_file_that_ends_early(rt: HostRuntime) {
+    let mut image = small(&rt, rt.alloc());
     for n in 0..=4240_usize {
         let len = 64 * n;
         if len >= 576 {
-            put_end(&mut image, len as u64)?;
+            put_end(&rt, &mut image, len as u64);
         }
         let front = image.get(..len).expect(&rt, "too short");
         let answer = fault_in(rt.alloc(), front);
         is_at(&rt, len, answer, fault_by(len));
     }
-    Ok(())
 }
 
 // The fault of a file that ends there.

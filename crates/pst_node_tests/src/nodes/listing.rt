@@ -6,29 +6,26 @@ use pst_make::Change::{Flip, Header, Set};
 use pst_ndb::read_nodes;
 
 // The identifiers of the nodes that a file lists: of each its own, its parent's, its data's and its subnodes'.
-fn listed(alloc: Global, image: &[u8]) -> Result<Vec<Identifiers>, Fail> {
-    let Ok(tree) = read_nodes(alloc, Image::new(image)) else {
-        return Err(Fail::from("refused"));
-    };
+fn listed<R: Abort>(rt: &R, alloc: Global, image: &[u8]) -> Vec<Identifiers> {
+    let tree = read_nodes(alloc, Image::new(image)).expect(rt, "refused");
     let mut all = Vec::new(alloc);
     for node in tree.nodes() {
-        all.push((node.nid, node.parent, node.bid_data, node.bid_sub))?;
+        all.push((node.nid, node.parent, node.bid_data, node.bid_sub))
+            .expect(rt, MEMORY);
     }
-    Ok(all)
+    all
 }
 
 // A block is damaged, which is not looked at.
 #[test]
-fn nodes_are_listed(rt: HostRuntime) -> Result<(), Fail> {
-    let mut bytes = m0(rt.alloc())?;
-    flip(&mut bytes, 0x4c00)?;
-    let nodes = listed(rt.alloc(), &bytes)?;
+fn nodes_are_listed(rt: HostRuntime) {
+    let bytes = changed(&rt, rt.alloc(), &[Flip(0x4c00)]);
+    let nodes = listed(&rt, rt.alloc(), &bytes);
     is(
         &rt,
         nodes.as_slice(),
         &[(0x21, 0, 4, 0), (0x122, 0x122, 8, 0)],
     );
-    Ok(())
 }
 
 // The header comes first, then the block B-tree, then the node B-tree.
@@ -48,19 +45,21 @@ const FIRST_FAULTS: [Row<'static>; 3] = [
 ];
 
 // The fault of the list, in a line.
-fn refusal(alloc: Global, image: &[u8]) -> Result<String, Fail> {
+fn refusal<R: Abort>(rt: &R, alloc: Global, image: &[u8]) -> String {
     let Err(fault) = read_nodes(alloc, Image::new(image)) else {
-        return Err(Fail::from("listed"));
+        rt.panic("listed");
     };
-    Ok(format!(in alloc; "{fault}")?)
+    refusal_of(rt, alloc, fault)
+}
+
+fn is_refused<R: Abort>(rt: &R, alloc: Global, changes: &[Change], line: &str) {
+    let told = refusal(rt, alloc, &changed(rt, alloc, changes));
+    is(rt, told.as_str(), line);
 }
 
 #[test]
-fn the_first_fault_is_told(rt: HostRuntime) -> Result<(), Fail> {
+fn the_first_fault_is_told(rt: HostRuntime) {
     for (changes, line) in FIRST_FAULTS {
-        let image = changed(rt.alloc(), changes)?;
-        let told = refusal(rt.alloc(), &image)?;
-        is(&rt, told.as_str(), line);
+        is_refused(&rt, rt.alloc(), changes, line);
     }
-    Ok(())
 }

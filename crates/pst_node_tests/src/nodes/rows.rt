@@ -5,26 +5,25 @@ use pst_make::Change::{Block, Flip, Header, Page, Set};
 use pst_make::m1;
 
 #[test]
-fn small_stores_are_good(rt: HostRuntime) -> Result<(), Fail> {
-    let small = m0(rt.alloc())?;
-    is_answered(&rt, rt.alloc(), &small, GOOD)?;
-    let larger = m1(rt.alloc())?;
+fn small_stores_are_good(rt: HostRuntime) {
+    let small = small(&rt, rt.alloc());
+    is_answered(&rt, rt.alloc(), &small, GOOD);
+    let larger = m1(rt.alloc()).expect(&rt, MEMORY);
     let line = "yes: 2 pages 3 blocks 4 nodes High 0 lost 0 old";
-    is_answered(&rt, rt.alloc(), &larger, line)
+    is_answered(&rt, rt.alloc(), &larger, line);
 }
 
 // Each kind of fault up to the nodes, once and more.
 #[test]
-fn every_fault_is_told(rt: HostRuntime) -> Result<(), Fail> {
-    let small = m0(rt.alloc())?;
+fn every_fault_is_told(rt: HostRuntime) {
+    let small = small(&rt, rt.alloc());
     for (len, line) in FRONTS {
         let front = small.get(..len).expect(&rt, "too short");
-        is_answered(&rt, rt.alloc(), front, line)?;
+        is_answered(&rt, rt.alloc(), front, line);
     }
     for rows in FAULTS {
-        are_answered(&rt, rt.alloc(), rows)?;
+        are_answered(&rt, rt.alloc(), rows);
     }
-    Ok(())
 }
 
 const FRONTS: [(usize, &str); 3] = [
@@ -205,38 +204,39 @@ const BLOCK_TRAILERS: [(usize, &str); 3] = [
     (0x4cf0, "no: 14 BlockTrailer at 0x4c80 bid 0xc nid 0x0"),
 ];
 
-// Whether a store is answered with a line, where the lowest bit of a byte is flipped.
-fn is_flipped<R: Abort>(rt: &R, alloc: Global, at: usize, line: &str) -> Result<(), Fail> {
-    let mut image = m1(alloc)?;
-    flip(&mut image, at)?;
-    is_answered(rt, alloc, &image, line)
+// Whether a store is answered with a line, where the lowest bit of one of these bytes behind a place is flipped.
+fn are_flipped<R: Abort>(rt: &R, alloc: Global, at: usize, fields: &[usize], line: &str) {
+    for field in fields {
+        is_answered_whole(rt, alloc, &[Flip(at.saturating_add(*field))], line);
+    }
+}
+
+// Whether the larger store with changes is answered with a line.
+fn is_answered_whole<R: Abort>(rt: &R, alloc: Global, changes: &[Change], line: &str) {
+    let mut image = m1(alloc).expect(rt, MEMORY);
+    change(rt, &mut image, changes);
+    is_answered(rt, alloc, &image, line);
 }
 
 // Each field of each trailer of a store, with its lowest bit flipped.
 #[test]
-fn each_field_of_each_trailer_counts(rt: HostRuntime) -> Result<(), Fail> {
+fn each_field_of_each_trailer_counts(rt: HostRuntime) {
     for (at, line) in PAGE_TRAILERS {
-        for field in [496, 497, 498, 500, 504] {
-            is_flipped(&rt, rt.alloc(), at.saturating_add(field), line)?;
-        }
+        are_flipped(&rt, rt.alloc(), at, &[496, 497, 498, 500, 504], line);
     }
     for (at, line) in BLOCK_TRAILERS {
-        for field in [0, 2, 4, 8] {
-            is_flipped(&rt, rt.alloc(), at.saturating_add(field), line)?;
-        }
+        are_flipped(&rt, rt.alloc(), at, &[0, 2, 4, 8], line);
     }
-    let mut image = m1(rt.alloc())?;
-    change_all(&mut image, &[Flip(0x4cf8), Block(0x4c80, 90)])?;
-    is_answered(&rt, rt.alloc(), &image, WHOLE)
+    is_answered_whole(&rt, rt.alloc(), &[Flip(0x4cf8), Block(0x4c80, 90)], WHOLE);
 }
 
 // A block B-tree of a branch over three leaves.
-fn three_leaves(alloc: Global) -> Result<Vec<u8>, Fail> {
+fn three_leaves<R: Abort>(rt: &R, alloc: Global) -> Vec<u8> {
     let mut plan = no_plan(alloc);
     for n in 1..=41_u64 {
-        add_block(&mut plan, 4 * n, Vec::new(alloc))?;
+        add_block(rt, &mut plan, 4 * n, Vec::new(alloc));
     }
-    image_of(alloc, &plan)
+    image_of(rt, alloc, &plan)
 }
 
 // The last key of the second leaf, and what is answered: it is as high as the third leaf's, and it is not.
@@ -252,11 +252,10 @@ const HIGH_KEYS: [(&[Change<'static>], &str); 2] = [
 ];
 
 #[test]
-fn keys_keep_the_bounds_of_the_branch(rt: HostRuntime) -> Result<(), Fail> {
-    let mut image = three_leaves(rt.alloc())?;
+fn keys_keep_the_bounds_of_the_branch(rt: HostRuntime) {
+    let mut image = three_leaves(&rt, rt.alloc());
     for (changes, line) in HIGH_KEYS {
-        change_all(&mut image, changes)?;
-        is_answered(&rt, rt.alloc(), &image, line)?;
+        change(&rt, &mut image, changes);
+        is_answered(&rt, rt.alloc(), &image, line);
     }
-    Ok(())
 }

@@ -10,20 +10,22 @@ use pst_header::{Header, read_header};
 use pst_ndb::{NodeTable, Nodes};
 
 #[test]
-fn nodes_are_found(rt: HostRuntime) -> Result<(), Fail> {
-    let bytes = m0(rt.alloc())?;
-    let checked = good(rt.alloc(), &bytes)?;
+fn nodes_are_found(rt: HostRuntime) {
+    let bytes = small(&rt, rt.alloc());
+    let checked = good(&rt, rt.alloc(), &bytes);
     is(&rt, Some(checked.ndb.header()), header_in(&bytes));
     is(&rt, checked.ndb.image().len(), 271_360);
     holds(&rt, !has_node(&checked, 0x999));
     holds(&rt, !has_node(&checked, 0));
-    let node = node_in(&checked, 0x122)?;
-    is(&rt, identifiers(&node), (0x122, 0x122, 8, 0));
-    is(&rt, node.image().len(), 271_360);
-    is(&rt, node.leaf_count(), 1);
-    is(&rt, node.leaf(0), FOLDER);
-    is(&rt, node.leaf(1), None);
-    Ok(())
+    is_folder(&rt, &node_in(&rt, &checked, 0x122));
+}
+
+fn is_folder<R: Abort>(rt: &R, node: &Node) {
+    is(rt, identifiers(node), (0x122, 0x122, 8, 0));
+    is(rt, node.image().len(), 271_360);
+    is(rt, node.leaf_count(), 1);
+    is(rt, node.leaf(0), FOLDER);
+    is(rt, node.leaf(1), None);
 }
 
 fn has_node(checked: &Checked, nid: u32) -> bool {
@@ -40,15 +42,19 @@ fn header_in(bytes: &[u8]) -> Option<Header> {
 }
 
 #[test]
-fn nodes_come_in_order(rt: HostRuntime) -> Result<(), Fail> {
-    let bytes = m0(rt.alloc())?;
-    let mut nodes = nodes_in(&good(rt.alloc(), &bytes)?);
+fn nodes_come_in_order(rt: HostRuntime) {
+    let bytes = small(&rt, rt.alloc());
+    let mut nodes = nodes_in(&good(&rt, rt.alloc(), &bytes));
+    are_two(&rt, &mut nodes);
+    is(&rt, next_in(&mut nodes), None);
+}
+
+// Stops the test where these are not the two nodes of the small store, and no more.
+fn are_two<R: Abort>(rt: &R, nodes: &mut Nodes) {
     for (nid, bid_data) in [(0x21, 4), (0x122, 8)] {
-        is(&rt, next_in(&mut nodes), Some((nid, nid, bid_data, 0)));
+        is(rt, next_in(nodes), Some((nid, nid, bid_data, 0)));
     }
-    is(&rt, next_in(&mut nodes), None);
-    is(&rt, next_in(&mut nodes), None);
-    Ok(())
+    is(rt, next_in(nodes), None);
 }
 
 fn nodes_in<'a>(checked: &Checked<'a>) -> Nodes<'a> {
@@ -69,15 +75,14 @@ fn bytes_of<'a>(alloc: Global, image: Image<'a>, nid: u32) -> Option<Value<'a>> 
 }
 
 #[test]
-fn bytes_outlive_the_database(rt: HostRuntime) -> Result<(), Fail> {
-    let bytes = m0(rt.alloc())?;
+fn bytes_outlive_the_database(rt: HostRuntime) {
+    let bytes = small(&rt, rt.alloc());
     let value = bytes_of(rt.alloc(), Image::new(&bytes), 0x21).expect(&rt, "no bytes");
     is(&rt, (value.len(), value.at()), (44, 0x4c00));
     let Value::Whole(_, slice) = value else {
-        panic!(rt; "in pieces");
+        rt.panic("in pieces");
     };
     is(&rt, Some(slice), bytes.get(0x4c00..0x4c2c));
-    Ok(())
 }
 
 // A node in a table.
@@ -88,18 +93,13 @@ fn listed_in(table: &NodeTable, nid: u32) -> Option<Identifiers> {
 
 // Of a whole file the same nodes are found, in the same order.
 #[test]
-fn a_database_is_a_table_of_nodes(rt: HostRuntime) -> Result<(), Fail> {
-    let bytes = m0(rt.alloc())?;
-    let table = table_in(&good(rt.alloc(), &bytes)?);
+fn a_database_is_a_table_of_nodes(rt: HostRuntime) {
+    let bytes = small(&rt, rt.alloc());
+    let table = table_in(&good(&rt, rt.alloc(), &bytes));
     is(&rt, listed_in(&table, 0x122), Some((0x122, 0x122, 8, 0)));
     is(&rt, listed_in(&table, 0x999), None);
     is(&rt, table.image().len(), 271_360);
-    let mut nodes = table.nodes();
-    for (nid, bid_data) in [(0x21, 4), (0x122, 8)] {
-        is(&rt, next_in(&mut nodes), Some((nid, nid, bid_data, 0)));
-    }
-    is(&rt, next_in(&mut nodes), None);
-    Ok(())
+    are_two(&rt, &mut table.nodes());
 }
 
 fn table_in<'a>(checked: &Checked<'a>) -> NodeTable<'a> {
@@ -114,11 +114,10 @@ fn no_nodes<'a>(image: &'a [u8]) -> NodeTable<'a> {
 }
 
 #[test]
-fn no_nodes_were_gathered(rt: HostRuntime) -> Result<(), Fail> {
-    let bytes = m0(rt.alloc())?;
+fn no_nodes_were_gathered(rt: HostRuntime) {
+    let bytes = small(&rt, rt.alloc());
     let table = no_nodes(&bytes);
     is(&rt, listed_in(&table, 0x21), None);
     is(&rt, table.image().len(), 271_360);
     is(&rt, next_in(&mut table.nodes()), None);
-    Ok(())
 }

@@ -15,20 +15,22 @@ fn encoded_store(alloc: Global, plan: &Plan, method: Method) -> Result<Vec<u8>, 
 }
 
 // The small store, encoded by a method, with changes.
-fn encoded(alloc: Global, method: Method, changes: &[Change]) -> Result<Vec<u8>, Fail> {
-    let mut image = encoded_store(alloc, &m0_plan(alloc)?, method)?;
-    change_all(&mut image, changes)?;
-    Ok(image)
+fn encoded<R: Abort>(rt: &R, alloc: Global, method: Method, changes: &[Change]) -> Vec<u8> {
+    let mut image = encoded_store(alloc, &m0_plan(alloc).expect(rt, MEMORY), method).expect(
+        rt, MEMORY,
+    );
+    change_all(&mut image, changes).expect(rt, "past the end");
+    image
 }
 
 // What remains of an encoded file, its blocks decoded.
-fn decoded<'a>(alloc: Global, image: &'a mut [u8]) -> Result<Remains<'a>, Fail> {
+fn decoded<'a, R: Abort>(rt: &R, alloc: Global, image: &'a mut [u8]) -> Remains<'a> {
     let Some(method) = method_of(Image::new(image)) else {
-        return Err(Fail::from("not encoded"));
+        rt.panic("not encoded");
     };
     match find_decoded_remains(alloc, method, image) {
-        Ok(remains) => Ok(remains),
-        Err(_) => Err(Fail::from("refused")),
+        Ok(remains) => remains,
+        Err(_) => rt.panic("refused"),
     }
 }
 
@@ -69,16 +71,15 @@ const ROWS: [Row<'static>; 9] = [
 ];
 
 #[test]
-fn what_is_told_of_an_encoded_store(rt: HostRuntime) -> Result<(), Fail> {
+fn what_is_told_of_an_encoded_store(rt: HostRuntime) {
     for (case, (changes, wanted)) in ROWS.iter().enumerate() {
         for method in [Method::Permute, Method::Cyclic] {
-            let mut image = encoded(rt.alloc(), method, changes)?;
-            let remains = decoded(rt.alloc(), &mut image)?;
-            let line = line_of(rt.alloc(), &remains)?;
+            let mut image = encoded(&rt, rt.alloc(), method, changes);
+            let remains = decoded(&rt, rt.alloc(), &mut image);
+            let line = line_of(&rt, rt.alloc(), &remains);
             is_at(&rt, case, line.as_str(), *wanted);
         }
     }
-    Ok(())
 }
 
 // Whether the blocks that are left have this body by an identifier, or none.
@@ -87,25 +88,28 @@ fn has_body(remains: &Remains, bid: u64, wanted: Option<&[u8]>) -> bool {
 }
 
 // Whether the second block, which has a fault, is not left, and the first is, decoded.
-fn is_first_left(alloc: Global, image: &mut [u8], store: &[u8]) -> Result<bool, Fail> {
-    let remains = decoded(alloc, image)?;
+fn is_first_left<R: Abort>(rt: &R, alloc: Global, image: &mut [u8], store: &[u8]) -> bool {
+    let remains = decoded(rt, alloc, image);
     let first = has_body(&remains, 4, store.get(0x4c00..0x4c2c));
-    Ok(first && has_body(&remains, 8, None))
+    first && has_body(&remains, 8, None)
 }
 
 // A block without fault is decoded; one with a fault stays as it is stored.
 #[test]
-fn blocks_without_fault_are_decoded(rt: HostRuntime) -> Result<(), Fail> {
-    let store = m0(rt.alloc())?;
+fn blocks_without_fault_are_decoded(rt: HostRuntime) {
+    let store = m0(rt.alloc()).expect(&rt, MEMORY);
     for method in [Method::Permute, Method::Cyclic] {
-        let stored = encoded(rt.alloc(), method, &[Flip(0x4c40)])?;
-        let mut image = encoded(rt.alloc(), method, &[Flip(0x4c40)])?;
-        holds_at(&rt, method, is_first_left(rt.alloc(), &mut image, &store)?);
+        let stored = encoded(&rt, rt.alloc(), method, &[Flip(0x4c40)]);
+        let mut image = encoded(&rt, rt.alloc(), method, &[Flip(0x4c40)]);
+        holds_at(
+            &rt,
+            method,
+            is_first_left(&rt, rt.alloc(), &mut image, &store),
+        );
         holds_at(
             &rt,
             method,
             image.get(0x4c40..0x4c80) == stored.get(0x4c40..0x4c80),
         );
     }
-    Ok(())
 }

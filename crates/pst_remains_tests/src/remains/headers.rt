@@ -23,21 +23,21 @@ const OTHERS: [Row<'static>; 4] = [
 ];
 
 #[test]
-fn what_another_program_tells(rt: HostRuntime) -> Result<(), Fail> {
-    are_told(&rt, rt.alloc(), &OTHERS)?;
-    let mut second = m1(rt.alloc())?;
-    is_told(&rt, rt.alloc(), 0, &second, "left 3 blocks 4 nodes")?;
+fn what_another_program_tells(rt: HostRuntime) {
+    are_told(&rt, rt.alloc(), &OTHERS);
+    let mut second = m1(rt.alloc()).expect(&rt, MEMORY);
+    is_told(&rt, rt.alloc(), 0, &second, "left 3 blocks 4 nodes");
     is_told(
         &rt,
         rt.alloc(),
         0,
-        &m2(rt.alloc())?,
+        &m2(rt.alloc()).expect(&rt, MEMORY),
         "left 3 blocks 3 nodes",
-    )?;
-    Cut(17_920).apply(&mut second)?;
+    );
+    Cut(17_920).apply(&mut second).expect(&rt, "past the end");
     let line =
         "header Root 0xb8 0x0, page PagePlace 0x4a00 0x8, page PagePlace 0x4800 0x4, left 0 blocks 0 nodes";
-    is_told(&rt, rt.alloc(), 17_920, &second, line)
+    is_told(&rt, rt.alloc(), 17_920, &second, line);
 }
 
 // fAMapValid 0; ibFileEof a byte behind the file, and within a block, with right check values and without; ibAMapLast where no
@@ -70,8 +70,8 @@ const FIELDS: [Row<'static>; 6] = [
 ];
 
 #[test]
-fn fields_of_the_header(rt: HostRuntime) -> Result<(), Fail> {
-    are_told(&rt, rt.alloc(), &FIELDS)
+fn fields_of_the_header(rt: HostRuntime) {
+    are_told(&rt, rt.alloc(), &FIELDS);
 }
 
 // A file that goes on, one that ends within the second block, at its start, within the first allocation map, within the page
@@ -101,6 +101,6 @@ const ENDS: [Row<'static>; 6] = [
 ];
 
 #[test]
-fn files_that_end_early(rt: HostRuntime) -> Result<(), Fail> {
-    are_told(&rt, rt.alloc(), &ENDS)
+fn files_that_end_early(rt: HostRuntime) {
+    are_told(&rt, rt.alloc(), &ENDS);
 }

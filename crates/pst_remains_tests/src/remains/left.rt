@@ -17,9 +17,9 @@ fn node_in(remains: &Remains, nid: u32) -> Option<(u64, u64)> {
 
 // A byte of the body of the second block is changed: the first one is left, and both nodes are.
 #[test]
-fn what_is_left_is_looked_up(rt: HostRuntime) -> Result<(), Fail> {
-    let image = changed(rt.alloc(), &[Flip(0x4c40)])?;
-    let remains = remains_of(rt.alloc(), &image)?;
+fn what_is_left_is_looked_up(rt: HostRuntime) {
+    let image = changed(&rt, rt.alloc(), &[Flip(0x4c40)]);
+    let remains = remains_of(&rt, rt.alloc(), &image);
     for bid in [4, 5] {
         is(&rt, body_in(&remains, bid), image.get(0x4c00..0x4c2c));
     }
@@ -30,5 +30,4 @@ fn what_is_left_is_looked_up(rt: HostRuntime) -> Result<(), Fail> {
     is(&rt, node_in(&remains, 0x122), Some((8, 0)));
     is(&rt, node_in(&remains, 0x61), None);
     is(&rt, remains.node_list().entries().len(), 2);
-    Ok(())
 }

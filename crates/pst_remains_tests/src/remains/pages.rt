@@ -10,7 +10,7 @@ use pst_remains::{Broken, page_before};
 // A store of 30 empty blocks and of 40 nodes, whose identifiers are 0x21, 0x41 and on. The leaves of the node B-tree are at
 // 0x4800, 0x4A00 and 0x4C00, and begin with 0x21, 0x201 and 0x3E1; its root is at 0x4E00. The leaves of the block B-tree are
 // at 0x5000 and 0x5200; its root is at 0x5400. The identifiers of these pages are 4, 8 and on.
-fn store(alloc: Global) -> Result<Vec<u8>, Fail> {
+fn store<R: Abort>(rt: &R, alloc: Global) -> Vec<u8> {
     let mut plan = Plan {
         blocks: Vec::new(alloc),
         nodes: Vec::new(alloc),
@@ -18,35 +18,36 @@ fn store(alloc: Global) -> Result<Vec<u8>, Fail> {
     for n in 0..30_u64 {
         let body = Vec::new(alloc);
         let bid = n.saturating_mul(4).saturating_add(4);
-        plan.blocks.push(BlockPlan { bid, body })?;
+        plan.blocks.push(BlockPlan { bid, body }).expect(rt, MEMORY);
     }
     for n in 0..40_u32 {
-        plan.nodes.push(NodePlan {
-            nid: n.saturating_mul(0x20).saturating_add(0x21),
-            bid_data: 4,
-            bid_sub: 0,
-            parent: 0,
-        })?;
+        plan.nodes
+            .push(NodePlan {
+                nid: n.saturating_mul(0x20).saturating_add(0x21),
+                bid_data: 4,
+                bid_sub: 0,
+                parent: 0,
+            })
+            .expect(rt, MEMORY);
     }
     match build(alloc, &plan) {
-        Ok(image) => Ok(image),
-        Err(_) => Err(Fail::from("not made")),
+        Ok(image) => image,
+        Err(_) => rt.panic("not made"),
     }
 }
 
 // That store with changes.
-fn changed_store(alloc: Global, changes: &[Change]) -> Result<Vec<u8>, Fail> {
-    let mut image = store(alloc)?;
-    change_all(&mut image, changes)?;
-    Ok(image)
+fn changed_store<R: Abort>(rt: &R, alloc: Global, changes: &[Change]) -> Vec<u8> {
+    let mut image = store(rt, alloc);
+    change_all(&mut image, changes).expect(rt, "past the end");
+    image
 }
 
 // Whether each row is told its line, done to that store.
-fn are_told_of_store<R: Abort>(rt: &R, alloc: Global, rows: &[Row]) -> Result<(), Fail> {
+fn are_told_of_store<R: Abort>(rt: &R, alloc: Global, rows: &[Row]) {
     for (case, (changes, line)) in rows.iter().enumerate() {
-        is_told(rt, alloc, case, &changed_store(alloc, changes)?, line)?;
+        is_told(rt, alloc, case, &changed_store(rt, alloc, changes), line);
     }
-    Ok(())
 }
 
 // The node B-tree: a leaf with a wrong check value, which is not followed; the root, which is; both; the root with a wrong
@@ -84,8 +85,8 @@ const NODE_PAGES: [Row<'static>; 8] = [
 ];
 
 #[test]
-fn the_pages_of_the_nodes(rt: HostRuntime) -> Result<(), Fail> {
-    are_told_of_store(&rt, rt.alloc(), &NODE_PAGES)
+fn the_pages_of_the_nodes(rt: HostRuntime) {
+    are_told_of_store(&rt, rt.alloc(), &NODE_PAGES);
 }
 
 // The block B-tree: a leaf with a wrong check value, which is followed, and with a wrong type, which is not; root and leaf with
@@ -106,8 +107,8 @@ const BLOCK_PAGES: [Row<'static>; 3] = [
 ];
 
 #[test]
-fn the_pages_of_the_blocks(rt: HostRuntime) -> Result<(), Fail> {
-    are_told_of_store(&rt, rt.alloc(), &BLOCK_PAGES)
+fn the_pages_of_the_blocks(rt: HostRuntime) {
+    are_told_of_store(&rt, rt.alloc(), &BLOCK_PAGES);
 }
 
 // The place of the first page of the node B-tree with a fault behind which a key lies.
@@ -179,22 +180,21 @@ const BEHIND: [Behind<'static>; 5] = [
 ];
 
 #[test]
-fn what_lies_behind_a_page(rt: HostRuntime) -> Result<(), Fail> {
+fn what_lies_behind_a_page(rt: HostRuntime) {
     for (changes, keys) in BEHIND {
-        let image = changed_store(rt.alloc(), changes)?;
-        let remains = remains_of(rt.alloc(), &image)?;
+        let image = changed_store(&rt, rt.alloc(), changes);
+        let remains = remains_of(&rt, rt.alloc(), &image);
         for (key, place) in keys {
             is_at(&rt, key, place_before(&remains.broken, key), place);
         }
     }
-    Ok(())
 }
 
 // The pages of the node B-tree that have a fault, with the keys that are sought by way of each.
 #[test]
-fn the_keys_of_a_page_with_a_fault(rt: HostRuntime) -> Result<(), Fail> {
-    let image = changed_store(rt.alloc(), &[Flip(0x49f4), Flip(0x4df4)])?;
-    let remains = remains_of(rt.alloc(), &image)?;
+fn the_keys_of_a_page_with_a_fault(rt: HostRuntime) {
+    let image = changed_store(&rt, rt.alloc(), &[Flip(0x49f4), Flip(0x4df4)]);
+    let remains = remains_of(&rt, rt.alloc(), &image);
     let first = Broken {
         fault: Fault::within(Kind::PageTrailer, 0x4800, 4),
         from: 0,
@@ -208,5 +208,4 @@ fn the_keys_of_a_page_with_a_fault(rt: HostRuntime) -> Result<(), Fail> {
     is(&rt, remains.broken.first().copied(), Some(first));
     is(&rt, remains.broken.get(1).copied(), Some(last));
     is(&rt, remains.broken.len(), 2);
-    Ok(())
 }

@@ -15,48 +15,47 @@ fn nth_block(n: u64) -> BlockEntry {
 }
 
 // A store of so many empty blocks.
-fn many_blocks(alloc: Global, count: u64) -> Result<Vec<u8>, Fail> {
+fn many_blocks<R: Abort>(rt: &R, alloc: Global, count: u64) -> Vec<u8> {
     let mut blocks = Vec::new(alloc);
     for n in 0..count {
         let body = Vec::new(alloc);
         let bid = nth_block(n).bid;
-        blocks.push(BlockPlan { bid, body })?;
+        blocks.push(BlockPlan { bid, body }).expect(rt, MEMORY);
     }
     let nodes = Vec::new(alloc);
-    build(alloc, &Plan { blocks, nodes }).map_err(|_| Fail::from("not made"))
+    build(alloc, &Plan { blocks, nodes }).expect(rt, "not made")
 }
 
-// Each of so many blocks is found in three steps.
-fn are_found<R: Abort>(rt: &R, tree: &BlockTree, count: u64) {
-    for n in 0..count {
+// Each of so many blocks is found in three steps, in a tree of 24 pages.
+fn are_found<R: Abort>(rt: &R, tree: &BlockTree, count: usize) {
+    is(rt, (count, tree.pages(), tree.level()), (401, 24, 2));
+    for n in 0..count as u64 {
         let entry = nth_block(n);
         is_at(rt, n, tree.find_steps(entry.bid), (Some(entry), 3));
     }
 }
 
 // How many blocks are summed, and the last of them.
-fn summed<R: Abort>(rt: &R, alloc: Global, image: &[u8], last: u64) -> Result<(), Fault> {
+fn summed<R: Abort>(rt: &R, alloc: Global, image: &[u8], last: u64) {
     let image = Image::new(image);
-    let header = read_header(image)?;
-    let mut claims = Claims::new(alloc, &header)?;
-    let (tree, entries) = walk_blocks(alloc, image, &header, &mut claims)?;
-    are_found(rt, &tree, entries.len() as u64);
-    is(
-        rt,
-        (entries.len(), tree.pages(), tree.level()),
-        (401, 24, 2),
-    );
-    let (blocks, sums) = sum_blocks(image, &header, tree, &entries, &mut claims)?;
+    let Ok(header) = read_header(image) else {
+        rt.panic("no header");
+    };
+    let Ok(mut claims) = Claims::new(alloc, &header) else {
+        rt.panic("no memory");
+    };
+    let Ok((tree, entries)) = walk_blocks(alloc, image, &header, &mut claims) else {
+        rt.panic("no tree");
+    };
+    are_found(rt, &tree, entries.len());
+    let summed = sum_blocks(image, &header, tree, &entries, &mut claims);
+    let (blocks, sums) = summed.expect(rt, "refused");
     is(rt, (sums, blocks.entry(1604)), (401, Some(nth_block(last))));
-    Ok(())
 }
 
 // 401 entries take 21 leaves, 2 branches and a root.
 #[test]
-fn each_of_many_blocks_is_found(rt: HostRuntime) -> Result<(), Fail> {
-    let bytes = many_blocks(rt.alloc(), 401)?;
-    match summed(&rt, rt.alloc(), &bytes, 400) {
-        Ok(()) => Ok(()),
-        Err(_) => Err(Fail::from("refused")),
-    }
+fn each_of_many_blocks_is_found(rt: HostRuntime) {
+    let bytes = many_blocks(&rt, rt.alloc(), 401);
+    summed(&rt, rt.alloc(), &bytes, 400);
 }

@@ -37,28 +37,33 @@ fn fault_of(
 }
 
 // The fault of the last of these walks, and which of these units are claimed then.
-fn walked(
+fn walked<R: Abort>(
+    rt: &R,
     alloc: Global,
     image: &[u8],
     walks: &[Walk],
     units: &[u64],
-) -> Result<(Option<Fault>, Vec<bool>), Fault> {
+) -> (Option<Fault>, Vec<bool>) {
     let image = Image::new(image);
-    let header = read_header(image)?;
-    let mut claims = Claims::new(alloc, &header)?;
+    let Ok(header) = read_header(image) else {
+        rt.panic("no header");
+    };
+    let Ok(mut claims) = Claims::new(alloc, &header) else {
+        rt.panic("no memory");
+    };
     let mut fault = None;
     for walk in walks {
         fault = fault_of(alloc, *walk, image, &header, &mut claims);
     }
-    Ok((fault, flags_of(alloc, &claims, units)?))
+    (fault, flags_of(rt, alloc, &claims, units))
 }
 
-fn flags_of(alloc: Global, claims: &Claims, units: &[u64]) -> Result<Vec<bool>, Fault> {
+fn flags_of<R: Abort>(rt: &R, alloc: Global, claims: &Claims, units: &[u64]) -> Vec<bool> {
     let mut flags = Vec::new(alloc);
     for unit in units {
-        flags.push(claims.is_claimed(*unit))?;
+        flags.push(claims.is_claimed(*unit)).expect(rt, MEMORY);
     }
-    Ok(flags)
+    flags
 }
 
 // Walks, units, the fault of the last walk, and which of the units are claimed then.
@@ -69,17 +74,14 @@ type Row = (
     &'static [bool],
 );
 
-fn is_claimed<R: Abort + AllocGlobal>(rt: &R, image: &[u8], row: &Row) -> Result<(), Fail> {
+fn is_claimed<R: Abort + AllocGlobal>(rt: &R, image: &[u8], row: &Row) {
     let (walks, units, fault, flags) = *row;
-    let Ok((told, claimed)) = walked(rt.alloc(), image, walks, units) else {
-        return Err(Fail::from("no header"));
-    };
+    let (told, claimed) = walked(rt, rt.alloc(), image, walks, units);
     let wanted = match fault {
         Some((kind, at, bid)) => Some(Fault::within(kind, at, bid)),
         None => None,
     };
     is(rt, (told, claimed.as_slice()), (wanted, flags));
-    Ok(())
 }
 
 // The pages of a small store lie from 0x4A00 to 0x4BFF and from 0x4800 to 0x49FF: these are claimed, and no more, and each page
@@ -114,11 +116,10 @@ const SMALL: [Row; 6] = [
 ];
 
 /// Stops the test where something else is claimed of a small store.
-pub(super) fn small_pages_are<R: Abort + AllocGlobal>(rt: &R, image: &[u8]) -> Result<(), Fail> {
+pub(super) fn small_pages_are<R: Abort + AllocGlobal>(rt: &R, image: &[u8]) {
     for row in &SMALL {
-        is_claimed(rt, image, row)?;
+        is_claimed(rt, image, row);
     }
-    Ok(())
 }
 
 // A branch whose second child lies at no place for a page: the branch, at unit (0x8000 - 0x4400) / 64 = 240, and the
@@ -131,9 +132,9 @@ const BEFORE: Row = (
 );
 
 #[test]
-fn pages_before_a_fault_are_claimed(rt: HostRuntime) -> Result<(), Fail> {
-    let mut image = three_leaves(rt.alloc(), 36)?;
+fn pages_before_a_fault_are_claimed(rt: HostRuntime) {
+    let mut image = three_leaves(&rt, rt.alloc(), 36);
     let root = [branch(4, 1), [20, 9, 0x8020], branch(40, 3)];
-    put_page(&mut image, PageKind::Bbt, page_at(0), 1, &root)?;
-    is_claimed(&rt, &image, &BEFORE)
+    put_page(&rt, &mut image, PageKind::Bbt, page_at(0), 1, &root);
+    is_claimed(&rt, &image, &BEFORE);
 }

@@ -2,7 +2,6 @@
 
 use crate::told::is;
 use pst_btree::*;
-use std::test::Fail;
 
 const BLOCKS: [BlockEntry; 3] = [
     BlockEntry {
@@ -40,7 +39,7 @@ const NODES: [NodeEntry; 2] = [
 // Bit 0 of an identifier of a block says nothing, in the entry and in what is asked ([MS-PST] 2.2.2.2).
 #[test]
 #[tactic(auto, unfolding(pst_page::specs::Entry::key_of))]
-fn blocks_that_were_gathered_are_found(rt: HostRuntime) -> Result<(), Fail> {
+fn blocks_that_were_gathered_are_found(rt: HostRuntime) {
     let list = BlockList::of(&BLOCKS);
     is(&rt, list.find(4), BLOCKS.first().copied());
     is(&rt, list.find(5), BLOCKS.first().copied());
@@ -50,11 +49,10 @@ fn blocks_that_were_gathered_are_found(rt: HostRuntime) -> Result<(), Fail> {
     is(&rt, list.find(6), None);
     is(&rt, list.find(14), None);
     is(&rt, BlockList::of(&[]).find(4), None);
-    Ok(())
 }
 
 #[test]
-fn nodes_that_were_gathered_are_found(rt: HostRuntime) -> Result<(), Fail> {
+fn nodes_that_were_gathered_are_found(rt: HostRuntime) {
     let list = NodeList::of(&NODES);
     is(&rt, list.find(0x21), NODES.first().copied());
     is(&rt, list.find(0x122), NODES.get(1).copied());
@@ -62,5 +60,4 @@ fn nodes_that_were_gathered_are_found(rt: HostRuntime) -> Result<(), Fail> {
     is(&rt, list.find(0x61), None);
     is(&rt, list.find(u32::MAX), None);
     is(&rt, list.entries(), &NODES);
-    Ok(())
 }

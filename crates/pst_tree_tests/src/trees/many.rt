@@ -4,55 +4,55 @@ use super::*;
 use crate::told::{holds_at, is, is_at};
 
 // The entries of empty blocks with the identifiers 4, 8, .. up to four times as many as these.
-fn empty_blocks(alloc: Global, count: u64) -> Result<Vec<[u64; 3]>, Fail> {
+fn empty_blocks<R: Abort>(rt: &R, alloc: Global, count: u64) -> Vec<[u64; 3]> {
     let mut entries = Vec::new(alloc);
     for n in 0..count {
-        entries.push(empty_block(n.saturating_mul(4).saturating_add(4)))?;
+        entries
+            .push(empty_block(n.saturating_mul(4).saturating_add(4)))
+            .expect(rt, MEMORY);
     }
-    Ok(entries)
+    entries
 }
 
 // Puts a level of pages, 20 entries a page, from a number on; and gives the entries of the level above.
-fn put_level(
+fn put_level<R: Abort>(
+    rt: &R,
     alloc: Global,
     image: &mut Vec<u8>,
     level: u8,
     entries: &[[u64; 3]],
     first: u64,
-) -> Result<Vec<[u64; 3]>, Fail> {
+) -> Vec<[u64; 3]> {
     let mut above = Vec::new(alloc);
     let mut number = first;
     for page in entries.chunks(20) {
-        let Some([key, _, _]) = page.first() else {
-            return Err(Fail::from("no entries"));
-        };
-        put_page(image, PageKind::Bbt, page_at(number), level, page)?;
-        above.push(branch(*key, number))?;
+        let [key, _, _] = page.first().copied().expect(rt, "no entries");
+        put_page(rt, image, PageKind::Bbt, page_at(number), level, page);
+        above.push(branch(key, number)).expect(rt, MEMORY);
         number = number.saturating_add(1);
     }
-    Ok(above)
+    above
 }
 
 // Puts a tree of these entries, all levels needed.
-fn put_tree(alloc: Global, image: &mut Vec<u8>, leaf: Vec<[u64; 3]>) -> Result<(), Fail> {
+fn put_tree<R: Abort>(rt: &R, alloc: Global, image: &mut Vec<u8>, leaf: Vec<[u64; 3]>) {
     let mut entries = leaf;
     let mut number = 0_u64;
     for level in 0..16 {
-        let above = put_level(alloc, image, level, &entries, number)?;
+        let above = put_level(rt, alloc, image, level, &entries, number);
         number = number.saturating_add(above.len() as u64);
         if above.len() == 1 {
             break;
         }
         entries = above;
     }
-    set_root(image, PageKind::Bbt, page_at(number.saturating_sub(1)))
+    set_root(rt, image, PageKind::Bbt, page_at(number.saturating_sub(1)));
 }
 
-fn many_blocks(alloc: Global, count: u64) -> Result<Vec<u8>, Fail> {
-    let mut image = m0(alloc)?;
-    let entries = empty_blocks(alloc, count)?;
-    put_tree(alloc, &mut image, entries)?;
-    Ok(image)
+fn many_blocks<R: Abort>(rt: &R, alloc: Global, count: u64) -> Vec<u8> {
+    let mut image = small(rt, alloc);
+    put_tree(rt, alloc, &mut image, empty_blocks(rt, alloc, count));
+    image
 }
 
 // The entry with a key, by a look at all of them: what a look-up means.
@@ -75,11 +75,9 @@ fn is_looked_up<R: Abort>(rt: &R, tree: &BlockTree, entries: &[BlockEntry], bid:
 
 // 401 entries take 21 leaves, 2 branches and a root.
 #[test]
-fn a_look_up_goes_down_one_path(rt: HostRuntime) -> Result<(), Fail> {
-    let bytes = many_blocks(rt.alloc(), 401)?;
-    let Ok((tree, entries)) = blocks_in(rt.alloc(), Image::new(&bytes)) else {
-        return Err(Fail::from("no blocks"));
-    };
+fn a_look_up_goes_down_one_path(rt: HostRuntime) {
+    let bytes = many_blocks(&rt, rt.alloc(), 401);
+    let (tree, entries) = blocks_in(rt.alloc(), Image::new(&bytes)).expect(&rt, "no blocks");
     is(
         &rt,
         (entries.len(), tree.pages(), tree.level()),
@@ -90,7 +88,6 @@ fn a_look_up_goes_down_one_path(rt: HostRuntime) -> Result<(), Fail> {
     }
     is(&rt, tree.find(1604), Some(LAST));
     is(&rt, tree.find_steps(u64::MAX).0, None);
-    Ok(())
 }
 
 const LAST: BlockEntry = BlockEntry {
@@ -100,33 +97,33 @@ const LAST: BlockEntry = BlockEntry {
 };
 
 // A branch over a branch over three leaves, of which the second has no entry. The high 32 bits of a key say nothing.
-fn uneven_nodes(alloc: Global) -> Result<Vec<u8>, Fail> {
-    let mut bytes = m0(alloc)?;
-    put_uneven(&mut bytes)?;
-    Ok(bytes)
+fn uneven_nodes<R: Abort>(rt: &R, alloc: Global) -> Vec<u8> {
+    let mut bytes = small(rt, alloc);
+    put_uneven(rt, &mut bytes);
+    bytes
 }
 
-fn put_uneven(bytes: &mut Vec<u8>) -> Result<(), Fail> {
+fn put_uneven<R: Abort>(rt: &R, bytes: &mut Vec<u8>) {
     let kind = PageKind::Nbt;
-    put_page(bytes, kind, page_at(0), 2, &[branch(0x21, 1)])?;
+    put_page(rt, bytes, kind, page_at(0), 2, &[branch(0x21, 1)]);
     let below = [branch(0x21, 2), branch(0x60, 3), branch(0x122, 4)];
-    put_page(bytes, kind, page_at(1), 1, &below)?;
+    put_page(rt, bytes, kind, page_at(1), 1, &below);
     let first = [[0x21, 4, 0, 0], [0x5_0000_0022, 8, 12, 0]];
-    put_page(bytes, kind, page_at(2), 0, &first)?;
+    put_page(rt, bytes, kind, page_at(2), 0, &first);
     let none: [[u64; 4]; 0] = [];
-    put_page(bytes, kind, page_at(3), 0, &none)?;
-    put_page(bytes, kind, page_at(4), 0, &[[0x122, 8, 0, 0x122]])?;
-    set_root(bytes, kind, page_at(0))
+    put_page(rt, bytes, kind, page_at(3), 0, &none);
+    put_page(rt, bytes, kind, page_at(4), 0, &[[0x122, 8, 0, 0x122]]);
+    set_root(rt, bytes, kind, page_at(0));
 }
 
 // The identifiers of the nodes in order, each of which is looked up.
-fn nids_of<R: Abort + AllocGlobal>(rt: &R, tree: &NodeTree) -> Result<Vec<u32>, Fail> {
+fn nids_of<R: Abort + AllocGlobal>(rt: &R, tree: &NodeTree) -> Vec<u32> {
     let mut nids = Vec::new(rt.alloc());
     for node in tree.nodes() {
         is(rt, tree.find(node.nid), Some(node));
-        nids.push(node.nid)?;
+        nids.push(node.nid).expect(rt, MEMORY);
     }
-    Ok(nids)
+    nids
 }
 
 const IN_THE_FIRST: NodeEntry = NodeEntry {
@@ -137,16 +134,13 @@ const IN_THE_FIRST: NodeEntry = NodeEntry {
 };
 
 #[test]
-fn nodes_come_in_order(rt: HostRuntime) -> Result<(), Fail> {
-    let bytes = uneven_nodes(rt.alloc())?;
-    let Ok((tree, entries)) = nodes_in(rt.alloc(), Image::new(&bytes)) else {
-        return Err(Fail::from("no nodes"));
-    };
+fn nodes_come_in_order(rt: HostRuntime) {
+    let bytes = uneven_nodes(&rt, rt.alloc());
+    let (tree, entries) = nodes_in(rt.alloc(), Image::new(&bytes)).expect(&rt, "no nodes");
     is(&rt, (tree.pages(), tree.level()), (5, 2));
-    let nids = nids_of(&rt, &tree)?;
+    let nids = nids_of(&rt, &tree);
     is(&rt, nids.as_slice(), [0x21, 0x22, 0x122].as_slice());
     is(&rt, entries.get(1).copied(), Some(IN_THE_FIRST));
     is(&rt, tree.find_steps(0x60).0, None);
     is(&rt, tree.find(0), None);
-    Ok(())
 }

@@ -8,7 +8,6 @@ use pst_make::Change::Set;
 use pst_tc::check_tc;
 use std::alloc::Global;
 use std::process::Abort;
-use std::test::Fail;
 
 // Nodes that have the same table of three rows, whose matrix is subnode 0x41, and lists of their own; and which of the lists meet
 // what the first one's table asks: that of 0x41 has another block as the matrix, with the same bytes, that of 0x61 has none, and that
@@ -20,8 +19,8 @@ const NODES: [(u32, u64, bool); 4] = [
     (0x81, 34, true),
 ];
 
-fn store(alloc: Global) -> Result<Vec<u8>, Fail> {
-    let table = changed(alloc, &TABLE, &[Set(20, &[5])])?;
+fn store<R: Abort>(rt: &R, alloc: Global) -> Vec<u8> {
+    let table = changed(rt, alloc, &TABLE, &[Set(20, &[5])]);
     let rows = [1, 0, 0, 0, 0, 2, 0, 0, 0, 0, 3, 0, 0, 0, 0];
     let (same, other) = (slblock(0x41, 8), slblock(0x41, 12));
     let (none, odd) = (slblock(0x61, 8), slblock(0x41, 9));
@@ -34,21 +33,21 @@ fn store(alloc: Global) -> Result<Vec<u8>, Fail> {
         (30, &none),
         (34, &odd),
     ];
-    let mut plan = plan_of(alloc, &[])?;
-    add_blocks(alloc, &mut plan, &blocks)?;
+    let mut plan = plan_of(rt, alloc, &[]);
+    add_blocks(rt, alloc, &mut plan, &blocks);
     for (nid, bid_sub, _) in NODES {
-        add_node(&mut plan, nid, 4, bid_sub)?;
+        add_node(rt, &mut plan, nid, 4, bid_sub);
     }
-    image_of(alloc, &plan)
+    image_of(rt, alloc, &plan)
 }
 
-pub(super) fn lists<R: Abort>(rt: &R, alloc: Global) -> Result<(), Fail> {
-    let image = store(alloc)?;
-    let Ok(tc) = check_tc(node_in(alloc, &image, 0x21)?) else {
-        return Err(Fail::from("no table"));
+pub(super) fn lists<R: Abort>(rt: &R, alloc: Global) {
+    let image = store(rt, alloc);
+    let Ok(tc) = check_tc(node_in(rt, alloc, &image, 0x21)) else {
+        rt.panic("no table");
     };
     let Ok(asks) = tc.asks(alloc) else {
-        return Err(Fail::from("no memory"));
+        rt.panic("no memory");
     };
     is(rt, asks.len(), 0);
     is(rt, asks.matrix(), Some((0x41, 8)));
@@ -56,8 +55,7 @@ pub(super) fn lists<R: Abort>(rt: &R, alloc: Global) -> Result<(), Fail> {
         holds_at(
             rt,
             nid,
-            asks.are_met(node_in(alloc, &image, nid)?) == are_met,
+            asks.are_met(node_in(rt, alloc, &image, nid)) == are_met,
         );
     }
-    Ok(())
 }

@@ -2,9 +2,9 @@ use Rattle.std.proofs.Common.{◌≡◌, ◌++◌, refl}
 use Rattle.std.specs.Prelude.{Option, option_map, codes}
 use Rattle.serde_json.specs.Data.{Data, Members, object, member, no_members}
 use Rattle.serde_json.specs.Written.{compact_text}
-use Rattle.pst_value_json.specs.Parts.{list_data}
+use Rattle.pst_value_json.specs.pst_text.Parts.{list_data}
 use Rattle.pst_value_json.specs.Places.{member_if}
-use Rattle.pst_value_json.specs.Value.{hex_data}
+use Rattle.pst_value_json.specs.pst_text.Text.{hex_data}
 use Rattle.pst_value_json.proofs.MemberLemmas.{first_marked, next_marked, if_member_put, closed}
 use Rattle.pst_damage_json.specs.Damage.{broken_data, whole_data, damage_data}
 use Rattle.pst_damage_json.specs.Faults.{fault_data, fault_or_null}

@@ -1,7 +1,7 @@
 use Rattle.std.proofs.Common.{refl}
 use Rattle.std.specs.Prelude.{codes}
 use Rattle.serde_json.specs.Data.{Members, member, no_members}
-use Rattle.pst_value_json.specs.Parts.{natural}
+use Rattle.pst_value_json.specs.pst_text.Parts.{natural}
 use Rattle.pst_value_json.proofs.MemberLemmas.{first_marked, next_marked, closed}
 use Rattle.pst_damage_json.specs.Damage.{whole_data}
 use Rattle.pst_damage_json.proofs.damage.put_whole.Goals as goal

@@ -2,8 +2,8 @@ use Rattle.std.proofs.Common.{refl}
 use Rattle.std.specs.Prelude.{codes}
 use Rattle.serde_json.specs.Data.{Data, Members, string, member, no_members}
 use Rattle.pst_fault.specs.Kind.{number_of, kind_text}
-use Rattle.pst_value_json.specs.Names.{nid_data}
-use Rattle.pst_value_json.specs.Parts.{natural}
+use Rattle.pst_value_json.specs.pst_text.Names.{nid_data}
+use Rattle.pst_value_json.specs.pst_text.Parts.{natural}
 use Rattle.pst_value_json.proofs.MemberLemmas.{first_marked, next_marked, closed}
 use Rattle.pst_damage_json.specs.Faults.{fault_data}
 use Rattle.pst_damage_json.proofs.faults.put_fault.Goals as goal

@@ -1,7 +1,7 @@
 use Rattle.std.proofs.Common.{refl}
 use Rattle.std.specs.Prelude.{codes}
 use Rattle.serde_json.specs.Data.{Members, member, no_members}
-use Rattle.pst_value_json.specs.Names.{nid_data}
+use Rattle.pst_value_json.specs.pst_text.Names.{nid_data}
 use Rattle.pst_value_json.proofs.MemberLemmas.{first_marked, next_marked, closed}
 use Rattle.pst_damage_json.specs.Damage.{broken_data}
 use Rattle.pst_damage_json.specs.Faults.{fault_data}

@@ -1,7 +1,7 @@
 use Rattle.std.proofs.Common.{◌≡◌, ◌++◌, map, drop}
 use Rattle.serde_json.specs.View.{items_of}
 use Rattle.serde_json.specs.Written.{compact_text, items_text}
-use Rattle.pst_value_json.specs.Parts.{list_data}
+use Rattle.pst_value_json.specs.pst_text.Parts.{list_data}
 use Rattle.pst_damage_json.specs.Damage.{broken_data}
 use Rattle.pst_damage_json.proofs.lists.put_nodes.Given as goal
 

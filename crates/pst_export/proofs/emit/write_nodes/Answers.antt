@@ -6,7 +6,7 @@ use Rattle.pst_json.specs.pst_whole.View.{lost_in}
 use Rattle.pst_tar.specs.Archive.{Member}
 use Rattle.pst_value_json.specs.Props.{names_told}
 use Rattle.pst_value_json.specs.pst_names.Name.{store_name}
-use Rattle.pst_verify.specs.pst_msg.declared.nid.TheConstants.{MESSAGE, ASSOCIATED}
+use Rattle.pst_verify.specs.pst_msg.pst_mail.declared.nid.TheConstants.{MESSAGE, ASSOCIATED}
 use Rattle.pst_verify.specs.pst_msg.Values.{is_folder}
 use Rattle.pst_verify.specs.pst_store.Kind.{of_kind}
 use Rattle.pst_export.specs.Store.{folder_files, front_files, messages_files, of_type}

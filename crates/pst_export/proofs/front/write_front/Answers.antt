@@ -6,7 +6,7 @@ use Rattle.pst_json.specs.Folders.{folders_line}
 use Rattle.pst_json.specs.Messages.{messages_text}
 use Rattle.pst_json.specs.Node.{props_line}
 use Rattle.pst_tar.specs.Archive.{Member}
-use Rattle.pst_verify.specs.pst_msg.declared.nid.TheConstants.{STORE}
+use Rattle.pst_verify.specs.pst_msg.pst_mail.declared.nid.TheConstants.{STORE}
 use Rattle.pst_export.specs.Store.{file_of, store_file}
 use Rattle.pst_export.proofs.WriteLemmas.{adds_two, front_first, front_second, front_whole}
 use Rattle.pst_export.proofs.front.write_front.Goals as goal

@@ -2,7 +2,7 @@ use Rattle.std.proofs.Common.{List, [], ◌∷◌, codes}
 use Rattle.std.specs.Prelude.{false}
 use Rattle.pst_ndb.specs.Views.{table_of_node, roots_of}
 use Rattle.pst_tar.specs.Archive.{Member}
-use Rattle.pst_value_json.specs.Line.{line_of}
+use Rattle.pst_value_json.specs.pst_text.Line.{line_of}
 use Rattle.pst_value_json.specs.Props.{names_told}
 use Rattle.std.specs.Prelude.{None}
 use Rattle.pst_value_json.specs.declared.filed.Filed.TheVariants.{Attachment}

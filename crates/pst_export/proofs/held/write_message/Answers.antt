@@ -2,7 +2,7 @@ use Rattle.std.proofs.Common.{List, [], ◌∷◌, codes}
 use Rattle.std.specs.Prelude.{true, false}
 use Rattle.pst_ndb.specs.Views.{table_of_node, nid_of, roots_of}
 use Rattle.pst_tar.specs.Archive.{Member}
-use Rattle.pst_value_json.specs.Line.{line_of}
+use Rattle.pst_value_json.specs.pst_text.Line.{line_of}
 use Rattle.pst_value_json.specs.Props.{names_told}
 use Rattle.pst_value_json.specs.declared.filed.TheConstants.{HEADERS, BODY, HTML, RTF}
 use Rattle.pst_value_json.specs.Filed.{message_file}

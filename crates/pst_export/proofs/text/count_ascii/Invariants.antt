@@ -1,5 +1,5 @@
 use Rattle.std.proofs.Common.{◌≡◌, ◌++◌, ◌+◌, ◌*◌, ◌-◌, ◌≤◌, ℕ, List, length, drop}
-use Rattle.pst_value_json.specs.Value.{utf8_of}
+use Rattle.pst_value_json.specs.pst_text.Text.{utf8_of}
 use Rattle.pst_export.proofs.text.count_ascii.Given as goal
 
 -- so many units of ASCII were gone over

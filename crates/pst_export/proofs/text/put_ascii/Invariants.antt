@@ -1,6 +1,6 @@
 use Rattle.std.proofs.Common.{◌≡◌, ◌++◌, ◌+◌, ◌-◌, ◌/◌, ◌≤◌, ℕ, List, length, drop}
 use Rattle.std.specs.Prelude.{vec_len, vec_capacity}
-use Rattle.pst_value_json.specs.Value.{utf8_of}
+use Rattle.pst_value_json.specs.pst_text.Text.{utf8_of}
 use Rattle.pst_export.proofs.text.put_ascii.Given as goal
 
 -- what stands there, with what is left, is all, and there is room for what is left

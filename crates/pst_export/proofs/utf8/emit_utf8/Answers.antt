@@ -5,7 +5,7 @@ use Rattle.pst_json.specs.Output.{AppendsFront}
 use Rattle.pst_json.proofs.OutputLemmas.{front_of_all}
 use Rattle.pst_value.specs.Units.{units_of}
 use Rattle.pst_value_json.specs.pst_datatree.Shown.{bytes_in}
-use Rattle.pst_value_json.specs.Value.{utf8_of}
+use Rattle.pst_value_json.specs.pst_text.Text.{utf8_of}
 use Rattle.pst_export.specs.Text.{text_bytes, text_utf8}
 use Rattle.pst_export.proofs.TextLemmas.{gathered_char, gathered_end, gathered_first, gathered_front, gathered_last, gathered_moved, gathered_still}
 use Rattle.pst_export.proofs.utf8.emit_utf8.Goals as goal

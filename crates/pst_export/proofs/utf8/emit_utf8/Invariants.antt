@@ -1,7 +1,7 @@
 use Rattle.std.proofs.Common.{◌++◌, length}
 use Rattle.pst_json.proofs.OutputLemmas.{Written}
 use Rattle.pst_value_json.specs.pst_datatree.Shown.{bytes_in}
-use Rattle.pst_value_json.specs.Value.{utf8_of}
+use Rattle.pst_value_json.specs.pst_text.Text.{utf8_of}
 use Rattle.pst_export.specs.Text.{text_bytes, text_utf8}
 use Rattle.pst_export.proofs.utf8.emit_utf8.Given as goal
 

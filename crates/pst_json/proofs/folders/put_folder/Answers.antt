@@ -6,14 +6,14 @@ use Rattle.pst_ndb.specs.NodeTable.{table_of_nodes, entries_of_nodes}
 use Rattle.pst_ndb.specs.Views.{top_of}
 use Rattle.pst_intact.specs.View.{intact_beside, intact_node, intact_roots}
 use Rattle.pst_whole.specs.View.{lost_in}
-use Rattle.pst_value_json.specs.Names.{nid_data}
+use Rattle.pst_value_json.specs.pst_text.Names.{nid_data}
 use Rattle.pst_value_json.proofs.MemberLemmas.{first_marked, next_marked, closed}
-use Rattle.pst_verify.specs.pst_msg.declared.items.Items.TheVariants.{Subfolders, Messages, Associated}
+use Rattle.pst_verify.specs.pst_msg.pst_mail.declared.items.Items.TheVariants.{Subfolders, Messages, Associated}
 use Rattle.pst_verify.specs.pst_msg.Shown.{folder_table}
 use Rattle.pst_verify.specs.pst_reach.Path.{path_in}
 use Rattle.pst_json.specs.declared.texts.TheConstants.{NAME}
 use Rattle.pst_json.specs.Folders.{path_data, text_property, table_told, count_data, nids_data, folder_data}
-use Rattle.pst_value_json.proofs.KeptLemmas.{kept_here, kept_more, kept_still, kept_through, kept_so}
+use Rattle.pst_value_json.proofs.pst_text.KeptLemmas.{kept_here, kept_more, kept_still, kept_through, kept_so}
 use Rattle.pst_json.proofs.folders.put_folder.Goals as goal
 
 pub returns-clause-put : goal.returns-clause-put

@@ -2,7 +2,7 @@ use Rattle.std.proofs.Common.{rules, ◌≡◌, true, ap, ◌∙◌}
 use Rattle.pst_ndb.specs.NodeTable.{table_of_nodes}
 use Rattle.pst_ndb.specs.Views.{table_of_node}
 use Rattle.pst_intact.specs.View.{table_of_intact, nodes_of_intact}
-use Rattle.pst_verify.specs.pst_msg.declared.nid.TheConstants.{MESSAGE}
+use Rattle.pst_verify.specs.pst_msg.pst_mail.declared.nid.TheConstants.{MESSAGE}
 use Rattle.pst_verify.specs.pst_msg.Nid.{is_type}
 use Rattle.pst_verify.specs.pst_msg.View.{node_of_message, message_roots}
 use Rattle.pst_json.specs.Listings.{folders_at}

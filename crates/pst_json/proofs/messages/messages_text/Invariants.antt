@@ -1,7 +1,7 @@
 use Rattle.std.proofs.Common.{◌≡◌, ◌++◌}
 use Rattle.pst_ndb.specs.NodeTable.{table_of_nodes}
 use Rattle.pst_intact.specs.View.{table_of_intact, nodes_of_intact, intact_messages_left, messages_beside}
-use Rattle.pst_json.specs.LastIndex.{IsLastIndex}
+use Rattle.pst_props.specs.LastIndex.{IsLastIndex}
 use Rattle.pst_json.specs.Messages.{messages_text, summary_lines}
 use Rattle.pst_json.specs.RowCounts.{AreCountsTrue}
 use Rattle.pst_json.proofs.messages.messages_text.Given as goal

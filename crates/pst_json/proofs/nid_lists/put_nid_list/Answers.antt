@@ -1,6 +1,6 @@
-use Rattle.std.proofs.Common.{rules, arith}
+use Rattle.std.proofs.Common.{arith}
 use Rattle.std.proofs.lemmas.Grind.{common_steps}
-use Rattle.pst_value_json.proofs.KeptLemmas.{kept_more, kept_still, kept_through, kept_so}
+use Rattle.pst_value_json.proofs.pst_text.KeptLemmas.{kept_more, kept_still, kept_through, kept_so}
 use Rattle.pst_json.proofs.nid_lists.put_nid_list.Goals as goal
 
 pub loop-nid-preserved : goal.loop-nid-preserved

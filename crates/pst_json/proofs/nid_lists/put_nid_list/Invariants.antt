@@ -1,9 +1,9 @@
 use Rattle.std.proofs.Common.{◌≡◌, ◌++◌, map, drop}
 use Rattle.serde_json.specs.View.{items_of}
 use Rattle.serde_json.specs.Written.{compact_text, items_text}
-use Rattle.pst_value_json.specs.Kept.{BeginsWith}
-use Rattle.pst_value_json.specs.Names.{nid_data}
-use Rattle.pst_value_json.specs.Parts.{list_data}
+use Rattle.pst_value_json.specs.pst_text.Kept.{BeginsWith}
+use Rattle.pst_value_json.specs.pst_text.Names.{nid_data}
+use Rattle.pst_value_json.specs.pst_text.Parts.{list_data}
 use Rattle.pst_json.proofs.nid_lists.put_nid_list.Given as goal
 
 -- what stands there, and the identifiers that are left, are all

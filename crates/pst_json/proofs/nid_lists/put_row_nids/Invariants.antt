@@ -2,8 +2,8 @@ use Rattle.std.proofs.Common.{◌≡◌, ◌++◌, map}
 use Rattle.serde_json.specs.View.{items_of}
 use Rattle.serde_json.specs.Written.{compact_text, items_text}
 use Rattle.pst_ndb.specs.Views.{table_of_node, roots_of}
-use Rattle.pst_value_json.specs.Kept.{BeginsWith}
-use Rattle.pst_value_json.specs.Parts.{list_data}
+use Rattle.pst_value_json.specs.pst_text.Kept.{BeginsWith}
+use Rattle.pst_value_json.specs.pst_text.Parts.{list_data}
 use Rattle.pst_value_json.specs.pst_tc.Left.{tc_left, tc_rows_left}
 use Rattle.pst_value_json.specs.pst_tc.Tc.{node_of_tc}
 use Rattle.pst_value_json.specs.pst_tc.Values.{tc_rows}

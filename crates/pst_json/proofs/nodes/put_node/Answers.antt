@@ -1,11 +1,11 @@
 use Rattle.std.proofs.Common.{refl}
 use Rattle.std.specs.Prelude.{codes}
 use Rattle.serde_json.specs.Data.{Members, member, no_members}
-use Rattle.pst_value_json.specs.Names.{nid_data}
-use Rattle.pst_value_json.specs.Parts.{natural}
+use Rattle.pst_value_json.specs.pst_text.Names.{nid_data}
+use Rattle.pst_value_json.specs.pst_text.Parts.{natural}
 use Rattle.pst_value_json.proofs.MemberLemmas.{first_marked, next_marked, closed}
 use Rattle.pst_json.specs.Nodes.{node_data}
-use Rattle.pst_value_json.proofs.KeptLemmas.{kept_here, kept_more, kept_still, kept_through, kept_so}
+use Rattle.pst_value_json.proofs.pst_text.KeptLemmas.{kept_here, kept_more, kept_still, kept_through, kept_so}
 use Rattle.pst_json.proofs.nodes.put_node.Goals as goal
 
 pub returns-clause-put : goal.returns-clause-put

@@ -3,7 +3,7 @@ use Rattle.std.proofs.lemmas.Result.{err_from_is_err_and}
 use Rattle.pst_fault.proofs.EachLemmas.{each_refused, each_next, each_done}
 use Rattle.pst_ndb.specs.Roots.{Roots}
 use Rattle.pst_ndb.specs.Views.{roots_of, table_of_ndb, nodes_of}
-use Rattle.pst_msg.specs.Fault.{typed_node_fault}
+use Rattle.pst_mail.specs.Fault.{typed_node_fault}
 use Rattle.pst_msg.specs.Growth.{NodeIn}
 use Rattle.pst_msg.proofs.GrowLemmas.{nodes_grow, within_here, within_later, node_later, step_of, done_of}
 use Rattle.pst_msg.proofs.check.check_nodes.Goals as goal

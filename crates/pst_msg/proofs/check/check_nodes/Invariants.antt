@@ -5,7 +5,7 @@ use Rattle.pst_msg.specs.Growth.{NodeIn, Grows}
 use Rattle.pst_ndb.specs.Views.{table_of_ndb, nodes_of, table_left, roots_left}
 use Rattle.pst_fault.specs.Each.{first_of}
 use Rattle.pst_msg.specs.Known.{ListingsAreTrue, IsTrueOf}
-use Rattle.pst_msg.specs.Fault.{typed_node_fault}
+use Rattle.pst_mail.specs.Fault.{typed_node_fault}
 use Rattle.pst_msg.proofs.check.check_nodes.Given as goal
 
 -- the first fault of the nodes that are left is that of all, and they are of the same blocks

@@ -3,7 +3,8 @@ use Rattle.pst_msg.specs.declared.known.Known.{Known}
 use Rattle.pst_msg.specs.Keys.{key}
 use Rattle.pst_msg.specs.Known.{IsTrueOf}
 use Rattle.pst_msg.specs.Roles.{role_number}
-use Rattle.pst_msg.proofs.KnownLemmas.{OneMore, context_remembered, aids_turned}
+use Rattle.pst_msg.proofs.AidLemmas.{aids_turned}
+use Rattle.pst_msg.proofs.KnownLemmas.{OneMore, context_remembered}
 use Rattle.pst_msg.proofs.context.once.Goals as goal
 
 pub returns-in_err-check_anew-clause-known : goal.returns-in_err-check_anew-clause-known

@@ -1,7 +1,7 @@
 use Rattle.std.proofs.Common.{refl}
 use Rattle.std.proofs.lemmas.Result.{err_from_is_err_and}
 use Rattle.pst_ndb.specs.Views.{nodes_of}
-use Rattle.pst_msg.specs.Fault.{listed_item_fault}
+use Rattle.pst_mail.specs.Fault.{listed_item_fault}
 use Rattle.pst_fault.proofs.EachLemmas.{each_refused, each_next, each_done}
 use Rattle.pst_msg.proofs.folder.check_items.Goals as goal
 

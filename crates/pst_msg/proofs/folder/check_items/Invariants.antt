@@ -4,7 +4,7 @@ use Rattle.pst_fault.specs.Each.{first_of}
 use Rattle.pst_tc.specs.Values.{tc_rows}
 use Rattle.pst_tc.specs.Tc.{node_of_tc}
 use Rattle.pst_tc.specs.Left.{tc_rows_left}
-use Rattle.pst_msg.specs.Fault.{listed_item_fault}
+use Rattle.pst_mail.specs.Fault.{listed_item_fault}
 use Rattle.pst_msg.proofs.folder.check_items.Given as goal
 
 -- the first fault of the rows that are left is that of all

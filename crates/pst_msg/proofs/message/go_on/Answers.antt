@@ -46,7 +46,7 @@ returns-in-Ok-Some-clause-grows c =
     let t = table_of_node c.args.frame.now.node in
     let before = c.loop-row.invariant in
     let same = ap (λ (x : Frame). x.node) before.only in
-    let row = row_of_frame t c.loop-row.known f c.next.new.self (row_parts c.in-Some.row) c.in-Some.ensures.steps.0 before.frame in
+    let row = row_of_frame t c.loop-row.known f c.next.new.self (row_parts c.in-Some.row) c.in-Some.ensures.some before.frame in
     let turned = grown t _ _ _ _ before.grows (rw before.frame.table at c.turn_to.ensures.grows) in
     row_of_message t (roots_of c.args.frame.now.node) (row_parts c.in-Some.row) _ _ _ (rw same at row) turned (rw same at c.open_row.ensures.grows)
 
@@ -60,14 +60,14 @@ returns-in-Ok-Some-clause-open c =
     let holder = ap (λ (x : Frame). x.holder) before.only in
     let opened = rw c.in-Ok-Some.field-0-is at c.in-Ok-Some.ensures.open in
     let turned = frame_later t _ c.loop-row.known c.turn_to.new.known _ _ f (rw before.frame.table at c.turn_to.ensures.grows) before.frame in
-    frame_opened t _ c.turn_to.new.known c.open_row.new.known c.args.frame.now f c.next.new.self (row_parts c.in-Some.row) c.in-Ok-Some.above (rw before.frame.table at c.open_row.ensures.grows) turned c.in-Some.ensures.steps.0 (rw before.frame.table at opened) roots limit holder before.steps
+    frame_opened t _ c.turn_to.new.known c.open_row.new.known c.args.frame.now f c.next.new.self (row_parts c.in-Some.row) c.in-Ok-Some.above (rw before.frame.table at c.open_row.ensures.grows) turned c.in-Some.ensures.some (rw before.frame.table at opened) roots limit holder before.steps
 
 pub loop-row-preserved : goal.loop-row-preserved
 loop-row-preserved c =
     let f = c.loop-row.frame in
     let t = table_of_node c.args.frame.now.node in
     let before = c.loop-row.invariant in
-    let rows = c.in-Some.ensures.steps.0 in
+    let rows = c.in-Some.ensures.some in
     let same = ap (λ (x : Frame). x.node) before.only in
     let row = row_of_frame t c.loop-row.known f c.next.new.self (row_parts c.in-Some.row) rows before.frame in
     let done = rw c.in-Ok-None.field-0-is at c.in-Ok-None.ensures.done in
@@ -90,7 +90,7 @@ refuse_all-requires-clause-first c =
     let f = c.loop-row.frame in
     let t = table_of_node c.args.frame.now.node in
     let before = c.loop-row.invariant in
-    let refused = frame_refused t c.loop-row.known f c.next.new.self (row_parts c.in-Some.row) c.in-Err.fault before.known before.frame c.in-Some.ensures.steps.0 (rw before.frame.table at c.in-Err.ensures.refused) in
+    let refused = frame_refused t c.loop-row.known f c.next.new.self (row_parts c.in-Some.row) c.in-Err.fault before.known before.frame c.in-Some.ensures.some (rw before.frame.table at c.in-Err.ensures.refused) in
     rw before.frame.table (broken_held t c.loop-row.known f c.in-Err.fault before.known before.frame refused)
 
 pub refuse_all-requires-clause-stack : goal.refuse_all-requires-clause-stack
@@ -100,7 +100,7 @@ refuse_all-requires-clause-stack c =
     let before = c.loop-row.invariant in
     let same = ap (λ (x : Frame). x.node) before.only in
     let limit = ap (λ (x : Frame). x.limit) before.only in
-    let refused = frame_refused t c.loop-row.known f c.next.new.self (row_parts c.in-Some.row) c.in-Err.fault before.known before.frame c.in-Some.ensures.steps.0 (rw before.frame.table at c.in-Err.ensures.refused) in
+    let refused = frame_refused t c.loop-row.known f c.next.new.self (row_parts c.in-Some.row) c.in-Err.fault before.known before.frame c.in-Some.ensures.some (rw before.frame.table at c.in-Err.ensures.refused) in
     rw before.frame.table (c.requires.stack c.in-Err.fault (rw (same, limit) at refused))
 
 pub returns-in-Err-clause-grows : goal.returns-in-Err-clause-grows
@@ -109,7 +109,7 @@ returns-in-Err-clause-grows c =
     let t = table_of_node c.args.frame.now.node in
     let before = c.loop-row.invariant in
     let same = ap (λ (x : Frame). x.node) before.only in
-    let row = row_of_frame t c.loop-row.known f c.next.new.self (row_parts c.in-Some.row) c.in-Some.ensures.steps.0 before.frame in
+    let row = row_of_frame t c.loop-row.known f c.next.new.self (row_parts c.in-Some.row) c.in-Some.ensures.some before.frame in
     let turned = grown t _ _ _ _ before.grows (rw before.frame.table at c.turn_to.ensures.grows) in
     let opened = row_of_message t (roots_of c.args.frame.now.node) (row_parts c.in-Some.row) _ _ _ (rw same at row) turned (rw same at c.open_row.ensures.grows) in
     grown t _ _ _ _ opened (rw before.frame.table at c.refuse_all.ensures.grows)
@@ -121,7 +121,7 @@ returns-in-Err-clause-refused c =
     let before = c.loop-row.invariant in
     let same = ap (λ (x : Frame). x.node) before.only in
     let limit = ap (λ (x : Frame). x.limit) before.only in
-    let refused = frame_refused t c.loop-row.known f c.next.new.self (row_parts c.in-Some.row) c.in-Err.fault before.known before.frame c.in-Some.ensures.steps.0 (rw before.frame.table at c.in-Err.ensures.refused) in
+    let refused = frame_refused t c.loop-row.known f c.next.new.self (row_parts c.in-Some.row) c.in-Err.fault before.known before.frame c.in-Some.ensures.some (rw before.frame.table at c.in-Err.ensures.refused) in
     c.refuse_all.ensures.same _ (rw (same, limit) at refused)
 
 -- ---- no row is left
@@ -129,7 +129,7 @@ returns-in-Err-clause-refused c =
 pub finish-requires-clause-frame : goal.finish-requires-clause-frame
 finish-requires-clause-frame c =
     let before = c.loop-row.invariant in
-    let left = c.in_default.ensures.steps.0 in
+    let left = c.in_default.ensures.none in
     rw before.frame.table (frame_same (table_of_node c.args.frame.now.node) c.loop-row.known c.loop-row.frame c.next.new.self (left.1 ∙ sym left.0) before.frame)
 
 pub returns-in_err-finish-clause-grows : goal.returns-in_err-finish-clause-grows

@@ -1,5 +1,5 @@
 use Rattle.pst_ndb.specs.Views.{table_of_node}
-use Rattle.pst_msg.proofs.KnownLemmas.{indexes_turned}
+use Rattle.pst_msg.proofs.AidLemmas.{indexes_turned}
 use Rattle.pst_msg.proofs.message.turn_to.Goals as goal
 
 pub returns-clause-known : goal.returns-clause-known

@@ -1,11 +1,11 @@
 use Rattle.std.proofs.Common.{◌-◌, Some, arith}
 use Rattle.pst_fault.specs.First.{IsFirst}
 use Rattle.pst_ndb.specs.Views.{table_of_node, roots_of}
-use Rattle.pst_msg.specs.Fault.{embedded_fault, message_at, below_attachment}
+use Rattle.pst_mail.specs.Fault.{embedded_fault, message_at, below_attachment}
 use Rattle.pst_msg.specs.Frames.{IsOpened, IsObjectOpened}
 use Rattle.pst_msg.proofs.OpenLemmas.{err_map, some_map, object_refused, object_opened}
 use Rattle.pst_msg.proofs.GrowLemmas.{object_grows}
-use Rattle.pst_msg.proofs.SubnodeLemmas.{found_limit, found_sound}
+use Rattle.pst_mail.proofs.SubnodeLemmas.{found_limit, found_sound}
 use Rattle.pst_msg.proofs.open.open_embedded.Goals as goal
 
 pub overflow_sub-limit : goal.overflow_sub-limit

@@ -2,12 +2,12 @@ use Rattle.std.proofs.Common.{refl, ◌-◌, arith}
 use Rattle.pst_fault.specs.First.{IsFirst}
 use Rattle.pst_ndb.specs.Views.{table_of_node, roots_of}
 use Rattle.pst_tc.specs.View.{row_parts}
-use Rattle.pst_msg.specs.Fault.{attachment_row_fault, below_message, attachment_at}
+use Rattle.pst_mail.specs.Fault.{attachment_row_fault, below_message, attachment_at}
 use Rattle.pst_msg.specs.Frames.{IsAttachmentOpened, IsRowKnown, IsRowOpened}
 use Rattle.pst_msg.specs.Known.{WholeIn}
 use Rattle.pst_msg.proofs.OpenLemmas.{err_map, none_map, some_map, row_refused, row_known, row_opened}
 use Rattle.pst_msg.proofs.GrowLemmas.{row_grows}
-use Rattle.pst_msg.proofs.SubnodeLemmas.{found_limit, found_sound}
+use Rattle.pst_mail.proofs.SubnodeLemmas.{found_limit, found_sound}
 use Rattle.pst_msg.proofs.open.open_row.Goals as goal
 
 pub overflow_sub-limit : goal.overflow_sub-limit

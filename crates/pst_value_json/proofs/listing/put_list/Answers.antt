@@ -1,5 +1,5 @@
 use Rattle.std.proofs.Common.{rules}
-use Rattle.pst_value_json.proofs.KeptLemmas.{kept_still, kept_through, kept_so}
+use Rattle.pst_text.proofs.KeptLemmas.{kept_still, kept_through, kept_so}
 use Rattle.pst_value_json.proofs.listing.put_list.Goals as goal
 
 pub loop-rows-preserved : goal.loop-rows-preserved

@@ -1,7 +1,7 @@
 use Rattle.std.proofs.Common.{◌≡◌, ◌++◌, false, length}
 use Rattle.serde_json.specs.View.{items_of}
 use Rattle.serde_json.specs.Written.{items_text}
-use Rattle.pst_value_json.specs.Kept.{BeginsWith}
+use Rattle.pst_text.specs.Kept.{BeginsWith}
 use Rattle.pst_value_json.proofs.listing.put_list.Given as goal
 
 -- what stands there, and the rows that are left, are all

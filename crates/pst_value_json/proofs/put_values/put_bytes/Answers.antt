@@ -1,4 +1,4 @@
-use Rattle.pst_value_json.proofs.KeptLemmas.{kept_here, kept_through, kept_so}
+use Rattle.pst_text.proofs.KeptLemmas.{kept_here, kept_through, kept_so}
 use Rattle.pst_value_json.proofs.put_values.put_bytes.Goals as goal
 
 pub returns-in_err-put_pieces-in-Pieces-clause-kept : goal.returns-in_err-put_pieces-in-Pieces-clause-kept

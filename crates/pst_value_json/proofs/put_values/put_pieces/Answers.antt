@@ -1,6 +1,6 @@
 use Rattle.pst_datatree.specs.Left.{slices_left}
-use Rattle.pst_value_json.proofs.HexLemmas.{pieces_on, pieces_end}
-use Rattle.pst_value_json.proofs.KeptLemmas.{kept_more, kept_through, kept_so}
+use Rattle.pst_text.proofs.HexLemmas.{pieces_on, pieces_end}
+use Rattle.pst_text.proofs.KeptLemmas.{kept_more, kept_through, kept_so}
 use Rattle.pst_value_json.proofs.put_values.put_pieces.Goals as goal
 
 pub loop-piece-preserved : goal.loop-piece-preserved

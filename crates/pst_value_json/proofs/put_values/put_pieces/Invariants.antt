@@ -3,7 +3,7 @@ use Rattle.std.specs.List.{concat}
 use Rattle.hex.specs.Hex.{encode_lower}
 use Rattle.json.specs.Print.{escape}
 use Rattle.pst_datatree.specs.Left.{slices_left}
-use Rattle.pst_value_json.specs.Kept.{BeginsWith}
+use Rattle.pst_text.specs.Kept.{BeginsWith}
 use Rattle.pst_value_json.proofs.put_values.put_pieces.Given as goal
 
 -- the text so far, with that of what is left

@@ -2,7 +2,7 @@ use Rattle.std.specs.Prelude.{string_bytes}
 use Rattle.hex.specs.Hex.{encode_lower}
 use Rattle.std.specs.List.{concat}
 use Rattle.pst_datatree.specs.Left.{slices_left}
-use Rattle.pst_value_json.proofs.HexLemmas.{hex_ends}
+use Rattle.pst_text.proofs.HexLemmas.{hex_ends}
 use Rattle.pst_value_json.proofs.scalar.hex_of_pieces.Goals as goal
 
 pub returns : goal.returns

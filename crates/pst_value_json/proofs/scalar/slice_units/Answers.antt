@@ -1,5 +1,5 @@
 use Rattle.std.proofs.Common.{arith}
-use Rattle.pst_value_json.proofs.UnitLemmas.{unit_read, units_read}
+use Rattle.pst_text.proofs.UnitLemmas.{unit_read, units_read}
 use Rattle.pst_value_json.proofs.scalar.slice_units.Goals as goal
 
 pub loop-at-preserved : goal.loop-at-preserved

@@ -1,6 +1,6 @@
 use Rattle.std.proofs.Common.{arith}
 use Rattle.pst_value_json.proofs.PartLemmas.{part_next}
-use Rattle.pst_value_json.proofs.KeptLemmas.{kept_more, kept_still, kept_through, kept_so}
+use Rattle.pst_text.proofs.KeptLemmas.{kept_more, kept_still, kept_through, kept_so}
 use Rattle.pst_value_json.proofs.sinks.put_parts.Goals as goal
 
 pub loop-part-preserved : goal.loop-part-preserved

@@ -2,7 +2,7 @@ use Rattle.std.proofs.Common.{◌≡◌, ◌++◌, false}
 use Rattle.std.specs.Vec.Iter.{into_iter_items}
 use Rattle.serde_json.specs.Written.{members_text}
 use Rattle.pst_value_json.specs.Object.{members_of_parts}
-use Rattle.pst_value_json.specs.Kept.{BeginsWith}
+use Rattle.pst_text.specs.Kept.{BeginsWith}
 use Rattle.pst_value_json.proofs.sinks.put_parts.Given as goal
 
 -- what stands there, and the parts that are left, are all

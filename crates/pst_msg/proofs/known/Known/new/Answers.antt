@@ -1,8 +1,8 @@
 use Rattle.std.proofs.Common.{rules}
 use Rattle.pst_fault.specs.Fault.{at_node}
-use Rattle.pst_msg.specs.Broken.{context_part, held_part}
+use Rattle.pst_msg.specs.Broken.{context_part, held_part, retold}
 use Rattle.pst_msg.proofs.KnownLemmas.{nothing_known}
 use Rattle.pst_msg.proofs.known.Known.new.Goals as goal
 
 pub returns-clause-known : goal.returns-clause-known
-returns-clause-known c = λ t. nothing_known t _ (search rules) (search rules) (search rules) (search rules) (search rules) (c.new-5.ensures t) (search rules) (search rules) (c.new-8.ensures at_node (context_part t)) (c.new-9.ensures at_node (held_part t))
+returns-clause-known c = λ t. nothing_known t _ (search rules) (search rules) (search rules) (search rules) (search rules) (c.new-5.ensures t) (search rules) (search rules) (search rules) (c.new-9.ensures at_node (context_part t)) (c.new-10.ensures retold (held_part t))

@@ -8,7 +8,7 @@ use Rattle.pst_reach.specs.Reach.{folder_ids}
 use Rattle.pst_reach.specs.Search.{AreTaken, IsWithin, IsLevel}
 use Rattle.pst_reach.proofs.CountLaws.{all_walked, all_walked_at_last}
 use Rattle.pst_reach.proofs.LoopLemmas.{no_length, all_to_go, all_rise, one_less, rise_on, stop_here, nothing_below, counted_deeper, counted_in_all, at_last}
-use Rattle.pst_store.specs.pst_msg.declared.nid.TheConstants.{ROOT}
+use Rattle.pst_store.specs.pst_msg.pst_mail.declared.nid.TheConstants.{ROOT}
 use Rattle.pst_reach.proofs.StoreLemmas.{all_named, ids_rise, folder_among}
 use Rattle.pst_reach.proofs.search.Search.take_levels.Goals as goal
 

@@ -13,4 +13,4 @@ returns-clause-put c =
     let taken = c.in-Some.ensures.steps in
     let shown = filed_prop_data rows.filed (names_told rows.names prop.id) (if_asked rows.places (places_in prop.value)) (property_of prop) in
     row_put c.args.later shown _ _ _ _ _ (record_next (names_told rows.names) rows.filed rows.places rows.props c.next.new.self prop taken.1 taken.2)
-    c.in_ok-put_comma.ensures.put c.in_ok-put_shown.ensures.put
+    c.in_ok-put_comma.ensures.put c.in_ok-write_shown.ensures.put

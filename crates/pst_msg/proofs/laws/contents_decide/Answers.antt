@@ -1,5 +1,0 @@
-use Rattle.pst_msg.proofs.ContentsLaws.{contents_law}
-use Rattle.pst_msg.proofs.laws.contents_decide.Goals as goal
-
-pub returns : goal.returns
-returns c = contents_law

@@ -1,5 +1,0 @@
-use Rattle.pst_msg.proofs.AlikeLemmas.{alike_law}
-use Rattle.pst_msg.proofs.laws.messages_are_of_keys.Goals as goal
-
-pub returns : goal.returns
-returns c = alike_law

@@ -1,0 +1,6 @@
+pub mod AttachmentLemmas
+pub mod FoundLemmas
+pub mod IndexLemmas
+pub mod NameLemmas
+pub mod PathLemmas
+pub mod PropertyLemmas

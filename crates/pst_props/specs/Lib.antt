@@ -1,0 +1,10 @@
+pub mod Told
+pub mod LastIndex
+pub mod NamesIndex
+pub mod Path
+pub mod Node
+pub mod Found
+pub mod Property
+pub mod Lists
+pub use Rattle.pst_verify.specs as pst_verify
+pub use Rattle.pst_whole.specs as pst_whole

@@ -1,0 +1,158 @@
+//! The indexes of nodes that are gone through one after another: of the list of subnodes and of the data that were asked last.
+
+ghost use Rattle.std.specs.Prelude.{◌≡◌, IfOk};
+ghost use Rattle.pst_ndb.specs.Views.{IsIndexedBy, IsSpanIndexedBy};
+
+use pst_datatree::is_internal;
+use pst_ndb::{Node, SpanIndex, SubIndex};
+use pst_page::PageKind;
+use std::alloc::{AllocError, Global};
+
+// So many subnodes are looked up in a list, one after another, without an index of it.
+const OFTEN: u64 = 24;
+
+/// How many subnodes the properties of a node may be: no more than its data has records of 8 bytes.
+pub fn most_values(node: Node) -> u64 {
+    node.spans().size() / 8
+}
+
+// An index of the subnodes of a node.
+fn index_of(alloc: Global, node: Node) -> Result<SubIndex, AllocError>
+    ensures { IfOk result (IsIndexedBy node.entry) }
+{
+    match node.index(alloc) {
+        Ok(index) => Ok(index),
+        Err(_) => Err(AllocError),
+    }
+}
+
+// An index of the spans of a node's data.
+fn span_index_of(alloc: Global, node: Node) -> Result<SpanIndex, AllocError>
+    ensures { IfOk result (IsSpanIndexedBy node.entry) }
+{
+    match node.span_index(alloc) {
+        Ok(index) => Ok(index),
+        Err(_) => Err(AllocError),
+    }
+}
+
+/// The list of subnodes that was asked last, by the identifier of its block with bit 0 cleared; for how many subnodes, one after
+/// another; and an index of it, which holds nothing until they are many. And the data behind an XBLOCK or an XXBLOCK that was asked
+/// last, by its block identifier as it is written, and an index of its spans.
+#[derive(Drop)]
+pub struct LastIndex {
+    list: u64,
+    asked: u64,
+    subs: SubIndex,
+    data: u64,
+    spans: SpanIndex,
+}
+
+impl LastIndex {
+    ghost use Rattle.std.specs.Prelude.{◌≡◌, IfOk, OnOk};
+    ghost use Rattle.pst_block.specs.Block.{bid_key};
+    ghost use Rattle.pst_block.specs.Table.{Table};
+    ghost use Rattle.pst_ndb.specs.Views.{image_of_node, table_of_node, nid_of, roots_of, sub_bid_of};
+    ghost use Rattle.pst_props.specs.LastIndex.{IsLastIndex, list_in};
+
+    /// Nothing was asked yet. No memory is taken.
+    #[tactic(auto, unfolding(crate::specs::LastIndex::IsLastIndex))]
+    pub fn none() -> LastIndex
+        ensures { (t : Table) → IsLastIndex t result }
+    {
+        LastIndex {
+            list: 0,
+            asked: 0,
+            subs: SubIndex::none(),
+            data: 0,
+            spans: SpanIndex::none(),
+        }
+    }
+
+    // A list is asked for so many subnodes more. Whether an index of it is worth its making, for the first time.
+    #[tactic(auto, unfolding(crate::specs::LastIndex::IsLastIndex))]
+    fn is_often_asked(&mut self, list: u64, asks: u64) -> bool
+        ensures known { (t : Table) → IsLastIndex t self.old → IsLastIndex t self.new }
+        ensures list { list_in self.new ≡ list }
+    {
+        if self.list != list {
+            self.list = list;
+            self.asked = asks;
+            self.subs = SubIndex::none();
+            return asks > OFTEN;
+        }
+        let before = self.asked;
+        self.asked = before.saturating_add(asks);
+        before <= OFTEN && self.asked > OFTEN
+    }
+
+    // Makes the index of the subnodes of a node, whose list was turned to.
+    #[tactic(auto, using(crate::proofs::IndexLemmas::index_made))]
+    fn hold_subs(&mut self, alloc: Global, node: Node) -> Result<(), AllocError>
+        requires known { IsLastIndex (table_of_node node) self.old }
+        requires list { list_in self.old ≡ bid_key (sub_bid_of node) }
+        ensures known { IsLastIndex (table_of_node node.entry) self.new }
+    {
+        self.subs = index_of(alloc, node)?;
+        Ok(())
+    }
+
+    // Turns to the data of a node, where that is behind an XBLOCK or an XXBLOCK. The index before goes first, so that memory is taken
+    // for one.
+    #[tactic(auto, unfolding(crate::specs::LastIndex::IsLastIndex))]
+    fn turn_to_data(&mut self, alloc: Global, node: Node) -> Result<(), AllocError>
+        requires { IsLastIndex (table_of_node node) self.old }
+        ensures { IsLastIndex (table_of_node node.entry) self.new }
+    {
+        let data = node.bid_data();
+        if !is_internal(data) || data == self.data {
+            return Ok(());
+        }
+        self.spans = SpanIndex::none();
+        self.data = data;
+        self.spans = span_index_of(alloc, node)?;
+        Ok(())
+    }
+
+    /// Turns to the list of a node that asks it for so many subnodes, and to its data. It holds the entries of a list which this
+    /// node and those right before it ask often. Or memory is refused.
+    pub fn turn(&mut self, alloc: Global, node: Node, asks: u64) -> Result<(), AllocError>
+        requires { IsLastIndex (table_of_node node) self.old }
+        ensures { IsLastIndex (table_of_node node.entry) self.new }
+    {
+        self.turn_to_data(alloc, node)?;
+        let list = PageKind::Bbt.key_of(node.bid_sub());
+        if !self.is_often_asked(list, asks) {
+            return Ok(());
+        }
+        self.hold_subs(alloc, node)
+    }
+
+    /// The indexes of a node, made at once: of n subnodes in about n log n steps, of a list of one SLBLOCK none; and of its data.
+    pub fn of(alloc: Global, node: Node) -> Result<LastIndex, AllocError>
+        ensures { IfOk result (IsLastIndex (table_of_node node.entry)) }
+    {
+        let mut index = LastIndex::none();
+        index.turn(alloc, node, OFTEN + 1)?;
+        Ok(index)
+    }
+
+    /// A node, which is lent the index of its list and that of its data, where these are the last ones.
+    #[tactic(auto, using(crate::proofs::IndexLemmas::indexed_by, crate::proofs::IndexLemmas::span_indexed_by))]
+    pub fn lend<'a>(&'a self, node: Node<'a>) -> Node<'a>
+        requires { IsLastIndex (table_of_node node) self.now }
+        ensures roots { roots_of result ≡ roots_of node.entry }
+        ensures image { image_of_node result ≡ image_of_node node.entry }
+        ensures table { table_of_node result ≡ table_of_node node.entry }
+        ensures nid { nid_of result ≡ nid_of node.entry }
+    {
+        let mut lent = node;
+        if self.list == PageKind::Bbt.key_of(node.bid_sub()) {
+            lent = lent.indexed(&self.subs);
+        }
+        if self.data == node.bid_data() {
+            lent = lent.span_indexed(&self.spans);
+        }
+        lent
+    }
+}

@@ -1,0 +1,33 @@
+//! Properties as documents: of a node, a message, an attachment, or of what a path leads to through these.
+//!
+//! Begin with `props_line`, the line of what a path leads to, with its attachments and recipients, each property under the name that
+//! the store's name map gives it; `props_doc` gives its tree. `property_at` lends one property, from the file's own memory:
+//!
+//! ```text
+//! let index = names_index(alloc, &intact)?;
+//! let names = names_in(&intact, &index);
+//! let line = props_line(alloc, &intact, &path, names, false)?;
+//! ```
+//!
+//! `message_line`, `attachment_line` and `node_line` show what is at hand already. Whoever goes through nodes that share a list of
+//! subnodes keeps a `LastIndex`.
+#![tactic(auto)]
+
+mod attachment;
+mod fault;
+mod found;
+mod last_index;
+mod lines;
+mod lists;
+mod lost;
+mod names;
+mod node;
+mod property;
+
+pub use fault::DocFault;
+pub use last_index::{LastIndex, most_values};
+pub use lines::{attachment_line, message_line, node_line};
+pub use lost::lost_at;
+pub use names::{names_in, names_index};
+pub use node::{props_doc, props_line};
+pub use property::property_at;

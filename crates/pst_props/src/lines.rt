@@ -1,0 +1,69 @@
+//! The lines of single places, as an archive has them.
+
+ghost use Rattle.std.specs.Prelude.{◌≡◌, Some, None, true, false, IfOk};
+ghost use Rattle.pst_ndb.specs.Views.{table_of_node, nid_of, roots_of};
+ghost use Rattle.pst_value_json.specs.declared.filed.Filed.TheVariants.{Attachment as InAttachment};
+ghost use Rattle.pst_value_json.specs.pst_text.Line.{line_of};
+ghost use Rattle.pst_value_json.specs.Props.{names_told};
+ghost use Rattle.pst_value_json.specs.pst_pc.View.{node_of_pc};
+ghost use Rattle.pst_verify.specs.pst_msg.View.{attachment_shown, node_of_attachment, node_of_message};
+ghost use Rattle.pst_props.specs.Node.{attachment_data, message_data, node_props_data};
+
+use crate::attachment::shown_attachment;
+use crate::last_index::LastIndex;
+use crate::node::{indexed_message, shown_node};
+use pst_mail::known_pc;
+use pst_value_json::{Filed, Line, NameMap, Pc};
+use pst_verify::{Attachment, Message};
+use std::alloc::{AllocError, Global};
+
+/// The line that shows a message, whose headers, bodies and contents of attachments are told by the names of files.
+pub fn message_line<'a>(
+    alloc: Global,
+    message: Message<'a>,
+    names: Option<NameMap<'a>>,
+) -> Result<Vec<u8>, AllocError>
+    ensures { let node = node_of_message message.entry in let told = names_told names.entry in
+        let shown = message_data told true false (table_of_node node) (roots_of node) (nid_of node) in
+        IfOk result (λ text. text.items ≡ line_of shown) }
+{
+    indexed_message::<Line>(alloc, message, names, true, false)
+}
+
+/// The line that shows an attachment, whose content is told by the name of a file.
+pub fn attachment_line(
+    alloc: Global,
+    attachment: Attachment,
+    names: Option<NameMap>,
+) -> Result<Vec<u8>, AllocError>
+    ensures { let t = table_of_node (node_of_attachment attachment.entry) in
+        let shown = attachment_shown attachment.entry in let told = names_told names.entry in
+        IfOk result (λ text.
+        text.items ≡ line_of (attachment_data told (InAttachment None) false t shown)) }
+{
+    let mut index = LastIndex::none();
+    shown_attachment::<Line>(
+        alloc,
+        attachment,
+        names,
+        Filed::Attachment(None),
+        false,
+        &mut index,
+    )
+}
+
+/// The line that shows the properties of a node that is no message.
+pub fn node_line<'a>(
+    alloc: Global,
+    pc: Pc<'a>,
+    names: Option<NameMap<'a>>,
+) -> Result<Vec<u8>, AllocError>
+    ensures { let node = node_of_pc pc.entry in let told = names_told names.entry in
+        let shown = node_props_data told false (table_of_node node) (roots_of node) (nid_of node) in
+        IfOk result (λ text. text.items ≡ line_of shown) }
+{
+    let index = LastIndex::of(alloc, pc.node())?;
+    pc.is_sound();
+    let lent = known_pc(index.lend(pc.node()));
+    shown_node::<Line>(alloc, pc.node().nid(), &lent, names, false)
+}

@@ -1,0 +1,10 @@
+pub mod CharacterLemmas
+pub mod DigitLemmas
+pub mod EscapeLemmas
+pub mod HexLemmas
+pub mod KeptLemmas
+pub mod LaneLemmas
+pub mod NameLemmas
+pub mod TimeLemmas
+pub mod UnitLanes
+pub mod UnitLemmas

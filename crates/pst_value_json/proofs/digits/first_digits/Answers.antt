@@ -1,8 +1,0 @@
-use Rattle.pst_value_json.proofs.LaneLemmas.{high_ok, firsts}
-use Rattle.pst_value_json.proofs.digits.first_digits.Goals as goal
-
-pub swizzle : goal.swizzle
-swizzle c = high_ok c.args.bytes c.fits-bytes
-
-pub returns : goal.returns
-returns c = firsts c.args.bytes c.fits-bytes

@@ -1,8 +1,0 @@
-use Rattle.pst_value_json.proofs.LaneLemmas.{low_ok, seconds}
-use Rattle.pst_value_json.proofs.digits.second_digits.Goals as goal
-
-pub swizzle : goal.swizzle
-swizzle c = low_ok c.args.bytes c.fits-bytes
-
-pub returns : goal.returns
-returns c = seconds c.args.bytes c.fits-bytes
