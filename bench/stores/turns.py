@@ -2,9 +2,9 @@
 was asked last is kept; or an index is thought to be worth less than it is."""
 from stores.contexts import BINARY, INTEGER32, OBJECT, STRING, PropertyContext, text
 from stores.far import EMBEDDED_OBJECT
-from stores.hostile import PLAIN, SEARCH_FOLDER, TEXTS, identifiers, named_folders, ordered, roots, small_message
-from stores.lists import data_tree, leaf_list, leaf_lists, list_over, subnode_list, xblock
-from stores.mail import (ATTACHMENT_DATA, ATTACHMENT_METHOD, ATTACHMENTS, DISPLAY_NAME, EMBEDDED_MESSAGE, context,
+from stores.hostile import PLAIN, ROOT, SEARCH_FOLDER, TEXTS, identifiers, named_folders, ordered, roots, small_message
+from stores.lists import data_tree, far_tree, leaf_list, leaf_lists, list_over, subnode_list, xblock
+from stores.mail import (ATTACHMENT_DATA, ATTACHMENT_METHOD, ATTACHMENTS, CONTENTS, DISPLAY_NAME, EMBEDDED_MESSAGE, context,
                          table)
 
 FILLER = 200  # bytes of a heap that no property has
@@ -91,4 +91,24 @@ def hollow_lists(store, messages=400, count=60_000, rows=197):
         store.node(node, message, list_over(store, leaves))
 
 
-MAKERS = (turning_scans, turning_names, turning_attachments, listed_objects, hollow_lists)
+def turning_data(store, count=8000):
+    """COUNT: so many folders and messages, the latter listed by the root folder, which have by turns one of two contexts, whose
+    texts are in the first span of the heap, and behind it a thousand XBLOCKs without entries."""
+    roots(store)
+    data = []
+    for word in ("one", "two"):
+        made = PropertyContext(store)
+        item = made.heap.add(text(word))
+        for identifier in TEXTS:
+            made.set_raw(identifier, STRING, item)
+        made.heap.begin_span()
+        made.heap.add(b"end")
+        data.append(far_tree(store, made.bodies()))
+    nodes = identifiers(count, 4)
+    for number, node in enumerate(nodes):
+        store.node(node, data[number % 2], 0)
+        store.node(node - 2, data[number % 2], 0)
+    store.node(ROOT & ~0x1F | CONTENTS, *table(store, [], [(node, {}) for node in nodes]))
+
+
+MAKERS = (turning_scans, turning_names, turning_attachments, listed_objects, hollow_lists, turning_data)
