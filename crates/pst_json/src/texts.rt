@@ -53,7 +53,7 @@ pub(crate) fn put_text_property(
     ensures kept { OnErr result (BeginsWith text.new.items text.old.items) }
 {
     match pc.get(id) {
-        Some(prop) if prop.kind == TEXT => put_text(alloc, prop.value, text),
+        Some(prop) if prop.kind == TEXT => put_text(alloc, &prop.value, text),
         _ => put_null(text),
     }
 }

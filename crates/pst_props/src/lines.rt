@@ -41,7 +41,7 @@ pub fn attachment_line(
         IfOk result (λ text.
         text.items ≡ line_of (attachment_data told (InAttachment None) false t shown)) }
 {
-    let mut index = LastIndex::none();
+    let mut index = LastIndex::new(alloc);
     shown_attachment::<Line>(
         alloc,
         attachment,

@@ -66,7 +66,7 @@ fn shown_lists<'a, S: Sink>(
         names,
         files,
         places,
-        index: LastIndex::none(),
+        index: LastIndex::new(alloc),
     });
     let filed = filed_of(files);
     let props = MessageRows::Props(prop_rows(&message.pc(), names, filed, places));
@@ -171,7 +171,7 @@ fn shown_found<'a, S: Sink>(
     match found {
         Found::Message(message) => { indexed_message::<S>(alloc, message, names, false, places) }
         Found::Attachment(attachment) => {
-            let mut index = LastIndex::none();
+            let mut index = LastIndex::new(alloc);
             shown_attachment::<S>(alloc, attachment, names, Filed::Nothing, places, &mut index)
         }
         Found::Pc(pc) => shown_node::<S>(alloc, pc.node().nid(), &pc, names, places),
