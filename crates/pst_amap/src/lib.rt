@@ -7,7 +7,7 @@
 //! let mut claims = Claims::new(alloc, &header)?;
 //! let (tree, entries) = walk_blocks(alloc, image, &header, &mut claims)?;
 //! let nodes = walk_node_tree(alloc, image, &header, &mut claims)?;
-//! let blocks = check_blocks(image, &header, tree, &entries, &mut claims)?;
+//! let blocks = check_blocks(tree, &header, &entries, &mut claims)?;
 //! let report = compare(alloc, image, &header, &mut claims)?;
 //! for span in &report.lost { .. }
 //! ```

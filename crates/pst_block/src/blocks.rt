@@ -1,8 +1,8 @@
 //! The blocks of a file, checked once.
 
-ghost use Rattle.std.specs.Prelude.{◌≡◌, ◌≤◌, length, None};
+ghost use Rattle.std.specs.Prelude.{◌≡◌, ◌^◌, ◌<◌, ◌≤◌, length, None};
 ghost use Rattle.pst_bytes.specs.Image.{bytes_of};
-ghost use Rattle.pst_block.specs.Source.{entries_in};
+ghost use Rattle.pst_block.specs.Source.{file_in, entries_in};
 ghost use Rattle.pst_block.specs.Walk.{blocks_fault};
 
 use crate::read::body_in;
@@ -16,12 +16,12 @@ use pst_page::BlockEntry;
 /// its identifier, whose bit 0 is ignored ([MS-PST] 2.2.2.2).
 #[derive(Clone, Copy)]
 pub struct Blocks<'a> {
-    pub(crate) image: Image<'a>,
     pub(crate) source: Source<'a>,
     // The end of the mapped part.
     pub(crate) end: u64,
-    ghost inside: { end ≤ length (bytes_of image) },
-    ghost good: { blocks_fault end (bytes_of image) (entries_in source) ≡ None },
+    ghost small: { length (bytes_of (file_in source)) < 2 ^ 64 },
+    ghost inside: { end ≤ length (bytes_of (file_in source)) },
+    ghost good: { blocks_fault end (bytes_of (file_in source)) (entries_in source) ≡ None },
 }
 
 impl<'a> Blocks<'a> {
@@ -36,7 +36,7 @@ impl<'a> Blocks<'a> {
 
     /// The blocks of entries that were gathered, in a mapped part that ends at `end`, an offset in the file. Each of them has
     /// to be known to be good. Nothing is checked.
-    #[tactic(auto, unfolding(crate::specs::Source::entries_in))]
+    #[tactic(auto, unfolding(crate::specs::Source::file_in, crate::specs::Source::entries_in))]
     pub fn known(image: Image<'a>, end: u64, entries: BlockList<'a>) -> Blocks<'a>
         requires inside { end ≤ length (bytes_of image) }
         requires good { blocks_fault end (bytes_of image) (listed_blocks entries) ≡ None }
@@ -46,8 +46,7 @@ impl<'a> Blocks<'a> {
         ensures end { mapped_end result ≡ end }
     {
         Blocks {
-            image,
-            source: Source::Gathered(entries),
+            source: Source::Gathered(image, entries),
             end,
         }
     }
@@ -57,7 +56,7 @@ impl<'a> Blocks<'a> {
         ensures bytes { bytes_of result ≡ (table_of self.now).image }
         ensures same { result ≡ image_of self.now }
     {
-        self.image
+        self.source.image()
     }
 
     /// The entry of a block.
@@ -103,7 +102,7 @@ impl<'a> Blocks<'a> {
         ensures value { result.now ≡ body_of (table_of self.now) entry }
         ensures own { IsPartOf (image_of self.now) (body_span entry) result }
     {
-        body_in(self.image, entry)
+        body_in(self.image(), entry)
     }
 
     /// The bytes of a span, in the file's own memory.
@@ -112,6 +111,6 @@ impl<'a> Blocks<'a> {
         ensures value { result.now ≡ bytes_at (table_of self.now).image span }
         ensures own { IsPartOf (image_of self.now) span result }
     {
-        self.image.slice(span)
+        self.image().slice(span)
     }
 }

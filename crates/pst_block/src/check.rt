@@ -4,7 +4,7 @@ ghost use Rattle.std.specs.Prelude.{◌≡◌, ◌⊎◌, ◌+◌, ◌^◌, ◌<
 ghost use Rattle.pst_bytes.specs.Image.{bytes_of};
 ghost use Rattle.pst_header.specs.Head.{Head};
 ghost use Rattle.pst_header.specs.Header.{end_of};
-ghost use Rattle.pst_btree.specs.Trees.{block_entries};
+ghost use Rattle.pst_btree.specs.Trees.{block_entries, file_of_blocks};
 ghost use Rattle.pst_space.specs.Claimed.{Claimed, IsUnits, claim_all, unit_total};
 ghost use Rattle.pst_space.specs.Step.{ClaimsSome, claim_step, EndsStep};
 ghost use Rattle.pst_block.specs.Block.{block_span};
@@ -79,22 +79,21 @@ fn check_each(
 }
 
 /// The blocks of a file, as `check_blocks` says, and how many were check-summed: each once.
-#[tactic(auto, using(pst_header::proofs::Head::head_end, crate::proofs::WalkLaws::walked_no_fault), unfolding(crate::specs::Source::entries_in))]
+#[tactic(auto, using(pst_header::proofs::Head::head_end, crate::proofs::WalkLaws::walked_no_fault), unfolding(crate::specs::Source::file_in, crate::specs::Source::entries_in))]
 pub fn sum_blocks<'a>(
-    image: Image<'a>,
-    header: &Header,
     tree: BlockTree<'a>,
+    header: &Header,
     entries: &[BlockEntry],
     claims: &mut Claims,
 ) -> Result<(Blocks<'a>, u64), Fault>
-    requires head { Head (bytes_of image) header.now }
+    requires head { Head (bytes_of (file_of_blocks tree)) header.now }
     requires units { length claims.old ≡ unit_total header.now }
     requires entries { entries.now ≡ block_entries tree }
     ensures same_units { length claims.new ≡ length claims.old }
 
     // Whether all are good and apart, and what is claimed; or which fault it is, and what is claimed by then.
     ensures exact { EndsStep result claims.new (blocks_walk (end_of header.now)
-        (bytes_of image.entry) claims.old (block_entries tree.entry)) }
+        (bytes_of (file_of_blocks tree.entry)) claims.old (block_entries tree.entry)) }
 
     // Then they are claimed, and so many were summed.
     ensures claims { OnOk result (claim_all claims.old (block_spans (block_entries tree.entry)) ≡
@@ -102,60 +101,63 @@ pub fn sum_blocks<'a>(
     ensures sums { IfOk result (λ x. x.1 ≡ length (block_entries tree.entry)) }
 
     // Which blocks they are.
-    ensures image { IfOk result (λ x. image_of x.0 ≡ image.entry) }
+    ensures image { IfOk result (λ x. image_of x.0 ≡ file_of_blocks tree.entry) }
     ensures table { IfOk result (λ x.
-        table_of x.0 ≡ table_with (bytes_of image.entry) (block_entries tree.entry)) }
+        table_of x.0 ≡ table_with (bytes_of (file_of_blocks tree.entry))
+        (block_entries tree.entry)) }
     ensures end { IfOk result (λ x. mapped_end x.0 ≡ end_of header.now) }
 {
+    let image = tree.image();
     let sums = check_each(image, header, entries, claims)?;
     let end = header.end();
     let source = Source::Tree(tree);
-    Ok((Blocks { image, source, end }, sums))
+    Ok((Blocks { source, end }, sums))
 }
 
-/// The blocks of a file whose header is this one, all checked. The tree is the file's block B-tree and the entries are
-/// its, from left to right, as `walk_blocks` answered them; the claims are of the same file, and hold all pages. Block by
+/// The blocks of a tree's file, whose header is this one, all checked. The entries are the tree's, from left to right, as
+/// `walk_blocks` answered them; the claims are of the same file, and hold all pages. Block by
 /// block, the first fault is told where the block lies, with the identifier of its entry: BlockPlace, as `read_block` says;
 /// Overlap, where the block has a byte in common with what is claimed; BlockTrailer. Each block is check-summed once, and
 /// no memory is taken.
 ///
 /// After a fault the blocks that came before it are claimed, too.
 pub fn check_blocks<'a>(
-    image: Image<'a>,
-    header: &Header,
     tree: BlockTree<'a>,
+    header: &Header,
     entries: &[BlockEntry],
     claims: &mut Claims,
 ) -> Result<Blocks<'a>, Fault>
-    requires head { Head (bytes_of image) header.now }
+    requires head { Head (bytes_of (file_of_blocks tree)) header.now }
     requires units { length claims.old ≡ unit_total header.now }
     requires entries { entries.now ≡ block_entries tree }
     ensures same_units { length claims.new ≡ length claims.old }
 
     // Whether all are good and apart, and what is claimed; or which fault it is, and what is claimed by then.
     ensures exact { EndsStep result claims.new (blocks_walk (end_of header.now)
-        (bytes_of image.entry) claims.old (block_entries tree.entry)) }
+        (bytes_of (file_of_blocks tree.entry)) claims.old (block_entries tree.entry)) }
 
     // Then all blocks are good, and claimed.
-    ensures found { OnOk result (AreGood (bytes_of image.entry)
+    ensures found { OnOk result (AreGood (bytes_of (file_of_blocks tree.entry))
         (end_of header.now) (block_entries tree.entry)) }
     ensures claims { OnOk result (claim_all claims.old (block_spans (block_entries tree.entry)) ≡
         Some claims.new) }
 
     // Good blocks that can be claimed are answered.
     ensures only { (new : Claimed) →
-        AreGood (bytes_of image.entry) (end_of header.now) (block_entries tree.entry) →
+        AreGood (bytes_of (file_of_blocks tree.entry)) (end_of header.now)
+        (block_entries tree.entry) →
         claim_all claims.old (block_spans (block_entries tree.entry)) ≡ Some new → IsOk result }
 
     // Whatever the answer, the blocks from the first up to some one are claimed.
     ensures some { ClaimsSome claims.old claims.new (block_spans (block_entries tree.entry)) }
 
     // Which blocks they are.
-    ensures image { IfOk result (λ b. image_of b ≡ image.entry) }
+    ensures image { IfOk result (λ b. image_of b ≡ file_of_blocks tree.entry) }
     ensures table { IfOk result (λ b.
-        table_of b ≡ table_with (bytes_of image.entry) (block_entries tree.entry)) }
+        table_of b ≡ table_with (bytes_of (file_of_blocks tree.entry))
+        (block_entries tree.entry)) }
     ensures end { IfOk result (λ b. mapped_end b ≡ end_of header.now) }
 {
-    let (blocks, _) = sum_blocks(image, header, tree, entries, claims)?;
+    let (blocks, _) = sum_blocks(tree, header, entries, claims)?;
     Ok(blocks)
 }

@@ -8,7 +8,7 @@
 //! let header = read_header(image)?;
 //! let mut claims = Claims::new(alloc, &header)?;
 //! let (tree, entries) = walk_blocks(alloc, image, &header, &mut claims)?;
-//! let (blocks, sums) = sum_blocks(image, &header, tree, &entries, &mut claims)?;
+//! let (blocks, sums) = sum_blocks(tree, &header, &entries, &mut claims)?;
 //! let body = blocks.body(4);
 //! ```
 //!

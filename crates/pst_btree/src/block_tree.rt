@@ -5,6 +5,7 @@ ghost use Rattle.pst_page.specs.declared.kind.PageKind.TheVariants.{Bbt};
 
 use crate::descend::find_steps;
 use crate::tree::TreeView;
+use pst_bytes::Image;
 use pst_page::{BlockEntry, PageKind, block_entry_at};
 
 /// The block B-tree of a file, walked without fault ([MS-PST] 2.2.2.7.7).
@@ -22,7 +23,7 @@ impl<'a> BlockTree<'a> {
     ghost use Rattle.pst_btree.specs.Find.{first_at};
     ghost use Rattle.pst_btree.specs.Tree.{pages_of};
     ghost use Rattle.pst_btree.specs.View.{bytes_of_view, tree_of, entries};
-    ghost use Rattle.pst_btree.specs.Trees.{block_view, block_entries};
+    ghost use Rattle.pst_btree.specs.Trees.{block_view, block_entries, file_of_blocks};
 
     /// The entry of a block, by its identifier with its bit 0 ignored; and how many pages were decoded: the pages of one
     /// path, `level() + 1` where the block is there, and never more.
@@ -53,6 +54,13 @@ impl<'a> BlockTree<'a> {
             (key_of Bbt bid) (entries (block_view self.now))) }
     {
         self.find_steps(bid).0
+    }
+
+    /// The file that it is of.
+    pub fn image(&self) -> Image<'a>
+        ensures { result ≡ file_of_blocks self.now }
+    {
+        self.view.image
     }
 
     /// How many pages it has.

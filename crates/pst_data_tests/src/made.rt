@@ -42,5 +42,5 @@ pub(crate) fn blocks_in<'a, R: Abort>(rt: &R, alloc: Global, image: Image<'a>) -
     let Ok((tree, entries)) = walk_blocks(alloc, image, &header, &mut claims) else {
         rt.panic("no tree");
     };
-    check_blocks(image, &header, tree, &entries, &mut claims).expect(rt, "no blocks")
+    check_blocks(tree, &header, &entries, &mut claims).expect(rt, "no blocks")
 }

@@ -115,7 +115,7 @@ impl<'a> Value<'a> {
         ensures bytes { bytes_in result ≡ bytes_in self.now }
     {
         match self {
-            Value::Whole(_, _) => *self,
+            Value::Whole(at, slice) => Value::Whole(*at, slice),
             Value::Pieces(pieces) => Value::Pieces(pieces.with_bytes()),
         }
     }

@@ -3,6 +3,7 @@
 ghost use Rattle.std.specs.Prelude.{◌≡◌, ℕ, true, OnOk};
 ghost use Rattle.pst_ndb.specs.Views.{table_of_node, nid_of, top_of};
 ghost use Rattle.pst_intact.specs.View.{table_of_intact, nodes_of_intact};
+ghost use Rattle.pst_json.specs.DocumentIndexes.{AreDocumentIndexes};
 ghost use Rattle.pst_value_json.specs.Props.{names_told};
 ghost use Rattle.pst_verify.specs.pst_msg.Nid.{is_type as is_of_type};
 ghost use Rattle.pst_verify.specs.pst_msg.Values.{is_message};
@@ -15,7 +16,7 @@ use crate::held::write_item;
 use crate::index::index_of;
 use crate::time::received;
 use crate::walk::Walk;
-use pst_json::Intact;
+use pst_json::{DocumentIndexes, Intact};
 use pst_msg::{Message, NameMap, is_type};
 use std::alloc::Global;
 use std::io::Write;
@@ -27,9 +28,12 @@ fn write_lent<W: Write>(
     names: Option<NameMap>,
     name: &str,
     message: Message,
+    indexes: &mut DocumentIndexes,
     out: &mut W,
 ) -> Result<(), ExportFault>
-    requires { nid_of (node_of_message message) ≡ top_of (node_of_message message) }
+    requires top { nid_of (node_of_message message) ≡ top_of (node_of_message message) }
+    requires known { AreDocumentIndexes (table_of_node (node_of_message message)) indexes.old }
+    ensures known { AreDocumentIndexes (table_of_node (node_of_message message.entry)) indexes.new }
     ensures all { let told = names_told names.entry in
         let t = table_of_node (node_of_message message.entry) in
         let files = message_files told t name.now (message_roots message.entry) in
@@ -42,7 +46,7 @@ fn write_lent<W: Write>(
     let time = received(&message.pc());
     let mut walk = Walk::of(alloc, name, message)?;
     while let Some(item) = walk.next()? {
-        write_item(alloc, number, names, time, &item, out)?;
+        write_item(alloc, number, names, time, &item, indexes, out)?;
     }
     Ok(())
 }
@@ -55,9 +59,12 @@ fn write_message<W: Write>(
     names: Option<NameMap>,
     name: &str,
     message: Message,
+    indexes: &mut DocumentIndexes,
     out: &mut W,
 ) -> Result<(), ExportFault>
-    requires { nid_of (node_of_message message) ≡ top_of (node_of_message message) }
+    requires top { nid_of (node_of_message message) ≡ top_of (node_of_message message) }
+    requires known { AreDocumentIndexes (table_of_node (node_of_message message)) indexes.old }
+    ensures known { AreDocumentIndexes (table_of_node (node_of_message message.entry)) indexes.new }
     ensures all { let told = names_told names.entry in
         let t = table_of_node (node_of_message message.entry) in
         let files = message_files told t name.now (message_roots message.entry) in
@@ -68,7 +75,15 @@ fn write_message<W: Write>(
         AddsFront (W.contents out.old) (W.contents out.new) number.old files }
 {
     let index = index_of(alloc, message)?;
-    write_lent(alloc, number, names, name, message.indexed(&index), out)
+    write_lent(
+        alloc,
+        number,
+        names,
+        name,
+        message.indexed(&index),
+        indexes,
+        out,
+    )
 }
 
 /// Writes the files of the messages of a type, in a folder of this name, and of what they hold.
@@ -79,9 +94,12 @@ pub(crate) fn write_messages<W: Write>(
     intact: &Intact,
     kind: u32,
     name: &str,
+    indexes: &mut DocumentIndexes,
     out: &mut W,
 ) -> Result<(), ExportFault>
-    requires { (nid : ℕ) → is_of_type kind nid ≡ true → is_message nid ≡ true }
+    requires kind { (nid : ℕ) → is_of_type kind nid ≡ true → is_message nid ≡ true }
+    requires known { AreDocumentIndexes (table_of_intact intact.now) indexes.old }
+    ensures known { AreDocumentIndexes (table_of_intact intact.now) indexes.new }
     ensures all { let told = names_told names.entry in let i = intact.now in
         let files = messages_files told (table_of_intact i) name.now (of_type kind (nodes_of_intact i)) in
         OnOk result (Adds (W.contents out.old) (W.contents out.new) number.old number.new files) }
@@ -91,7 +109,7 @@ pub(crate) fn write_messages<W: Write>(
 {
     for message in intact.messages() {
         if is_type(kind, message.nid()) {
-            write_message(alloc, number, names, name, message, out)?;
+            write_message(alloc, number, names, name, message, indexes, out)?;
         }
     }
     Ok(())

@@ -37,7 +37,7 @@ pub(crate) fn received(pc: &Pc) -> u64
     ensures { let node = node_of_pc pc.now in result ≡ time_of (table_of_node node) (roots_of node) }
 {
     match pc.get(RECEIVED) {
-        Some(prop) if prop.kind == PropType(TIME) => match as_u64(prop.value) {
+        Some(prop) if prop.kind == PropType(TIME) => match as_u64(&prop.value) {
             Some(time) => unix_seconds(time / 10_000_000),
             None => 0,
         },

@@ -315,7 +315,7 @@ fn shown_contents<'a, S: Sink>(
         intact: *intact,
         lost: *lost,
         rows: rows_of(table),
-        index: LastIndex::none(),
+        index: LastIndex::new(alloc),
     };
     let parts = vec![in alloc;
         Part::Value("folder", Made::Nid(Some(nid))),

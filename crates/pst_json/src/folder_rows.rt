@@ -117,7 +117,7 @@ impl<'a> FolderRows<'a> {
             rest: intact.folders(),
             lone: false,
             counts: RowCounts::new(alloc),
-            index: LastIndex::none(),
+            index: LastIndex::new(alloc),
         }
     }
 

@@ -47,7 +47,7 @@ fn put_time_property(pc: &Pc, id: u16, text: &mut Vec<u8>) -> Result<(), AllocEr
         OnOk result (text.new.items ≡ text.old.items ++ compact_text shown) }
 {
     match pc.get(id) {
-        Some(prop) if prop.kind == TIME => put_time_or_null(prop.value, text),
+        Some(prop) if prop.kind == TIME => put_time_or_null(&prop.value, text),
         _ => put_null(text),
     }
 }
@@ -60,7 +60,7 @@ fn put_number_property(pc: &Pc, id: u16, text: &mut Vec<u8>) -> Result<(), Alloc
         OnOk result (text.new.items ≡ text.old.items ++ compact_text shown) }
 {
     match pc.get(id) {
-        Some(prop) if prop.kind == NUMBER => put_i32_or_null(prop.value, text),
+        Some(prop) if prop.kind == NUMBER => put_i32_or_null(&prop.value, text),
         _ => put_null(text),
     }
 }
@@ -149,7 +149,7 @@ pub fn messages_text(alloc: Global, intact: &Intact) -> Result<Vec<u8>, AllocErr
 {
     let listings = listings_of(alloc, intact)?;
     let mut counts = RowCounts::new(alloc);
-    let mut index = LastIndex::none();
+    let mut index = LastIndex::new(alloc);
     let mut text = Vec::new(alloc);
     for message in intact.messages() {
         if is_type(MESSAGE, message.nid()) {

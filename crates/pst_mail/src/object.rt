@@ -36,14 +36,14 @@ pub fn embedded(pc: &Pc) -> Option<Object>
         result ≡ embedded_of (table_of_node node) (roots_of node) }
 {
     let method = pc.get(METHOD)?;
-    if method.kind.0 != METHOD_TYPE || as_u32(method.value) != Some(EMBEDDED) {
+    if method.kind.0 != METHOD_TYPE || as_u32(&method.value) != Some(EMBEDDED) {
         return None;
     }
     let content = pc.get(CONTENT)?;
     if content.kind.0 != CONTENT_TYPE {
         return None;
     }
-    let (nid, _) = as_object(content.value)?;
+    let (nid, _) = as_object(&content.value)?;
     Some(Object {
         nid,
         at: content.at,

@@ -13,7 +13,6 @@ pub mod Rising
 pub mod Keys
 pub mod Roles
 pub mod ListIndex
-pub mod DataIndex
 pub mod LastIndexes
 pub mod Indexes
 pub mod Asked

@@ -20,7 +20,7 @@ pub(crate) struct Known {
     pub(crate) attachments: Keys,
     /// Lists of subnodes: what a message holds in one is without fault.
     pub(crate) lists: Keys,
-    /// The indexes of the list of subnodes and of the data that were asked about last for a context.
+    /// The index of the list of subnodes that was asked about last for a context, and those of the spans of data.
     pub(crate) index: LastIndexes,
     /// Indexes of the lists of messages whose rows are being gone through.
     pub(crate) indexes: Indexes,
@@ -59,7 +59,7 @@ impl Known {
             messages: Keys::new(alloc),
             attachments: Keys::new(alloc),
             lists: Keys::new(alloc),
-            index: LastIndexes::none(),
+            index: LastIndexes::new(alloc),
             indexes: Indexes::new(alloc),
             maps: Maps::new(alloc),
             asked: Asked::new(alloc),

@@ -1,16 +1,16 @@
-//! The indexes of what was asked about last: of a list of subnodes, and of the spans of data.
+//! The index of the list of subnodes that was asked about last, and those of the spans of data.
 
-use crate::data_index::DataIndex;
 use crate::list_index::ListIndex;
 use pst_fault::Fault;
-use pst_ndb::Node;
+use pst_ndb::{Node, SpanIndexes};
 use std::alloc::Global;
 
-/// The index of the list of subnodes that was asked about last, and that of the spans of the data.
+/// The index of the list of subnodes that was asked about last, and those of the spans of all data that was asked about and has many
+/// parts.
 #[derive(Drop)]
 pub(crate) struct LastIndexes {
     pub(crate) list: ListIndex,
-    pub(crate) spans: DataIndex,
+    pub(crate) spans: SpanIndexes,
 }
 
 impl LastIndexes {
@@ -20,17 +20,17 @@ impl LastIndexes {
     ghost use Rattle.pst_ndb.specs.Views.{table_of_node, roots_of};
     ghost use Rattle.pst_msg.specs.LastIndexes.{AreLastIndexes};
 
-    /// None yet.
-    pub(crate) fn none() -> LastIndexes
+    /// None yet. No memory is taken.
+    pub(crate) fn new(alloc: Global) -> LastIndexes
         ensures { (t : Table) → AreLastIndexes t result }
     {
         LastIndexes {
             list: ListIndex::none(),
-            spans: DataIndex::none(),
+            spans: SpanIndexes::new(alloc),
         }
     }
 
-    /// Makes those of a node's list and data, where they pay; unless they are those already.
+    /// Makes those of a node's list and data, where they pay; unless they are there already.
     pub(crate) fn turn(&mut self, alloc: Global, node: Node) -> Result<(), Fault>
         requires { AreLastIndexes (table_of_node node) self.old }
         ensures indexes { AreLastIndexes (table_of_node node.entry) self.new }
@@ -40,7 +40,7 @@ impl LastIndexes {
         self.spans.turn(alloc, node)
     }
 
-    /// The node, which is lent each of the two that is its own.
+    /// The node, which is lent that of its list and that of its data, where they are there.
     pub(crate) fn lend<'a>(&'a self, node: Node<'a>) -> Node<'a>
         requires { AreLastIndexes (table_of_node node) self.now }
         ensures roots { roots_of result ≡ roots_of node.entry }

@@ -23,7 +23,6 @@ mod broken;
 mod check;
 mod checker;
 mod context;
-mod data_index;
 mod faults;
 mod folder;
 mod frame;

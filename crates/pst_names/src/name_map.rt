@@ -152,7 +152,8 @@ impl<'a> NameMap<'a> {
         let guids = stream(&self.pc, GUIDS);
         let _len = guids.len();
         let at = 16 * u64::from(index - 3);
-        as_guid(guids.part(at, at + 16).unwrap())
+        let guid = guids.part(at, at + 16).unwrap();
+        as_guid(&guid)
     }
 
     // The name that an entry gives within its set.

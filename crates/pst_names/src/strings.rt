@@ -31,7 +31,7 @@ impl<'a> Strings<'a> {
     {
         let _len = self.value.len();
         let part = self.value.part(at, at + 4).unwrap();
-        as_u32(part).unwrap()
+        as_u32(&part).unwrap()
     }
 
     /// The bytes of the string that stands at an offset, in the file's own memory.

@@ -7,4 +7,5 @@ pub mod UnitLemmas
 pub mod CountLemmas
 pub mod ListingLaws
 pub mod SpanLemmas
+pub mod SpanIndexesLemmas
 pub use Rattle.pst_subnode.proofs as pst_subnode

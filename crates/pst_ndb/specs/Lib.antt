@@ -14,5 +14,6 @@ pub mod Known
 pub mod Counts
 pub mod Trees
 pub mod SpanIndex
+pub mod SpanIndexes
 pub use Rattle.pst_block.specs as pst_block
 pub use Rattle.pst_subnode.specs as pst_subnode

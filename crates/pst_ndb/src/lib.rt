@@ -25,6 +25,7 @@ mod nodes;
 mod source;
 mod space;
 mod span_index;
+mod span_indexes;
 mod trees;
 
 pub use check::{Checked, Work, check_ndb};
@@ -35,4 +36,5 @@ pub use node_table::NodeTable;
 pub use nodes::Nodes;
 pub use pst_subnode::SubIndex;
 pub use span_index::SpanIndex;
+pub use span_indexes::SpanIndexes;
 pub use trees::read_nodes;

@@ -61,7 +61,7 @@ pub(crate) fn check_space<'a>(
         s.sums ≡ length (block_list (bytes_of image.entry) header.now)) }
 {
     let trees = walk_trees(alloc, image, header, claims)?;
-    let (blocks, sums) = sum_blocks(image, header, trees.blocks, &trees.entries, claims)?;
+    let (blocks, sums) = sum_blocks(trees.blocks, header, &trees.entries, claims)?;
     Ok(Space {
         blocks,
         nodes: trees.nodes,

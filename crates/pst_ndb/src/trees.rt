@@ -5,7 +5,7 @@ ghost use Rattle.pst_bytes.specs.Image.{bytes_of};
 ghost use Rattle.pst_header.specs.Head.{Head};
 ghost use Rattle.pst_space.specs.Claimed.{unit_total, with_spans, maps_claimed};
 ghost use Rattle.pst_space.specs.Step.{GivesStepBy};
-ghost use Rattle.pst_btree.specs.Trees.{block_view, node_view, block_entries, node_entries};
+ghost use Rattle.pst_btree.specs.Trees.{block_view, node_view, block_entries, node_entries, file_of_blocks};
 ghost use Rattle.pst_btree.specs.Tree.{pages_of};
 ghost use Rattle.pst_btree.specs.View.{tree_of, found_in};
 ghost use Rattle.pst_ndb.specs.Entries.{page_total, block_list, node_list};
@@ -59,6 +59,7 @@ pub(crate) fn walk_trees<'a>(
         block_entries t.blocks ≡ block_list (bytes_of image.entry) header.now) }
     ensures nodes { IfOk result (λ t.
         node_entries t.nodes ≡ node_list (bytes_of image.entry) header.now) }
+    ensures file { IfOk result (λ t. file_of_blocks t.blocks ≡ image.entry) }
     ensures image { IfOk result (λ t. (node_view t.nodes).image ≡ image.entry) }
     ensures claims { OnOk result (claims.new ≡
         with_spans claims.old (trees_spans (bytes_of image.entry) header.now)) }

@@ -1,10 +1,10 @@
--- Indexes of lists of subnodes, and of the spans of data, that were asked last.
+-- The index of the list of subnodes that was asked last, and those of the spans of data.
 use Rattle.std.proofs.Common.{◌≡◌, ℕ, sym, ◌∙◌}
 use Rattle.pst_block.specs.Block.{bid_key}
 use Rattle.pst_block.specs.Table.{Table}
 use Rattle.pst_ndb.specs.declared.node.Node.{Node}
 use Rattle.pst_ndb.specs.pst_subnode.declared.index.SubIndex.{SubIndex}
-use Rattle.pst_ndb.specs.Views.{table_of_node, data_bid_of, sub_bid_of, IsIndexedBy, IsSpanIndexedBy}
+use Rattle.pst_ndb.specs.Views.{table_of_node, sub_bid_of, IsIndexedBy}
 use Rattle.pst_ndb.proofs.pst_subnode.IndexLemmas.{index_of_key}
 use Rattle.pst_props.specs.declared.last_index.LastIndex.{LastIndex}
 use Rattle.pst_props.specs.LastIndex.{IsLastIndex}
@@ -18,11 +18,6 @@ index_made node i index known same is = (λ bid e. index_of_key (table_of_node n
 pub indexed_by : (node : Node) (i : LastIndex) → IsLastIndex (table_of_node node) i → i.list ≡ bid_key (sub_bid_of node) → IsIndexedBy node i.subs
 unfolding IsLastIndex
 indexed_by node i is same = is.0 (sub_bid_of node) (sym same)
-
--- and the other to one with that data
-pub span_indexed_by : (node : Node) (i : LastIndex) → IsLastIndex (table_of_node node) i → i.data ≡ data_bid_of node → IsSpanIndexedBy node i.spans
-unfolding IsLastIndex
-span_indexed_by node i is same = rw same at is.1
 
 -- among the same blocks
 pub last_of : (t u : Table) (i : LastIndex) → u ≡ t → IsLastIndex t i → IsLastIndex u i

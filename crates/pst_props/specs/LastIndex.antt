@@ -5,7 +5,7 @@ use Rattle.std.specs.Prelude.{◌≡◌, ℕ, Option, Some, None, List}
 use Rattle.std.specs.Global.{Vec}
 use Rattle.pst_block.specs.Block.{bid_key}
 use Rattle.pst_block.specs.Table.{Table}
-use Rattle.pst_ndb.specs.SpanIndex.{IsSpanIndexOf, IsSpanIndexOf-prop}
+use Rattle.pst_ndb.specs.SpanIndexes.{AreSpanIndexes, AreSpanIndexes-prop}
 use Rattle.pst_ndb.specs.pst_subnode.declared.index.SubIndex.{SubIndex}
 use Rattle.pst_ndb.specs.pst_subnode.declared.sub.Sub.{Sub}
 use Rattle.pst_ndb.specs.pst_subnode.Index.{HoldsFirst, IsIndexOf}
@@ -19,9 +19,9 @@ list_in i = i.list
 abbrev pub IsListIndex : Table → LastIndex → Type 0
 IsListIndex t i = (bid : ℕ) → bid_key bid ≡ i.list → IsIndexOf i.subs (subs_of t bid)
 
--- and the other is of the spans of the data
+-- and each other is of the spans of its data
 unfoldable pub IsLastIndex : Table → LastIndex → Type 0
-IsLastIndex t i = IsListIndex t i × IsSpanIndexOf i.spans t i.data
+IsLastIndex t i = IsListIndex t i × AreSpanIndexes t i.spans
 
 -- which has one proof, so a struct may keep it
 holds_fact : (entries : Option (Vec Sub)) (subs : List Sub) → IsProp (HoldsFirst entries subs)
@@ -34,4 +34,4 @@ index_fact index subs = holds_fact index.entries subs
 
 pub IsLastIndex-prop : (t : Table) (i : LastIndex) → IsProp (IsLastIndex t i)
 unfolding IsLastIndex
-IsLastIndex-prop t i = hlevel (props, index_fact, IsSpanIndexOf-prop)
+IsLastIndex-prop t i = hlevel (props, index_fact, AreSpanIndexes-prop)

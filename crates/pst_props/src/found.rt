@@ -186,7 +186,7 @@ pub(crate) fn index_at(
 {
     match reached_by(intact, path) {
         Some(Reached::Node(node)) => LastIndex::of(alloc, node),
-        _ => Ok(LastIndex::none()),
+        _ => Ok(LastIndex::new(alloc)),
     }
 }
 

@@ -1,10 +1,9 @@
-//! The indexes of nodes that are gone through one after another: of the list of subnodes and of the data that were asked last.
+//! The indexes of nodes that are gone through one after another: of the list of subnodes that was asked last, and of the spans of data.
 
 ghost use Rattle.std.specs.Prelude.{◌≡◌, IfOk};
-ghost use Rattle.pst_ndb.specs.Views.{IsIndexedBy, IsSpanIndexedBy};
+ghost use Rattle.pst_ndb.specs.Views.{IsIndexedBy};
 
-use pst_datatree::is_internal;
-use pst_ndb::{Node, SpanIndex, SubIndex};
+use pst_ndb::{Node, SpanIndexes, SubIndex};
 use pst_page::PageKind;
 use std::alloc::{AllocError, Global};
 
@@ -26,26 +25,15 @@ fn index_of(alloc: Global, node: Node) -> Result<SubIndex, AllocError>
     }
 }
 
-// An index of the spans of a node's data.
-fn span_index_of(alloc: Global, node: Node) -> Result<SpanIndex, AllocError>
-    ensures { IfOk result (IsSpanIndexedBy node.entry) }
-{
-    match node.span_index(alloc) {
-        Ok(index) => Ok(index),
-        Err(_) => Err(AllocError),
-    }
-}
-
 /// The list of subnodes that was asked last, by the identifier of its block with bit 0 cleared; for how many subnodes, one after
-/// another; and an index of it, which holds nothing until they are many. And the data behind an XBLOCK or an XXBLOCK that was asked
-/// last, by its block identifier as it is written, and an index of its spans.
+/// another; and an index of it, which holds nothing until they are many. And the indexes of the spans of all data that was asked and
+/// has many parts.
 #[derive(Drop)]
 pub struct LastIndex {
     list: u64,
     asked: u64,
     subs: SubIndex,
-    data: u64,
-    spans: SpanIndex,
+    spans: SpanIndexes,
 }
 
 impl LastIndex {
@@ -57,15 +45,14 @@ impl LastIndex {
 
     /// Nothing was asked yet. No memory is taken.
     #[tactic(auto, unfolding(crate::specs::LastIndex::IsLastIndex))]
-    pub fn none() -> LastIndex
+    pub fn new(alloc: Global) -> LastIndex
         ensures { (t : Table) → IsLastIndex t result }
     {
         LastIndex {
             list: 0,
             asked: 0,
             subs: SubIndex::none(),
-            data: 0,
-            spans: SpanIndex::none(),
+            spans: SpanIndexes::new(alloc),
         }
     }
 
@@ -97,21 +84,16 @@ impl LastIndex {
         Ok(())
     }
 
-    // Turns to the data of a node, where that is behind an XBLOCK or an XXBLOCK. The index before goes first, so that memory is taken
-    // for one.
+    // Turns to the data of a node.
     #[tactic(auto, unfolding(crate::specs::LastIndex::IsLastIndex))]
     fn turn_to_data(&mut self, alloc: Global, node: Node) -> Result<(), AllocError>
         requires { IsLastIndex (table_of_node node) self.old }
         ensures { IsLastIndex (table_of_node node.entry) self.new }
     {
-        let data = node.bid_data();
-        if !is_internal(data) || data == self.data {
-            return Ok(());
+        match self.spans.turn(alloc, node) {
+            Ok(()) => Ok(()),
+            Err(_) => Err(AllocError),
         }
-        self.spans = SpanIndex::none();
-        self.data = data;
-        self.spans = span_index_of(alloc, node)?;
-        Ok(())
     }
 
     /// Turns to the list of a node that asks it for so many subnodes, and to its data. It holds the entries of a list which this
@@ -128,17 +110,26 @@ impl LastIndex {
         self.hold_subs(alloc, node)
     }
 
-    /// The indexes of a node, made at once: of n subnodes in about n log n steps, of a list of one SLBLOCK none; and of its data.
+    /// Turns to the list and the data of a node, and holds the entries of the list at once: of n subnodes they are made in about n log n
+    /// steps, of a list of one SLBLOCK there are none. Or memory is refused.
+    pub fn turn_at_once(&mut self, alloc: Global, node: Node) -> Result<(), AllocError>
+        requires { IsLastIndex (table_of_node node) self.old }
+        ensures { IsLastIndex (table_of_node node.entry) self.new }
+    {
+        self.turn(alloc, node, OFTEN + 1)
+    }
+
+    /// The indexes of a node, made at once.
     pub fn of(alloc: Global, node: Node) -> Result<LastIndex, AllocError>
         ensures { IfOk result (IsLastIndex (table_of_node node.entry)) }
     {
-        let mut index = LastIndex::none();
-        index.turn(alloc, node, OFTEN + 1)?;
+        let mut index = LastIndex::new(alloc);
+        index.turn_at_once(alloc, node)?;
         Ok(index)
     }
 
-    /// A node, which is lent the index of its list and that of its data, where these are the last ones.
-    #[tactic(auto, using(crate::proofs::IndexLemmas::indexed_by, crate::proofs::IndexLemmas::span_indexed_by))]
+    /// A node, which is lent the index of its list, where that was asked last, and that of its data, where there is one.
+    #[tactic(auto, unfolding(crate::specs::LastIndex::IsLastIndex), using(crate::proofs::IndexLemmas::indexed_by))]
     pub fn lend<'a>(&'a self, node: Node<'a>) -> Node<'a>
         requires { IsLastIndex (table_of_node node) self.now }
         ensures roots { roots_of result ≡ roots_of node.entry }
@@ -146,13 +137,9 @@ impl LastIndex {
         ensures table { table_of_node result ≡ table_of_node node.entry }
         ensures nid { nid_of result ≡ nid_of node.entry }
     {
-        let mut lent = node;
         if self.list == PageKind::Bbt.key_of(node.bid_sub()) {
-            lent = lent.indexed(&self.subs);
+            return self.spans.lend(node.indexed(&self.subs));
         }
-        if self.data == node.bid_data() {
-            lent = lent.span_indexed(&self.spans);
-        }
-        lent
+        self.spans.lend(node)
     }
 }

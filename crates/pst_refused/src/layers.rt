@@ -99,7 +99,7 @@ pub(crate) fn answer(alloc: Global, bytes: &[u8]) -> Result<(), Refused> {
     let mut claims = Claims::new(alloc, &header)?;
     let (tree, entries) = walk_blocks(alloc, image, &header, &mut claims)?;
     let (nodes, _) = walk_nodes(alloc, image, &header, &mut claims)?;
-    let blocks = check_blocks(image, &header, tree, &entries, &mut claims)?;
+    let blocks = check_blocks(tree, &header, &entries, &mut claims)?;
     compare(alloc, image, &header, &mut claims)?;
     trees(alloc, &blocks, &nodes)
 }

@@ -26,9 +26,9 @@ fn put_moment(time: u64, text: &mut Vec<u8>) -> Result<(), AllocError>
 }
 
 /// Puts the text of a time of 8 bytes behind a text; null where there are not so many, or it lies behind the year 9999.
-pub fn put_time_or_null(value: Value, text: &mut Vec<u8>) -> Result<(), AllocError>
+pub fn put_time_or_null(value: &Value, text: &mut Vec<u8>) -> Result<(), AllocError>
     ensures put { OnOk result (text.new.items
-        ≡ text.old.items ++ compact_text (time_or_null (bytes_in value.entry))) }
+        ≡ text.old.items ++ compact_text (time_or_null (bytes_in value.now))) }
     ensures kept { OnErr result (BeginsWith text.new.items text.old.items) }
 {
     match as_u64(value) {
@@ -38,9 +38,9 @@ pub fn put_time_or_null(value: Value, text: &mut Vec<u8>) -> Result<(), AllocErr
 }
 
 /// Puts a signed number of 4 bytes behind a text; null where there are not so many.
-pub fn put_i32_or_null(value: Value, text: &mut Vec<u8>) -> Result<(), AllocError>
+pub fn put_i32_or_null(value: &Value, text: &mut Vec<u8>) -> Result<(), AllocError>
     ensures put { OnOk result (text.new.items
-        ≡ text.old.items ++ compact_text (i32_or_null (bytes_in value.entry))) }
+        ≡ text.old.items ++ compact_text (i32_or_null (bytes_in value.now))) }
     ensures kept { OnErr result (BeginsWith text.new.items text.old.items) }
 {
     match as_i32(value) {

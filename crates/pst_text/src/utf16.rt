@@ -192,9 +192,9 @@ fn joined(alloc: Global, pieces: Pieces) -> Result<Vec<u8>, AllocError>
 }
 
 /// Puts the text of 16-bit units behind a text, without quotes. Pieces are joined first, since a unit may lie in two of them.
-pub fn put_units(alloc: Global, value: Value, text: &mut Vec<u8>) -> Result<(), AllocError>
+pub fn put_units(alloc: Global, value: &Value, text: &mut Vec<u8>) -> Result<(), AllocError>
     ensures put { OnOk result (text.new.items
-        ≡ text.old.items ++ escape (utf8_of (bytes_in value.entry))) }
+        ≡ text.old.items ++ escape (utf8_of (bytes_in value.now))) }
     ensures kept { OnErr result (BeginsWith text.new.items text.old.items) }
 {
     match value.with_bytes() {

@@ -52,7 +52,7 @@ fn blocks_in<'a>(alloc: Global, image: Image<'a>) -> Result<Blocks<'a>, Fault> {
     let header = read_header(image)?;
     let mut claims = Claims::new(alloc, &header)?;
     let (tree, entries) = walk_blocks(alloc, image, &header, &mut claims)?;
-    check_blocks(image, &header, tree, &entries, &mut claims)
+    check_blocks(tree, &header, &entries, &mut claims)
 }
 
 // The fault of a store, changed.

@@ -12,16 +12,16 @@ use pst_datatree::Value;
 
 /// The values of a value of several; None exactly where it has none such.
 #[tactic(auto, unfolding(crate::specs::Multi::elements_of))]
-pub fn elements_from<'a>(value: Value<'a>, kind: PropType) -> Option<Elements<'a>>
-    ensures left { option_map elements_left result ≡ elements_of kind.0 (bytes_in value.entry) }
-    ensures value { IfSome result (λ e. elements_value e ≡ value.entry) }
+pub fn elements_from<'a>(value: &Value<'a>, kind: PropType) -> Option<Elements<'a>>
+    ensures left { option_map elements_left result ≡ elements_of kind.0 (bytes_in value.now) }
+    ensures value { IfSome result (λ e. elements_value e ≡ value.now) }
     ensures kind { IfSome result (λ e. elements_type e ≡ kind.0) }
     ensures next { IfSome result (λ e. element_next e ≡ 0) }
 {
     let count = multi_count(value, kind)?;
     match element_width(kind) {
-        Some(_) => Some(Elements::fixed(value, kind, count)),
-        None => Some(Elements::listed(value, kind, count)),
+        Some(_) => Some(Elements::fixed(*value, kind, count)),
+        None => Some(Elements::listed(*value, kind, count)),
     }
 }
 
@@ -32,7 +32,7 @@ pub fn multi<'a>(value: Value<'a>, kind: PropType, n: u32) -> Option<Value<'a>>
     ensures bytes { option_map bytes_in result ≡ element_of kind.0 (bytes_in value.entry) n }
     ensures own { IfSome result (IsElement kind.0 value.entry n) }
 {
-    let mut rest = elements_from(value, kind)?;
+    let mut rest = elements_from(&value, kind)?;
     for i in 0..n {
         rest.next()?;
     }

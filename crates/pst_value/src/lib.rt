@@ -7,7 +7,7 @@
 //! ```text
 //! check_value(&mut items, PropType(0x0003), place, raw)?;
 //! let value = known_value(&heap, PropType(0x0003), raw);
-//! let count = as_i32(value);
+//! let count = as_i32(&value);
 //! ```
 //!
 //! `resolve` does both for a single value.

@@ -59,7 +59,7 @@ impl Rows for PropRows<'_> {
             return Ok(None);
         };
         let mut docs = Vec::new(alloc);
-        write_shown(alloc, self.names, self.filed, self.places, prop, &mut docs)?;
+        write_shown(alloc, self.names, self.filed, self.places, &prop, &mut docs)?;
         Ok(Some(only(docs)))
     }
 
@@ -73,7 +73,7 @@ impl Rows for PropRows<'_> {
             return Ok(false);
         };
         put_comma(later, text)?;
-        write_shown(alloc, self.names, self.filed, self.places, prop, text)?;
+        write_shown(alloc, self.names, self.filed, self.places, &prop, text)?;
         Ok(true)
     }
 }

@@ -22,9 +22,9 @@ use std::alloc::{AllocError, Global};
 use uuid::Uuid;
 
 /// Puts the text of 16-bit units behind a text, in quotes.
-pub fn put_text(alloc: Global, value: Value, text: &mut Vec<u8>) -> Result<(), AllocError>
+pub fn put_text(alloc: Global, value: &Value, text: &mut Vec<u8>) -> Result<(), AllocError>
     ensures put { OnOk result (text.new.items
-        ≡ text.old.items ++ compact_text (text_data (bytes_in value.entry))) }
+        ≡ text.old.items ++ compact_text (text_data (bytes_in value.now))) }
     ensures kept { OnErr result (BeginsWith text.new.items text.old.items) }
 {
     text.push(b'"')?;
@@ -46,9 +46,9 @@ fn put_pieces(pieces: Pieces, text: &mut Vec<u8>) -> Result<(), AllocError>
 }
 
 /// Puts the bytes of a value behind a text, in hexadecimal.
-pub(crate) fn put_bytes(value: Value, text: &mut Vec<u8>) -> Result<(), AllocError>
+pub(crate) fn put_bytes(value: &Value, text: &mut Vec<u8>) -> Result<(), AllocError>
     ensures put { OnOk result (text.new.items
-        ≡ text.old.items ++ compact_text (hex_data (bytes_in value.entry))) }
+        ≡ text.old.items ++ compact_text (hex_data (bytes_in value.now))) }
     ensures kept { OnErr result (BeginsWith text.new.items text.old.items) }
 {
     text.push(b'"')?;
@@ -103,7 +103,7 @@ pub fn put_leaf(alloc: Global, made: &Leaf, text: &mut Vec<u8>) -> Result<(), Al
         Leaf::Digest(digest) => put_hex(digest, text),
         Leaf::Guid(guid) => put_guid(*guid, text),
         Leaf::Object(nid, size) => put_nid_and_size(*nid, *size, text),
-        Leaf::Text(value) => put_text(alloc, **value, text),
-        Leaf::Hex(value) => put_bytes(**value, text),
+        Leaf::Text(value) => put_text(alloc, value, text),
+        Leaf::Hex(value) => put_bytes(value, text),
     }
 }

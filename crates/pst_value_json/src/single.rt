@@ -30,7 +30,7 @@ fn int16<'a>(value: &'a Value<'a>) -> Leaf<'a>
     ensures { let bytes = bytes_in value.now in
         leaf_data result ≡ or_hex integer (exactly 2 i16_of bytes) bytes }
 {
-    match as_i16(*value) {
+    match as_i16(value) {
         Some(number) => Leaf::Integer(i64::from(number)),
         None => bytes_or_null(value),
     }
@@ -42,7 +42,7 @@ fn int32<'a>(value: &'a Value<'a>) -> Leaf<'a>
     ensures { let bytes = bytes_in value.now in
         leaf_data result ≡ or_hex integer (exactly 4 i32_of bytes) bytes }
 {
-    match as_i32(*value) {
+    match as_i32(value) {
         Some(number) => Leaf::Integer(i64::from(number)),
         None => bytes_or_null(value),
     }
@@ -54,7 +54,7 @@ fn int64<'a>(value: &'a Value<'a>) -> Leaf<'a>
     ensures { let bytes = bytes_in value.now in
         leaf_data result ≡ or_hex integer (exactly 8 i64_of bytes) bytes }
 {
-    match as_i64(*value) {
+    match as_i64(value) {
         Some(number) => Leaf::Integer(number),
         None => bytes_or_null(value),
     }
@@ -66,7 +66,7 @@ fn nat32<'a>(value: &'a Value<'a>) -> Leaf<'a>
     ensures { let bytes = bytes_in value.now in
         leaf_data result ≡ or_hex natural (exactly 4 u32_of bytes) bytes }
 {
-    match as_u32(*value) {
+    match as_u32(value) {
         Some(number) => Leaf::Natural(u64::from(number)),
         None => bytes_or_null(value),
     }
@@ -78,7 +78,7 @@ fn nat64<'a>(value: &'a Value<'a>) -> Leaf<'a>
     ensures { let bytes = bytes_in value.now in
         leaf_data result ≡ or_hex natural (exactly 8 u64_of bytes) bytes }
 {
-    match as_u64(*value) {
+    match as_u64(value) {
         Some(number) => Leaf::Natural(number),
         None => bytes_or_null(value),
     }
@@ -90,7 +90,7 @@ fn truth<'a>(value: &'a Value<'a>) -> Leaf<'a>
     ensures { let bytes = bytes_in value.now in
         leaf_data result ≡ or_hex boolean (exactly 1 bool_of bytes) bytes }
 {
-    match as_bool(*value) {
+    match as_bool(value) {
         Some(truth) => Leaf::Truth(truth),
         None => bytes_or_null(value),
     }
@@ -102,7 +102,7 @@ fn guid<'a>(value: &'a Value<'a>) -> Leaf<'a>
     ensures { let bytes = bytes_in value.now in
         leaf_data result ≡ or_hex guid_data (exactly 16 guid_of bytes) bytes }
 {
-    match as_guid(*value) {
+    match as_guid(value) {
         Some(guid) => Leaf::Guid(guid),
         None => bytes_or_null(value),
     }
@@ -114,7 +114,7 @@ fn object<'a>(value: &'a Value<'a>) -> Leaf<'a>
     ensures { let bytes = bytes_in value.now in
         leaf_data result ≡ or_hex object_data (object_of bytes) bytes }
 {
-    match as_object(*value) {
+    match as_object(value) {
         Some((nid, size)) => Leaf::Object(nid, size),
         None => bytes_or_null(value),
     }

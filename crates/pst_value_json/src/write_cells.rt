@@ -24,10 +24,10 @@ use std::alloc::{AllocError, Global};
 fn write_cell_value<P: Pen>(
     alloc: Global,
     column: Column,
-    value: Value,
+    value: &Value,
     pen: &mut P,
 ) -> Result<(), AllocError>
-    ensures put { let cell = cell_with (column_of column) (content_in value.entry) in
+    ensures put { let cell = cell_with (column_of column) (content_in value.now) in
         OnOk result (P.Puts pen.old pen.new (cell_value cell)) }
     ensures kept { (base : P) → P.Keeps base pen.old → P.Keeps base pen.new }
 {
@@ -35,7 +35,7 @@ fn write_cell_value<P: Pen>(
     if kind.cell_width() == Some(column.width) {
         write_value(alloc, kind, value, pen)
     } else {
-        pen.leaf(alloc, &Leaf::Hex(&value))
+        pen.leaf(alloc, &Leaf::Hex(value))
     }
 }
 
@@ -43,10 +43,10 @@ fn write_cell_value<P: Pen>(
 fn open_cell<P: Pen>(
     alloc: Global,
     places: bool,
-    value: Value,
+    value: &Value,
     pen: &mut P,
 ) -> Result<(), AllocError>
-    ensures put { let front = placed_members places (places_in value.entry) in
+    ensures put { let front = placed_members places (places_in value.now) in
         OnOk result (P.AtKey pen.old pen.new front (codes "tag")) }
     ensures kept { (base : P) → P.Keeps base pen.old → P.Keeps base pen.new }
 {
@@ -63,11 +63,11 @@ fn open_cell<P: Pen>(
 fn write_cell<P: Pen>(
     alloc: Global,
     column: Column,
-    value: Value,
+    value: &Value,
     places: bool,
     pen: &mut P,
 ) -> Result<(), AllocError>
-    ensures put { let cell = cell_with (column_of column) (content_in value.entry) in
+    ensures put { let cell = cell_with (column_of column) (content_in value.now) in
         OnOk result (P.Puts pen.old pen.new (cell_data places cell)) }
     ensures kept { (base : P) → P.Keeps base pen.old → P.Keeps base pen.new }
 {
@@ -96,7 +96,7 @@ fn write_cell_of<P: Pen>(
         return Ok(later);
     };
     pen.comma(later)?;
-    write_cell(alloc, column, *value, places, pen)?;
+    write_cell(alloc, column, value, places, pen)?;
     pen.item(alloc)?;
     Ok(true)
 }

@@ -66,10 +66,10 @@ fn write_slice<P: Pen>(alloc: Global, at: u64, slice: &[u8], pen: &mut P) -> Res
 /// Writes the pieces of a value in their order, but for those without bytes, as a list that has `[place,length]` for each.
 pub(crate) fn write_places<P: Pen>(
     alloc: Global,
-    value: Value,
+    value: &Value,
     pen: &mut P,
 ) -> Result<(), AllocError>
-    ensures put { OnOk result (P.Puts pen.old pen.new (places_data (places_in value.entry))) }
+    ensures put { OnOk result (P.Puts pen.old pen.new (places_data (places_in value.now))) }
     ensures kept { (base : P) → P.Keeps base pen.old → P.Keeps base pen.new }
 {
     match value.with_bytes() {

@@ -92,10 +92,10 @@ fn write_set_member<P: Pen>(
 fn write_places_member<P: Pen>(
     alloc: Global,
     places: bool,
-    value: Value,
+    value: &Value,
     pen: &mut P,
 ) -> Result<(), AllocError>
-    ensures put { let shown = option_map places_data (if_asked places (places_in value.entry)) in
+    ensures put { let shown = option_map places_data (if_asked places (places_in value.now)) in
         (base : P) (done : Members) → InObject P.Puts P.AtKey base pen.old done
         → IsLast done (codes "places") → OnOk result (InObject P.Puts P.AtKey base pen.new
         (and_member_if done (codes "places") shown)) }
@@ -114,23 +114,23 @@ fn write_prop<P: Pen>(
     alloc: Global,
     name: &Option<Name>,
     places: bool,
-    prop: Prop,
+    prop: &Prop,
     pen: &mut P,
 ) -> Result<(), AllocError>
     ensures put { let name = option_map name_parts name.now in
-        let places = if_asked places (places_in prop.entry.value) in
-        OnOk result (P.Puts pen.old pen.new (prop_data name places (property_of prop.entry))) }
+        let places = if_asked places (places_in prop.now.value) in
+        OnOk result (P.Puts pen.old pen.new (prop_data name places (property_of prop.now))) }
     ensures kept { (base : P) → P.Keeps base pen.old → P.Keeps base pen.new }
 {
     pen.first(alloc, "id", b"{\"id\":")?;
     pen.leaf(alloc, &Leaf::Id(prop.id))?;
     write_name_member(alloc, name, pen)?;
-    write_places_member(alloc, places, prop.value, pen)?;
+    write_places_member(alloc, places, &prop.value, pen)?;
     write_set_member(alloc, name, pen)?;
     pen.next(alloc, "type", b",\"type\":")?;
     pen.leaf(alloc, &Leaf::Id(prop.kind.0))?;
     pen.next(alloc, "value", b",\"value\":")?;
-    write_value(alloc, prop.kind, prop.value, pen)?;
+    write_value(alloc, prop.kind, &prop.value, pen)?;
     pen.close(alloc)
 }
 
@@ -141,12 +141,12 @@ fn write_filed_prop<P: Pen>(
     file: &str,
     name: &Option<Name>,
     places: bool,
-    prop: Prop,
+    prop: &Prop,
     pen: &mut P,
 ) -> Result<(), AllocError>
     ensures put { let name = option_map name_parts name.now in
-        let places = if_asked places (places_in prop.entry.value) in OnOk result
-        (P.Puts pen.old pen.new (filed_data file.now name places (property_of prop.entry))) }
+        let places = if_asked places (places_in prop.now.value) in OnOk result
+        (P.Puts pen.old pen.new (filed_data file.now name places (property_of prop.now))) }
     ensures kept { (base : P) → P.Keeps base pen.old → P.Keeps base pen.new }
 {
     pen.first(alloc, "file", b"{\"file\":")?;
@@ -154,7 +154,7 @@ fn write_filed_prop<P: Pen>(
     pen.next(alloc, "id", b",\"id\":")?;
     pen.leaf(alloc, &Leaf::Id(prop.id))?;
     write_name_member(alloc, name, pen)?;
-    write_places_member(alloc, places, prop.value, pen)?;
+    write_places_member(alloc, places, &prop.value, pen)?;
     write_set_member(alloc, name, pen)?;
     pen.next(alloc, "type", b",\"type\":")?;
     pen.leaf(alloc, &Leaf::Id(prop.kind.0))?;
@@ -167,12 +167,12 @@ pub(crate) fn write_shown<P: Pen>(
     names: Option<NameMap>,
     filed: Filed,
     places: bool,
-    prop: Prop,
+    prop: &Prop,
     pen: &mut P,
 ) -> Result<(), AllocError>
-    ensures put { let name = names_told names.entry prop.entry.id in
-        let places = if_asked places (places_in prop.entry.value) in OnOk result
-        (P.Puts pen.old pen.new (filed_prop_data filed name places (property_of prop.entry))) }
+    ensures put { let name = names_told names.entry prop.now.id in
+        let places = if_asked places (places_in prop.now.value) in OnOk result
+        (P.Puts pen.old pen.new (filed_prop_data filed name places (property_of prop.now))) }
     ensures kept { (base : P) → P.Keeps base pen.old → P.Keeps base pen.new }
 {
     let name = name_in(names, prop.id);

@@ -45,15 +45,15 @@ fn write_values<P: Pen>(
 pub(crate) fn write_value<P: Pen>(
     alloc: Global,
     kind: PropType,
-    value: Value,
+    value: &Value,
     pen: &mut P,
 ) -> Result<(), AllocError>
-    ensures put { OnOk result (P.Puts pen.old pen.new (value_data kind.0 (bytes_in value.entry))) }
+    ensures put { OnOk result (P.Puts pen.old pen.new (value_data kind.0 (bytes_in value.now))) }
     ensures kept { (base : P) → P.Keeps base pen.old → P.Keeps base pen.new }
 {
     match elements_from(value, kind) {
         Some(values) => write_values(alloc, PropType(kind.0 % 0x1000), values, pen),
-        None => pen.leaf(alloc, &single(kind, &value)),
+        None => pen.leaf(alloc, &single(kind, value)),
     }
 }
 
@@ -62,7 +62,7 @@ pub fn value_doc(alloc: Global, kind: PropType, value: Value) -> Result<Doc, All
     ensures { IfOk result (λ d. view d ≡ value_data kind.0 (bytes_in value.entry)) }
 {
     let mut docs = Vec::new(alloc);
-    write_value(alloc, kind, value, &mut docs)?;
+    write_value(alloc, kind, &value, &mut docs)?;
     Ok(only(docs))
 }
 

@@ -28,7 +28,7 @@ pub(super) fn subject<R: Abort>(rt: &R, pc: &Pc) {
 
 pub(super) fn guid<R: Abort>(rt: &R, alloc: Global, pc: &Pc) {
     let value = pc.get(0x3701).expect(rt, "no GUID").value;
-    let guid = as_guid(value).expect(rt, "no GUID");
+    let guid = as_guid(&value).expect(rt, "no GUID");
     let text = format!(in alloc; "{guid}").expect(rt, MEMORY);
     is(rt, text.as_str(), "00020328-0000-0000-c000-000000000046");
 }
@@ -42,5 +42,5 @@ pub(super) fn body<R: Abort>(rt: &R, pc: &Pc) {
     is(rt, units.next(), Some(u16::from(b'P')));
     is(rt, units.next(), Some(u16::from(b'S')));
     is(rt, units.next(), None);
-    is(rt, as_i32(body.value), None);
+    is(rt, as_i32(&body.value), None);
 }

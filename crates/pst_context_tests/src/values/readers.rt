@@ -30,7 +30,7 @@ const COUNTS: [(u16, &[u8], Option<u32>); 20] = [
 // The bytes of each value of a value of several, one after another, each behind its length.
 fn listed<R: Abort>(rt: &R, alloc: Global, value: Value, kind: u16) -> Vec<u8> {
     let mut all = Vec::new(alloc);
-    let Some(elements) = elements_from(value, PropType(kind)) else {
+    let Some(elements) = elements_from(&value, PropType(kind)) else {
         rt.panic("no list");
     };
     for one in elements {
@@ -46,17 +46,17 @@ const HIGH: [u8; 8] = [0xfe, 0xff, 0xff, 0xff, 0xff, 0xff, 0xff, 0xff];
 
 // Numbers and truth values of bytes in one piece.
 fn numbers_of_bytes<R: Abort>(rt: &R) {
-    is(rt, as_i16(Value::Whole(0, &HIGH[..2])), Some(-2));
-    is(rt, as_i32(Value::Whole(0, &HIGH[..4])), Some(-2));
-    is(rt, as_i64(Value::Whole(0, &HIGH)), Some(-2));
-    is(rt, as_u32(Value::Whole(0, &HIGH[..4])), Some(0xffff_fffe));
+    is(rt, as_i16(&Value::Whole(0, &HIGH[..2])), Some(-2));
+    is(rt, as_i32(&Value::Whole(0, &HIGH[..4])), Some(-2));
+    is(rt, as_i64(&Value::Whole(0, &HIGH)), Some(-2));
+    is(rt, as_u32(&Value::Whole(0, &HIGH[..4])), Some(0xffff_fffe));
     is(
         rt,
-        as_u64(Value::Whole(0, &HIGH)),
+        as_u64(&Value::Whole(0, &HIGH)),
         Some(0xffff_ffff_ffff_fffe),
     );
-    is(rt, as_bool(Value::Whole(0, &HIGH[..1])), Some(true));
-    is(rt, as_bool(Value::Whole(0, &[0])), Some(false));
+    is(rt, as_bool(&Value::Whole(0, &HIGH[..1])), Some(true));
+    is(rt, as_bool(&Value::Whole(0, &[0])), Some(false));
 }
 
 #[test]
@@ -67,7 +67,7 @@ fn bytes_are_read(rt: HostRuntime) {
     is(&rt, units16(text).count(), 2);
     for (kind, bytes, count) in COUNTS {
         let value = Value::Whole(0, bytes);
-        is_at(&rt, kind, multi_count(value, PropType(kind)), count);
+        is_at(&rt, kind, multi_count(&value, PropType(kind)), count);
     }
 }
 
@@ -78,23 +78,23 @@ fn part<'a, R: Abort>(rt: &R, whole: Value<'a>, from: u64, to: u64) -> Value<'a>
 
 // Numbers of parts of the GUID, which lie in several pieces.
 fn parts_are_read<R: Abort>(rt: &R, whole: Value) {
-    is(rt, as_i16(part(rt, whole, 2, 4)), Some(2));
-    is(rt, as_i32(part(rt, whole, 1, 5)), Some(0x203));
-    is(rt, as_u32(part(rt, whole, 1, 5)), Some(0x203));
-    is(rt, as_i64(part(rt, whole, 0, 8)), Some(0x20328));
+    is(rt, as_i16(&part(rt, whole, 2, 4)), Some(2));
+    is(rt, as_i32(&part(rt, whole, 1, 5)), Some(0x203));
+    is(rt, as_u32(&part(rt, whole, 1, 5)), Some(0x203));
+    is(rt, as_i64(&part(rt, whole, 0, 8)), Some(0x20328));
     is(
         rt,
-        as_u64(part(rt, whole, 1, 9)),
+        as_u64(&part(rt, whole, 1, 9)),
         Some(0xc000_0000_0000_0203),
     );
     is(rt, units16(part(rt, whole, 1, 4)).next(), Some(0x203));
-    is(rt, as_object(whole), Some((0x20328, 0)));
-    is(rt, as_bool(whole), None);
+    is(rt, as_object(&whole), Some((0x20328, 0)));
+    is(rt, as_bool(&whole), None);
 }
 
 // The GUID, and its bytes as two numbers of 8.
 fn guid_is_read<R: Abort>(rt: &R, alloc: Global, whole: Value) {
-    let guid = as_guid(whole).expect(rt, "no GUID");
+    let guid = as_guid(&whole).expect(rt, "no GUID");
     let text = format!(in alloc; "{guid}").expect(rt, MEMORY);
     is(rt, text.as_str(), "00020328-0000-0000-c000-000000000046");
     let numbers = listed(rt, alloc, whole, 0x1014);
@@ -107,7 +107,7 @@ const NUMBERS: [u8; 18] = [
 
 // The two texts.
 fn texts_are_read<R: Abort>(rt: &R, alloc: Global, texts: Value) {
-    is(rt, multi_count(texts, PropType(0x101F)), Some(2));
+    is(rt, multi_count(&texts, PropType(0x101F)), Some(2));
     let both = listed(rt, alloc, texts, 0x101F);
     let wanted = [2, b'A', 0, 4, b'B', 0, b'C', 0];
     is(rt, both.as_slice(), wanted.as_slice());

@@ -42,9 +42,9 @@ const TEXTS: [Row; 20] = [
 // Whether a text is put so, whole and in pieces.
 fn are_put<R: Abort>(rt: &R, alloc: Global, whole: Value, pieces: Value, shown: &str) {
     let mut text = Vec::from_slice(alloc, b"[").expect(rt, MEMORY);
-    put_text(alloc, whole, &mut text).expect(rt, MEMORY);
+    put_text(alloc, &whole, &mut text).expect(rt, MEMORY);
     text.push(b',').expect(rt, MEMORY);
-    put_text(alloc, pieces, &mut text).expect(rt, MEMORY);
+    put_text(alloc, &pieces, &mut text).expect(rt, MEMORY);
     let wanted = format!(in alloc; "[{shown},{shown}").expect(rt, MEMORY);
     is(rt, text.as_slice(), wanted.as_bytes());
 }

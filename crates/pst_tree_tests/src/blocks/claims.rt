@@ -17,7 +17,7 @@ fn claimed_after<R: Abort>(rt: &R, alloc: Global, image: &[u8], wanted: [bool; 3
     };
     holds(
         rt,
-        check_blocks(image, &header, tree, &entries, &mut claims).is_err(),
+        check_blocks(tree, &header, &entries, &mut claims).is_err(),
     );
     is(rt, claimed_of(&claims), wanted);
 }

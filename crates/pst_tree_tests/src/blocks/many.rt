@@ -48,7 +48,7 @@ fn summed<R: Abort>(rt: &R, alloc: Global, image: &[u8], last: u64) {
         rt.panic("no tree");
     };
     are_found(rt, &tree, entries.len());
-    let summed = sum_blocks(image, &header, tree, &entries, &mut claims);
+    let summed = sum_blocks(tree, &header, &entries, &mut claims);
     let (blocks, sums) = summed.expect(rt, "refused");
     is(rt, (sums, blocks.entry(1604)), (401, Some(nth_block(last))));
 }

@@ -2,6 +2,7 @@
 
 use super::*;
 use crate::told::is;
+use pst_ndb::SpanIndexes;
 
 /// Three data blocks, XBLOCKs of none of them, of the first two and of the last, and an XXBLOCK that names these by turns, 33 in all:
 /// every three have three spans.
@@ -33,7 +34,7 @@ fn span_at(n: u64) -> Option<Span> {
     }
 }
 
-/// Stops the test where a node has not these spans, with an index of them and without, in order and backwards.
+/// Stops the test where a node has not these spans: without an index and with one in order, and with one that is kept backwards.
 pub(super) fn has_spans<R: Abort>(rt: &R, alloc: Global, node: Node) {
     let Ok(index) = node.span_index(alloc) else {
         rt.panic(MEMORY);
@@ -43,6 +44,11 @@ pub(super) fn has_spans<R: Abort>(rt: &R, alloc: Global, node: Node) {
         is(rt, lent.leaf(n), span_at(n));
         is(rt, node.leaf(n), span_at(n));
     }
+    let mut indexes = SpanIndexes::new(alloc);
+    if indexes.turn(alloc, node).is_err() {
+        rt.panic(MEMORY);
+    }
+    let lent = indexes.lend(node);
     for i in 0..35 {
         is(rt, lent.leaf(34 - i), span_at(34 - i));
     }

@@ -13,8 +13,8 @@ use Rattle.pst_value_json.proofs.write_cells.write_cell.Goals as goal
 pub returns-clause-put : goal.returns-clause-put
 unfolding cell_data
 returns-clause-put g c =
-    let cell : Cell = cell_with (column_of c.args.column) (content_in c.args.value) in
-    let places = places_in c.args.value in
+    let cell : Cell = cell_with (column_of c.args.column) (content_in c.args.value.now) in
+    let places = places_in c.args.value.now in
     let front : Members = placed_members c.args.places places in
     let tag : Data = string (tag_text c.args.column.tag) in
     let first = begun g.P.Pen.Puts g.P.Pen.AtKey _ _ _ front (codes "tag") tag c.in_ok-open_cell.ensures.put c.in_ok-leaf.ensures.put (last_tag c.args.places places) in

@@ -13,9 +13,9 @@ use Rattle.pst_value_json.proofs.write_props.write_filed_prop.Goals as goal
 pub returns-clause-put : goal.returns-clause-put
 unfolding filed_data
 returns-clause-put g c =
-    let p = property_of c.args.prop in
+    let p = property_of c.args.prop.now in
     let n = option_map called_data (option_map name_parts c.args.name.now) in
-    let l = option_map places_data (if_asked c.args.places (places_in c.args.prop.value)) in
+    let l = option_map places_data (if_asked c.args.places (places_in c.args.prop.now.value)) in
     let s = option_map set_of_data (option_map name_parts c.args.name.now) in
     let kind : Members = member (codes "type") (string (id_text p.kind)) no_members in
     let file : Members = member (codes "file") (string c.args.file.now) no_members in

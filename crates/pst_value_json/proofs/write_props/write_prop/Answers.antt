@@ -14,9 +14,9 @@ use Rattle.pst_value_json.proofs.write_props.write_prop.Goals as goal
 pub returns-clause-put : goal.returns-clause-put
 unfolding prop_data
 returns-clause-put g c =
-    let p = property_of c.args.prop in
+    let p = property_of c.args.prop.now in
     let n = option_map called_data (option_map name_parts c.args.name.now) in
-    let l = option_map places_data (if_asked c.args.places (places_in c.args.prop.value)) in
+    let l = option_map places_data (if_asked c.args.places (places_in c.args.prop.now.value)) in
     let s = option_map set_of_data (option_map name_parts c.args.name.now) in
     let value : Members = member (codes "value") (value_data p.kind p.bytes) no_members in
     let kind : Members = member (codes "type") (string (id_text p.kind)) value in

@@ -15,7 +15,7 @@ returns c =
     let G = stream_bytes (stream_of (table_of_node node) (roots_of node) GUIDS) in
     let g = c.from-at.result in
     let at_least : 3 ≤ c.args.index = omega arith in
-    let read : bytes_in c.unwrap.result ≡ slice_range (bytes_in c.stream-guids.result) (16 * g) (16 * g + 16) = rw c.unwrap.ensures at c.part.ensures.bytes in
-    let own : bytes_in c.unwrap.result ≡ slice_range G (16 * g) (16 * g + 16) = subst (λ (bs : List ℕ). bytes_in c.unwrap.result ≡ slice_range bs (16 * g) (16 * g + 16)) c.stream-guids.ensures.bytes read in
+    let read : bytes_in c.unwrap-guid.result ≡ slice_range (bytes_in c.stream-guids.result) (16 * g) (16 * g + 16) = rw c.unwrap-guid.ensures at c.part.ensures.bytes in
+    let own : bytes_in c.unwrap-guid.result ≡ slice_range G (16 * g) (16 * g + 16) = subst (λ (bs : List ℕ). bytes_in c.unwrap-guid.result ≡ slice_range bs (16 * g) (16 * g + 16)) c.stream-guids.ensures.bytes read in
     let fits : 16 * g + 16 ≤ length G = omega (arith, c.requires, c.from-at.ensures, at_least) in
-    c.as_guid.ensures ∙ guid_read (bytes_in c.unwrap.result) G g own fits ∙ ap (λ n. Some (guid_in G n)) c.from-at.ensures ∙ sym (set_is G c.args.index at_least)
+    c.as_guid.ensures ∙ guid_read (bytes_in c.unwrap-guid.result) G g own fits ∙ ap (λ n. Some (guid_in G n)) c.from-at.ensures ∙ sym (set_is G c.args.index at_least)
