@@ -6,13 +6,16 @@
 It is for the gate alone, right behind `rt ci`: that proves pst_c and makes no archive of it. Some kits leave the libraries
 without a note of what they were made from, so that `rt lib` would prove every crate below once more, half an hour for
 nothing. So the prover is called here as rt calls it, with the words that rt itself makes for the crate. It builds only what
-it proves. What is made is crates/pst_c/out/libpst_c.a, with the bytes that `rt lib` gives it. The status is 3 where a library
-is missing or has such a note, or where rt is another one than this knows: `rt lib` is there for that.
+it proves. What lies below a crate is worked out once, as tools/rt.py has it. What is made is crates/pst_c/out/libpst_c.a, with
+the bytes that `rt lib` gives it. The status is 3 where a library is missing or has such a note, or where rt is another one than
+this knows: `rt lib` is there for that.
 """
 import importlib.util
 import os
 import subprocess
 import sys
+
+from rt import remembered
 
 ROOT = os.path.dirname(os.path.dirname(os.path.abspath(__file__)))
 CRATE = os.path.join(ROOT, "crates", "pst_c")
@@ -38,6 +41,7 @@ def rt_of(folder):
 def words_of(rtlib, folder):
     """The words by which rt has pst_c built, or None where a library below it is missing or is not of `rt ci`."""
     os.chdir(CRATE)
+    rtlib.Crate.below = remembered(rtlib.Crate.below)
     crate = rtlib.Crate(CRATE, ROOT, {})
     folders = {os.path.dirname(it.rlib) for it in crate.below() if os.path.isdir(it.rlib)}
     if len(folders) < len(crate.below()) or any(os.path.exists(f"{it}/stamp") for it in folders):

@@ -13,7 +13,8 @@ edit, or of several in one check, in a folder rt-edit-.., over what a proof of t
 tries a crate's edits in turn it is not told how many a check has, and the last one of them is of no edit). Seconds are processor
 seconds of the prover and of all that it started, as the system counts them, looked at five times a second; the last
 fifth of a second is missed. Beside other work they are up to a fifth more. A log has a line for each prover, and may be
-written by several runs: of what was proved twice the last counts.
+written by several runs: of what was proved twice the last counts. What a check takes before its first function is what the
+check takes that ends a crate's edits, in which no function is looked at anew.
 
 What a change of a crate costs is all that the crate takes, with its tests and edits, and all that those above it take.
 A number that lacks something which was not measured has a + behind it. What is neither proof nor edit (the tests as they
@@ -211,6 +212,7 @@ def row(crate, done):
     made = sum(sum(done.get(it, [])[-2:]) for it in ("compile", "link"))
     found = {"check": last("check"), "tests": last("tests"), "edits": edits, "tried": [*tried, *together], "lacks": lacks}
     found["of_edits"] = sum(tried) + others
+    found["before"] = last("edit seed")
     found["all"] = (found["check"] or 0) + (found["tests"] or 0) + found["of_edits"] + made
     return found
 
@@ -221,13 +223,13 @@ def table(found):
     under = all_under(deps)
     rows = {it: row(it, found.get(it, {})) for it in deps}
     shown = lambda it: f"{it:.0f}" if it else ""
-    print("| Crate | Alone | Its tests | Its edits | Edits | Checks of edits | The dearest | A change, in minutes |")
-    print("|---|---|---|---|---|---|---|---|")
+    print("| Crate | Alone | Its tests | Its edits | Before the first function | Edits | Checks of edits | The dearest | A change, in minutes |")
+    print("|---|---|---|---|---|---|---|---|---|")
     for crate, it in rows.items():
         every = [rows[crate], *(rows[up] for up in deps if crate in under[up])]
         change = f"{sum(one['all'] for one in every) / 60:.0f}{'+' if any(one['lacks'] for one in every) else ''}"
         many = [len(it["edits"]) or "", len(it["tried"]) or ""]
-        cells = [crate, shown(it["check"]), shown(it["tests"]), shown(it["of_edits"]), *many, shown(max(it["tried"], default=0)), change]
+        cells = [crate, shown(it["check"]), shown(it["tests"]), shown(it["of_edits"]), shown(it["before"]), *many, shown(max(it["tried"], default=0)), change]
         print(f"| {' | '.join(map(str, cells))} |")
     parts = [sum(it[part] or 0 for it in rows.values()) / 60 for part in ("all", "check", "tests", "of_edits")]
     print("\nIn minutes: {:.0f} in all, of which {:.0f} for the crates alone, {:.0f} for tests and {:.0f} for edits.".format(*parts))

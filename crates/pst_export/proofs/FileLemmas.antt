@@ -9,8 +9,10 @@ use Rattle.pst_ndb.specs.NodeTable.{table_of_nodes}
 use Rattle.pst_ndb.specs.Views.{table_of_node, nid_of, top_of, roots_of}
 use Rattle.pst_intact.specs.declared.folder.IntactFolder.{IntactFolder}
 use Rattle.pst_intact.specs.View.{intact_beside, intact_node, intact_roots}
+use Rattle.pst_json.specs.pst_props.declared.document_indexes.DocumentIndexes.{DocumentIndexes}
 use Rattle.pst_json.specs.pst_props.declared.fault.DocFault.{DocFault}
 use Rattle.pst_json.specs.pst_props.declared.fault.DocFault.TheVariants.{NoFolder, NoNode, Bad, NoProperty, TooManyPaths, Memory}
+use Rattle.pst_json.specs.DocumentIndexes.{AreDocumentIndexes}
 use Rattle.pst_json.specs.Node.{node_props_data}
 use Rattle.pst_json.specs.Told.{TellsDoc}
 use Rattle.pst_value_json.specs.pst_text.Line.{line_of}
@@ -65,3 +67,9 @@ folder_is told f n nid path line same table own top called shown =
     ap (λ x. member_of x 0 line) (called ∙ ap (λ k. path_of (folder_in (codes "folders") k) (codes "props.json")) top)
     ∙ ap (member_of name 0) (shown ∙ ap (λ m. line_of (node_props_data told false (table_of_node m) (roots_of m) (nid_of m))) same
     ∙ ap (λ x. line_of (node_props_data told false x r (nid_of node))) table ∙ ap (λ k. line_of (node_props_data told false t r k)) (sym own ∙ top))
+
+-- ---- the indexes of documents
+
+-- among the same blocks
+pub indexes_over : (t u : Table) (i : DocumentIndexes) → u ≡ t → AreDocumentIndexes t i → AreDocumentIndexes u i
+indexes_over t u i same are = rw same are

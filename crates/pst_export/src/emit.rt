@@ -21,7 +21,7 @@ use crate::fault::ExportFault;
 use crate::folders::write_folders;
 use crate::front::{write_damage, write_front};
 use crate::messages::write_messages;
-use pst_json::{DocFault, Intact, Lost, Reach, emit, names_in, names_index};
+use pst_json::{DocFault, DocumentIndexes, Intact, Lost, Reach, emit, names_in, names_index};
 use pst_msg::{ASSOCIATED, MESSAGE};
 use pst_tar::end;
 use std::alloc::{AllocError, Global};
@@ -95,9 +95,22 @@ fn write_nodes<W: Write>(
     let intact = export.intact;
     let names = names_in(&intact, &export.index);
     write_front(alloc, number, export, out)?;
-    write_folders(alloc, number, names, &intact, out)?;
-    write_messages(alloc, number, names, &intact, MESSAGE, "messages", out)?;
-    write_messages(alloc, number, names, &intact, ASSOCIATED, "associated", out)?;
+    let mut indexes = DocumentIndexes::new(alloc);
+    let kept = &mut indexes;
+    write_folders(alloc, number, names, &intact, kept, out)?;
+    write_messages(
+        alloc, number, names, &intact, MESSAGE, "messages", kept, out,
+    )?;
+    write_messages(
+        alloc,
+        number,
+        names,
+        &intact,
+        ASSOCIATED,
+        "associated",
+        kept,
+        out,
+    )?;
     Ok(())
 }
 

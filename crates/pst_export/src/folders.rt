@@ -3,6 +3,7 @@
 ghost use Rattle.std.specs.Prelude.{◌≡◌, IfOk, OnOk, [], ◌∷◌, codes, string_bytes};
 ghost use Rattle.pst_ndb.specs.NodeTable.{table_of_nodes};
 ghost use Rattle.pst_ndb.specs.Roots.{all_roots};
+ghost use Rattle.pst_json.specs.DocumentIndexes.{AreDocumentIndexes};
 ghost use Rattle.pst_value_json.specs.Props.{names_told};
 ghost use Rattle.pst_intact.specs.View.{intact_beside, intact_roots, table_of_intact, nodes_of_intact};
 ghost use Rattle.pst_verify.specs.pst_msg.Values.{is_folder};
@@ -16,7 +17,7 @@ use crate::fault::ExportFault;
 use crate::files::write_bytes;
 use crate::walk::folder_in;
 use pst_intact::{Intact, IntactFolder};
-use pst_json::node_line;
+use pst_json::{DocumentIndexes, node_line};
 use pst_msg::NameMap;
 use std::alloc::{AllocError, Global};
 use std::io::Write;
@@ -39,8 +40,11 @@ fn write_folder<W: Write>(
     number: &mut u64,
     names: Option<NameMap>,
     folder: IntactFolder,
+    indexes: &mut DocumentIndexes,
     out: &mut W,
 ) -> Result<(), ExportFault>
+    requires { AreDocumentIndexes (table_of_nodes (intact_beside folder)) indexes.old }
+    ensures known { AreDocumentIndexes (table_of_nodes (intact_beside folder.entry)) indexes.new }
     ensures all { let told = names_told names.entry in let t = table_of_nodes (intact_beside folder.entry) in
         let file = folder_file told t (intact_roots folder.entry) in
         OnOk result (Adds (W.contents out.old) (W.contents out.new) number.old number.new
@@ -50,7 +54,7 @@ fn write_folder<W: Write>(
         AddsFront (W.contents out.old) (W.contents out.new) number.old (file ∷ []) }
 {
     folder.is_sound();
-    let line = node_line(alloc, folder.pc(), names)?;
+    let line = node_line(alloc, folder.pc(), names, indexes)?;
     let path = folder_path(alloc, folder.nid())?;
     write_bytes(alloc, number, path.as_bytes(), 0, &line, out)?;
     Ok(())
@@ -62,8 +66,11 @@ pub(crate) fn write_folders<W: Write>(
     number: &mut u64,
     names: Option<NameMap>,
     intact: &Intact,
+    indexes: &mut DocumentIndexes,
     out: &mut W,
 ) -> Result<(), ExportFault>
+    requires { AreDocumentIndexes (table_of_intact intact.now) indexes.old }
+    ensures known { AreDocumentIndexes (table_of_intact intact.now) indexes.new }
     ensures all { let told = names_told names.entry in let i = intact.now in
         let files = folder_files told (table_of_intact i) (of_kind is_folder (all_roots (nodes_of_intact i))) in
         OnOk result (Adds (W.contents out.old) (W.contents out.new) number.old number.new files) }
@@ -72,7 +79,7 @@ pub(crate) fn write_folders<W: Write>(
         AddsFront (W.contents out.old) (W.contents out.new) number.old files }
 {
     for folder in intact.folders() {
-        write_folder(alloc, number, names, folder, out)?;
+        write_folder(alloc, number, names, folder, indexes, out)?;
     }
     Ok(())
 }

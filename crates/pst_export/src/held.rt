@@ -2,6 +2,7 @@
 
 ghost use Rattle.std.specs.Prelude.{◌≡◌, IfOk, OnOk, [], ◌∷◌, codes, option_map, string_bytes};
 ghost use Rattle.pst_ndb.specs.Views.{table_of_node, roots_of};
+ghost use Rattle.pst_json.specs.DocumentIndexes.{AreDocumentIndexes};
 ghost use Rattle.pst_value_json.specs.Filed.{attachment_file as file_of_attachment, message_file as file_of_message};
 ghost use Rattle.pst_value_json.specs.Props.{names_told};
 ghost use Rattle.pst_value_json.specs.pst_pc.View.{node_of_pc, property_of};
@@ -13,7 +14,7 @@ ghost use Rattle.pst_export.specs.Written.{Adds, AddsFront};
 use crate::fault::ExportFault;
 use crate::files::{write_bytes, write_property};
 use crate::walk::{Holder, Item};
-use pst_json::{attachment_line, message_line};
+use pst_json::{DocumentIndexes, attachment_line, message_line};
 use pst_msg::{Attachment, Message, NameMap, Pc};
 use pst_value_json::{BODY, CONTENT, HEADERS, HTML, Prop, RTF, attachment_file, message_file};
 use std::alloc::{AllocError, Global};
@@ -164,8 +165,11 @@ fn write_message<W: Write>(
     folder: &str,
     time: u64,
     message: Message,
+    indexes: &mut DocumentIndexes,
     out: &mut W,
 ) -> Result<(), ExportFault>
+    requires { AreDocumentIndexes (table_of_node (node_of_message message)) indexes.old }
+    ensures known { AreDocumentIndexes (table_of_node (node_of_message message.entry)) indexes.new }
     ensures all { let told = names_told names.entry in
         let t = table_of_node (node_of_message message.entry) in OnOk result (Adds (W.contents out.old) (W.contents out.new)
         number.old number.new (place_files told t time folder.now (of_message message.entry))) }
@@ -173,9 +177,10 @@ fn write_message<W: Write>(
         let t = table_of_node (node_of_message message.entry) in AddsFront (W.contents out.old) (W.contents out.new) number.old
         (place_files told t time folder.now (of_message message.entry)) }
 {
-    let line = message_line(alloc, message, names)?;
+    let line = message_line(alloc, message, names, indexes)?;
     write_document(alloc, number, folder, time, line, out)?;
-    write_bodies(alloc, number, folder, time, &message.pc(), out)?;
+    let pc = indexes.message_pc(message);
+    write_bodies(alloc, number, folder, time, &pc, out)?;
     Ok(())
 }
 
@@ -188,8 +193,11 @@ fn write_attachment<W: Write>(
     folder: &str,
     time: u64,
     attachment: Attachment,
+    indexes: &mut DocumentIndexes,
     out: &mut W,
 ) -> Result<(), ExportFault>
+    requires { AreDocumentIndexes (table_of_node (node_of_attachment attachment)) indexes.old }
+    ensures known { AreDocumentIndexes (table_of_node (node_of_attachment attachment.entry)) indexes.new }
     ensures all { let told = names_told names.entry in
         let t = table_of_node (node_of_attachment attachment.entry) in OnOk result (Adds (W.contents out.old) (W.contents out.new)
         number.old number.new (place_files told t time folder.now (of_attachment attachment.entry))) }
@@ -197,9 +205,10 @@ fn write_attachment<W: Write>(
         let t = table_of_node (node_of_attachment attachment.entry) in AddsFront (W.contents out.old) (W.contents out.new) number.old
         (place_files told t time folder.now (of_attachment attachment.entry)) }
 {
-    let line = attachment_line(alloc, attachment, names)?;
+    let line = attachment_line(alloc, attachment, names, indexes)?;
     write_document(alloc, number, folder, time, line, out)?;
-    write_content(alloc, number, folder, time, &attachment.pc(), out)?;
+    let pc = indexes.attachment_pc(attachment);
+    write_content(alloc, number, folder, time, &pc, out)?;
     Ok(())
 }
 
@@ -210,8 +219,11 @@ pub(crate) fn write_item<W: Write>(
     names: Option<NameMap>,
     time: u64,
     item: &Item,
+    indexes: &mut DocumentIndexes,
     out: &mut W,
 ) -> Result<(), ExportFault>
+    requires { AreDocumentIndexes (table_of_node (node_of_holder item.now.holder)) indexes.old }
+    ensures known { AreDocumentIndexes (table_of_node (node_of_holder item.now.holder)) indexes.new }
     ensures all { let told = names_told names.entry in
         let t = table_of_node (node_of_holder item.now.holder) in OnOk result (Adds (W.contents out.old) (W.contents out.new)
         number.old number.new (held_files told t time (item_held item.now))) }
@@ -222,10 +234,10 @@ pub(crate) fn write_item<W: Write>(
     let folder = item.folder.as_str();
     match item.holder {
         Holder::Message(message) => {
-            write_message(alloc, number, names, folder, time, message, out)
+            write_message(alloc, number, names, folder, time, message, indexes, out)
         }
         Holder::Attachment(attachment) => {
-            write_attachment(alloc, number, names, folder, time, attachment, out)
+            write_attachment(alloc, number, names, folder, time, attachment, indexes, out)
         }
     }
 }

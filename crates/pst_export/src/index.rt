@@ -1,34 +1,25 @@
 //! An index of the subnodes of a message, by which its attachments are found.
 
-ghost use Rattle.std.specs.Prelude.{IfOk};
-ghost use Rattle.pst_ndb.specs.Views.{IsIndexedBy};
+ghost use Rattle.pst_ndb.specs.Views.{table_of_node};
 ghost use Rattle.pst_verify.specs.pst_msg.View.{node_of_message};
+ghost use Rattle.pst_json.specs.LastIndex.{IsLastIndex};
 
+use pst_json::{LastIndex, most_values};
 use pst_msg::Message;
-use pst_ndb::SubIndex;
 use std::alloc::{AllocError, Global};
 
-// A table whose data has no more bytes than these has fewer than 256 rows.
-const FEW: u64 = 2048;
-
-// Whether a message may have so many attachments that an index of its subnodes pays.
-fn may_have_many(message: Message) -> bool {
-    match message.attachment_table() {
-        Some(table) => table.node().spans().size() > FEW,
-        None => false,
-    }
-}
-
-/// An index of the subnodes of a message that may have many attachments, made in about n log n steps for n of them; of any other
-/// message one that holds nothing, and takes no memory.
-pub(crate) fn index_of(alloc: Global, message: Message) -> Result<SubIndex, AllocError>
-    ensures { IfOk result (IsIndexedBy (node_of_message message.entry)) }
+/// Turns to the list of a message, which asks it for as many attachments as its table of them may have rows: 8 bytes of its data are
+/// one at least. Or memory is refused.
+pub(crate) fn turn_to_attachments(
+    alloc: Global,
+    message: Message,
+    index: &mut LastIndex,
+) -> Result<(), AllocError>
+    requires { IsLastIndex (table_of_node (node_of_message message)) index.old }
+    ensures { IsLastIndex (table_of_node (node_of_message message.entry)) index.new }
 {
-    if !may_have_many(message) {
-        return Ok(SubIndex::none());
-    }
-    match message.node().index(alloc) {
-        Ok(index) => Ok(index),
-        Err(_) => Err(AllocError),
+    match message.attachment_table() {
+        Some(table) => index.turn(alloc, message.node(), most_values(table.node())),
+        None => Ok(()),
     }
 }

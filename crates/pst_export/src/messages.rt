@@ -3,6 +3,8 @@
 ghost use Rattle.std.specs.Prelude.{◌≡◌, ℕ, true, OnOk};
 ghost use Rattle.pst_ndb.specs.Views.{table_of_node, nid_of, top_of};
 ghost use Rattle.pst_intact.specs.View.{table_of_intact, nodes_of_intact};
+ghost use Rattle.pst_json.specs.DocumentIndexes.{AreDocumentIndexes};
+ghost use Rattle.pst_json.specs.LastIndex.{IsLastIndex};
 ghost use Rattle.pst_value_json.specs.Props.{names_told};
 ghost use Rattle.pst_verify.specs.pst_msg.Nid.{is_type as is_of_type};
 ghost use Rattle.pst_verify.specs.pst_msg.Values.{is_message};
@@ -12,10 +14,10 @@ ghost use Rattle.pst_export.specs.Written.{Adds, AddsFront};
 
 use crate::fault::ExportFault;
 use crate::held::write_item;
-use crate::index::index_of;
+use crate::index::turn_to_attachments;
 use crate::time::received;
 use crate::walk::Walk;
-use pst_json::Intact;
+use pst_json::{DocumentIndexes, Intact, LastIndex};
 use pst_msg::{Message, NameMap, is_type};
 use std::alloc::Global;
 use std::io::Write;
@@ -27,9 +29,12 @@ fn write_lent<W: Write>(
     names: Option<NameMap>,
     name: &str,
     message: Message,
+    indexes: &mut DocumentIndexes,
     out: &mut W,
 ) -> Result<(), ExportFault>
-    requires { nid_of (node_of_message message) ≡ top_of (node_of_message message) }
+    requires top { nid_of (node_of_message message) ≡ top_of (node_of_message message) }
+    requires known { AreDocumentIndexes (table_of_node (node_of_message message)) indexes.old }
+    ensures known { AreDocumentIndexes (table_of_node (node_of_message message.entry)) indexes.new }
     ensures all { let told = names_told names.entry in
         let t = table_of_node (node_of_message message.entry) in
         let files = message_files told t name.now (message_roots message.entry) in
@@ -42,12 +47,12 @@ fn write_lent<W: Write>(
     let time = received(&message.pc());
     let mut walk = Walk::of(alloc, name, message)?;
     while let Some(item) = walk.next()? {
-        write_item(alloc, number, names, time, &item, out)?;
+        write_item(alloc, number, names, time, &item, indexes, out)?;
     }
     Ok(())
 }
 
-// The same, of one that has been lent no index yet.
+// The same, of one that has been lent no index yet. The index turns to its list.
 #[tactic(auto, using(crate::proofs::WriteLemmas::front_none))]
 fn write_message<W: Write>(
     alloc: Global,
@@ -55,9 +60,15 @@ fn write_message<W: Write>(
     names: Option<NameMap>,
     name: &str,
     message: Message,
+    index: &mut LastIndex,
+    indexes: &mut DocumentIndexes,
     out: &mut W,
 ) -> Result<(), ExportFault>
-    requires { nid_of (node_of_message message) ≡ top_of (node_of_message message) }
+    requires top { nid_of (node_of_message message) ≡ top_of (node_of_message message) }
+    requires index { IsLastIndex (table_of_node (node_of_message message)) index.old }
+    requires known { AreDocumentIndexes (table_of_node (node_of_message message)) indexes.old }
+    ensures index { IsLastIndex (table_of_node (node_of_message message.entry)) index.new }
+    ensures known { AreDocumentIndexes (table_of_node (node_of_message message.entry)) indexes.new }
     ensures all { let told = names_told names.entry in
         let t = table_of_node (node_of_message message.entry) in
         let files = message_files told t name.now (message_roots message.entry) in
@@ -67,8 +78,9 @@ fn write_message<W: Write>(
         let files = message_files told t name.now (message_roots message.entry) in
         AddsFront (W.contents out.old) (W.contents out.new) number.old files }
 {
-    let index = index_of(alloc, message)?;
-    write_lent(alloc, number, names, name, message.indexed(&index), out)
+    turn_to_attachments(alloc, message, index)?;
+    let lent = index.lend_message(message);
+    write_lent(alloc, number, names, name, lent, indexes, out)
 }
 
 /// Writes the files of the messages of a type, in a folder of this name, and of what they hold.
@@ -79,9 +91,12 @@ pub(crate) fn write_messages<W: Write>(
     intact: &Intact,
     kind: u32,
     name: &str,
+    indexes: &mut DocumentIndexes,
     out: &mut W,
 ) -> Result<(), ExportFault>
-    requires { (nid : ℕ) → is_of_type kind nid ≡ true → is_message nid ≡ true }
+    requires kind { (nid : ℕ) → is_of_type kind nid ≡ true → is_message nid ≡ true }
+    requires known { AreDocumentIndexes (table_of_intact intact.now) indexes.old }
+    ensures known { AreDocumentIndexes (table_of_intact intact.now) indexes.new }
     ensures all { let told = names_told names.entry in let i = intact.now in
         let files = messages_files told (table_of_intact i) name.now (of_type kind (nodes_of_intact i)) in
         OnOk result (Adds (W.contents out.old) (W.contents out.new) number.old number.new files) }
@@ -89,9 +104,12 @@ pub(crate) fn write_messages<W: Write>(
         let files = messages_files told (table_of_intact i) name.now (of_type kind (nodes_of_intact i)) in
         AddsFront (W.contents out.old) (W.contents out.new) number.old files }
 {
+    let mut index = LastIndex::new(alloc);
     for message in intact.messages() {
         if is_type(kind, message.nid()) {
-            write_message(alloc, number, names, name, message, out)?;
+            write_message(
+                alloc, number, names, name, message, &mut index, indexes, out,
+            )?;
         }
     }
     Ok(())

@@ -1,9 +1,12 @@
 -- What is known of page maps, and the first fault of a heap by what is looked at before them.
-use Rattle.std.proofs.Common.{◌≡◌, ℕ, ◌<◌, true, false, Option, Some, None, ap, ◌∙◌, inl, inr}
+use Rattle.std.proofs.Common.{◌≡◌, ℕ, ◌<◌, Bool, true, false, Option, Some, None, refl, sym, ap, ◌∙◌, inl, inr}
 use Rattle.std.specs.Prelude.{cond, option_map, slice_get}
-use Rattle.std.specs.Ordering.{nat_cmp}
-use Rattle.std.specs.BTreeMap.{is_at}
-use Rattle.std.specs.BTreeSet.{contains, IsEmpty}
+use Rattle.std.specs.Ordering.{nat_cmp, eq_by_cmp}
+use Rattle.std.specs.BTreeMap.{get, is_at, IsEmpty, IsUnchanged}
+use Rattle.std.specs.BTreeSet.{contains}
+use Rattle.std.specs.BTreeSet.{IsEmpty as HasNone}
+use Rattle.std.proofs.lemmas.Map.Lookups.{exact_unsigned}
+use Rattle.std.proofs.lemmas.Map.Views.{tells_apart}
 use Rattle.pst_fault.specs.declared.fault.Fault.{Fault}
 use Rattle.pst_fault.specs.First.{◌then◌, first_below, IsFirst}
 use Rattle.pst_fault.specs.Each.{first_of}
@@ -17,22 +20,48 @@ use Rattle.pst_heap.specs.declared.check.TheConstants.{SPANS}
 use Rattle.pst_heap.specs.declared.maps.Maps.{Maps}
 use Rattle.pst_heap.specs.Values.{HeapData}
 use Rattle.pst_heap.specs.Fault.{extra_fault, front_fault, page_map_fault, heap_fault}
-use Rattle.pst_heap.specs.Maps.{page_maps_fault, has_maps, AreMapsTrue, start_fault}
+use Rattle.pst_heap.specs.Maps.{page_maps_fault, broken_of, has_maps, AreMapsTrue, start_fault}
 
--- ---- the set
+-- ---- what is remembered
 
 -- nothing is known
-pub nothing_true : (t : Table) (m : Maps) → IsEmpty m.trees → AreMapsTrue t m
-unfolding has_maps
-nothing_true t m empty = record { holds = λ bid known. let bad : false ≡ true = (rw empty at known) in cc }
+pub nothing_true : (t : Table) (m : Maps) → HasNone m.trees → IsEmpty m.broken → AreMapsTrue t m
+unfolding has_maps broken_of
+nothing_true t m trees broken = record {
+  holds = λ bid known. let bad : false ≡ true = (rw trees at known) in cc;
+  broken = λ bid f known. let bad : None ≡ Some f = (rw broken at known) in absurd cc;
+}
 
 -- one more is known
-pub put_true : (t : Table) (old new : Maps) (bid : ℕ) → ((q : ℕ) → contains nat_cmp new.trees q ≡ cond (is_at (nat_cmp bid) q) true (contains nat_cmp old.trees q)) → page_maps_fault t bid ≡ None → AreMapsTrue t old → AreMapsTrue t new
-unfolding has_maps
-put_true t old new bid more none true_of = record { holds = each }
+pub put_true : (t : Table) (old new : Maps) (bid : ℕ) → ((q : ℕ) → contains nat_cmp new.trees q ≡ cond (is_at (nat_cmp bid) q) true (contains nat_cmp old.trees q)) → new.broken ≡ old.broken → page_maps_fault t bid ≡ None → AreMapsTrue t old → AreMapsTrue t new
+unfolding has_maps broken_of
+put_true t old new bid more same none true_of = record { holds = each; broken = λ q f known. true_of.broken q f (rw same at known) }
   where
     each : (q : ℕ) → contains nat_cmp new.trees q ≡ true → page_maps_fault t q ≡ None
     each q known = elim (only_new old.trees new.trees bid more q known) [ inl was ↦ true_of.holds q was | inr same ↦ rw (← same) none ]
+
+-- one fault more
+pub broken_put : (t : Table) (old new : Maps) (bid : ℕ) (f : Fault) → ((q : ℕ) → get nat_cmp new.broken q ≡ cond (eq_by_cmp nat_cmp bid q) (Some f) (get nat_cmp old.broken q)) → new.trees ≡ old.trees → page_maps_fault t bid ≡ Some f → AreMapsTrue t old → AreMapsTrue t new
+unfolding has_maps broken_of
+broken_put t old new bid f put same is true_of = record {
+  holds = λ q known. true_of.holds q (rw same at known);
+  broken = λ q g known. by_test q g (eq_by_cmp nat_cmp bid q) refl (sym (put q) ∙ known);
+}
+  where
+    by_test : (q : ℕ) (g : Fault) (v : Bool) → eq_by_cmp nat_cmp bid q ≡ v → cond v (Some f) (get nat_cmp old.broken q) ≡ Some g → page_maps_fault t q ≡ Some g
+    by_test q g true here found =
+        let one : f ≡ g = cc in
+        let key : bid ≡ q = tells_apart exact_unsigned bid q here in
+        rw (← one, ← key) is
+    by_test q g false here found = true_of.broken q g found
+
+-- memory was refused, and the same is remembered
+pub broken_same : (t : Table) (old new : Maps) → IsUnchanged old.broken new.broken → new.trees ≡ old.trees → AreMapsTrue t old → AreMapsTrue t new
+unfolding has_maps broken_of
+broken_same t old new broken same true_of = record {
+  holds = λ q known. true_of.holds q (rw same at known);
+  broken = λ q f known. true_of.broken q f (rw broken at known);
+}
 
 -- ---- the spans of parts
 

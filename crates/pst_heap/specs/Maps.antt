@@ -1,7 +1,8 @@
--- What is known of page maps: which data trees have good ones in all of their spans. Only what is true is known, so what is
--- passed over hides no fault.
-use Rattle.std.specs.Prelude.{◌≡◌, ℕ, Bool, true, Option, None, slice_get}
+-- What is known of page maps: which data trees have good ones in all of their spans, and the first fault of those of others. Only
+-- what is true is known, so what is passed over hides no fault.
+use Rattle.std.specs.Prelude.{◌≡◌, ℕ, Bool, true, Option, Some, None, slice_get}
 use Rattle.std.specs.Ordering.{nat_cmp}
+use Rattle.std.specs.BTreeMap.{get}
 use Rattle.std.specs.BTreeSet.{contains}
 use Rattle.pst_fault.specs.declared.fault.Fault.{Fault}
 use Rattle.pst_fault.specs.First.{◌then◌}
@@ -21,9 +22,14 @@ page_maps_fault t bid = first_of (page_map_fault t.image) (data_spans t bid)
 unfoldable pub has_maps : Maps → ℕ → Bool
 has_maps m bid = contains nat_cmp m.trees bid
 
+-- the first fault of the page maps of a data tree, if it is remembered
+unfoldable pub broken_of : Maps → ℕ → Option Fault
+broken_of m bid = get nat_cmp m.broken bid
+
 -- what is known is true
 pub record AreMapsTrue (t : Table) (m : Maps) : Type 0 where
   pub holds : (bid : ℕ) → has_maps m bid ≡ true → page_maps_fault t bid ≡ None
+  pub broken : (bid : ℕ) (f : Fault) → broken_of m bid ≡ Some f → page_maps_fault t bid ≡ Some f
 
 -- of a heap, before its page maps: how many spans it has, and the first one
 abbrev pub start_fault : HeapData → Option Fault

@@ -47,7 +47,7 @@ fn check_all_maps(node: &Node) -> Result<(), Fault>
     }
 }
 
-// The page maps of a part of a node's data, unless they are known.
+// The page maps of a part of a node's data, unless they are known, or their fault is.
 fn check_part(node: &Node, parts: Parts, i: u16, maps: &mut Maps) -> Result<(), Fault>
     requires below { i < part_count (table_of_parts parts) (tree_of_parts parts) }
     requires table { table_of_parts parts ≡ table_of_node node.now }
@@ -62,7 +62,11 @@ fn check_part(node: &Node, parts: Parts, i: u16, maps: &mut Maps) -> Result<(), 
     if maps.knows(bid) {
         return Ok(());
     }
+    if let Some(fault) = maps.fault(bid) {
+        return Err(told_of(node, fault));
+    }
     if let Err(fault) = check_spans(node.image(), parts.spans(i)) {
+        maps.put_fault(bid, fault);
         return Err(told_of(node, fault));
     }
     maps.put(bid)
@@ -97,8 +101,8 @@ fn check_maps_with(node: &Node, maps: &mut Maps) -> Result<(), Fault>
 }
 
 /// Checks that the data of a node is a heap, as `check_heap` does, by what is known of page maps. Of a heap of more than 16 spans
-/// the XBLOCKs that an XXBLOCK names, or else the whole data, are remembered once their page maps were found good; where they are
-/// met again, each costs one look-up. NoMemory where memory is refused for that.
+/// the XBLOCKs that an XXBLOCK names, or else the whole data, are remembered once their page maps were gone through; where they are
+/// met again, each costs a look-up or two. NoMemory where memory is refused to one whose page maps are good.
 pub fn check_heap_with<'a>(node: Node<'a>, maps: &mut Maps) -> Result<Heap<'a>, Fault>
     // What is known is true, and stays so.
     requires known { AreMapsTrue (table_of_node node) maps.old }

@@ -1,22 +1,25 @@
 //! What is already known of page maps.
 
 use pst_fault::Fault;
-use std::alloc::Global;
-use std::collections::BTreeSet;
+use std::alloc::{AllocError, Global};
+use std::collections::{BTreeMap, BTreeSet};
 
-/// What is already known of page maps: the data trees whose spans all have good ones. A check that is given this passes them
-/// over, so what heaps share is looked at once.
+/// What is already known of page maps: the data trees whose spans all have good ones, and the first fault of those of others. A check
+/// that is given this passes the former over, and tells the latter, so what heaps share is looked at once. Where memory is refused
+/// to a fault it is not remembered, and no answer depends on that.
 #[derive(Drop)]
 pub struct Maps {
-    // Their block identifiers, as they were written where they were met.
+    // The block identifiers of those that are good, as they were written where they were met.
     trees: BTreeSet<u64>,
+    // By those of the others, their first faults, of no context.
+    broken: BTreeMap<u64, Fault>,
 }
 
 impl Maps {
-    ghost use Rattle.std.specs.Prelude.{◌≡◌, None, IfErr};
+    ghost use Rattle.std.specs.Prelude.{◌≡◌, Some, None, IfErr};
     ghost use Rattle.pst_fault.specs.Fault.{no_memory};
     ghost use Rattle.pst_ndb.specs.pst_block.Table.{Table};
-    ghost use Rattle.pst_heap.specs.Maps.{page_maps_fault, has_maps, AreMapsTrue};
+    ghost use Rattle.pst_heap.specs.Maps.{page_maps_fault, broken_of, has_maps, AreMapsTrue};
 
     /// Nothing is known. No memory is taken.
     #[tactic(auto, using(crate::proofs::KnownLemmas::nothing_true))]
@@ -25,6 +28,7 @@ impl Maps {
     {
         Maps {
             trees: BTreeSet::new(alloc),
+            broken: BTreeMap::new(alloc),
         }
     }
 
@@ -45,5 +49,31 @@ impl Maps {
     {
         self.trees.insert(bid)?;
         Ok(())
+    }
+
+    // The first fault of the page maps of a data tree, if it is remembered.
+    #[tactic(auto, unfolding(crate::specs::Maps::broken_of))]
+    pub(crate) fn fault(&self, bid: u64) -> Option<Fault>
+        ensures { result ≡ broken_of self.now bid }
+    {
+        self.broken.get(&bid).copied()
+    }
+
+    // Remembers a fault. AllocError where memory is refused.
+    #[tactic(auto, using(crate::proofs::KnownLemmas::broken_put, crate::proofs::KnownLemmas::broken_same))]
+    fn keep_fault(&mut self, bid: u64, fault: Fault) -> Result<(), AllocError>
+        ensures { (t : Table) → page_maps_fault t bid ≡ Some fault →
+            AreMapsTrue t self.old → AreMapsTrue t self.new }
+    {
+        self.broken.insert(bid, fault)?;
+        Ok(())
+    }
+
+    // The first fault of the page maps of a data tree is remembered.
+    pub(crate) fn put_fault(&mut self, bid: u64, fault: Fault)
+        ensures { (t : Table) → page_maps_fault t bid ≡ Some fault →
+            AreMapsTrue t self.old → AreMapsTrue t self.new }
+    {
+        let _ = self.keep_fault(bid, fault);
     }
 }

@@ -33,8 +33,8 @@ pub use nodes::{nodes_doc, nodes_line};
 pub use output::{EmitFault, emit, emit_value};
 pub use pst_ndb::read_nodes;
 pub use pst_props::{
-    DocFault, attachment_line, lost_at, message_line, names_in, names_index, node_line,
-    property_at, props_doc, props_line,
+    DocFault, DocumentIndexes, LastIndex, attachment_line, lost_at, message_line, most_values,
+    names_in, names_index, node_line, property_at, props_doc, props_line,
 };
 pub use pst_value_json::{
     NameIndex, Prop, PropType, Value, hex_doc, pc_doc, table_doc, text, text_of, value_doc,

@@ -6,6 +6,7 @@ ghost use Rattle.pst_json.specs.Listings.{folders_at};
 ghost use Rattle.pst_json.specs.Messages.{listed_in};
 
 use pst_intact::{Intact, IntactFolder};
+use pst_props::LastIndex;
 use pst_value_json::{Tc, tc_ids_rise};
 use std::alloc::{AllocError, Global};
 use std::collections::BTreeMap;
@@ -26,6 +27,7 @@ impl Listings {
     ghost use Rattle.pst_value_json.specs.pst_tc.Tc.{node_of_tc};
     ghost use Rattle.pst_value_json.specs.pst_tc.Values.{tc_rows};
     ghost use Rattle.pst_intact.specs.View.{intact_beside, intact_roots};
+    ghost use Rattle.pst_props.specs.LastIndex.{IsLastIndex};
     ghost use Rattle.pst_json.specs.Listings.{folders_at, if_listed};
     ghost use Rattle.pst_json.specs.Messages.{lists, names};
 
@@ -65,16 +67,21 @@ impl Listings {
         Ok(())
     }
 
-    // A folder lists what its contents table has.
-    fn note_folder(&mut self, folder: IntactFolder) -> Result<(), AllocError>
-        ensures { let all = intact_beside folder.entry in let t = table_of_nodes all in
+    // A folder lists what its contents table has. The index turns to that.
+    fn note_folder(&mut self, folder: IntactFolder, index: &mut LastIndex) -> Result<(), AllocError>
+        requires { IsLastIndex (table_of_nodes (intact_beside folder)) index.old }
+        ensures index { IsLastIndex (table_of_nodes (intact_beside folder.entry)) index.new }
+        ensures noted { let all = intact_beside folder.entry in let t = table_of_nodes all in
             let r = intact_roots folder.entry in
             OnOk result ((nid : ℕ) → folders_at self.new nid
             ≡ folders_at self.old nid ++ if_listed (lists t (entries_of_nodes all) nid r) r.top) }
     {
         folder.is_sound();
         match folder.contents() {
-            Some(table) => self.note_rows(table, folder.nid()),
+            Some(table) => {
+                index.turn(self.alloc, table.node(), 1)?;
+                self.note_rows(index.lend_tc(table), folder.nid())
+            }
             None => Ok(()),
         }
     }
@@ -98,8 +105,9 @@ pub(crate) fn listings_of(alloc: Global, intact: &Intact) -> Result<Listings, Al
         ≡ listed_in (table_of_intact i) (nodes_of_intact i) nid) }
 {
     let mut listings = Listings::new(alloc);
+    let mut index = LastIndex::new(alloc);
     for folder in intact.folders() {
-        listings.note_folder(folder)?;
+        listings.note_folder(folder, &mut index)?;
     }
     Ok(listings)
 }

@@ -54,7 +54,7 @@ impl<'a> Node<'a> {
     ghost use Rattle.pst_datatree.specs.Shown.{ShowsSpans, bytes_in, size_in, place_in};
     ghost use Rattle.pst_btree.specs.Entries.{first_with};
     ghost use Rattle.pst_subnode.specs.declared.check.TheConstants.{LISTS};
-    ghost use Rattle.pst_subnode.specs.Index.{is_held, is_long};
+    ghost use Rattle.pst_subnode.specs.Index.{is_held, is_scanned};
     ghost use Rattle.pst_subnode.specs.List.{sub_nid, subs_of};
     ghost use Rattle.pst_subnode.specs.Left.{subs_left};
     ghost use Rattle.pst_subnode.specs.Tree.{sub_fault};
@@ -229,11 +229,11 @@ impl<'a> Node<'a> {
     }
 
     /// An index of its subnodes, to be lent to it (`indexed`): of n subnodes it is made in about n log n steps. Where their list
-    /// is one SLBLOCK it holds nothing, and takes no memory. NoMemory, if memory runs out.
+    /// is one SLBLOCK whose identifiers rise, or a short one, it holds nothing, and takes no memory. NoMemory, if memory runs out.
     pub fn index(&self, alloc: Global) -> Result<SubIndex, Fault>
         ensures index { IfOk result (IsIndexedBy self.now) }
         ensures held { let t = table_of_node self.now in
-            IfOk result (λ i. is_held i ≡ is_long t (sub_bid_of self.now)) }
+            IfOk result (λ i. is_held i ≡ is_scanned t (sub_bid_of self.now)) }
         ensures memory { IfErr result (λ f. f ≡ no_memory) }
     {
         SubIndex::of(alloc, &self.blocks, self.bid_sub)

@@ -12,7 +12,6 @@ ghost use Rattle.pst_props.specs.Node.{embedded_there, attachment_data, filed_in
 ghost use Rattle.pst_props.specs.LastIndex.{IsLastIndex, IsLastIndex-prop};
 
 use crate::last_index::{LastIndex, most_values};
-use pst_mail::known_pc;
 use pst_value_json::{
     Filed, Made, NameMap, Part, PropRows, Rows, Sink, Tree, prop_rows, put_object,
 };
@@ -49,9 +48,7 @@ pub(crate) fn attachment_parts<'a>(
         parts_data prop_rows_left parts.items ≡ attachment_data told filed places t shown) }
     ensures keys { IfOk result (λ parts. KeysRise prop_rows_left parts.items) }
 {
-    let pc = attachment.pc();
-    pc.is_sound();
-    let lent = known_pc(index.lend(pc.node()));
+    let lent = index.lend_pc(attachment.pc());
     let parts = vec![in alloc;
         Part::Value("embedded", Made::Nid(embedded_nid(attachment))),
         Part::Value("nid", Made::Nid(Some(attachment.nid()))),

@@ -3,8 +3,12 @@
 ghost use Rattle.std.specs.Prelude.{◌≡◌, IfOk};
 ghost use Rattle.pst_ndb.specs.Views.{IsIndexedBy};
 
+use pst_mail::{known_message, known_pc};
 use pst_ndb::{Node, SpanIndexes, SubIndex};
 use pst_page::PageKind;
+use pst_tc::known_tc;
+use pst_value_json::{Pc, Tc};
+use pst_verify::Message;
 use std::alloc::{AllocError, Global};
 
 // So many subnodes are looked up in a list, one after another, without an index of it.
@@ -41,6 +45,9 @@ impl LastIndex {
     ghost use Rattle.pst_block.specs.Block.{bid_key};
     ghost use Rattle.pst_block.specs.Table.{Table};
     ghost use Rattle.pst_ndb.specs.Views.{image_of_node, table_of_node, nid_of, roots_of, sub_bid_of};
+    ghost use Rattle.pst_tc.specs.Tc.{node_of_tc};
+    ghost use Rattle.pst_value_json.specs.pst_pc.View.{node_of_pc};
+    ghost use Rattle.pst_verify.specs.pst_msg.View.{message_roots, node_of_message};
     ghost use Rattle.pst_props.specs.LastIndex.{IsLastIndex, list_in};
 
     /// Nothing was asked yet. No memory is taken.
@@ -84,9 +91,9 @@ impl LastIndex {
         Ok(())
     }
 
-    // Turns to the data of a node.
+    /// Turns to the data of a node, and not to its list. Or memory is refused.
     #[tactic(auto, unfolding(crate::specs::LastIndex::IsLastIndex))]
-    fn turn_to_data(&mut self, alloc: Global, node: Node) -> Result<(), AllocError>
+    pub fn turn_to_data(&mut self, alloc: Global, node: Node) -> Result<(), AllocError>
         requires { IsLastIndex (table_of_node node) self.old }
         ensures { IsLastIndex (table_of_node node.entry) self.new }
     {
@@ -110,12 +117,21 @@ impl LastIndex {
         self.hold_subs(alloc, node)
     }
 
-    /// The indexes of a node, made at once: of n subnodes in about n log n steps, of a list of one SLBLOCK none; and of its data.
+    /// Turns to the list and the data of a node, and holds the entries of the list at once: of n subnodes they are made in about n log n
+    /// steps, of a list of one SLBLOCK there are none. Or memory is refused.
+    pub fn turn_at_once(&mut self, alloc: Global, node: Node) -> Result<(), AllocError>
+        requires { IsLastIndex (table_of_node node) self.old }
+        ensures { IsLastIndex (table_of_node node.entry) self.new }
+    {
+        self.turn(alloc, node, OFTEN + 1)
+    }
+
+    /// The indexes of a node, made at once.
     pub fn of(alloc: Global, node: Node) -> Result<LastIndex, AllocError>
         ensures { IfOk result (IsLastIndex (table_of_node node.entry)) }
     {
         let mut index = LastIndex::new(alloc);
-        index.turn(alloc, node, OFTEN + 1)?;
+        index.turn_at_once(alloc, node)?;
         Ok(index)
     }
 
@@ -132,5 +148,37 @@ impl LastIndex {
             return self.spans.lend(node.indexed(&self.subs));
         }
         self.spans.lend(node)
+    }
+
+    /// A property context, whose node is lent what `lend` lends it.
+    pub fn lend_pc<'a>(&'a self, pc: Pc<'a>) -> Pc<'a>
+        requires { IsLastIndex (table_of_node (node_of_pc pc)) self.now }
+        ensures roots { roots_of (node_of_pc result) ≡ roots_of (node_of_pc pc.entry) }
+        ensures table { table_of_node (node_of_pc result) ≡ table_of_node (node_of_pc pc.entry) }
+        ensures nid { nid_of (node_of_pc result) ≡ nid_of (node_of_pc pc.entry) }
+    {
+        pc.is_sound();
+        known_pc(self.lend(pc.node()))
+    }
+
+    /// A table context, likewise.
+    pub fn lend_tc<'a>(&'a self, table: Tc<'a>) -> Tc<'a>
+        requires { IsLastIndex (table_of_node (node_of_tc table)) self.now }
+        ensures roots { roots_of (node_of_tc result) ≡ roots_of (node_of_tc table.entry) }
+        ensures table { table_of_node (node_of_tc result) ≡ table_of_node (node_of_tc table.entry) }
+    {
+        table.is_sound();
+        known_tc(self.lend(table.node()))
+    }
+
+    /// A message, likewise.
+    pub fn lend_message<'a>(&'a self, message: Message<'a>) -> Message<'a>
+        requires { IsLastIndex (table_of_node (node_of_message message)) self.now }
+        ensures roots { message_roots result ≡ message_roots message.entry }
+        ensures table { table_of_node (node_of_message result) ≡ table_of_node (node_of_message message.entry) }
+        ensures nid { nid_of (node_of_message result) ≡ nid_of (node_of_message message.entry) }
+    {
+        message.is_sound();
+        known_message(self.lend(message.node()))
     }
 }

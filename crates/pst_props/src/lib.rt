@@ -9,11 +9,12 @@
 //! let line = props_line(alloc, &intact, &path, names, false)?;
 //! ```
 //!
-//! `message_line`, `attachment_line` and `node_line` show what is at hand already. Whoever goes through nodes that share a list of
-//! subnodes keeps a `LastIndex`.
+//! `message_line`, `attachment_line` and `node_line` show what is at hand already, and keep `DocumentIndexes`. Whoever goes through
+//! nodes that share a list of subnodes keeps a `LastIndex`.
 #![tactic(auto)]
 
 mod attachment;
+mod document_indexes;
 mod fault;
 mod found;
 mod last_index;
@@ -24,6 +25,7 @@ mod names;
 mod node;
 mod property;
 
+pub use document_indexes::DocumentIndexes;
 pub use fault::DocFault;
 pub use last_index::{LastIndex, most_values};
 pub use lines::{attachment_line, message_line, node_line};

@@ -7,63 +7,71 @@ ghost use Rattle.pst_value_json.specs.pst_text.Line.{line_of};
 ghost use Rattle.pst_value_json.specs.Props.{names_told};
 ghost use Rattle.pst_value_json.specs.pst_pc.View.{node_of_pc};
 ghost use Rattle.pst_verify.specs.pst_msg.View.{attachment_shown, node_of_attachment, node_of_message};
+ghost use Rattle.pst_props.specs.DocumentIndexes.{AreDocumentIndexes};
 ghost use Rattle.pst_props.specs.Node.{attachment_data, message_data, node_props_data};
 
 use crate::attachment::shown_attachment;
-use crate::last_index::LastIndex;
+use crate::document_indexes::DocumentIndexes;
 use crate::node::{indexed_message, shown_node};
-use pst_mail::known_pc;
 use pst_value_json::{Filed, Line, NameMap, Pc};
 use pst_verify::{Attachment, Message};
 use std::alloc::{AllocError, Global};
 
-/// The line that shows a message, whose headers, bodies and contents of attachments are told by the names of files.
-pub fn message_line<'a>(
+/// The line that shows a message, whose headers, bodies and contents of attachments are told by the names of files. The indexes turn
+/// to what it has.
+pub fn message_line(
     alloc: Global,
-    message: Message<'a>,
-    names: Option<NameMap<'a>>,
+    message: Message,
+    names: Option<NameMap>,
+    indexes: &mut DocumentIndexes,
 ) -> Result<Vec<u8>, AllocError>
-    ensures { let node = node_of_message message.entry in let told = names_told names.entry in
+    requires { AreDocumentIndexes (table_of_node (node_of_message message)) indexes.old }
+    ensures known { AreDocumentIndexes (table_of_node (node_of_message message.entry)) indexes.new }
+    ensures line { let node = node_of_message message.entry in let told = names_told names.entry in
         let shown = message_data told true false (table_of_node node) (roots_of node) (nid_of node) in
         IfOk result (λ text. text.items ≡ line_of shown) }
 {
-    indexed_message::<Line>(alloc, message, names, true, false)
+    indexed_message::<Line>(alloc, message, names, true, false, indexes)
 }
 
-/// The line that shows an attachment, whose content is told by the name of a file.
+/// The line that shows an attachment, whose content is told by the name of a file. The indexes turn to what it has.
 pub fn attachment_line(
     alloc: Global,
     attachment: Attachment,
     names: Option<NameMap>,
+    indexes: &mut DocumentIndexes,
 ) -> Result<Vec<u8>, AllocError>
-    ensures { let t = table_of_node (node_of_attachment attachment.entry) in
+    requires { AreDocumentIndexes (table_of_node (node_of_attachment attachment)) indexes.old }
+    ensures known { AreDocumentIndexes (table_of_node (node_of_attachment attachment.entry)) indexes.new }
+    ensures line { let t = table_of_node (node_of_attachment attachment.entry) in
         let shown = attachment_shown attachment.entry in let told = names_told names.entry in
         IfOk result (λ text.
         text.items ≡ line_of (attachment_data told (InAttachment None) false t shown)) }
 {
-    let mut index = LastIndex::new(alloc);
     shown_attachment::<Line>(
         alloc,
         attachment,
         names,
         Filed::Attachment(None),
         false,
-        &mut index,
+        &mut indexes.attachments,
     )
 }
 
-/// The line that shows the properties of a node that is no message.
-pub fn node_line<'a>(
+/// The line that shows the properties of a node that is no message. The indexes turn to what it has.
+pub fn node_line(
     alloc: Global,
-    pc: Pc<'a>,
-    names: Option<NameMap<'a>>,
+    pc: Pc,
+    names: Option<NameMap>,
+    indexes: &mut DocumentIndexes,
 ) -> Result<Vec<u8>, AllocError>
-    ensures { let node = node_of_pc pc.entry in let told = names_told names.entry in
+    requires { AreDocumentIndexes (table_of_node (node_of_pc pc)) indexes.old }
+    ensures known { AreDocumentIndexes (table_of_node (node_of_pc pc.entry)) indexes.new }
+    ensures line { let node = node_of_pc pc.entry in let told = names_told names.entry in
         let shown = node_props_data told false (table_of_node node) (roots_of node) (nid_of node) in
         IfOk result (λ text. text.items ≡ line_of shown) }
 {
-    let index = LastIndex::of(alloc, pc.node())?;
-    pc.is_sound();
-    let lent = known_pc(index.lend(pc.node()));
+    indexes.shown.turn_at_once(alloc, pc.node())?;
+    let lent = indexes.shown.lend_pc(pc);
     shown_node::<Line>(alloc, pc.node().nid(), &lent, names, false)
 }

@@ -9,21 +9,22 @@ ghost use Rattle.pst_intact.specs.View.{table_of_intact, nodes_of_intact};
 ghost use Rattle.pst_value_json.specs.Props.{names_told};
 ghost use Rattle.pst_value_json.specs.pst_pc.View.{node_of_pc};
 ghost use Rattle.pst_verify.specs.pst_msg.View.{node_of_message};
+ghost use Rattle.pst_props.specs.DocumentIndexes.{AreDocumentIndexes};
 ghost use Rattle.pst_props.specs.Found.{node_of_found, place_of_found};
+ghost use Rattle.pst_props.specs.LastIndex.{IsLastIndex};
 ghost use Rattle.pst_props.specs.Lists.{list_left};
 ghost use Rattle.pst_props.specs.NamesIndex.{IsNamesIndex};
 ghost use Rattle.pst_props.specs.Node.{recipient_nid, recipients_there, filed_of_message, message_data, node_props_data, place_data, props_told, props_line as line_of_props};
 ghost use Rattle.pst_props.specs.Told.{TellsDoc};
 
 use crate::attachment::{AttachmentRows, shown_attachment};
+use crate::document_indexes::DocumentIndexes;
 use crate::fault::DocFault;
 use crate::found::{Found, found_in, index_at};
 use crate::last_index::LastIndex;
 use crate::lists::MessageRows;
 use crate::names::names_in;
 use pst_intact::Intact;
-use pst_mail::known_message;
-use pst_tc::known_tc;
 use pst_value_json::{
     Filed, Line, Made, NameIndex, NameMap, Part, Pc, Sink, Tree, prop_rows, table_rows,
 };
@@ -79,25 +80,27 @@ fn shown_lists<'a, S: Sink>(
     S::object(alloc, parts)
 }
 
-// The document of a message, under the identifier of its node.
-fn shown_message<'a, S: Sink>(
+// The document of a message, under the identifier of its node. The index turns to its recipients.
+#[tactic(auto, using(crate::proofs::IndexLemmas::last_of))]
+fn shown_message<S: Sink>(
     alloc: Global,
     nid: u32,
-    message: Message<'a>,
-    names: Option<NameMap<'a>>,
+    message: Message,
+    names: Option<NameMap>,
     files: bool,
     places: bool,
+    index: &mut LastIndex,
 ) -> Result<S::Out, AllocError>
-    ensures { let node = node_of_message message.entry in let told = names_told names.entry in
+    requires { IsLastIndex (table_of_node (node_of_message message)) index.old }
+    ensures known { IsLastIndex (table_of_node (node_of_message message.entry)) index.new }
+    ensures shown { let node = node_of_message message.entry in let told = names_told names.entry in
         IfOk result (λ out.
         S.Shows out (message_data told files places (table_of_node node) (roots_of node) nid)) }
 {
     match message.recipients() {
         Some(table) => {
-            let index = LastIndex::of(alloc, table.node())?;
-            table.is_sound();
-            let lent = known_tc(index.lend(table.node()));
-            let rows = table_rows(alloc, &lent, places)?;
+            index.turn_at_once(alloc, table.node())?;
+            let rows = table_rows(alloc, &index.lend_tc(table), places)?;
             shown_lists::<S>(
                 alloc,
                 nid,
@@ -120,22 +123,32 @@ fn shown_message<'a, S: Sink>(
     }
 }
 
-// The same, of a message that has been lent no index yet.
-pub(crate) fn indexed_message<'a, S: Sink>(
+/// The same, of a message that has been lent no index yet. The indexes turn to what it has.
+pub(crate) fn indexed_message<S: Sink>(
     alloc: Global,
-    message: Message<'a>,
-    names: Option<NameMap<'a>>,
+    message: Message,
+    names: Option<NameMap>,
     files: bool,
     places: bool,
+    indexes: &mut DocumentIndexes,
 ) -> Result<S::Out, AllocError>
-    ensures { let node = node_of_message message.entry in let told = names_told names.entry in
+    requires { AreDocumentIndexes (table_of_node (node_of_message message)) indexes.old }
+    ensures known { AreDocumentIndexes (table_of_node (node_of_message message.entry)) indexes.new }
+    ensures shown { let node = node_of_message message.entry in let told = names_told names.entry in
         IfOk result (λ out. S.Shows out
         (message_data told files places (table_of_node node) (roots_of node) (nid_of node))) }
 {
-    let index = LastIndex::of(alloc, message.node())?;
-    message.is_sound();
-    let lent = known_message(index.lend(message.node()));
-    shown_message::<S>(alloc, message.nid(), lent, names, files, places)
+    indexes.shown.turn_at_once(alloc, message.node())?;
+    let lent = indexes.shown.lend_message(message);
+    shown_message::<S>(
+        alloc,
+        message.nid(),
+        lent,
+        names,
+        files,
+        places,
+        &mut indexes.recipients,
+    )
 }
 
 // The document of a node that is no message.
@@ -169,7 +182,10 @@ fn shown_found<'a, S: Sink>(
         IfOk result (λ out. S.Shows out (place_data told places t (place_of_found found.entry))) }
 {
     match found {
-        Found::Message(message) => { indexed_message::<S>(alloc, message, names, false, places) }
+        Found::Message(message) => {
+            let mut indexes = DocumentIndexes::new(alloc);
+            indexed_message::<S>(alloc, message, names, false, places, &mut indexes)
+        }
         Found::Attachment(attachment) => {
             let mut index = LastIndex::new(alloc);
             shown_attachment::<S>(alloc, attachment, names, Filed::Nothing, places, &mut index)

@@ -6,6 +6,7 @@ use Rattle.std.specs.List.{list_any}
 use Rattle.std.specs.BTreeMap.{is_at}
 use Rattle.std.specs.BTreeSet.{contains}
 use Rattle.std.specs.Cmp.{unsigned_tied}
+use Rattle.pst_fault.proofs.GeneralLemmas.{or_true, true_false}
 use Rattle.pst_subnode.specs.List.{are_distinct}
 
 -- no number was met, and none stands twice
@@ -76,3 +77,37 @@ was_met b false e f = cc
 pub was_new : (b met : Bool) → b ≡ not met → b ≡ true → met ≡ false
 was_new b false e f = refl
 was_new b true e f = cc
+
+-- ---- one number that is sought
+
+-- Of the numbers that are left: where one stands twice among them, one does among all; and where the number was met and stands among
+-- them, too.
+pub record IsTwiceIn (all left : List ℕ) (n : ℕ) (met : Bool) : Type 0 where
+  pub below : are_distinct left ≡ false → are_distinct all ≡ false
+  pub again : met ≡ true → list_any (nat_eq n) left ≡ true → are_distinct all ≡ false
+
+pub twice_start : (all : List ℕ) (n : ℕ) → IsTwiceIn all all n false
+twice_start all n = record { below = λ e. e; again = λ bad there. absurd (true_false false bad refl) }
+
+and_false : (b : Bool) → (b && false) ≡ false
+and_false true = refl
+and_false false = refl
+
+no_longer : (x : ℕ) (rest : List ℕ) → are_distinct rest ≡ false → are_distinct (x ∷ rest) ≡ false
+unfolding are_distinct
+no_longer x rest e = rw e (and_false (not (list_any (nat_eq x) rest)))
+
+-- the next one is another
+pub twice_other : (all left rest : List ℕ) (n x : ℕ) (met : Bool) → left ≡ x ∷ rest → IsTwiceIn all left n met → IsTwiceIn all rest n met
+twice_other all left rest n x met is so_far = record {
+  below = λ e. so_far.below (rw is (no_longer x rest e));
+  again = λ was there. so_far.again was (rw (is, there) (or_true (nat_eq n x)));
+}
+
+-- the next one is the number
+pub twice_met : (all left rest : List ℕ) (n x : ℕ) (met : Bool) → left ≡ x ∷ rest → x ≡ n → IsTwiceIn all left n met → IsTwiceIn all rest n true
+unfolding are_distinct
+twice_met all left rest n x met is same so_far = record {
+  below = λ e. so_far.below (rw is (no_longer x rest e));
+  again = λ was there. so_far.below (rw (is, same, there) refl);
+}

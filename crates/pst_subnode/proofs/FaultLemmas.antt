@@ -2,7 +2,9 @@
 -- where fewer may.
 use Rattle.std.proofs.Common.{◌≡◌, ℕ, zero, suc, ◌≤◌, Bool, true, false, cond, List, [], ◌∷◌, Option, Some, None, ◌⊎◌, inl, inr, refl, sym, ap, ◌∙◌, arith}
 use Rattle.std.specs.Ordering.{nat_cmp, eq_by_cmp}
-use Rattle.std.specs.BTreeMap.{get, IsEmpty, IsUnchanged}
+use Rattle.std.specs.BTreeMap.{get, is_at, IsEmpty, IsUnchanged}
+use Rattle.std.specs.BTreeSet.{contains}
+use Rattle.std.specs.BTreeSet.{IsEmpty as HasNone}
 use Rattle.std.proofs.lemmas.Map.Lookups.{exact_unsigned}
 use Rattle.std.proofs.lemmas.Map.Views.{tells_apart}
 use Rattle.pst_fault.specs.declared.fault.Fault.{Fault}
@@ -18,7 +20,8 @@ use Rattle.pst_subnode.specs.declared.faults.Found.{Found}
 use Rattle.pst_subnode.specs.declared.faults.SubFaults.{SubFaults}
 use Rattle.pst_subnode.specs.List.{subs_of, list_fault}
 use Rattle.pst_subnode.specs.Tree.{entry_fault, nesting, sub_fault}
-use Rattle.pst_subnode.specs.Faults.{found_of, deep_of, content_of, IsFoundIn, IsDeep, AreSubFaultsTrue}
+use Rattle.pst_datatree.proofs.SeenLemmas.{only_new}
+use Rattle.pst_subnode.specs.Faults.{found_of, deep_of, content_of, has_whole, IsFoundIn, IsDeep, AreSubFaultsTrue}
 use Rattle.pst_subnode.proofs.SubLemmas.{sub_fault_none, sub_fault_below, sub_fault_list}
 
 -- ---- under another limit
@@ -86,21 +89,23 @@ stays_lower t (suc n) (suc m) bid le = by_test (is_no_block bid) refl (λ b. sta
 
 -- ---- what is remembered
 
-pub none_remembered : (t : Table) (k : SubFaults) → IsEmpty k.lists → IsEmpty k.deep → IsEmpty k.content → AreSubFaultsTrue t k
-unfolding found_of deep_of content_of
-none_remembered t k lists deep content = record {
+pub none_remembered : (t : Table) (k : SubFaults) → IsEmpty k.lists → IsEmpty k.deep → IsEmpty k.content → HasNone k.whole → AreSubFaultsTrue t k
+unfolding found_of deep_of content_of has_whole
+none_remembered t k lists deep content whole = record {
   lists = λ bid x is. let bad : None ≡ Some x = (rw lists at is) in absurd cc;
   deep = λ bid most is. let bad : None ≡ Some most = (rw deep at is) in absurd cc;
   content = λ bid f is. let bad : None ≡ Some f = (rw content at is) in absurd cc;
+  whole = λ bid is. let bad : false ≡ true = (rw whole at is) in absurd cc;
 }
 
--- one fault of a list more, or where lists nest too deep, or of data
-pub found_put : (t : Table) (old new : SubFaults) (bid : ℕ) (x : Found) → ((q : ℕ) → get nat_cmp new.lists q ≡ cond (eq_by_cmp nat_cmp bid q) (Some x) (get nat_cmp old.lists q)) → new.deep ≡ old.deep → new.content ≡ old.content → IsFoundIn t bid x → AreSubFaultsTrue t old → AreSubFaultsTrue t new
-unfolding found_of deep_of content_of
-found_put t old new bid x put deep content is are = record {
+-- one fault of a list more, or where lists nest too deep, or of data, or one whole list
+pub found_put : (t : Table) (old new : SubFaults) (bid : ℕ) (x : Found) → ((q : ℕ) → get nat_cmp new.lists q ≡ cond (eq_by_cmp nat_cmp bid q) (Some x) (get nat_cmp old.lists q)) → new.deep ≡ old.deep → new.content ≡ old.content → new.whole ≡ old.whole → IsFoundIn t bid x → AreSubFaultsTrue t old → AreSubFaultsTrue t new
+unfolding found_of deep_of content_of has_whole
+found_put t old new bid x put deep content whole is are = record {
   lists = λ q y found. by_test q y (eq_by_cmp nat_cmp bid q) refl (sym (put q) ∙ found);
   deep = λ q most found. are.deep q most (rw deep at found);
   content = λ q f found. are.content q f (rw content at found);
+  whole = λ q found. are.whole q (rw whole at found);
 }
   where
     by_test : (q : ℕ) (y : Found) (v : Bool) → eq_by_cmp nat_cmp bid q ≡ v → cond v (Some x) (get nat_cmp old.lists q) ≡ Some y → IsFoundIn t q y
@@ -110,12 +115,13 @@ found_put t old new bid x put deep content is are = record {
         rw (← same, ← key) is
     by_test q y false here found = are.lists q y found
 
-pub deep_put : (t : Table) (old new : SubFaults) (bid most : ℕ) → ((q : ℕ) → get nat_cmp new.deep q ≡ cond (eq_by_cmp nat_cmp bid q) (Some most) (get nat_cmp old.deep q)) → new.lists ≡ old.lists → new.content ≡ old.content → IsDeep t bid most → AreSubFaultsTrue t old → AreSubFaultsTrue t new
-unfolding found_of deep_of content_of
-deep_put t old new bid most put lists content is are = record {
+pub deep_put : (t : Table) (old new : SubFaults) (bid most : ℕ) → ((q : ℕ) → get nat_cmp new.deep q ≡ cond (eq_by_cmp nat_cmp bid q) (Some most) (get nat_cmp old.deep q)) → new.lists ≡ old.lists → new.content ≡ old.content → new.whole ≡ old.whole → IsDeep t bid most → AreSubFaultsTrue t old → AreSubFaultsTrue t new
+unfolding found_of deep_of content_of has_whole
+deep_put t old new bid most put lists content whole is are = record {
   lists = λ q y found. are.lists q y (rw lists at found);
   deep = λ q n found. by_test q n (eq_by_cmp nat_cmp bid q) refl (sym (put q) ∙ found);
   content = λ q f found. are.content q f (rw content at found);
+  whole = λ q found. are.whole q (rw whole at found);
 }
   where
     by_test : (q n : ℕ) (v : Bool) → eq_by_cmp nat_cmp bid q ≡ v → cond v (Some most) (get nat_cmp old.deep q) ≡ Some n → IsDeep t q n
@@ -125,12 +131,13 @@ deep_put t old new bid most put lists content is are = record {
         rw (← same, ← key) is
     by_test q n false here found = are.deep q n found
 
-pub data_put : (t : Table) (old new : SubFaults) (bid : ℕ) (f : Fault) → ((q : ℕ) → get nat_cmp new.content q ≡ cond (eq_by_cmp nat_cmp bid q) (Some f) (get nat_cmp old.content q)) → new.lists ≡ old.lists → new.deep ≡ old.deep → data_fault t bid ≡ Some f → AreSubFaultsTrue t old → AreSubFaultsTrue t new
-unfolding found_of deep_of content_of
-data_put t old new bid f put lists deep is are = record {
+pub data_put : (t : Table) (old new : SubFaults) (bid : ℕ) (f : Fault) → ((q : ℕ) → get nat_cmp new.content q ≡ cond (eq_by_cmp nat_cmp bid q) (Some f) (get nat_cmp old.content q)) → new.lists ≡ old.lists → new.deep ≡ old.deep → new.whole ≡ old.whole → data_fault t bid ≡ Some f → AreSubFaultsTrue t old → AreSubFaultsTrue t new
+unfolding found_of deep_of content_of has_whole
+data_put t old new bid f put lists deep whole is are = record {
   lists = λ q y found. are.lists q y (rw lists at found);
   deep = λ q most found. are.deep q most (rw deep at found);
   content = λ q g found. by_test q g (eq_by_cmp nat_cmp bid q) refl (sym (put q) ∙ found);
+  whole = λ q found. are.whole q (rw whole at found);
 }
   where
     by_test : (q : ℕ) (g : Fault) (v : Bool) → eq_by_cmp nat_cmp bid q ≡ v → cond v (Some f) (get nat_cmp old.content q) ≡ Some g → data_fault t q ≡ Some g
@@ -140,13 +147,26 @@ data_put t old new bid f put lists deep is are = record {
         rw (← same, ← key) is
     by_test q g false here found = are.content q g found
 
--- memory was refused, and the same is remembered
-pub same_remembered : (t : Table) (old new : SubFaults) → IsUnchanged old.lists new.lists → IsUnchanged old.deep new.deep → IsUnchanged old.content new.content → AreSubFaultsTrue t old → AreSubFaultsTrue t new
-unfolding found_of deep_of content_of
-same_remembered t old new lists deep content are = record {
+pub whole_put : (t : Table) (old new : SubFaults) (bid : ℕ) → ((q : ℕ) → contains nat_cmp new.whole q ≡ cond (is_at (nat_cmp bid) q) true (contains nat_cmp old.whole q)) → new.lists ≡ old.lists → new.deep ≡ old.deep → new.content ≡ old.content → list_fault t bid ≡ None → AreSubFaultsTrue t old → AreSubFaultsTrue t new
+unfolding found_of deep_of content_of has_whole
+whole_put t old new bid more lists deep content none are = record {
   lists = λ q y found. are.lists q y (rw lists at found);
   deep = λ q most found. are.deep q most (rw deep at found);
   content = λ q f found. are.content q f (rw content at found);
+  whole = each;
+}
+  where
+    each : (q : ℕ) → contains nat_cmp new.whole q ≡ true → list_fault t q ≡ None
+    each q found = elim (only_new old.whole new.whole bid more q found) [ inl was ↦ are.whole q was | inr same ↦ rw (← same) none ]
+
+-- memory was refused, and the same is remembered
+pub same_remembered : (t : Table) (old new : SubFaults) → IsUnchanged old.lists new.lists → IsUnchanged old.deep new.deep → IsUnchanged old.content new.content → new.whole ≡ old.whole → AreSubFaultsTrue t old → AreSubFaultsTrue t new
+unfolding found_of deep_of content_of has_whole
+same_remembered t old new lists deep content whole are = record {
+  lists = λ q y found. are.lists q y (rw lists at found);
+  deep = λ q most found. are.deep q most (rw deep at found);
+  content = λ q f found. are.content q f (rw content at found);
+  whole = λ q found. are.whole q (rw whole at found);
 }
 
 -- ---- the fault of a walk

@@ -12,6 +12,7 @@ use Rattle.pst_subnode.specs.declared.sub.Sub.{Sub}
 use Rattle.pst_subnode.specs.declared.ranges.NidRange.{NidRange}
 use Rattle.pst_subnode.specs.Body.{leaf_bid_in, sub_in, sub_at}
 use Rattle.pst_subnode.specs.List.{sub_nid, leaf_subs, are_distinct}
+use Rattle.pst_subnode.specs.Index.{nids_rise}
 use Rattle.pst_subnode.specs.Ranges.{rise_within, IsRangeOf}
 
 -- ---- the first of them
@@ -86,3 +87,24 @@ pub leaf_rises : (t : Table) (body : List ℕ) (i bid end most : ℕ) (range : N
 unfolding leaf_subs
 leaf_rises t body i bid end most range named fits is rise also =
     part_rises (leaf_subs t body) i 0 end range.first range.end most (omega arith) fits (omega (arith, is)) (omega (arith, is)) rise (rw named at also)
+
+-- ---- identifiers that rise, however high
+
+-- the next one is below the last
+pub rise_ends : (end n : ℕ) (xs rest : List ℕ) → xs ≡ n ∷ rest → n < end → nids_rise end xs ≡ false
+unfolding nids_rise
+rise_ends end n xs rest is lt =
+    let below : nat_lt n end ≡ true = grind (arith, nat_tests) in
+    rw (is, below) refl
+
+-- and is not
+pub rise_goes_on : (end n : ℕ) (xs rest : List ℕ) → xs ≡ n ∷ rest → end ≤ n → nids_rise (n + 1) rest ≡ nids_rise end xs
+unfolding nids_rise
+rise_goes_on end n xs rest is le =
+    let below : nat_lt n end ≡ false = grind (arith, nat_tests) in
+    rw (is, below) refl
+
+-- and there is none
+pub rise_whole : (end : ℕ) (xs : List ℕ) → xs ≡ [] → nids_rise end xs ≡ true
+unfolding nids_rise
+rise_whole end xs is = rw is refl

@@ -21,6 +21,7 @@ use Rattle.pst_subnode.specs.declared.frame.Frame.{Frame}
 use Rattle.pst_subnode.specs.declared.frame.Turn.{Turn}
 use Rattle.pst_subnode.specs.declared.frame.Turn.TheVariants.{Expands, Answers}
 use Rattle.pst_subnode.specs.Body.{leaf_bid_in}
+use Rattle.pst_subnode.specs.List.{list_fault}
 use Rattle.pst_subnode.specs.Tree.{sub_fault, sub_height}
 use Rattle.pst_subnode.specs.Left.{subs_left}
 use Rattle.pst_subnode.specs.Heights.{list_expansions, AreTrue, AreAlike, AreHeightsCounted}
@@ -126,6 +127,12 @@ pub given_up_first : (t : Table) (a : Start) (frames : List Frame) (f : Frame) (
 given_up_first t a frames f fault s h up =
     let w : AreWaiting t a (f ∷ reverse frames) up.bid up.limit up.seen up.heights = (rw last_first at up.waits) in
     elim up.refused.exact [ inl memory ↦ inl memory | inr is ↦ inr (w.4.refuses fault is) ]
+
+-- whose own blocks have no fault
+pub given_up_whole : (t : Table) (a : Start) (frames : List Frame) (f : Frame) (fault : Fault) (s : Seen) (h : Heights) → IsGivingUp t a (frames ++ (f ∷ [])) fault s h → list_fault t f.bid ≡ None
+given_up_whole t a frames f fault s h up =
+    let w : AreWaiting t a (f ∷ reverse frames) up.bid up.limit up.seen up.heights = (rw last_first at up.waits) in
+    w.3.marking.list
 
 -- the list below it is opened, and no memory is left for the stack
 pub both_given_up : (t : Table) (a : Start) (frames : List Frame) (f g : Frame) (fault : Fault) (bid limit : ℕ) (s : Seen) (h h' mid new : Heights) → AreWaiting t a (f ∷ reverse frames) bid limit s h → IsOpened t bid limit g s h h' → fault ≡ no_memory → IsPut h' mid g.bid None → mid.ranges ≡ h'.ranges → list_expansions h' ≤ list_expansions mid → IsPut mid new f.bid None → new.ranges ≡ mid.ranges → list_expansions mid ≤ list_expansions new → IsGivingUp t a frames fault s new

@@ -1,5 +1,5 @@
 -- An index of a subnode list: of which list it is.
-use Rattle.std.specs.Prelude.{◌≡◌, ℕ, ⊤, Bool, false, Option, Some, None, is_some, List}
+use Rattle.std.specs.Prelude.{◌≡◌, ℕ, ◌+◌, ⊤, Bool, true, false, not, ◌&&◌, ◌||◌, nat_lt, Option, Some, None, is_some, List, [], ◌∷◌, length, map}
 use Rattle.std.specs.Global.{Vec}
 use Rattle.std.specs.List.Sorted.{IsNonDecreasingBy}
 use Rattle.pst_page.specs.declared.entry.BlockEntry.{BlockEntry}
@@ -7,16 +7,26 @@ use Rattle.pst_block.specs.Table.{Table, entry_of, body_of}
 use Rattle.pst_btree.specs.Entries.{first_with}
 use Rattle.pst_subnode.specs.declared.sub.Sub.{Sub}
 use Rattle.pst_subnode.specs.declared.index.SubIndex.{SubIndex}
+use Rattle.pst_subnode.specs.declared.index.TheConstants.{SHORT}
 use Rattle.pst_subnode.specs.Body.{has_level_one}
-use Rattle.pst_subnode.specs.List.{sub_nid}
+use Rattle.pst_subnode.specs.List.{sub_nid, slblock_subs}
 
--- a list is an SIBLOCK's, and so may be long
-abbrev has_siblock : Table → Option BlockEntry → Bool
-has_siblock t None = false
-has_siblock t (Some e) = has_level_one (body_of t e)
+-- identifiers rise from a number on, each above the one before
+unfoldable pub nids_rise : ℕ → List ℕ → Bool
+nids_rise end [] = true
+nids_rise end (n ∷ rest) = not (nat_lt n end) && nids_rise (n + 1) rest
 
-unfoldable pub is_long : Table → ℕ → Bool
-is_long t bid = has_siblock t (entry_of t bid)
+-- A list is an SIBLOCK's, and so may be long, or it is an SLBLOCK's with a body of more than 400 bytes, whose identifiers do not rise:
+-- halving does not find each entry.
+abbrev is_unsorted : Table → BlockEntry → Bool
+is_unsorted t e = nat_lt SHORT (length (body_of t e)) && not (nids_rise 0 (map sub_nid (slblock_subs t e)))
+
+abbrev is_block_scanned : Table → Option BlockEntry → Bool
+is_block_scanned t None = false
+is_block_scanned t (Some e) = has_level_one (body_of t e) || is_unsorted t e
+
+unfoldable pub is_scanned : Table → ℕ → Bool
+is_scanned t bid = is_block_scanned t (entry_of t bid)
 
 -- an index holds the entries of a list, and finds each without it
 unfoldable pub is_held : SubIndex → Bool

@@ -9,7 +9,7 @@ ghost use Rattle.pst_subnode.specs.List.{bad_list, slblock_fault, list_leaf_faul
 ghost use Rattle.pst_subnode.specs.Left.{subs_left};
 ghost use Rattle.pst_subnode.specs.Ranges.{AreRangesTrue};
 
-use crate::apart::block_is_apart;
+use crate::apart::{Apart, block_is_apart, stands_again};
 use crate::body::{bid_at, body_in};
 use crate::entries::Subs;
 use crate::list_block::{ListBlock, list_block};
@@ -117,10 +117,11 @@ fn are_distinct(
     if block_rises(blocks, entry, ranges)? {
         return Ok(true);
     }
-    if block_is_apart(alloc, blocks, entry, ranges)? {
-        return Ok(true);
+    match block_is_apart(alloc, blocks, entry, ranges)? {
+        Apart::Yes => Ok(true),
+        Apart::Again(bid, i) if stands_again(blocks, entry, bid, i) => Ok(false),
+        _ => stand_once(alloc, Subs::of_block(blocks, entry)),
     }
-    stand_once(alloc, Subs::of_block(blocks, entry))
 }
 
 // A block of a list, all of it.

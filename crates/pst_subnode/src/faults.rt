@@ -4,10 +4,11 @@ ghost use Rattle.std.specs.Prelude.{◌≡◌, true};
 ghost use Rattle.pst_fault.specs.declared.kind.Kind.TheVariants.{NoMemory};
 ghost use Rattle.pst_subnode.specs.Tree.{nesting};
 
+use crate::frame::{Below, Frame};
 use crate::steps::nesting_fault;
 use pst_fault::{Fault, Kind};
 use std::alloc::{AllocError, Global};
-use std::collections::BTreeMap;
+use std::collections::{BTreeMap, BTreeSet};
 
 // A fault of a list, or of what lies below it, and where so many lists may nest it was found.
 #[derive(Clone, Copy)]
@@ -45,15 +46,18 @@ pub struct SubFaults {
     deep: BTreeMap<u64, u16>,
     // Of the data of subnodes.
     content: BTreeMap<u64, Fault>,
+    // SIBLOCKs whose own blocks have no fault, by their identifiers as they are written: what is broken lies below them.
+    whole: BTreeSet<u64>,
 }
 
 impl SubFaults {
-    ghost use Rattle.std.specs.Prelude.{◌≡◌, Some, IfSome};
+    ghost use Rattle.std.specs.Prelude.{◌≡◌, Some, None, IfSome};
     ghost use Rattle.pst_fault.specs.First.{IsFirst};
     ghost use Rattle.pst_block.specs.Table.{Table};
     ghost use Rattle.pst_datatree.specs.Data.{data_fault};
+    ghost use Rattle.pst_subnode.specs.List.{list_fault};
     ghost use Rattle.pst_subnode.specs.Tree.{sub_fault};
-    ghost use Rattle.pst_subnode.specs.Faults.{found_of, deep_of, content_of, IsFoundIn, IsDeep, AreSubFaultsTrue};
+    ghost use Rattle.pst_subnode.specs.Faults.{found_of, deep_of, content_of, has_whole, IsFoundIn, IsDeep, AreSubFaultsTrue};
 
     /// None yet. No memory is taken.
     pub fn new(alloc: Global) -> SubFaults
@@ -63,6 +67,7 @@ impl SubFaults {
             lists: BTreeMap::new(alloc),
             deep: BTreeMap::new(alloc),
             content: BTreeMap::new(alloc),
+            whole: BTreeSet::new(alloc),
         }
     }
 
@@ -106,6 +111,23 @@ impl SubFaults {
         ensures { result ≡ content_of self.now bid }
     {
         self.content.get(&bid).copied()
+    }
+
+    // Whether the own blocks of a list are remembered to have no fault.
+    #[tactic(auto, unfolding(crate::specs::Faults::has_whole))]
+    pub(crate) fn is_whole(&self, bid: u64) -> bool
+        ensures { result ≡ has_whole self.now bid }
+    {
+        self.whole.contains(&bid)
+    }
+
+    // Remembers that the own blocks of a list have no fault. AllocError where memory is refused.
+    fn keep_whole(&mut self, bid: u64) -> Result<(), AllocError>
+        ensures { (t : Table) → list_fault t bid ≡ None →
+            AreSubFaultsTrue t self.old → AreSubFaultsTrue t self.new }
+    {
+        self.whole.insert(bid)?;
+        Ok(())
     }
 
     // Remembers a fault of a list. AllocError where memory is refused.
@@ -160,6 +182,18 @@ impl SubFaults {
                 }
             }
         }
+    }
+
+    // Remembers the fault of a list that was opened; and of an SIBLOCK, which may spell many entries, that its own blocks have none.
+    pub(crate) fn put_opened(&mut self, frame: Frame, fault: Fault)
+        ensures { (t : Table) → list_fault t frame.entry.bid ≡ None →
+            IsFirst (sub_fault t frame.entry.limit frame.entry.bid) fault →
+            AreSubFaultsTrue t self.old → AreSubFaultsTrue t self.new }
+    {
+        if let Below::Leaves(_) = frame.below {
+            let _ = self.keep_whole(frame.bid);
+        }
+        self.put_list(frame.bid, frame.limit, fault);
     }
 
     // Remembers the fault of the data of a subnode.

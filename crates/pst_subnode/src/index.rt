@@ -1,6 +1,6 @@
 //! An index of a subnode list, made with memory by whoever looks up many of its entries.
 
-ghost use Rattle.std.specs.Prelude.{◌≡◌, ℕ, IfOk, IfErr, None};
+ghost use Rattle.std.specs.Prelude.{◌≡◌, ℕ, map, IfOk, IfErr, None};
 ghost use Rattle.std.specs.List.Sorted.{IsNonDecreasingBy};
 ghost use Rattle.pst_fault.specs.Fault.{no_memory};
 ghost use Rattle.pst_block.specs.Blocks.{table_of};
@@ -9,7 +9,7 @@ ghost use Rattle.pst_subnode.specs.declared.check.TheConstants.{LISTS};
 ghost use Rattle.pst_subnode.specs.List.{sub_nid, subs_of};
 ghost use Rattle.pst_subnode.specs.Left.{subs_left};
 ghost use Rattle.pst_subnode.specs.Tree.{sub_fault};
-ghost use Rattle.pst_subnode.specs.Index.{HasFirst, IsIndexOf, is_long};
+ghost use Rattle.pst_subnode.specs.Index.{HasFirst, IsIndexOf, is_scanned, nids_rise};
 
 use crate::body::{body_in, has_level_one};
 use crate::entries::Subs;
@@ -56,13 +56,36 @@ fn first_of(entries: &[Sub], nid: u32) -> Option<Sub>
     if sub.nid == nid { Some(sub) } else { None }
 }
 
-// Whether the list of a block identifier has an SIBLOCK, and so may have more entries than one SLBLOCK has.
-#[tactic(auto, unfolding(crate::specs::Index::is_long))]
-fn may_be_long(blocks: &Blocks, bid: u64) -> bool
-    ensures { result ≡ is_long (table_of blocks.now) bid }
+// Whether the identifiers of entries rise, so that each is found by halving.
+fn rise(subs: Subs) -> bool
+    ensures { result ≡ nids_rise 0 (map sub_nid (subs_left subs.entry)) }
+{
+    let mut end = 0u64;
+    let mut rest = subs;
+    while let Some(sub) = rest.next() {
+        let nid = u64::from(sub.nid);
+        if nid < end {
+            return false;
+        }
+        end = nid + 1;
+    }
+    true
+}
+
+// An SLBLOCK whose body is no longer has 16 entries at most, and is gone through as fast as halved.
+const SHORT: u64 = 400;
+
+// Whether the list of a block identifier has an SIBLOCK, and so may have more entries than one SLBLOCK has, or more than a few whose
+// identifiers do not rise.
+#[tactic(auto, unfolding(crate::specs::Index::is_scanned))]
+fn may_be_scanned(blocks: &Blocks, bid: u64) -> bool
+    ensures { result ≡ is_scanned (table_of blocks.now) bid }
 {
     match blocks.entry(bid) {
-        Some(entry) => has_level_one(body_in(blocks, entry)),
+        Some(entry) => {
+            let body = body_in(blocks, entry);
+            has_level_one(body) || (body.len() > SHORT && !rise(Subs::of_slblock(blocks, entry)))
+        }
         None => false,
     }
 }
@@ -80,7 +103,7 @@ impl SubIndex {
     ghost use Rattle.pst_block.specs.Blocks.{table_of};
     ghost use Rattle.pst_subnode.specs.declared.sub.Sub.{Sub};
     ghost use Rattle.pst_subnode.specs.List.{subs_of};
-    ghost use Rattle.pst_subnode.specs.Index.{IsIndexOf, is_held, is_long};
+    ghost use Rattle.pst_subnode.specs.Index.{IsIndexOf, is_held, is_scanned};
 
     /// The index that holds nothing, which is one of every list. No memory is taken.
     #[tactic(auto, unfolding(crate::specs::Index::IsIndexOf, crate::specs::Index::is_held))]
@@ -91,16 +114,16 @@ impl SubIndex {
         SubIndex { entries: None }
     }
 
-    /// An index of the list of a block identifier. Of a list in one SLBLOCK, which has 340 entries at most, it holds nothing, and
-    /// no memory is taken. Of any other it holds all n entries, in about n steps where their identifiers rise or fall, and else
-    /// in n log n. NoMemory, if memory runs out.
+    /// An index of the list of a block identifier. Of a list in one SLBLOCK whose identifiers rise, as writers let them, or whose
+    /// body has at most 400 bytes, it holds nothing, and no memory is taken. Of any other it holds all n entries, in about n steps
+    /// where their identifiers rise or fall, and else in n log n. NoMemory, if memory runs out.
     #[tactic(auto, unfolding(crate::specs::Index::IsIndexOf, crate::specs::Index::is_held))]
     pub fn of(alloc: Global, blocks: &Blocks, bid: u64) -> Result<SubIndex, Fault>
         ensures index { IfOk result (λ i. IsIndexOf i (subs_of (table_of blocks.now) bid)) }
-        ensures held { IfOk result (λ i. is_held i ≡ is_long (table_of blocks.now) bid) }
+        ensures held { IfOk result (λ i. is_held i ≡ is_scanned (table_of blocks.now) bid) }
         ensures memory { IfErr result (λ f. f ≡ no_memory) }
     {
-        if !may_be_long(blocks, bid) {
+        if !may_be_scanned(blocks, bid) {
             return Ok(SubIndex::none());
         }
         let entries = entries_by_nid(alloc, Subs::of_bid(blocks, bid))?;

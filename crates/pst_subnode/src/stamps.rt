@@ -14,7 +14,7 @@ pub(crate) struct Stamps {
 }
 
 impl Stamps {
-    ghost use Rattle.std.specs.Prelude.{◌≡◌, ℕ, List, true, ◌++◌, [], ◌∷◌, IfErr};
+    ghost use Rattle.std.specs.Prelude.{◌≡◌, ℕ, List, true, None, ◌++◌, [], ◌∷◌, IfErr};
     ghost use Rattle.pst_fault.specs.Fault.{no_memory};
     ghost use Rattle.pst_subnode.specs.Numbers.{AreMetOnce};
 
@@ -51,16 +51,19 @@ impl Stamps {
         true
     }
 
-    // Meets numbers, and says whether all are met in this turn for the first time.
-    pub(crate) fn meet_all(&mut self, numbers: &[u32]) -> bool
-        ensures { result ≡ true → (before : List ℕ) → AreMetOnce self.old before →
+    // Meets numbers, one after another, up to one that is not met in this turn for the first time, as far as that is known: how
+    // many stand before it.
+    pub(crate) fn meet_all(&mut self, numbers: &[u32]) -> Option<u16>
+        ensures { result ≡ None → (before : List ℕ) → AreMetOnce self.old before →
             AreMetOnce self.new (before ++ numbers.now) }
     {
+        let mut before: u16 = 0;
         for number in numbers {
             if !self.meet(*number) {
-                return false;
+                return Some(before);
             }
+            before = before.wrapping_add(1);
         }
-        true
+        None
     }
 }

@@ -66,6 +66,11 @@ pub(crate) fn check_own_blocks(
     ensures within { IfOk result (IsWithin (table_of blocks.now).image) }
     ensures same { AreAlike heights.old heights.new }
 {
+    if faults.is_whole(bid) {
+        if let Some(entry) = blocks.entry(bid) {
+            return Ok(entry);
+        }
+    }
     match check_list(alloc, blocks, bid, &mut heights.ranges) {
         Ok(entry) => Ok(entry),
         Err(fault) => {

@@ -217,7 +217,7 @@ fn run<'a>(
     match expand(alloc, blocks, frame, stack, seen, heights, faults) {
         Ok(turn) => Ok(turn),
         Err(fault) => {
-            faults.put_list(frame.bid, frame.limit, fault);
+            faults.put_opened(frame, fault);
             Err(fault)
         }
     }
@@ -267,7 +267,7 @@ fn give_up(stack: &mut Vec<Frame>, fault: Fault, heights: &mut Heights, faults: 
 {
     while let Some(frame) = stack.pop() {
         heights.forget(frame.bid);
-        faults.put_list(frame.bid, frame.limit, fault);
+        faults.put_opened(frame, fault);
     }
 }
 

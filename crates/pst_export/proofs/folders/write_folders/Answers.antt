@@ -12,6 +12,7 @@ loop-folder-init g c =
     let e = ap intact_folders_left c.into_iter-folder-iterator.ensures.into_iter_gives ∙ c.folders-folder-items.ensures.left in
     record {
       same = ap (λ f. table_of_nodes (folders_beside f)) c.into_iter-folder-iterator.ensures.into_iter_gives ∙ c.folders-folder-items.ensures.table;
+      known = c.requires;
       left = added_none _ _ _ _ (ap (folder_files (names_told c.args.names) (table_of_intact i)) e);
     }
 
@@ -25,6 +26,7 @@ loop-folder-preserved g c =
     let these = ap (folder_files told t) steps.0 in
     record {
       same = ap table_of_nodes steps.1 ∙ i.same;
+      known = rw beside at c.in_ok-write_folder.ensures.known;
       left = added_next _ _ _ _ _ _ _ _ (folder_file told t (intact_roots c.in-Some.folder) ∷ []) _ these i.left (rw beside at c.in_ok-write_folder.ensures.all);
     }
 

@@ -23,7 +23,7 @@ returns-in_err-write_document-clause-front g c =
     let r = roots_of node in
     let doc : Member = member_in c.args.folder.now c.args.time (codes "props.json") (line_of (attachment_data told (Attachment None) false t (attachment_shown c.args.attachment))) in
     let files : List Member = file_at attachment_file t r c.args.folder.now c.args.time CONTENT in
-    front_first _ _ _ (doc ∷ []) files (rw c.in_ok-line.ensures at c.in_err-write_document.ensures.front)
+    front_first _ _ _ (doc ∷ []) files (rw c.in_ok-line.ensures.line at c.in_err-write_document.ensures.front)
 
 pub returns-in_err-write_content-clause-front : goal.returns-in_err-write_content-clause-front
 unfolding place_files
@@ -34,7 +34,7 @@ returns-in_err-write_content-clause-front g c =
     let r = roots_of node in
     let doc : Member = member_in c.args.folder.now c.args.time (codes "props.json") (line_of (attachment_data told (Attachment None) false t (attachment_shown c.args.attachment))) in
     let files : List Member = file_at attachment_file t r c.args.folder.now c.args.time CONTENT in
-    front_second _ _ _ _ _ (doc ∷ []) files (rw c.in_ok-line.ensures at c.in_ok-write_document.ensures.all) (rw c.pc.ensures at c.in_err-write_content.ensures.front)
+    front_second _ _ _ _ _ (doc ∷ []) files (rw c.in_ok-line.ensures.line at c.in_ok-write_document.ensures.all) (rw c.attachment_pc-pc.ensures.table at (rw c.attachment_pc-pc.ensures.roots at c.in_err-write_content.ensures.front))
 
 pub returns-clause-all : goal.returns-clause-all
 unfolding place_files
@@ -45,7 +45,7 @@ returns-clause-all g c =
     let r = roots_of node in
     let doc : Member = member_in c.args.folder.now c.args.time (codes "props.json") (line_of (attachment_data told (Attachment None) false t (attachment_shown c.args.attachment))) in
     let files : List Member = file_at attachment_file t r c.args.folder.now c.args.time CONTENT in
-    adds_two _ _ _ _ _ _ (doc ∷ []) files (rw c.in_ok-line.ensures at c.in_ok-write_document.ensures.all) (rw c.pc.ensures at c.in_ok-write_content.ensures.all)
+    adds_two _ _ _ _ _ _ (doc ∷ []) files (rw c.in_ok-line.ensures.line at c.in_ok-write_document.ensures.all) (rw c.attachment_pc-pc.ensures.table at (rw c.attachment_pc-pc.ensures.roots at c.in_ok-write_content.ensures.all))
 
 pub returns-clause-front : goal.returns-clause-front
 unfolding place_files
@@ -57,4 +57,4 @@ returns-clause-front g c =
     let doc : Member = member_in c.args.folder.now c.args.time (codes "props.json") (line_of (attachment_data told (Attachment None) false t (attachment_shown c.args.attachment))) in
     let files : List Member = file_at attachment_file t r c.args.folder.now c.args.time CONTENT in
     front_whole _ _ _ _ (doc ∷ files)
-    (adds_two _ _ _ _ _ _ (doc ∷ []) files (rw c.in_ok-line.ensures at c.in_ok-write_document.ensures.all) (rw c.pc.ensures at c.in_ok-write_content.ensures.all))
+    (adds_two _ _ _ _ _ _ (doc ∷ []) files (rw c.in_ok-line.ensures.line at c.in_ok-write_document.ensures.all) (rw c.attachment_pc-pc.ensures.table at (rw c.attachment_pc-pc.ensures.roots at c.in_ok-write_content.ensures.all)))

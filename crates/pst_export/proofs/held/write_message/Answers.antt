@@ -21,7 +21,7 @@ returns-in_err-write_document-clause-front g c =
     let r = roots_of node in
     let doc : Member = member_in c.args.folder.now c.args.time (codes "props.json") (line_of (message_data told true false t r (nid_of node))) in
     let files : List Member = files_at message_file t r c.args.folder.now c.args.time (HEADERS ∷ BODY ∷ HTML ∷ RTF ∷ []) in
-    front_first _ _ _ (doc ∷ []) files (rw c.in_ok-line.ensures at c.in_err-write_document.ensures.front)
+    front_first _ _ _ (doc ∷ []) files (rw c.in_ok-line.ensures.line at c.in_err-write_document.ensures.front)
 
 pub returns-in_err-write_bodies-clause-front : goal.returns-in_err-write_bodies-clause-front
 unfolding place_files
@@ -32,7 +32,7 @@ returns-in_err-write_bodies-clause-front g c =
     let r = roots_of node in
     let doc : Member = member_in c.args.folder.now c.args.time (codes "props.json") (line_of (message_data told true false t r (nid_of node))) in
     let files : List Member = files_at message_file t r c.args.folder.now c.args.time (HEADERS ∷ BODY ∷ HTML ∷ RTF ∷ []) in
-    front_second _ _ _ _ _ (doc ∷ []) files (rw c.in_ok-line.ensures at c.in_ok-write_document.ensures.all) (rw c.pc.ensures at c.in_err-write_bodies.ensures.front)
+    front_second _ _ _ _ _ (doc ∷ []) files (rw c.in_ok-line.ensures.line at c.in_ok-write_document.ensures.all) (rw c.message_pc-pc.ensures.table at (rw c.message_pc-pc.ensures.roots at c.in_err-write_bodies.ensures.front))
 
 pub returns-clause-all : goal.returns-clause-all
 unfolding place_files
@@ -43,7 +43,7 @@ returns-clause-all g c =
     let r = roots_of node in
     let doc : Member = member_in c.args.folder.now c.args.time (codes "props.json") (line_of (message_data told true false t r (nid_of node))) in
     let files : List Member = files_at message_file t r c.args.folder.now c.args.time (HEADERS ∷ BODY ∷ HTML ∷ RTF ∷ []) in
-    adds_two _ _ _ _ _ _ (doc ∷ []) files (rw c.in_ok-line.ensures at c.in_ok-write_document.ensures.all) (rw c.pc.ensures at c.in_ok-write_bodies.ensures.all)
+    adds_two _ _ _ _ _ _ (doc ∷ []) files (rw c.in_ok-line.ensures.line at c.in_ok-write_document.ensures.all) (rw c.message_pc-pc.ensures.table at (rw c.message_pc-pc.ensures.roots at c.in_ok-write_bodies.ensures.all))
 
 pub returns-clause-front : goal.returns-clause-front
 unfolding place_files
@@ -55,4 +55,4 @@ returns-clause-front g c =
     let doc : Member = member_in c.args.folder.now c.args.time (codes "props.json") (line_of (message_data told true false t r (nid_of node))) in
     let files : List Member = files_at message_file t r c.args.folder.now c.args.time (HEADERS ∷ BODY ∷ HTML ∷ RTF ∷ []) in
     front_whole _ _ _ _ (doc ∷ files)
-    (adds_two _ _ _ _ _ _ (doc ∷ []) files (rw c.in_ok-line.ensures at c.in_ok-write_document.ensures.all) (rw c.pc.ensures at c.in_ok-write_bodies.ensures.all))
+    (adds_two _ _ _ _ _ _ (doc ∷ []) files (rw c.in_ok-line.ensures.line at c.in_ok-write_document.ensures.all) (rw c.message_pc-pc.ensures.table at (rw c.message_pc-pc.ensures.roots at c.in_ok-write_bodies.ensures.all)))

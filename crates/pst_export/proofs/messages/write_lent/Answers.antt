@@ -18,6 +18,7 @@ loop-walk-init g c =
     let time = c.received-time.ensures ∙ ap (λ n. time_of (table_of_node n) (roots_of n)) c.pc.ensures in
     record {
       over = c.in_ok-walk.ensures.over;
+      known = c.requires.known;
       left = added_none _ _ _ _ (ap (λ x. flat_map (held_files told t x) (walk_left c.in_ok-walk.walk)) time
           ∙ ap (flat_map (held_files told t (time_of t (message_roots c.args.message)))) c.in_ok-walk.ensures.left);
     }
@@ -43,6 +44,7 @@ loop-walk-preserved g c =
     let next = ap (flat_map (held_files told t c.received-time.result)) takes in
     record {
       over = stays.0;
+      known = rw stays.1 at c.in_ok-write_item.ensures.known;
       left = added_next _ _ _ _ _ _ _ _ (held_files told t c.received-time.result (item_held c.in-Some.item)) _ next c.loop-walk.invariant.left (rw stays.1 at c.in_ok-write_item.ensures.all);
     }
 

@@ -16,9 +16,11 @@ pub loop-message-init : goal.loop-message-init
 loop-message-init g c =
     let i = c.args.intact.now in
     let e = ap intact_messages_left c.into_iter-message-iterator.ensures.into_iter_gives ∙ c.messages-message-items.ensures.left in
-    let these = ap (of_kind (is_type c.args.kind)) e ∙ among c.args.kind (all_roots (nodes_of_intact i)) c.requires in
+    let these = ap (of_kind (is_type c.args.kind)) e ∙ among c.args.kind (all_roots (nodes_of_intact i)) c.requires.kind in
     record {
       same = ap (λ m. table_of_nodes (messages_beside m)) c.into_iter-message-iterator.ensures.into_iter_gives ∙ c.messages-message-items.ensures.table;
+      index = c.new-index.ensures (table_of_intact i);
+      known = c.requires.known;
       left = added_none _ _ _ _ (ap (messages_files (names_told c.args.names) (table_of_intact i) c.args.name.now) these);
     }
 
@@ -35,6 +37,8 @@ loop-message-preserved-in-Continue-1 g c =
     let these = ap (messages_files told t c.args.name.now) next in
     record {
       same = ap table_of_nodes steps.1 ∙ i.same;
+      index = rw table at c.in_ok-write_message.ensures.index;
+      known = rw table at c.in_ok-write_message.ensures.known;
       left = added_next _ _ _ _ _ _ _ _ (message_files told t c.args.name.now r) _ these i.left (rw table at c.in_ok-write_message.ensures.all);
     }
 

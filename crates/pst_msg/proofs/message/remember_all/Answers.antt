@@ -3,6 +3,16 @@ use Rattle.pst_ndb.specs.Views.{table_of_node}
 use Rattle.pst_msg.proofs.CountLemmas.{grows_then}
 use Rattle.pst_msg.proofs.message.remember_all.Goals as goal
 
+pub remember_broken-requires-in-loop-frame-clause-known : goal.remember_broken-requires-in-loop-frame-clause-known
+remember_broken-requires-in-loop-frame-clause-known c =
+    let table = (c.requires.stack c.frame-item.result (c.loop-frame.frame-index, c.loop-frame-test.true, sym c.frame-item.is)).0 in
+    rw table c.loop-frame.invariant.known
+
+pub returns-in_err-remember_broken-2-clause-known : goal.returns-in_err-remember_broken-2-clause-known
+returns-in_err-remember_broken-2-clause-known c =
+    let table = (c.requires.stack c.frame-item.result (c.loop-frame.frame-index, c.loop-frame-test.true, sym c.frame-item.is)).0 in
+    rw table at c.remember_broken-in-loop-frame.ensures.known
+
 pub returns-in_err-remember_broken-2-clause-grows : goal.returns-in_err-remember_broken-2-clause-grows
 returns-in_err-remember_broken-2-clause-grows c =
     let table = (c.requires.stack c.frame-item.result (c.loop-frame.frame-index, c.loop-frame-test.true, sym c.frame-item.is)).0 in

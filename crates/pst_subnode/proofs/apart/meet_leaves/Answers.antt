@@ -12,9 +12,9 @@ loop-i-init c t are = no_leaves c.args.numbers.now c.args.stamps.now
 
 pub loop-i-preserved : goal.loop-i-preserved
 loop-i-preserved c t are =
-    let kept : numbers_kept c.args.numbers.now c.bid_at.result ≡ Some c.in-Some.kept.now = search rules in
-    leaf_met t c.args.numbers.now c.loop-i.stamps c.meet_all.new.self (bytes_of c.args.body) c.loop-i.i c.bid_at.result c.in-Some.kept.now c.bid_at.ensures kept
-    (λ before met. rw (← c.deref.ensures.value) (c.if-not-meet_all.ensures refl before met))
+    let kept : numbers_kept c.args.numbers.now c.bid_at-bid.result ≡ Some c.in-Some.kept.now = search rules in
+    leaf_met t c.args.numbers.now c.loop-i.stamps c.meet_all.new.self (bytes_of c.args.body) c.loop-i.i c.bid_at-bid.result c.in-Some.kept.now c.bid_at-bid.ensures kept
+    (λ before met. rw (← c.deref.ensures.value) (c.in_default-meet_all.ensures refl before met))
     are (c.loop-i.invariant t are)
 
 pub returns : goal.returns

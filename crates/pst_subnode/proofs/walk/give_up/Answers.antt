@@ -1,6 +1,6 @@
 use Rattle.std.proofs.Common.{arith}
 use Rattle.std.proofs.lemmas.List.{nil_from_length}
-use Rattle.pst_subnode.proofs.StackLemmas.{given_up, given_up_first, all_given_up}
+use Rattle.pst_subnode.proofs.StackLemmas.{given_up, given_up_first, given_up_whole, all_given_up}
 use Rattle.pst_subnode.proofs.walk.give_up.Goals as goal
 
 pub loop-frame-preserved : goal.loop-frame-preserved
@@ -10,7 +10,8 @@ loop-frame-preserved c = record {
       given_up t a c.pop.new.self.items c.in-Some.frame c.args.fault s c.loop-frame.heights c.forget.new.self (rw c.in-Some.ensures.items at before) c.forget.ensures.put c.forget.ensures.ranges (omega (arith, c.forget.ensures.counts));
   faults = λ t a s up are.
       let before = c.loop-frame.invariant.goes t a s up in
-      c.put_list.ensures t (given_up_first t a c.pop.new.self.items c.in-Some.frame c.args.fault s c.loop-frame.heights (rw c.in-Some.ensures.items at before)) (c.loop-frame.invariant.faults t a s up are);
+      let up_here = rw c.in-Some.ensures.items at before in
+      c.put_opened.ensures t (given_up_whole t a c.pop.new.self.items c.in-Some.frame c.args.fault s c.loop-frame.heights up_here) (given_up_first t a c.pop.new.self.items c.in-Some.frame c.args.fault s c.loop-frame.heights up_here) (c.loop-frame.invariant.faults t a s up are);
 }
 
 pub returns-clause-given_up : goal.returns-clause-given_up

@@ -3,7 +3,7 @@ use Rattle.pst_subnode.proofs.FaultLemmas.{found_put, same_remembered}
 use Rattle.pst_subnode.proofs.faults.SubFaults.keep_found.Goals as goal
 
 pub returns-in_err-insert : goal.returns-in_err-insert
-returns-in_err-insert c t is are = same_remembered t c.args.self.now _ c.in_err-insert.ensures.err refl refl are
+returns-in_err-insert c t is are = same_remembered t c.args.self.now _ c.in_err-insert.ensures.err refl refl refl are
 
 pub returns : goal.returns
-returns c t is are = found_put t c.args.self.now _ c.args.bid c.args.found c.in_ok-insert.ensures.updates.0 refl refl is are
+returns c t is are = found_put t c.args.self.now _ c.args.bid c.args.found c.in_ok-insert.ensures.updates.0 refl refl refl is are
