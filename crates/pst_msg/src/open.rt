@@ -190,7 +190,7 @@ fn open_part<'a>(node: Node<'a>, limit: u32, known: &mut Known) -> Result<Option
         IfOk result (λ o. IfSome o (IsAttachmentOpened t known.new node.entry limit)) }
 {
     once(known, Role::Properties, node)?;
-    match embedded(&known_pc(node)) {
+    match embedded(&known_pc(known.index.lend(node))) {
         Some(object) => open_embedded(node, object, limit, known),
         None => Ok(None),
     }
