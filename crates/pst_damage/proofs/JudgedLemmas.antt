@@ -4,7 +4,7 @@ use Rattle.std.proofs.lemmas.List.{append-nil, drop_more}
 use Rattle.pst_fault.specs.declared.fault.Fault.{Fault}
 use Rattle.pst_page.specs.declared.entry.NodeEntry.{NodeEntry}
 use Rattle.pst_damage.specs.declared.broken.BrokenNode.{BrokenNode}
-use Rattle.pst_damage.specs.Judged.{Judged, kept_node, told_node, sound_by, told_by}
+use Rattle.pst_damage.specs.Judged.{Judged, kept_node, told_node, sound_by, broken_by}
 
 pub drop_past : {X : Type 0} (xs : List X) (i : ℕ) → length xs ≤ i → drop i xs ≡ []
 drop_past [] zero le = refl
@@ -19,8 +19,8 @@ unfolding sound_by
 sound_first part e rest None is = rw is refl
 sound_first part e rest (Some f) is = rw is refl
 
-pub told_first : (part : Judged) (e : NodeEntry) (rest : List NodeEntry) (o : Option Fault) → part e ≡ o → told_by part (e ∷ rest) ≡ told_node o e [] ++ told_by part rest
-unfolding told_by
+pub told_first : (part : Judged) (e : NodeEntry) (rest : List NodeEntry) (o : Option Fault) → part e ≡ o → broken_by part (e ∷ rest) ≡ told_node o e [] ++ broken_by part rest
+unfolding broken_by
 told_first part e rest None is = rw is refl
 told_first part e rest (Some f) is = rw is refl
 
@@ -28,8 +28,8 @@ pub no_sound : (part : Judged) → sound_by part [] ≡ []
 unfolding sound_by
 no_sound part = refl
 
-pub no_told : (part : Judged) → told_by part [] ≡ []
-unfolding told_by
+pub no_told : (part : Judged) → broken_by part [] ≡ []
+unfolding broken_by
 no_told part = refl
 
 more : {X : Type 0} (now next some rest total : List X) → next ≡ now ++ some → now ++ (some ++ rest) ≡ total → next ++ rest ≡ total
@@ -48,13 +48,13 @@ sound_done part now total nodes i le so_far =
     sym (append-nil now) ∙ sym (ap (λ (xs : List NodeEntry). now ++ xs) (ap (sound_by part) (drop_past nodes i le) ∙ no_sound part)) ∙ so_far
 
 pub told_next : (part : Judged) (now next total : List BrokenNode) (nodes : List NodeEntry) (i : ℕ) (d : NodeEntry) (o : Option Fault) → i < length nodes → part (get_or nodes i d) ≡ o → next ≡ now ++ told_node o (get_or nodes i d) []
-    → now ++ told_by part (drop i nodes) ≡ total → next ++ told_by part (drop (i + 1) nodes) ≡ total
+    → now ++ broken_by part (drop i nodes) ≡ total → next ++ broken_by part (drop (i + 1) nodes) ≡ total
 told_next part now next total nodes i d o lt is h so_far =
     let e = get_or nodes i d in
     let rest = drop (i + 1) nodes in
-    more now next (told_node o e []) (told_by part rest) total h
-    (ap (λ (xs : List BrokenNode). now ++ xs) (sym (ap (told_by part) (drop_more nodes i d lt) ∙ told_first part e rest o is)) ∙ so_far)
+    more now next (told_node o e []) (broken_by part rest) total h
+    (ap (λ (xs : List BrokenNode). now ++ xs) (sym (ap (broken_by part) (drop_more nodes i d lt) ∙ told_first part e rest o is)) ∙ so_far)
 
-pub told_done : (part : Judged) (now total : List BrokenNode) (nodes : List NodeEntry) (i : ℕ) → length nodes ≤ i → now ++ told_by part (drop i nodes) ≡ total → now ≡ total
+pub told_done : (part : Judged) (now total : List BrokenNode) (nodes : List NodeEntry) (i : ℕ) → length nodes ≤ i → now ++ broken_by part (drop i nodes) ≡ total → now ≡ total
 told_done part now total nodes i le so_far =
-    sym (append-nil now) ∙ sym (ap (λ (xs : List BrokenNode). now ++ xs) (ap (told_by part) (drop_past nodes i le) ∙ no_told part)) ∙ so_far
+    sym (append-nil now) ∙ sym (ap (λ (xs : List BrokenNode). now ++ xs) (ap (broken_by part) (drop_past nodes i le) ∙ no_told part)) ∙ so_far

@@ -30,7 +30,7 @@ use Rattle.pst_msg.specs.Nid.{is_type, named}
 use Rattle.pst_msg.specs.Values.{is_message, listing_of}
 use Rattle.pst_damage.specs.declared.broken.BrokenNode.{BrokenNode}
 use Rattle.pst_damage.specs.Folder.{row_damage, items_damage, table_damage, folder_damage, asked_damage}
-use Rattle.pst_damage.specs.Judged.{Judged, told_node, sound_by, told_by}
+use Rattle.pst_damage.specs.Judged.{Judged, told_node, sound_by, broken_by}
 use Rattle.pst_damage.specs.Laws.{fault_told, has_own, first_own, told_of_root, first_of_all, first_of_nodes}
 use Rattle.pst_damage.specs.Nodes.{node_damage, missing, with_required, nodes_damage}
 use Rattle.pst_damage.specs.Order.{put_in}
@@ -99,25 +99,25 @@ own_by : (t : Table) (nodes : List NodeEntry) (b : BrokenNode) (rest : List Brok
 own_by t nodes b rest v e = rw e refl
 
 own_of_told : (t : Table) (nodes some : List NodeEntry) (part : Judged) → ((e : NodeEntry) (f : Fault) → node_fault t e ≡ Some f → part e ≡ Some f) → AreFound nodes some
-    → first_own t nodes (told_by part some) ≡ first_of (node_fault t) some
-unfolding told_by first_of
+    → first_own t nodes (broken_by part some) ≡ first_of (node_fault t) some
+unfolding broken_by first_of
 own_of_told t nodes [] part first all = refl
 own_of_told t nodes (e ∷ rest) part first all = by_own (node_fault t e) refl (part e) refl (own_of_told t nodes rest part first (found_rest nodes rest e all))
   where
-    by_own : (o : Option Fault) → node_fault t e ≡ o → (p : Option Fault) → part e ≡ p → first_own t nodes (told_by part rest) ≡ first_of (node_fault t) rest
-        → first_own t nodes (told_node p e (told_by part rest)) ≡ (o then first_of (node_fault t) rest)
+    by_own : (o : Option Fault) → node_fault t e ≡ o → (p : Option Fault) → part e ≡ p → first_own t nodes (broken_by part rest) ≡ first_of (node_fault t) rest
+        → first_own t nodes (told_node p e (broken_by part rest)) ≡ (o then first_of (node_fault t) rest)
     by_own (Some f) own None is more = absurd (no (sym is ∙ first e f own))
       where
         no : None ≡ Some f → ⊥
         no e = cc
     by_own (Some f) own (Some g) is more =
         let same : g ≡ f = some_same (sym is ∙ first e f own) in
-        own_by t nodes (record { nid = e.nid; fault = g }) (told_by part rest) true (rw (found_here nodes rest e all, own) refl) ∙ ap (λ (x : Fault). Some x) same
+        own_by t nodes (record { nid = e.nid; fault = g }) (broken_by part rest) true (rw (found_here nodes rest e all, own) refl) ∙ ap (λ (x : Fault). Some x) same
       where
         some_same : Some g ≡ Some f → g ≡ f
         some_same e = cc
     by_own None own None is more = more
-    by_own None own (Some g) is more = own_by t nodes (record { nid = e.nid; fault = g }) (told_by part rest) false (rw (found_here nodes rest e all, own) refl) ∙ more
+    by_own None own (Some g) is more = own_by t nodes (record { nid = e.nid; fault = g }) (broken_by part rest) false (rw (found_here nodes rest e all, own) refl) ∙ more
 
 own_of_put : (t : Table) (nodes : List NodeEntry) (b : BrokenNode) (xs : List BrokenNode) → has_own t nodes b.nid ≡ false → first_own t nodes (put_in b xs) ≡ first_own t nodes xs
 own_of_put t nodes b [] other = own_by t nodes b [] false other
@@ -145,7 +145,7 @@ own_first t nodes broken e f own = then_some (node_fault t e) (asked_damage t no
 pub first_own_is : (t : Table) (nodes : List NodeEntry) → Rises 0 None (map node_key nodes) → first_own t nodes (nodes_damage t nodes []) ≡ nodes_fault t nodes
 unfolding nodes_damage
 first_own_is t nodes r =
-    let told = told_by (node_damage t nodes []) nodes in
+    let told = broken_by (node_damage t nodes []) nodes in
     own_of_required t nodes ROOT (with_required nodes [] STORE told) ∙ own_of_required t nodes STORE told ∙ own_of_told t nodes nodes (node_damage t nodes []) (own_first t nodes []) (all_found nodes r)
 
 -- ---- what is told of a node
@@ -159,15 +159,15 @@ pub none_told : (nid : ℕ) → fault_told nid [] ≡ None
 unfolding first_with
 none_told nid = refl
 
-told_behind : (part : Judged) (nid low : ℕ) (nodes : List NodeEntry) → nid < low → Rises low None (map node_key nodes) → fault_told nid (told_by part nodes) ≡ None
-unfolding told_by
+told_behind : (part : Judged) (nid low : ℕ) (nodes : List NodeEntry) → nid < low → Rises low None (map node_key nodes) → fault_told nid (broken_by part nodes) ≡ None
+unfolding broken_by
 told_behind part nid low [] lt r = none_told nid
 told_behind part nid low (e ∷ rest) lt r = by_fault (part e) (told_behind part nid (e.nid + 1) rest (omega (arith, lt, r.0)) r.2)
   where
-    by_fault : (o : Option Fault) → fault_told nid (told_by part rest) ≡ None → fault_told nid (told_node o e (told_by part rest)) ≡ None
+    by_fault : (o : Option Fault) → fault_told nid (broken_by part rest) ≡ None → fault_told nid (told_node o e (broken_by part rest)) ≡ None
     by_fault None more = more
     by_fault (Some f) more =
-        told_by_test nid (record { nid = e.nid; fault = f }) (told_by part rest) false (other e.nid nid (omega (arith, lt, r.0))) ∙ more
+        told_by_test nid (record { nid = e.nid; fault = f }) (broken_by part rest) false (other e.nid nid (omega (arith, lt, r.0))) ∙ more
       where
         other : (a b : ℕ) → b < a → nat_eq a b ≡ false
         other a b lt = grind (arith, nat_tests, lt)
@@ -181,19 +181,19 @@ pub none_with : (nid : ℕ) → node_with nid [] ≡ None
 unfolding first_with
 none_with nid = refl
 
-pub told_among : (part : Judged) (nid low : ℕ) (nodes : List NodeEntry) → Rises low None (map node_key nodes) → fault_told nid (told_by part nodes) ≡ if_there part (node_with nid nodes)
-unfolding told_by
+pub told_among : (part : Judged) (nid low : ℕ) (nodes : List NodeEntry) → Rises low None (map node_key nodes) → fault_told nid (broken_by part nodes) ≡ if_there part (node_with nid nodes)
+unfolding broken_by
 told_among part nid low [] r = none_told nid ∙ ap (if_there part) (sym (none_with nid))
 told_among part nid low (e ∷ rest) r = by_test (nat_eq e.nid nid) refl (part e) refl (told_among part nid (e.nid + 1) rest r.2)
   where
-    by_test : (v : Bool) → nat_eq e.nid nid ≡ v → (o : Option Fault) → part e ≡ o → fault_told nid (told_by part rest) ≡ if_there part (node_with nid rest)
-        → fault_told nid (told_node o e (told_by part rest)) ≡ if_there part (node_with nid (e ∷ rest))
+    by_test : (v : Bool) → nat_eq e.nid nid ≡ v → (o : Option Fault) → part e ≡ o → fault_told nid (broken_by part rest) ≡ if_there part (node_with nid rest)
+        → fault_told nid (told_node o e (broken_by part rest)) ≡ if_there part (node_with nid (e ∷ rest))
     by_test true h None is more =
         let same : e.nid ≡ nid = grind (arith, nat_tests, h) in
         told_behind part nid (e.nid + 1) rest (omega (arith, same)) r.2 ∙ sym is ∙ ap (if_there part) (sym (with_by_test nid e rest true h))
-    by_test true h (Some f) is more = told_by_test nid (record { nid = e.nid; fault = f }) (told_by part rest) true h ∙ sym is ∙ ap (if_there part) (sym (with_by_test nid e rest true h))
+    by_test true h (Some f) is more = told_by_test nid (record { nid = e.nid; fault = f }) (broken_by part rest) true h ∙ sym is ∙ ap (if_there part) (sym (with_by_test nid e rest true h))
     by_test false h None is more = more ∙ ap (if_there part) (sym (with_by_test nid e rest false h))
-    by_test false h (Some f) is more = told_by_test nid (record { nid = e.nid; fault = f }) (told_by part rest) false h ∙ more ∙ ap (if_there part) (sym (with_by_test nid e rest false h))
+    by_test false h (Some f) is more = told_by_test nid (record { nid = e.nid; fault = f }) (broken_by part rest) false h ∙ more ∙ ap (if_there part) (sym (with_by_test nid e rest false h))
 
 told_of_other : (nid : ℕ) (b : BrokenNode) (xs : List BrokenNode) → nat_eq b.nid nid ≡ false → fault_told nid (put_in b xs) ≡ fault_told nid xs
 told_of_other nid b [] other = told_by_test nid b [] false other
@@ -301,13 +301,13 @@ unfolding node_in
 found_in nodes nid o e = rw e refl
 
 module _ (t : Table) (nodes : List NodeEntry) (rises : Rises 0 None (map node_key nodes)) (own : nodes_fault t nodes ≡ None) where
-  told_in_order : (nid : ℕ) → fault_told nid (told_by (node_damage t nodes []) nodes) ≡ if_there (node_damage t nodes []) (node_with nid nodes)
+  told_in_order : (nid : ℕ) → fault_told nid (broken_by (node_damage t nodes []) nodes) ≡ if_there (node_damage t nodes []) (node_with nid nodes)
   told_in_order nid = told_among (node_damage t nodes []) nid 0 nodes rises
 
   of_store : fault_told STORE (nodes_damage t nodes []) ≡ required_fault t nodes STORE
   unfolding nodes_damage required_fault
   of_store =
-      let told = told_by (node_damage t nodes []) nodes in
+      let told = broken_by (node_damage t nodes []) nodes in
       passes_required nodes STORE ROOT (with_required nodes [] STORE told) refl ∙ told_required (node_damage t nodes []) nodes STORE told (told_in_order STORE) ∙ by_found (node_with STORE nodes) refl
     where
       by_found : (o : Option NodeEntry) → node_with STORE nodes ≡ o → there_or (named NodeMissing 0 0 STORE) (node_damage t nodes []) o ≡ there_or (named NodeMissing 0 0 STORE) (pc_fault t) (node_in nodes STORE)
@@ -319,7 +319,7 @@ module _ (t : Table) (nodes : List NodeEntry) (rises : Rises 0 None (map node_ke
   of_root : told_of_root t nodes (nodes_damage t nodes []) ≡ required_fault t nodes ROOT
   unfolding nodes_damage required_fault
   of_root =
-      let told = told_by (node_damage t nodes []) nodes in
+      let told = broken_by (node_damage t nodes []) nodes in
       let is = told_required (node_damage t nodes []) nodes ROOT (with_required nodes [] STORE told) (passes_required nodes ROOT STORE told refl ∙ told_in_order ROOT) in
       by_found (node_with ROOT nodes) refl is
     where
@@ -328,8 +328,8 @@ module _ (t : Table) (nodes : List NodeEntry) (rises : Rises 0 None (map node_ke
       root_by x (Some f) pc e o is = is ∙ asked_only t nodes x (none_of_found (node_fault t) ROOT nodes x own e) ∙ root_asked t nodes (entry_roots x) f (found_nid ROOT nodes x e) pc
 
       by_found : (o : Option NodeEntry) → node_with ROOT nodes ≡ o
-          → fault_told ROOT (with_required nodes [] ROOT (with_required nodes [] STORE (told_by (node_damage t nodes []) nodes))) ≡ there_or (named NodeMissing 0 0 ROOT) (node_damage t nodes []) o
-          → cond (is_some (there_or (named NodeMissing 0 0 ROOT) (pc_fault t) (node_in nodes ROOT))) (fault_told ROOT (with_required nodes [] ROOT (with_required nodes [] STORE (told_by (node_damage t nodes []) nodes)))) None
+          → fault_told ROOT (with_required nodes [] ROOT (with_required nodes [] STORE (broken_by (node_damage t nodes []) nodes))) ≡ there_or (named NodeMissing 0 0 ROOT) (node_damage t nodes []) o
+          → cond (is_some (there_or (named NodeMissing 0 0 ROOT) (pc_fault t) (node_in nodes ROOT))) (fault_told ROOT (with_required nodes [] ROOT (with_required nodes [] STORE (broken_by (node_damage t nodes []) nodes)))) None
           ≡ there_or (named NodeMissing 0 0 ROOT) (pc_fault t) (node_in nodes ROOT)
       by_found None e is = rw (found_in nodes ROOT None e) is
       by_found (Some x) e is = rw (found_in nodes ROOT (Some x) e) (root_by x (pc_fault t (entry_roots x)) refl e _ is)
@@ -337,7 +337,7 @@ module _ (t : Table) (nodes : List NodeEntry) (rises : Rises 0 None (map node_ke
   of_names : fault_told NAME_MAP (nodes_damage t nodes []) ≡ if_there (name_map_fault t) (node_in nodes NAME_MAP)
   unfolding nodes_damage
   of_names =
-      let told = told_by (node_damage t nodes []) nodes in
+      let told = broken_by (node_damage t nodes []) nodes in
       passes_required nodes NAME_MAP ROOT (with_required nodes [] STORE told) refl ∙ passes_required nodes NAME_MAP STORE told refl ∙ told_in_order NAME_MAP ∙ by_found (node_with NAME_MAP nodes) refl
     where
       by_found : (o : Option NodeEntry) → node_with NAME_MAP nodes ≡ o → if_there (node_damage t nodes []) o ≡ if_there (name_map_fault t) (node_in nodes NAME_MAP)
@@ -375,22 +375,22 @@ module _ (t : Table) (nodes : List NodeEntry) (rises : Rises 0 None (map node_ke
           none ∙ sym (of_no_type e (ap (is_type FOLDER) is) (ap (is_type SEARCH_FOLDER) is) (ap is_message is))
 
   first_of_told : (some : List NodeEntry) → AreFound nodes some → first_of (node_fault t) some ≡ None → required_fault t nodes STORE ≡ None → if_there (name_map_fault t) (node_in nodes NAME_MAP) ≡ None
-      → first_of_all (told_by (node_damage t nodes []) some) ≡ first_of (typed_node_fault t nodes) (all_roots some)
-  unfolding told_by first_of
+      → first_of_all (broken_by (node_damage t nodes []) some) ≡ first_of (typed_node_fault t nodes) (all_roots some)
+  unfolding broken_by first_of
   first_of_told [] all none store names = refl
   first_of_told (e ∷ rest) all none store names =
       let both = none_then (node_fault t e) (first_of (node_fault t) rest) none in
       by_fault (node_damage t nodes [] e) (asked_only t nodes e both.0 ∙ same_typed e (found_here nodes rest e all) store names) (first_of_told rest (found_rest nodes rest e all) both.1 store names)
     where
-      by_fault : (o : Option Fault) → o ≡ typed_node_fault t nodes (entry_roots e) → first_of_all (told_by (node_damage t nodes []) rest) ≡ first_of (typed_node_fault t nodes) (all_roots rest)
-          → first_of_all (told_node o e (told_by (node_damage t nodes []) rest)) ≡ (typed_node_fault t nodes (entry_roots e) then first_of (typed_node_fault t nodes) (all_roots rest))
+      by_fault : (o : Option Fault) → o ≡ typed_node_fault t nodes (entry_roots e) → first_of_all (broken_by (node_damage t nodes []) rest) ≡ first_of (typed_node_fault t nodes) (all_roots rest)
+          → first_of_all (told_node o e (broken_by (node_damage t nodes []) rest)) ≡ (typed_node_fault t nodes (entry_roots e) then first_of (typed_node_fault t nodes) (all_roots rest))
       by_fault None is more = rw (← is) more
       by_fault (Some f) is more = rw (← is) refl
 
   of_others : required_fault t nodes STORE ≡ None → required_fault t nodes ROOT ≡ None → if_there (name_map_fault t) (node_in nodes NAME_MAP) ≡ None → first_of_all (nodes_damage t nodes []) ≡ first_of (typed_node_fault t nodes) (all_roots nodes)
   unfolding nodes_damage required_fault
   of_others store root names =
-      let told = told_by (node_damage t nodes []) nodes in
+      let told = broken_by (node_damage t nodes []) nodes in
       ap first_of_all (is_there ROOT root (with_required nodes [] STORE told) ∙ is_there STORE store told) ∙ first_of_told nodes (all_found nodes rises) own store names
     where
       is_there : (nid : ℕ) → required_fault t nodes nid ≡ None → (told : List BrokenNode) → with_required nodes [] nid told ≡ told

@@ -12,7 +12,7 @@ use Rattle.pst_block.specs.Table.{Table}
 use Rattle.pst_ndb.specs.Fault.{node_fault, nodes_fault}
 use Rattle.pst_ndb.specs.Roots.{Roots, entry_roots, node_in}
 use Rattle.pst_damage.specs.declared.broken.BrokenNode.{BrokenNode}
-use Rattle.pst_damage.specs.Judged.{Judged, kept_node, told_node, sound_by, told_by, sound_nodes}
+use Rattle.pst_damage.specs.Judged.{Judged, kept_node, told_node, sound_by, broken_by, sound_nodes}
 use Rattle.pst_damage.specs.Laws.{told_nid, fault_told}
 use Rattle.pst_damage.proofs.NodeLaws.{none_with, with_by_test, told_among, same_nid, none_of_found}
 
@@ -22,16 +22,16 @@ lower_told : (low less : ℕ) (told : List BrokenNode) → less < low + 1 → Ri
 lower_told low less [] le r = tt
 lower_told low less (b ∷ rest) le r = (omega (arith, le, r.0), r.1, r.2)
 
-told_rises : (part : Judged) (low : ℕ) (nodes : List NodeEntry) → Rises low None (map node_key nodes) → Rises low None (map told_nid (told_by part nodes))
-unfolding told_by
+told_rises : (part : Judged) (low : ℕ) (nodes : List NodeEntry) → Rises low None (map node_key nodes) → Rises low None (map told_nid (broken_by part nodes))
+unfolding broken_by
 told_rises part low [] r = tt
 told_rises part low (e ∷ rest) r = told (part e) (told_rises part (e.nid + 1) rest r.2)
   where
-    told : (o : Option Fault) → Rises (e.nid + 1) None (map told_nid (told_by part rest)) → Rises low None (map told_nid (told_node o e (told_by part rest)))
-    told None more = lower_told (e.nid + 1) low (told_by part rest) (omega (arith, r.0)) more
+    told : (o : Option Fault) → Rises (e.nid + 1) None (map told_nid (broken_by part rest)) → Rises low None (map told_nid (told_node o e (broken_by part rest)))
+    told None more = lower_told (e.nid + 1) low (broken_by part rest) (omega (arith, r.0)) more
     told (Some f) more = (r.0, r.1, more)
 
-pub own_rise : (t : Table) (nodes : List NodeEntry) (own : List BrokenNode) → Rises 0 None (map node_key nodes) → own ≡ told_by (node_fault t) nodes → Rises 0 None (map told_nid own)
+pub own_rise : (t : Table) (nodes : List NodeEntry) (own : List BrokenNode) → Rises 0 None (map node_key nodes) → own ≡ broken_by (node_fault t) nodes → Rises 0 None (map told_nid own)
 own_rise t nodes own r is = rw is (told_rises (node_fault t) 0 nodes r)
 
 -- ---- a node among the sound ones
@@ -81,13 +81,13 @@ untold_is part None is = refl
 untold_is part (Some e) is = sym (ap (λ x. unless x e) (sym is))
 
 -- Where something is told of it, it is not among them; else they have it where the nodes have it.
-pub sound_told : (t : Table) (nodes : List NodeEntry) (own : List BrokenNode) (nid : ℕ) (f : Fault) → Rises 0 None (map node_key nodes) → own ≡ told_by (node_fault t) nodes → Some f ≡ fault_told nid own
+pub sound_told : (t : Table) (nodes : List NodeEntry) (own : List BrokenNode) (nid : ℕ) (f : Fault) → Rises 0 None (map node_key nodes) → own ≡ broken_by (node_fault t) nodes → Some f ≡ fault_told nid own
     → None ≡ node_with nid (sound_nodes t nodes)
 sound_told t nodes own nid f r is told =
     let part = node_fault t in
     told_lacks part (node_with nid nodes) f (told ∙ ap (fault_told nid) is ∙ told_among part nid 0 nodes r) ∙ sym (sound_among part nid 0 nodes r)
 
-pub sound_untold : (t : Table) (nodes : List NodeEntry) (own : List BrokenNode) (nid : ℕ) → Rises 0 None (map node_key nodes) → own ≡ told_by (node_fault t) nodes → None ≡ fault_told nid own
+pub sound_untold : (t : Table) (nodes : List NodeEntry) (own : List BrokenNode) (nid : ℕ) → Rises 0 None (map node_key nodes) → own ≡ broken_by (node_fault t) nodes → None ≡ fault_told nid own
     → node_with nid nodes ≡ node_with nid (sound_nodes t nodes)
 sound_untold t nodes own nid r is untold =
     let part = node_fault t in

@@ -24,9 +24,9 @@ abbrev pub told_node : Option Fault → NodeEntry → List BrokenNode → List B
 told_node None e rest = rest
 told_node (Some f) e rest = record { nid = e.nid; fault = f } ∷ rest
 
-unfoldable pub told_by : Judged → List NodeEntry → List BrokenNode
-told_by part [] = []
-told_by part (e ∷ rest) = told_node (part e) e (told_by part rest)
+unfoldable pub broken_by : Judged → List NodeEntry → List BrokenNode
+broken_by part [] = []
+broken_by part (e ∷ rest) = told_node (part e) e (broken_by part rest)
 
 -- the sound nodes: neither their data nor their subnodes have a fault
 abbrev pub sound_nodes : Table → List NodeEntry → List NodeEntry

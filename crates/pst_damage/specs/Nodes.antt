@@ -15,7 +15,7 @@ use Rattle.pst_msg.specs.Nid.{named}
 use Rattle.pst_damage.specs.declared.broken.BrokenNode.{BrokenNode}
 use Rattle.pst_damage.specs.declared.whole.Whole.{Whole}
 use Rattle.pst_damage.specs.Folder.{asked_damage}
-use Rattle.pst_damage.specs.Judged.{sound_by, told_by}
+use Rattle.pst_damage.specs.Judged.{sound_by, broken_by}
 use Rattle.pst_damage.specs.Order.{put_in}
 use Rattle.pst_damage.specs.Whole.{whole_of}
 
@@ -37,7 +37,7 @@ with_required nodes broken nid told =
 -- The broken nodes; and the node of the store and that of the root folder, where they are missing.
 unfoldable pub nodes_damage : Table → List NodeEntry → List Broken → List BrokenNode
 nodes_damage t nodes broken =
-    with_required nodes broken ROOT (with_required nodes broken STORE (told_by (node_damage t nodes broken) nodes))
+    with_required nodes broken ROOT (with_required nodes broken STORE (broken_by (node_damage t nodes broken) nodes))
 
 -- ---- what is whole
 

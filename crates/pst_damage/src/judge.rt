@@ -4,7 +4,7 @@ ghost use Rattle.std.specs.Prelude.{◌≡◌, IfOk, IfErr, OnOk};
 ghost use Rattle.pst_fault.specs.Fault.{no_memory};
 ghost use Rattle.pst_btree.specs.Lists.{listed_nodes};
 ghost use Rattle.pst_block.specs.Blocks.{table_of};
-ghost use Rattle.pst_damage.specs.Judged.{told_by};
+ghost use Rattle.pst_damage.specs.Judged.{broken_by};
 ghost use Rattle.pst_damage.specs.Left.{left_table, left_nodes, left_pages};
 ghost use Rattle.pst_damage.specs.Nodes.{node_damage, with_required as with_missing, nodes_damage, whole_left};
 
@@ -35,7 +35,7 @@ pub struct JudgedNodes {
 // Each node that is left, in order; those whose own trees have a fault are told already.
 fn judge_each(alloc: Global, left: &Left) -> Result<Vec<BrokenNode>, Fault>
     ensures told { let t = left_table left.now in let nodes = left_nodes left.now in
-        IfOk result (λ v. v.items ≡ told_by (node_damage t nodes (left_pages left.now)) nodes) }
+        IfOk result (λ v. v.items ≡ broken_by (node_damage t nodes (left_pages left.now)) nodes) }
     ensures err { IfErr result (λ f. f ≡ no_memory) }
 {
     let mut known = Known::new(alloc);

@@ -6,7 +6,7 @@ ghost use Rattle.pst_block.specs.Blocks.{table_of};
 ghost use Rattle.pst_ndb.specs.Fault.{node_fault};
 ghost use Rattle.pst_ndb.specs.Roots.{entry_roots};
 ghost use Rattle.pst_ndb.specs.Views.{table_of_node, roots_of};
-ghost use Rattle.pst_damage.specs.Judged.{told_by};
+ghost use Rattle.pst_damage.specs.Judged.{broken_by};
 
 use crate::broken::{BrokenNode, find_told};
 use crate::broken_pages::BrokenPages;
@@ -22,7 +22,7 @@ pub(crate) struct Left<'a> {
     pub(crate) nodes: NodeList<'a>,
     pub(crate) own: &'a [BrokenNode],
     pub(crate) pages: &'a BrokenPages<'a>,
-    ghost own_are: { own.now ≡ told_by (node_fault (table_of blocks)) (listed_nodes nodes) },
+    ghost own_are: { own.now ≡ broken_by (node_fault (table_of blocks)) (listed_nodes nodes) },
 }
 
 impl<'a> Left<'a> {

@@ -8,7 +8,7 @@ ghost use Rattle.pst_datatree.specs.Data.{data_fault};
 ghost use Rattle.pst_subnode.specs.declared.check.TheConstants.{LISTS};
 ghost use Rattle.pst_subnode.specs.Tree.{sub_fault, at_top};
 ghost use Rattle.pst_ndb.specs.Fault.{node_fault};
-ghost use Rattle.pst_damage.specs.Judged.{told_by};
+ghost use Rattle.pst_damage.specs.Judged.{broken_by};
 ghost use Rattle.pst_damage.specs.Trees.{AreTreesKnown};
 
 use crate::broken::{BrokenNode, found, push_told};
@@ -115,7 +115,7 @@ pub(crate) fn judge_trees(
     nodes: &[NodeEntry],
 ) -> Result<Vec<BrokenNode>, Fault>
     ensures broken { IfOk result (λ v.
-        v.items ≡ told_by (node_fault (table_of blocks.now)) nodes.now) }
+        v.items ≡ broken_by (node_fault (table_of blocks.now)) nodes.now) }
     ensures err { IfErr result (λ f. f ≡ no_memory) }
 {
     let mut known = Known::new(alloc);

@@ -2,7 +2,7 @@
 
 ghost use Rattle.std.specs.Prelude.{◌≡◌, ◌-◌};
 ghost use Rattle.std.specs.List.{count_by};
-ghost use Rattle.pst_damage.specs.Judged.{Judged, sound_by, told_by};
+ghost use Rattle.pst_damage.specs.Judged.{Judged, sound_by, broken_by};
 ghost use Rattle.pst_damage.specs.Whole.{whole_of as counts, folder_entry, message_entry, folder_node, message_node};
 
 use crate::broken::BrokenNode;
@@ -38,7 +38,7 @@ fn messages_beside(nodes: &[NodeEntry], told: &[BrokenNode]) -> usize
 /// What is whole of these nodes, where all that is broken of them was told.
 #[tactic(auto, using(crate::proofs::WholeLemmas::whole_beside))]
 pub(crate) fn whole_of(nodes: &[NodeEntry], told: &[BrokenNode]) -> Whole
-    ensures { (part : Judged) → told.now ≡ told_by part nodes.now →
+    ensures { (part : Judged) → told.now ≡ broken_by part nodes.now →
         result ≡ counts (sound_by part nodes.now) }
 {
     Whole {

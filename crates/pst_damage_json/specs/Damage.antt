@@ -5,7 +5,7 @@ use Rattle.pst_damage.specs.declared.broken.BrokenNode.{BrokenNode}
 use Rattle.pst_damage.specs.declared.whole.Whole.{Whole}
 use Rattle.pst_damage.specs.Damage.{DamageParts}
 use Rattle.pst_damage_json.specs.Faults.{fault_data, fault_or_null}
-use Rattle.pst_value_json.specs.pst_text.Line.{line_of}
+use Rattle.pst_value_json.specs.pst_text.Line.{data_line}
 use Rattle.pst_value_json.specs.pst_text.Names.{nid_data}
 use Rattle.pst_value_json.specs.pst_text.Parts.{natural, list_data}
 use Rattle.pst_value_json.specs.Places.{member_if}
@@ -45,4 +45,4 @@ damage_data d digest =
 
 -- the line that shows it
 unfoldable pub damage_line : DamageParts → Option (List ℕ) → List ℕ
-damage_line d digest = line_of (damage_data d digest)
+damage_line d digest = data_line (damage_data d digest)

@@ -85,7 +85,7 @@ fn put_damage(
 /// many folders, messages and nodes are whole. A fault is an object of its place, offset and identifier of a block as numbers
 /// and that of a node as a text, and of the name and the number of its kind. It is made fault by fault: beside the text,
 /// memory is taken for one name at a time.
-#[tactic(auto, unfolding(crate::specs::Damage::damage_line, pst_text::specs::Line::line_of))]
+#[tactic(auto, unfolding(crate::specs::Damage::damage_line, pst_text::specs::Line::data_line))]
 pub fn damage_line(
     alloc: Global,
     damage: &Damage,

@@ -31,9 +31,9 @@ use Rattle.pst_json.specs.Messages.{messages_text}
 use Rattle.pst_json.specs.Node.{props_line}
 use Rattle.pst_tar.specs.Archive.{Member}
 use Rattle.pst_export.specs.declared.walk.TheConstants.{LEVELS}
-use Rattle.pst_export.specs.Held.{folder_in, held_of}
+use Rattle.pst_export.specs.Held.{folder_in, held_in_folder}
 use Rattle.pst_export.specs.Laws.{AreIntact, BesideLaw, IsBeside}
-use Rattle.pst_export.specs.Store.{all_files, damage_file, file_of, folder_file, folder_files, message_files, messages_files, of_type, store_file}
+use Rattle.pst_export.specs.Store.{all_files, damage_file, member_named, folder_file, folder_files, message_files, messages_files, of_type, store_file}
 use Rattle.pst_export.proofs.BesideLemmas.{AreFine, IsFit, IsIn, Slot, is_inner, pairs_one, slot_files, slot_of, slots_beside}
 use Rattle.pst_export.proofs.NestLemmas.{held_fine}
 use Rattle.pst_export.proofs.SlotLemmas.{OtherTexts, folder_fine, none_fit, one_fit, others_apart, pairs_mapped, rising_others}
@@ -92,7 +92,7 @@ folders_fine names t rs differ =
 
 messages_fine : (names : ℕ → Option NameParts) (t : Table) (name : List ℕ) (rs : List Roots) → All IsByte t.image → AllPairs (OtherTexts top_of) rs → All (λ r. message_fault t r ≡ None) rs
     → AreFine name (messages_files names t name rs)
-unfolding message_files held_of top_of
+unfolding message_files held_in_folder top_of
 messages_fine names t name rs bytes differ sound =
     let fine : All (λ r. AreFine (folder_in name r.top) (message_files names t name r)) rs = λ k d within. held_fine names t _ bytes LEVELS _ _ _ (none_message t LISTS _ (sound k d within)) in
     folder_fine name [] top_of (message_files names t name) rs (All-nil (IsFit (name ++ codes "/"))) refl refl fine differ
@@ -109,10 +109,10 @@ folder_fit word files inner fine = record {
 
 damage_fit : (o : Option (List ℕ)) → IsFit [] (slot_of (codes "damage.json") (damage_file o))
 damage_fit None = none_fit [] (codes "damage.json") refl
-damage_fit (Some text) = one_fit [] (codes "damage.json") (file_of (codes "damage.json") text) refl refl
+damage_fit (Some text) = one_fit [] (codes "damage.json") (member_named (codes "damage.json") text) refl refl
 
 store_fit : (o : Result (List ℕ) DocFault) → IsFit [] (slot_of (codes "store.json") (store_file o))
-store_fit (Ok line) = one_fit [] (codes "store.json") (file_of (codes "store.json") line) refl refl
+store_fit (Ok line) = one_fit [] (codes "store.json") (member_named (codes "store.json") line) refl refl
 store_fit (Err f) = none_fit [] (codes "store.json") refl
 
 module _ (damage : Option (List ℕ)) (t : Table) (nodes : List NodeEntry) (lost : LostParts) (given : AreIntact t nodes) where
@@ -130,10 +130,10 @@ module _ (damage : Option (List ℕ)) (t : Table) (nodes : List NodeEntry) (lost
   store = slot_of (codes "store.json") (store_file (props_line false t nodes (STORE ∷ [])))
 
   abbrev list : Slot
-  list = slot_of (codes "folders.json") (file_of (codes "folders.json") (folders_line t nodes lost) ∷ [])
+  list = slot_of (codes "folders.json") (member_named (codes "folders.json") (folders_line t nodes lost) ∷ [])
 
   abbrev summaries : Slot
-  summaries = slot_of (codes "messages.jsonl") (file_of (codes "messages.jsonl") (messages_text t nodes) ∷ [])
+  summaries = slot_of (codes "messages.jsonl") (member_named (codes "messages.jsonl") (messages_text t nodes) ∷ [])
 
   abbrev folders : Slot
   folders = slot_of (codes "folders") (folder_files (store_name t nodes) t (of_kind is_folder (all_roots nodes)))
@@ -155,8 +155,8 @@ module _ (damage : Option (List ℕ)) (t : Table) (nodes : List NodeEntry) (lost
   fits =
       All-cons (IsFit []) told (store ∷ list ∷ summaries ∷ folders ∷ messages ∷ associated ∷ []) (damage_fit damage)
       (All-cons (IsFit []) store (list ∷ summaries ∷ folders ∷ messages ∷ associated ∷ []) (store_fit (props_line false t nodes (STORE ∷ [])))
-      (All-cons (IsFit []) list (summaries ∷ folders ∷ messages ∷ associated ∷ []) (one_fit [] (codes "folders.json") (file_of (codes "folders.json") (folders_line t nodes lost)) refl refl)
-      (All-cons (IsFit []) summaries (folders ∷ messages ∷ associated ∷ []) (one_fit [] (codes "messages.jsonl") (file_of (codes "messages.jsonl") (messages_text t nodes)) refl refl)
+      (All-cons (IsFit []) list (summaries ∷ folders ∷ messages ∷ associated ∷ []) (one_fit [] (codes "folders.json") (member_named (codes "folders.json") (folders_line t nodes lost)) refl refl)
+      (All-cons (IsFit []) summaries (folders ∷ messages ∷ associated ∷ []) (one_fit [] (codes "messages.jsonl") (member_named (codes "messages.jsonl") (messages_text t nodes)) refl refl)
       (All-cons (IsFit []) folders (messages ∷ associated ∷ []) (folder_fit (codes "folders") folders.files refl (folders_fine (store_name t nodes) t (of_kind is_folder (all_roots nodes)) (tops_others nodes is_folder given.nids given.rise)))
       (All-cons (IsFit []) messages (associated ∷ []) (messages_fit MESSAGE (codes "messages") message_kind refl)
       (All-cons (IsFit []) associated [] (messages_fit ASSOCIATED (codes "associated") associated_kind refl) (All-nil (IsFit []))))))))

@@ -15,13 +15,13 @@ use Rattle.pst_json.specs.pst_props.declared.fault.DocFault.TheVariants.{NoFolde
 use Rattle.pst_json.specs.DocumentIndexes.{AreDocumentIndexes}
 use Rattle.pst_json.specs.Node.{node_props_data}
 use Rattle.pst_json.specs.Told.{TellsDoc}
-use Rattle.pst_value_json.specs.pst_text.Line.{line_of}
+use Rattle.pst_value_json.specs.pst_text.Line.{data_line}
 use Rattle.pst_value_json.specs.pst_names.Name.{NameParts}
 use Rattle.pst_value_json.specs.pst_pc.Values.{Property, id_of, props_of}
 use Rattle.pst_export.specs.Files.{file_at, named_file, path_of, value_file}
 use Rattle.pst_export.specs.Held.{folder_in}
 use Rattle.pst_export.specs.Store.{folder_file, store_file}
-use Rattle.pst_export.specs.Written.{Adds, member_of}
+use Rattle.pst_export.specs.Written.{AddsFiles, member_of}
 use Rattle.pst_export.proofs.WriteLemmas.{adds_none}
 
 -- a property is there
@@ -32,9 +32,9 @@ file_there file t r folder time id p name is called = ap (named_file folder time
 
 -- there is none
 pub none_there : (a : Option (List ℕ)) (n : ℕ) (file : ℕ → ℕ → Option (List ℕ)) (t : Table) (r : Roots) (folder : List ℕ) (time id : ℕ)
-    → None ≡ first_with id_of id (props_of t r) → Adds a a n n (file_at file t r folder time id)
+    → None ≡ first_with id_of id (props_of t r) → AddsFiles a a n n (file_at file t r folder time id)
 unfolding file_at
-none_there a n file t r folder time id is = subst (λ p. Adds a a n n (value_file file folder time p)) is (adds_none a n)
+none_there a n file t r folder time id is = subst (λ p. AddsFiles a a n n (value_file file folder time p)) is (adds_none a n)
 
 -- ---- the file of the store's own properties
 
@@ -43,12 +43,12 @@ store_there told line bytes is same = ap (λ x. member_of (codes "store.json") 0
 
 -- there are none
 pub store_none : {Y : Type 0} (a : Option (List ℕ)) (n : ℕ) (shown : Y → List ℕ) (f : DocFault) (told : Result (List ℕ) DocFault) → TellsDoc shown (Err f) told → (f ≡ Memory → ⊥)
-    → Adds a a n n (store_file told)
-store_none a n shown NoFolder told tells other = subst (λ r. Adds a a n n (store_file r)) (sym tells) (adds_none a n)
-store_none a n shown NoNode told tells other = subst (λ r. Adds a a n n (store_file r)) (sym tells) (adds_none a n)
-store_none a n shown (Bad e) told tells other = subst (λ r. Adds a a n n (store_file r)) (sym tells) (adds_none a n)
-store_none a n shown (NoProperty id) told tells other = subst (λ r. Adds a a n n (store_file r)) (sym tells) (adds_none a n)
-store_none a n shown TooManyPaths told tells other = subst (λ r. Adds a a n n (store_file r)) (sym tells) (adds_none a n)
+    → AddsFiles a a n n (store_file told)
+store_none a n shown NoFolder told tells other = subst (λ r. AddsFiles a a n n (store_file r)) (sym tells) (adds_none a n)
+store_none a n shown NoNode told tells other = subst (λ r. AddsFiles a a n n (store_file r)) (sym tells) (adds_none a n)
+store_none a n shown (Bad e) told tells other = subst (λ r. AddsFiles a a n n (store_file r)) (sym tells) (adds_none a n)
+store_none a n shown (NoProperty id) told tells other = subst (λ r. AddsFiles a a n n (store_file r)) (sym tells) (adds_none a n)
+store_none a n shown TooManyPaths told tells other = subst (λ r. AddsFiles a a n n (store_file r)) (sym tells) (adds_none a n)
 store_none a n shown Memory told tells other = absurd (other refl)
 
 -- ---- the file of a folder
@@ -56,7 +56,7 @@ store_none a n shown Memory told tells other = absurd (other refl)
 pub folder_is : (told : ℕ → Option NameParts) (f : IntactFolder) (n : Node) (nid : ℕ) (path line : List ℕ) → n ≡ intact_node f
     → table_of_node (intact_node f) ≡ table_of_nodes (intact_beside f) → nid ≡ nid_of (intact_node f) → nid ≡ top_of (intact_node f)
     → path ≡ path_of (folder_in (codes "folders") nid) (codes "props.json")
-    → line ≡ line_of (node_props_data told false (table_of_node n) (roots_of n) (nid_of n))
+    → line ≡ data_line (node_props_data told false (table_of_node n) (roots_of n) (nid_of n))
     → member_of path 0 line ≡ folder_file told (table_of_nodes (intact_beside f)) (intact_roots f)
 unfolding folder_file
 folder_is told f n nid path line same table own top called shown =
@@ -65,8 +65,8 @@ folder_is told f n nid path line same table own top called shown =
     let t = table_of_nodes (intact_beside f) in
     let name = path_of (folder_in (codes "folders") (top_of node)) (codes "props.json") in
     ap (λ x. member_of x 0 line) (called ∙ ap (λ k. path_of (folder_in (codes "folders") k) (codes "props.json")) top)
-    ∙ ap (member_of name 0) (shown ∙ ap (λ m. line_of (node_props_data told false (table_of_node m) (roots_of m) (nid_of m))) same
-    ∙ ap (λ x. line_of (node_props_data told false x r (nid_of node))) table ∙ ap (λ k. line_of (node_props_data told false t r k)) (sym own ∙ top))
+    ∙ ap (member_of name 0) (shown ∙ ap (λ m. data_line (node_props_data told false (table_of_node m) (roots_of m) (nid_of m))) same
+    ∙ ap (λ x. data_line (node_props_data told false x r (nid_of node))) table ∙ ap (λ k. data_line (node_props_data told false t r k)) (sym own ∙ top))
 
 -- ---- the indexes of documents
 

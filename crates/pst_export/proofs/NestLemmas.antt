@@ -20,13 +20,13 @@ use Rattle.pst_msg.proofs.MessageLaws.{attachment_facts, message_facts}
 use Rattle.pst_value_json.specs.declared.filed.Filed.TheVariants.{Attachment}
 use Rattle.pst_value_json.specs.declared.filed.TheConstants.{HEADERS, BODY, HTML, RTF, CONTENT}
 use Rattle.pst_value_json.specs.Filed.{message_file, attachment_file}
-use Rattle.pst_value_json.specs.pst_text.Line.{line_of}
+use Rattle.pst_value_json.specs.pst_text.Line.{data_line}
 use Rattle.pst_value_json.specs.pst_names.Name.{NameParts}
 use Rattle.pst_json.specs.Node.{message_data, attachment_data}
 use Rattle.pst_json.specs.Path.{message, attachment}
 use Rattle.pst_tar.specs.Archive.{Member}
 use Rattle.pst_export.specs.Files.{file_at, held_files, member_in, place_files}
-use Rattle.pst_export.specs.Held.{Held, attachment_held, embedded_held, folder_in, if_there, message_held, nested_held, row_held, rows_held}
+use Rattle.pst_export.specs.Held.{HeldPlace, attachment_held, embedded_held, folder_in, told_where_there, message_held, nested_held, row_held, rows_held}
 use Rattle.pst_export.specs.Laws.{IsBeside}
 use Rattle.pst_export.proofs.BesideLemmas.{AreFine, IsFit, IsIn, Slot, pairs_nil, pairs_one, slot_files, slot_of}
 use Rattle.pst_export.proofs.SlotLemmas.{OtherTexts, body_called, data_called, file_fit, folder_fine, headers_called, html_called, one_fit, rising_others, rtf_called}
@@ -78,11 +78,11 @@ flat_mapped g f [] = refl
 flat_mapped g f (x ∷ xs) = ap (λ l. g (f x) ++ l) (flat_mapped g f xs)
 
 module _ (names : ℕ → Option NameParts) (t : Table) (time : ℕ) (bytes : All IsByte t.image) where
-  abbrev files_of : List Held → List Member
+  abbrev files_of : List HeldPlace → List Member
   files_of held = flat_map (held_files names t time) held
 
   -- The files of what is told of messages that are embedded lie beside one another, in the folder that it is told for.
-  abbrev InnerFine : (List ℕ → Shown → List Held) → Type 0
+  abbrev InnerFine : (List ℕ → Shown → List HeldPlace) → Type 0
   InnerFine inner = (folder : List ℕ) (nid : ℕ) (s : Roots) → IsMessage t s → AreFine folder (files_of (inner folder (record { nid = nid; roots = Some s })))
 
   abbrev document_slot : List ℕ → List ℕ → Slot
@@ -94,7 +94,7 @@ module _ (names : ℕ → Option NameParts) (t : Table) (time : ℕ) (bytes : Al
   -- ---- an attachment
 
   abbrev attachment_line : ℕ → Roots → List ℕ
-  attachment_line nid r = line_of (attachment_data names (Attachment None) false t (record { nid = nid; roots = Some r }))
+  attachment_line nid r = data_line (attachment_data names (Attachment None) false t (record { nid = nid; roots = Some r }))
 
   abbrev attachment_slots : List ℕ → ℕ → Roots → List Slot
   attachment_slots folder nid r =
@@ -108,7 +108,7 @@ module _ (names : ℕ → Option NameParts) (t : Table) (time : ℕ) (bytes : Al
       All-cons P document (content ∷ []) (document_fit folder (attachment_line nid r))
       (All-cons P content [] (file_fit attachment_file t r folder time CONTENT (codes "data") refl data_called) (All-nil P))
 
-  abbrev object_files : (List ℕ → Shown → List Held) → List ℕ → Shown → List Member
+  abbrev object_files : (List ℕ → Shown → List HeldPlace) → List ℕ → Shown → List Member
   object_files inner folder s = files_of (inner (folder_in folder s.nid) s)
 
   abbrev shown_nid : Shown → ℕ
@@ -119,7 +119,7 @@ module _ (names : ℕ → Option NameParts) (t : Table) (time : ℕ) (bytes : Al
   shown_list None = []
   shown_list (Some s) = s ∷ []
 
-  shown_files : (inner : List ℕ → Shown → List Held) (folder : List ℕ) (o : Option Shown) → flat_map (object_files inner folder) (shown_list o) ≡ files_of (embedded_held inner folder o)
+  shown_files : (inner : List ℕ → Shown → List HeldPlace) (folder : List ℕ) (o : Option Shown) → flat_map (object_files inner folder) (shown_list o) ≡ files_of (embedded_held inner folder o)
   shown_files inner folder None = refl
   shown_files inner folder (Some s) = append-nil (files_of (inner (folder_in folder s.nid) s))
 
@@ -127,10 +127,10 @@ module _ (names : ℕ → Option NameParts) (t : Table) (time : ℕ) (bytes : Al
   shown_others None = pairs_nil (OtherTexts shown_nid)
   shown_others (Some s) = pairs_one (OtherTexts shown_nid) s
 
-  abbrev ObjectFine : (List ℕ → Shown → List Held) → List ℕ → Shown → Type 0
+  abbrev ObjectFine : (List ℕ → Shown → List HeldPlace) → List ℕ → Shown → Type 0
   ObjectFine inner folder s = AreFine (folder_in folder s.nid) (object_files inner folder s)
 
-  object_fine : (inner : List ℕ → Shown → List Held) → InnerFine inner → (folder : List ℕ) (r : Roots) → IsAttachment t r → (o : Option Object) → embedded_of t r ≡ o → All (ObjectFine inner folder) (shown_list (option_map (object_shown t r) o))
+  object_fine : (inner : List ℕ → Shown → List HeldPlace) → InnerFine inner → (folder : List ℕ) (r : Roots) → IsAttachment t r → (o : Option Object) → embedded_of t r ≡ o → All (ObjectFine inner folder) (shown_list (option_map (object_shown t r) o))
   object_fine inner each folder r at None is = All-nil (ObjectFine inner folder)
   object_fine inner each folder r at (Some o) is =
       let facts = attachment_facts t r at in
@@ -138,7 +138,7 @@ module _ (names : ℕ → Option NameParts) (t : Table) (time : ℕ) (bytes : Al
       let fine : ObjectFine inner folder (record { nid = o.nid; roots = Some there.0 }) = each (folder_in folder o.nid) o.nid there.0 (facts.each o there.0 is there.1) in
       All-cons (ObjectFine inner folder) (object_shown t r o) [] (subst (λ q. ObjectFine inner folder (record { nid = o.nid; roots = q })) (sym there.1) fine) (All-nil (ObjectFine inner folder))
 
-  attachment_fine : (inner : List ℕ → Shown → List Held) → InnerFine inner → (folder : List ℕ) (nid : ℕ) (r : Roots) → IsAttachment t r → AreFine folder (files_of (attachment_held t inner folder nid r))
+  attachment_fine : (inner : List ℕ → Shown → List HeldPlace) → InnerFine inner → (folder : List ℕ) (nid : ℕ) (r : Roots) → IsAttachment t r → AreFine folder (files_of (attachment_held t inner folder nid r))
   unfolding place_files
   attachment_fine inner each folder nid r at =
       let o = option_map (object_shown t r) (embedded_of t r) in
@@ -151,7 +151,7 @@ module _ (names : ℕ → Option NameParts) (t : Table) (time : ℕ) (bytes : Al
   -- ---- a message
 
   abbrev message_line : ℕ → Roots → List ℕ
-  message_line nid r = line_of (message_data names true false t r nid)
+  message_line nid r = data_line (message_data names true false t r nid)
 
   abbrev body_slot : List ℕ → Roots → ℕ → List ℕ → Slot
   body_slot folder r id word = slot_of word (file_at message_file t r folder time id)
@@ -174,24 +174,24 @@ module _ (names : ℕ → Option NameParts) (t : Table) (time : ℕ) (bytes : Al
       (All-cons P html (rtf ∷ []) (file_fit message_file t r folder time HTML (codes "body.html") refl html_called)
       (All-cons P rtf [] (file_fit message_file t r folder time RTF (codes "body.rtf.lzfu") refl rtf_called) (All-nil P)))))
 
-  abbrev row_files : (List ℕ → Shown → List Held) → List ℕ → Roots → RowParts → List Member
+  abbrev row_files : (List ℕ → Shown → List HeldPlace) → List ℕ → Roots → RowParts → List Member
   row_files inner folder r x = files_of (row_held t inner folder (row_shown t r x))
 
-  abbrev RowFine : (List ℕ → Shown → List Held) → List ℕ → Roots → RowParts → Type 0
+  abbrev RowFine : (List ℕ → Shown → List HeldPlace) → List ℕ → Roots → RowParts → Type 0
   RowFine inner folder r x = AreFine (folder_in folder x.id) (row_files inner folder r x)
 
-  row_fine : (inner : List ℕ → Shown → List Held) → InnerFine inner → (folder : List ℕ) (r : Roots) (x : RowParts) → IsAttachmentAt t r x → RowFine inner folder r x
+  row_fine : (inner : List ℕ → Shown → List HeldPlace) → InnerFine inner → (folder : List ℕ) (r : Roots) (x : RowParts) → IsAttachmentAt t r x → RowFine inner folder r x
   unfolding row_held
   row_fine inner each folder r x at =
       let fine = attachment_fine inner each (folder_in folder x.id) x.id at.0 at.2 in
-      subst (λ o. AreFine (folder_in folder x.id) (files_of (if_there (attachment_held t inner (folder_in folder x.id) x.id) o))) (sym at.1) fine
+      subst (λ o. AreFine (folder_in folder x.id) (files_of (told_where_there (attachment_held t inner (folder_in folder x.id) x.id) o))) (sym at.1) fine
 
-  rows_files : (inner : List ℕ → Shown → List Held) (folder : List ℕ) (r : Roots) (rows : List RowParts) → flat_map (row_files inner folder r) rows ≡ files_of (rows_held t inner folder (map (row_shown t r) rows))
+  rows_files : (inner : List ℕ → Shown → List HeldPlace) (folder : List ℕ) (r : Roots) (rows : List RowParts) → flat_map (row_files inner folder r) rows ≡ files_of (rows_held t inner folder (map (row_shown t r) rows))
   rows_files inner folder r rows =
       sym (flat_twice (held_files names t time) (λ x. row_held t inner folder (row_shown t r x)) rows)
       ∙ ap files_of (sym (flat_mapped (row_held t inner folder) (row_shown t r) rows))
 
-  message_fine : (inner : List ℕ → Shown → List Held) → InnerFine inner → (folder : List ℕ) (nid : ℕ) (r : Roots) → IsMessage t r → AreFine folder (files_of (message_held t inner folder nid r))
+  message_fine : (inner : List ℕ → Shown → List HeldPlace) → InnerFine inner → (folder : List ℕ) (nid : ℕ) (r : Roots) → IsMessage t r → AreFine folder (files_of (message_held t inner folder nid r))
   unfolding place_files message_held attachment_rows
   message_fine inner each folder nid r is =
       let held = (message_facts t r is).held in

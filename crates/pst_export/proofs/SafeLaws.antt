@@ -24,9 +24,9 @@ use Rattle.pst_verify.specs.pst_msg.Values.{embedded_of, is_folder}
 use Rattle.pst_verify.specs.pst_store.Kind.{of_kind}
 use Rattle.pst_export.specs.declared.walk.TheConstants.{LEVELS}
 use Rattle.pst_export.specs.Files.{file_at, files_at, held_files, place_files, value_file}
-use Rattle.pst_export.specs.Held.{Held, attachment_held, embedded_held, folder_in, held_of, if_there, message_held, nested_held, row_held}
+use Rattle.pst_export.specs.Held.{HeldPlace, attachment_held, embedded_held, folder_in, held_in_folder, told_where_there, message_held, nested_held, row_held}
 use Rattle.pst_export.specs.Laws.{IsSafe, IsSafelyNamed, SafeLaw, binary_type, text_type}
-use Rattle.pst_export.specs.Store.{all_files, damage_file, file_of, files_with, folder_file, folder_files, front_files, message_files, messages_files, of_type, store_file}
+use Rattle.pst_export.specs.Store.{all_files, damage_file, member_named, files_with, folder_file, folder_files, front_files, message_files, messages_files, of_type, store_file}
 use Rattle.pst_export.specs.Time.{time_of}
 use Rattle.pst_export.proofs.NameLaws.{all_flat, all_flat_of, all_mapped, node_safe, safe_joined}
 
@@ -100,15 +100,15 @@ place_safe names t time folder (other nid r) is = All-nil IsSafelyNamed
 
 -- ---- what has a folder of its own
 
-abbrev pub HasSafe : Held → Type 0
+abbrev pub HasSafe : HeldPlace → Type 0
 HasSafe h = IsSafe h.folder
 
-embedded_safe : (inner : List ℕ → Shown → List Held) → ((folder : List ℕ) (s : Shown) → IsSafe folder → All HasSafe (inner folder s)) → (folder : List ℕ) (o : Option Shown) → IsSafe folder
+embedded_safe : (inner : List ℕ → Shown → List HeldPlace) → ((folder : List ℕ) (s : Shown) → IsSafe folder → All HasSafe (inner folder s)) → (folder : List ℕ) (o : Option Shown) → IsSafe folder
     → All HasSafe (embedded_held inner folder o)
 embedded_safe inner each folder None is = All-nil HasSafe
 embedded_safe inner each folder (Some s) is = each (folder_in folder s.nid) s (node_safe folder s.nid is)
 
-row_safe : (t : Table) (inner : List ℕ → Shown → List Held) → ((folder : List ℕ) (s : Shown) → IsSafe folder → All HasSafe (inner folder s)) → (folder : List ℕ) → IsSafe folder → (s : Shown)
+row_safe : (t : Table) (inner : List ℕ → Shown → List HeldPlace) → ((folder : List ℕ) (s : Shown) → IsSafe folder → All HasSafe (inner folder s)) → (folder : List ℕ) → IsSafe folder → (s : Shown)
     → All HasSafe (row_held t inner folder s)
 unfolding row_held
 row_safe t inner each folder is s = by_roots s.roots
@@ -116,19 +116,19 @@ row_safe t inner each folder is s = by_roots s.roots
     in_row : IsSafe (folder_in folder s.nid)
     in_row = node_safe folder s.nid is
 
-    by_roots : (o : Option Roots) → All HasSafe (if_there (attachment_held t inner (folder_in folder s.nid) s.nid) o)
+    by_roots : (o : Option Roots) → All HasSafe (told_where_there (attachment_held t inner (folder_in folder s.nid) s.nid) o)
     by_roots None = All-nil HasSafe
     by_roots (Some r) =
         All-cons HasSafe _ _ in_row (embedded_safe inner each (folder_in folder s.nid) (option_map (object_shown t r) (embedded_of t r)) in_row)
 
-message_safe : (t : Table) (inner : List ℕ → Shown → List Held) → ((folder : List ℕ) (s : Shown) → IsSafe folder → All HasSafe (inner folder s)) → (folder : List ℕ) (nid : ℕ) (r : Roots) → IsSafe folder
+message_safe : (t : Table) (inner : List ℕ → Shown → List HeldPlace) → ((folder : List ℕ) (s : Shown) → IsSafe folder → All HasSafe (inner folder s)) → (folder : List ℕ) (nid : ℕ) (r : Roots) → IsSafe folder
     → All HasSafe (message_held t inner folder nid r)
 unfolding message_held
 message_safe t inner each folder nid r is =
     All-cons HasSafe _ _ is (all_flat HasSafe (row_held t inner folder) (row_safe t inner each folder is) (map (row_shown t r) (attachment_rows t r)))
 
-there_safe : (t : Table) (inner : List ℕ → Shown → List Held) → ((folder : List ℕ) (s : Shown) → IsSafe folder → All HasSafe (inner folder s)) → (folder : List ℕ) (nid : ℕ) (o : Option Roots) → IsSafe folder
-    → All HasSafe (if_there (message_held t inner folder nid) o)
+there_safe : (t : Table) (inner : List ℕ → Shown → List HeldPlace) → ((folder : List ℕ) (s : Shown) → IsSafe folder → All HasSafe (inner folder s)) → (folder : List ℕ) (nid : ℕ) (o : Option Roots) → IsSafe folder
+    → All HasSafe (told_where_there (message_held t inner folder nid) o)
 there_safe t inner each folder nid None is = All-nil HasSafe
 there_safe t inner each folder nid (Some r) is = message_safe t inner each folder nid r is
 
@@ -137,8 +137,8 @@ unfolding nested_held
 nested_safe t zero folder s is = All-nil HasSafe
 nested_safe t (suc n) folder s is = there_safe t (nested_held t n) (λ f x safe. nested_safe t n f x safe) folder s.nid s.roots is
 
-held_safe : (t : Table) (name : List ℕ) (r : Roots) → IsSafe name → All HasSafe (held_of t name r)
-unfolding held_of
+held_safe : (t : Table) (name : List ℕ) (r : Roots) → IsSafe name → All HasSafe (held_in_folder t name r)
+unfolding held_in_folder
 held_safe t name r is = message_safe t (nested_held t LEVELS) (nested_safe t LEVELS) (folder_in name r.top) r.top r (node_safe name r.top is)
 
 -- ---- all files
@@ -147,7 +147,7 @@ messages_safe : (names : ℕ → Option NameParts) (t : Table) (name : List ℕ)
 unfolding message_files
 messages_safe names t name rs is =
     all_flat IsSafelyNamed (message_files names t name) (λ r. all_flat_of HasSafe IsSafelyNamed (held_files names t (time_of t r))
-    (λ held safe. place_safe names t (time_of t r) held.folder held.place safe) (held_of t name r) (held_safe t name r is)) rs
+    (λ held safe. place_safe names t (time_of t r) held.folder held.place safe) (held_in_folder t name r) (held_safe t name r is)) rs
 
 folders_safe : (names : ℕ → Option NameParts) (t : Table) (rs : List Roots) → All IsSafelyNamed (folder_files names t rs)
 unfolding folder_file
@@ -166,8 +166,8 @@ store_safe (Err f) = All-nil IsSafelyNamed
 front_safe : (t : Table) (nodes : List NodeEntry) (lost : LostParts) → All IsSafelyNamed (front_files t nodes lost)
 front_safe t nodes lost =
     let store : List Member = store_file (props_line false t nodes (STORE ∷ [])) in
-    let list : Member = file_of (codes "folders.json") (folders_line t nodes lost) in
-    let summaries : Member = file_of (codes "messages.jsonl") (messages_text t nodes) in
+    let list : Member = member_named (codes "folders.json") (folders_line t nodes lost) in
+    let summaries : Member = member_named (codes "messages.jsonl") (messages_text t nodes) in
     let first : IsSafelyNamed list = record { letters = refl; relative = refl; dots = refl } in
     let second : IsSafelyNamed summaries = record { letters = refl; relative = refl; dots = refl } in
     All-append IsSafelyNamed store (list ∷ summaries ∷ []) (store_safe (props_line false t nodes (STORE ∷ [])))

@@ -20,7 +20,7 @@ use Rattle.pst_export.specs.declared.walk.Task.TheVariants.{Rest}
 use Rattle.pst_export.specs.declared.walk.Task.TheVariants as task
 use Rattle.pst_export.specs.declared.walk.TheConstants.{LEVELS}
 use Rattle.pst_export.specs.declared.walk.Walk.{Walk}
-use Rattle.pst_export.specs.Held.{Held, embedded_held, folder_in, held_at, held_of, message_held, nested_held, row_held, rows_held}
+use Rattle.pst_export.specs.Held.{HeldPlace, embedded_held, folder_in, held_at, held_in_folder, message_held, nested_held, row_held, rows_held}
 use Rattle.pst_export.specs.Walk.{AreOver, Begins, IsWalkOver, StaysOver, TakesHeld, task_left, task_node, tasks_left, walk_left}
 
 -- ---- one task more: what is left of it comes first
@@ -92,8 +92,8 @@ stays_none None t w none stays = stays
 
 pub walk_begun : (folder : String Global) (m : Message) (name : List ℕ) → string_bytes folder ≡ folder_in name (nid_of (node_of_message m))
     → nid_of (node_of_message m) ≡ top_of (node_of_message m)
-    → tasks_left (task.Message folder m LEVELS ∷ []) ≡ held_of (table_of_node (node_of_message m)) name (message_roots m)
-unfolding tasks_left task_left held_of
+    → tasks_left (task.Message folder m LEVELS ∷ []) ≡ held_in_folder (table_of_node (node_of_message m)) name (message_roots m)
+unfolding tasks_left task_left held_in_folder
 walk_begun folder m name is own =
     let n = node_of_message m in
     let t = table_of_node n in
@@ -122,7 +122,7 @@ entered folder again m n rest tasks items same holder left pushed =
 
 -- ---- an attachment is told, and what it embeds and the attachments behind it are left
 
-pub gone_on : (folder inner : String Global) (rest behind : Attachments) (a : Attachment) (n : ℕ) (tasks items : List Task) (new : List Held)
+pub gone_on : (folder inner : String Global) (rest behind : Attachments) (a : Attachment) (n : ℕ) (tasks items : List Task) (new : List HeldPlace)
     → attachments_left rest ≡ attachment_shown a ∷ attachments_left behind → holder_left behind ≡ holder_left rest
     → table_of_node (node_of_attachment a) ≡ table_of_node (holder_left rest) → items ≡ tasks ++ Rest folder behind n ∷ []
     → string_bytes inner ≡ folder_in (string_bytes folder) (nid_of (node_of_attachment a))
@@ -137,7 +137,7 @@ gone_on folder inner rest behind a n tasks items new left holder table pushed ca
     let r = roots_of (node_of_attachment a) in
     let nid = nid_of (node_of_attachment a) in
     let name = string_bytes folder in
-    let told : Table → List ℕ → List Held =
+    let told : Table → List ℕ → List HeldPlace =
     λ x f. held_at f (attachment nid r) ∷ embedded_held (nested_held x n) f (option_map (object_shown x r) (embedded_of x r)) in
     let held = embedded_held (nested_held u n) (string_bytes inner) (option_map (object_shown u r) (embedded_of u r)) in
     let h = held_at (string_bytes inner) (attachment nid r) in
@@ -156,7 +156,7 @@ gone_past folder rest n none = rest_left folder rest n (holder_left rest) (strin
 -- ---- the message that an attachment embeds
 
 -- nothing nests below the last
-pub none_nested : (t : Table) (n : ℕ) (folder : List ℕ) (o : Option Shown) (left : List Held) → n ≡ 0 → left ≡ embedded_held (nested_held t n) folder o ++ left
+pub none_nested : (t : Table) (n : ℕ) (folder : List ℕ) (o : Option Shown) (left : List HeldPlace) → n ≡ 0 → left ≡ embedded_held (nested_held t n) folder o ++ left
 unfolding nested_held
 none_nested t n folder None left is = refl
 none_nested t n folder (Some s) left is = rw is refl
@@ -169,7 +169,7 @@ embedded_put t zero name o inner m tasks items is table some called pushed = abs
 embedded_put t (suc k) name o inner m tasks items is table some called pushed =
     let n = node_of_message m in
     let one : suc k - 1 ≡ k = omega arith in
-    let told : Table → ℕ → List ℕ → List Held = λ x i f. message_held x (nested_held x i) f (nid_of n) (roots_of n) in
+    let told : Table → ℕ → List ℕ → List HeldPlace = λ x i f. message_held x (nested_held x i) f (nid_of n) (roots_of n) in
     let left : task_left (task.Message inner m (suc k - 1)) ≡ told t k (folder_in name (nid_of n)) =
     ap (λ i. told (table_of_node n) i (string_bytes inner)) one ∙ ap (λ x. told x k (string_bytes inner)) table ∙ ap (told t k) called in
     ap tasks_left pushed ∙ tasks_pushed tasks (task.Message inner m (suc k - 1)) ∙ ap (λ l. l ++ tasks_left tasks) left

@@ -12,13 +12,13 @@ CountsDown most count None = most < count
 CountsDown most count (Some left) = most ≡ left + count
 
 -- what is told of all that is broken, where something is
-abbrev pub damage_in : Export → Option (List ℕ)
-damage_in e = option_map (λ t. t.items) e.damage
+abbrev pub text_of_damage : Export → Option (List ℕ)
+text_of_damage e = option_map (λ t. t.items) e.damage
 
 -- the archive
 abbrev pub archive_in : Export → List ℕ
-archive_in e = archive_text (damage_in e) (table_of_intact e.intact) (nodes_of_intact e.intact) (lost_in e.lost)
+archive_in e = archive_text (text_of_damage e) (table_of_intact e.intact) (nodes_of_intact e.intact) (lost_in e.lost)
 
 -- and its files
 abbrev pub files_in : Export → List Member
-files_in e = all_files (damage_in e) (table_of_intact e.intact) (nodes_of_intact e.intact) (lost_in e.lost)
+files_in e = all_files (text_of_damage e) (table_of_intact e.intact) (nodes_of_intact e.intact) (lost_in e.lost)

@@ -7,14 +7,14 @@ use Rattle.pst_ndb.specs.Roots.{Roots}
 use Rattle.pst_value_json.specs.declared.filed.Filed.TheVariants.{Attachment}
 use Rattle.pst_value_json.specs.declared.filed.TheConstants.{HEADERS, BODY, HTML, RTF, CONTENT}
 use Rattle.pst_value_json.specs.Filed.{message_file, attachment_file}
-use Rattle.pst_value_json.specs.pst_text.Line.{line_of}
+use Rattle.pst_value_json.specs.pst_text.Line.{data_line}
 use Rattle.pst_value_json.specs.pst_names.Name.{NameParts}
 use Rattle.pst_value_json.specs.pst_pc.Values.{Property, id_of, props_of}
 use Rattle.pst_json.specs.Node.{message_data, attachment_data}
 use Rattle.pst_json.specs.Path.{Place, message, attachment, other}
 use Rattle.pst_json.specs.Property.{written_of}
 use Rattle.pst_tar.specs.Archive.{Member}
-use Rattle.pst_export.specs.Held.{Held}
+use Rattle.pst_export.specs.Held.{HeldPlace}
 
 -- a file in a folder
 abbrev pub path_of : List ℕ → List ℕ → List ℕ
@@ -43,12 +43,12 @@ files_at file t r folder time ids = flat_map (file_at file t r folder time) ids
 -- the document, and what it has in files: of a message its headers and bodies, of an attachment its content
 unfoldable pub place_files : (ℕ → Option NameParts) → Table → ℕ → List ℕ → Place → List Member
 place_files names t time folder (message nid r) =
-    member_in folder time (codes "props.json") (line_of (message_data names true false t r nid))
+    member_in folder time (codes "props.json") (data_line (message_data names true false t r nid))
     ∷ files_at message_file t r folder time (HEADERS ∷ BODY ∷ HTML ∷ RTF ∷ [])
 place_files names t time folder (attachment nid r) =
-    member_in folder time (codes "props.json") (line_of (attachment_data names (Attachment None) false t (record { nid = nid; roots = Some r })))
+    member_in folder time (codes "props.json") (data_line (attachment_data names (Attachment None) false t (record { nid = nid; roots = Some r })))
     ∷ file_at attachment_file t r folder time CONTENT
 place_files names t time folder (other nid r) = []
 
-abbrev pub held_files : (ℕ → Option NameParts) → Table → ℕ → Held → List Member
+abbrev pub held_files : (ℕ → Option NameParts) → Table → ℕ → HeldPlace → List Member
 held_files names t time held = place_files names t time held.folder held.place

@@ -12,7 +12,7 @@ use Rattle.pst_ndb.specs.Roots.{Roots}
 use Rattle.pst_remains.specs.Decoded.{decoded_remains_of}
 use Rattle.pst_remains.specs.Remains.{RemainsParts, remains_of}
 use Rattle.pst_store.specs.Grammar.{IsStore}
-use Rattle.pst_store.specs.Parts.{StoreParts, entries_in, table_in}
+use Rattle.pst_store.specs.Parts.{StoreParts, parts_entries, parts_table}
 use Rattle.pst_intact.specs.Fault.{intact_fault}
 use Rattle.pst_whole.specs.Nodes.{whole_nodes}
 use Rattle.pst_value_json.specs.declared.filed.TheConstants.{HEADERS, BODY, HTML, RTF, CONTENT}
@@ -85,11 +85,11 @@ BesideLaw = (damage : Option (List ℕ)) (t : Table) (nodes : List NodeEntry) (l
 
 -- Such are the nodes of each store, also of one that is encoded, its blocks decoded.
 abbrev pub StoreIntactLaw : Type 0
-StoreIntactLaw = (I : List ℕ) (s : StoreParts) → All IsByte I → IsStore I s → AreIntact (table_in I s) (entries_in I s)
+StoreIntactLaw = (I : List ℕ) (s : StoreParts) → All IsByte I → IsStore I s → AreIntact (parts_table I s) (parts_entries I s)
 
 abbrev pub DecodedIntactLaw : Type 0
 DecodedIntactLaw = (I : List ℕ) (method : Method) (s : StoreParts) → All IsByte I → method_of I ≡ Some method → IsStore (twin_of I) s →
-    AreIntact (table_in (twin_of I) s) (entries_in (twin_of I) s)
+    AreIntact (parts_table (twin_of I) s) (parts_entries (twin_of I) s)
 
 -- And such are those nodes that are whole of what remains of a file, whatever its bytes are.
 abbrev pub IsWholeIntact : RemainsParts → Type 0

@@ -4,7 +4,7 @@ use Rattle.std.specs.Prelude.{flat_map}
 use Rattle.pst_page.specs.declared.entry.NodeEntry.{NodeEntry}
 use Rattle.pst_block.specs.Table.{Table}
 use Rattle.pst_ndb.specs.Roots.{Roots, all_roots}
-use Rattle.pst_value_json.specs.pst_text.Line.{line_of}
+use Rattle.pst_value_json.specs.pst_text.Line.{data_line}
 use Rattle.pst_value_json.specs.pst_names.Name.{NameParts, store_name}
 use Rattle.pst_json.specs.pst_whole.Lost.{LostParts}
 use Rattle.pst_json.specs.Folders.{folders_line}
@@ -17,27 +17,27 @@ use Rattle.pst_verify.specs.pst_msg.Nid.{is_type}
 use Rattle.pst_verify.specs.pst_msg.Values.{is_folder}
 use Rattle.pst_verify.specs.pst_store.Kind.{of_kind}
 use Rattle.pst_tar.specs.Archive.{Member, archive_of}
-use Rattle.pst_export.specs.Held.{Held, folder_in, held_of}
+use Rattle.pst_export.specs.Held.{HeldPlace, folder_in, held_in_folder}
 use Rattle.pst_export.specs.Files.{member_in, held_files}
 use Rattle.pst_export.specs.Time.{time_of}
 
 -- ---- of the store itself
 
-abbrev pub file_of : List ℕ → List ℕ → Member
-file_of name bytes = record { name = name; time = 0; bytes = bytes }
+abbrev pub member_named : List ℕ → List ℕ → Member
+member_named name bytes = record { name = name; time = 0; bytes = bytes }
 
 -- a node that is no message: what `props` prints of it
 abbrev pub node_line : (ℕ → Option NameParts) → Table → Roots → List ℕ
-node_line names t r = line_of (node_props_data names false t r r.top)
+node_line names t r = data_line (node_props_data names false t r r.top)
 
 -- what `damage` prints, where something is broken
 abbrev pub damage_file : Option (List ℕ) → List Member
 damage_file None = []
-damage_file (Some text) = file_of (codes "damage.json") text ∷ []
+damage_file (Some text) = member_named (codes "damage.json") text ∷ []
 
 -- what `props` prints of the store's own node, where it prints something
 abbrev pub store_file : Result (List ℕ) DocFault → List Member
-store_file (Ok line) = file_of (codes "store.json") line ∷ []
+store_file (Ok line) = member_named (codes "store.json") line ∷ []
 store_file (Err f) = []
 
 -- ---- of a folder
@@ -51,7 +51,7 @@ folder_files names t rs = map (folder_file names t) rs
 -- ---- of messages of one type, in a folder of that name: each with all that it holds
 
 unfoldable pub message_files : (ℕ → Option NameParts) → Table → List ℕ → Roots → List Member
-message_files names t name r = flat_map (held_files names t (time_of t r)) (held_of t name r)
+message_files names t name r = flat_map (held_files names t (time_of t r)) (held_in_folder t name r)
 
 abbrev pub messages_files : (ℕ → Option NameParts) → Table → List ℕ → List Roots → List Member
 messages_files names t name rs = flat_map (message_files names t name) rs
@@ -64,7 +64,7 @@ of_type kind nodes = of_kind (is_type kind) (all_roots nodes)
 abbrev pub front_files : Table → List NodeEntry → LostParts → List Member
 front_files t nodes lost =
     store_file (props_line false t nodes (STORE ∷ []))
-    ++ (file_of (codes "folders.json") (folders_line t nodes lost) ∷ file_of (codes "messages.jsonl") (messages_text t nodes) ∷ [])
+    ++ (member_named (codes "folders.json") (folders_line t nodes lost) ∷ member_named (codes "messages.jsonl") (messages_text t nodes) ∷ [])
 
 abbrev pub files_with : (ℕ → Option NameParts) → Table → List NodeEntry → LostParts → List Member
 files_with names t nodes lost =
@@ -82,8 +82,8 @@ archive_text damage t nodes lost = archive_of (all_files damage t nodes lost)
 
 -- ---- how many messages and attachments there are, each counted once for each path that leads to it
 
-abbrev pub all_held : Table → List ℕ → List Roots → List Held
-all_held t name rs = flat_map (held_of t name) rs
+abbrev pub all_held : Table → List ℕ → List Roots → List HeldPlace
+all_held t name rs = flat_map (held_in_folder t name) rs
 
 unfoldable pub path_count : Table → List NodeEntry → ℕ
 path_count t nodes =

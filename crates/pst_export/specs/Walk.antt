@@ -14,7 +14,7 @@ use Rattle.pst_export.specs.declared.walk.Task.{Task}
 use Rattle.pst_export.specs.declared.walk.Task.TheVariants.{Rest}
 use Rattle.pst_export.specs.declared.walk.Task.TheVariants as task
 use Rattle.pst_export.specs.declared.walk.Walk.{Walk}
-use Rattle.pst_export.specs.Held.{Held, held_at, message_held, rows_held, nested_held}
+use Rattle.pst_export.specs.Held.{HeldPlace, held_at, message_held, rows_held, nested_held}
 
 -- ---- what is told: as a place, in its folder; and its node
 
@@ -24,16 +24,16 @@ of_message m = let n = node_of_message m in message (nid_of n) (roots_of n)
 abbrev pub of_attachment : Attachment → Place
 of_attachment a = let n = node_of_attachment a in attachment (nid_of n) (roots_of n)
 
-abbrev pub place_of : Holder → Place
-place_of (holder.Message m) = of_message m
-place_of (holder.Attachment a) = of_attachment a
+abbrev pub place_of_holder : Holder → Place
+place_of_holder (holder.Message m) = of_message m
+place_of_holder (holder.Attachment a) = of_attachment a
 
 abbrev pub node_of_holder : Holder → Node
 node_of_holder (holder.Message m) = node_of_message m
 node_of_holder (holder.Attachment a) = node_of_attachment a
 
-abbrev pub item_held : Item → Held
-item_held i = held_at (string_bytes i.folder) (place_of i.holder)
+abbrev pub item_held : Item → HeldPlace
+item_held i = held_at (string_bytes i.folder) (place_of_holder i.holder)
 
 -- ---- what is left
 
@@ -41,7 +41,7 @@ abbrev pub task_node : Task → Node
 task_node (task.Message folder m levels) = node_of_message m
 task_node (Rest folder rest levels) = holder_left rest
 
-unfoldable pub task_left : Task → List Held
+unfoldable pub task_left : Task → List HeldPlace
 task_left (task.Message folder m levels) =
     let n = node_of_message m in
     let t = table_of_node n in
@@ -50,11 +50,11 @@ task_left (Rest folder rest levels) =
     let t = table_of_node (holder_left rest) in rows_held t (nested_held t levels) (string_bytes folder) (attachments_left rest)
 
 -- of several: the last of them comes first
-unfoldable pub tasks_left : List Task → List Held
+unfoldable pub tasks_left : List Task → List HeldPlace
 tasks_left [] = []
 tasks_left (x ∷ xs) = tasks_left xs ++ task_left x
 
-abbrev pub walk_left : Walk → List Held
+abbrev pub walk_left : Walk → List HeldPlace
 walk_left w = tasks_left w.tasks.items
 
 -- all of them are read from one table of blocks
@@ -71,7 +71,7 @@ IsItemOver t i = table_of_node (node_of_holder i.holder) ≡ t
 -- ---- steps
 
 -- the first that is left is told, or none is left
-abbrev pub TakesHeld : Option Item → List Held → List Held → Type 0
+abbrev pub TakesHeld : Option Item → List HeldPlace → List HeldPlace → Type 0
 TakesHeld None old new = old ≡ []
 TakesHeld (Some i) old new = old ≡ item_held i ∷ new
 

@@ -8,7 +8,7 @@ ghost use Rattle.pst_verify.specs.pst_msg.Values.{is_message};
 ghost use Rattle.pst_verify.specs.pst_msg.View.{node_of_message, message_roots};
 ghost use Rattle.pst_json.specs.LastIndex.{IsLastIndex};
 ghost use Rattle.pst_export.specs.Export.{CountsDown};
-ghost use Rattle.pst_export.specs.Held.{held_of};
+ghost use Rattle.pst_export.specs.Held.{held_in_folder};
 ghost use Rattle.pst_export.specs.Store.{all_held, of_type};
 
 use crate::index::turn_to_attachments;
@@ -30,7 +30,7 @@ fn count_message(
     requires index { IsLastIndex (table_of_node (node_of_message message)) index.old }
     ensures index { IsLastIndex (table_of_node (node_of_message message.entry)) index.new }
     ensures counted { let t = table_of_node (node_of_message message.entry) in
-        let held = held_of t name.now (message_roots message.entry) in
+        let held = held_in_folder t name.now (message_roots message.entry) in
         IfOk result (CountsDown most (length held)) }
 {
     let mut left = most;

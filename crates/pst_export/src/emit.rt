@@ -10,10 +10,10 @@ ghost use Rattle.pst_json.specs.Told.{TellsDoc};
 ghost use Rattle.pst_verify.specs.pst_reach.Levels.{reaches_of};
 ghost use Rattle.pst_verify.specs.pst_reach.Path.{reach_nid};
 ghost use Rattle.pst_tar.specs.Read.{read_archive};
-ghost use Rattle.pst_export.specs.Export.{archive_in, damage_in, files_in};
+ghost use Rattle.pst_export.specs.Export.{archive_in, text_of_damage, files_in};
 ghost use Rattle.pst_value_json.specs.pst_names.Name.{store_name};
 ghost use Rattle.pst_export.specs.Store.{all_files, export_told, files_with, path_count};
-ghost use Rattle.pst_export.specs.Written.{Adds, AddsFront};
+ghost use Rattle.pst_export.specs.Written.{AddsFiles, AddsFront};
 
 use crate::count::count_down;
 use crate::export::Export;
@@ -87,7 +87,7 @@ fn write_nodes<W: Write>(
 ) -> Result<(), ExportFault>
     ensures all { let e = export.now in let t = table_of_intact e.intact in let nodes = nodes_of_intact e.intact in
         let files = files_with (store_name t nodes) t nodes (lost_in e.lost) in
-        OnOk result (Adds (W.contents out.old) (W.contents out.new) number.old number.new files) }
+        OnOk result (AddsFiles (W.contents out.old) (W.contents out.new) number.old number.new files) }
     ensures front { let e = export.now in let t = table_of_intact e.intact in let nodes = nodes_of_intact e.intact in
         let files = files_with (store_name t nodes) t nodes (lost_in e.lost) in
         AddsFront (W.contents out.old) (W.contents out.new) number.old files }
@@ -122,11 +122,11 @@ fn write_files<W: Write>(
     out: &mut W,
 ) -> Result<(), ExportFault>
     ensures all { let e = export.now in
-        let files = all_files (damage_in e) (table_of_intact e.intact) (nodes_of_intact e.intact)
+        let files = all_files (text_of_damage e) (table_of_intact e.intact) (nodes_of_intact e.intact)
         (lost_in e.lost) in
-        OnOk result (Adds (W.contents out.old) (W.contents out.new) number.old number.new files) }
+        OnOk result (AddsFiles (W.contents out.old) (W.contents out.new) number.old number.new files) }
     ensures front { let e = export.now in
-        let files = all_files (damage_in e) (table_of_intact e.intact) (nodes_of_intact e.intact)
+        let files = all_files (text_of_damage e) (table_of_intact e.intact) (nodes_of_intact e.intact)
         (lost_in e.lost) in
         AddsFront (W.contents out.old) (W.contents out.new) number.old files }
 {

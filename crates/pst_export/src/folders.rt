@@ -11,7 +11,7 @@ ghost use Rattle.pst_verify.specs.pst_store.Kind.{of_kind};
 ghost use Rattle.pst_export.specs.Files.{path_of};
 ghost use Rattle.pst_export.specs.Held.{folder_in as folder_called};
 ghost use Rattle.pst_export.specs.Store.{folder_file, folder_files};
-ghost use Rattle.pst_export.specs.Written.{Adds, AddsFront};
+ghost use Rattle.pst_export.specs.Written.{AddsFiles, AddsFront};
 
 use crate::fault::ExportFault;
 use crate::files::write_bytes;
@@ -47,7 +47,7 @@ fn write_folder<W: Write>(
     ensures known { AreDocumentIndexes (table_of_nodes (intact_beside folder.entry)) indexes.new }
     ensures all { let told = names_told names.entry in let t = table_of_nodes (intact_beside folder.entry) in
         let file = folder_file told t (intact_roots folder.entry) in
-        OnOk result (Adds (W.contents out.old) (W.contents out.new) number.old number.new
+        OnOk result (AddsFiles (W.contents out.old) (W.contents out.new) number.old number.new
         (file ∷ [])) }
     ensures front { let told = names_told names.entry in let t = table_of_nodes (intact_beside folder.entry) in
         let file = folder_file told t (intact_roots folder.entry) in
@@ -73,7 +73,7 @@ pub(crate) fn write_folders<W: Write>(
     ensures known { AreDocumentIndexes (table_of_intact intact.now) indexes.new }
     ensures all { let told = names_told names.entry in let i = intact.now in
         let files = folder_files told (table_of_intact i) (of_kind is_folder (all_roots (nodes_of_intact i))) in
-        OnOk result (Adds (W.contents out.old) (W.contents out.new) number.old number.new files) }
+        OnOk result (AddsFiles (W.contents out.old) (W.contents out.new) number.old number.new files) }
     ensures front { let told = names_told names.entry in let i = intact.now in
         let files = folder_files told (table_of_intact i) (of_kind is_folder (all_roots (nodes_of_intact i))) in
         AddsFront (W.contents out.old) (W.contents out.new) number.old files }

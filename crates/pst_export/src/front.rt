@@ -6,9 +6,9 @@ ghost use Rattle.pst_json.specs.pst_whole.View.{lost_in};
 ghost use Rattle.pst_json.specs.Folders.{folders_line as line_of_folders};
 ghost use Rattle.pst_json.specs.Node.{props_line as line_of_props};
 ghost use Rattle.pst_json.specs.Messages.{messages_text as text_of_messages};
-ghost use Rattle.pst_export.specs.Store.{damage_file, file_of, front_files, store_file};
-ghost use Rattle.pst_export.specs.Export.{damage_in};
-ghost use Rattle.pst_export.specs.Written.{Adds, AddsFront};
+ghost use Rattle.pst_export.specs.Store.{damage_file, member_named, front_files, store_file};
+ghost use Rattle.pst_export.specs.Export.{text_of_damage};
+ghost use Rattle.pst_export.specs.Written.{AddsFiles, AddsFront};
 
 use crate::export::Export;
 use crate::fault::ExportFault;
@@ -36,9 +36,9 @@ pub(crate) fn write_damage<W: Write>(
     export: &Export,
     out: &mut W,
 ) -> Result<(), ExportFault>
-    ensures all { let files = damage_file (damage_in export.now) in
-        OnOk result (Adds (W.contents out.old) (W.contents out.new) number.old number.new files) }
-    ensures front { let files = damage_file (damage_in export.now) in
+    ensures all { let files = damage_file (text_of_damage export.now) in
+        OnOk result (AddsFiles (W.contents out.old) (W.contents out.new) number.old number.new files) }
+    ensures front { let files = damage_file (text_of_damage export.now) in
         AddsFront (W.contents out.old) (W.contents out.new) number.old files }
 {
     match &export.damage {
@@ -60,7 +60,7 @@ fn write_store<W: Write>(
 ) -> Result<(), ExportFault>
     ensures all { let i = export.now.intact in
         let line = line_of_props false (table_of_intact i) (nodes_of_intact i) (STORE ∷ []) in
-        OnOk result (Adds (W.contents out.old) (W.contents out.new) number.old number.new
+        OnOk result (AddsFiles (W.contents out.old) (W.contents out.new) number.old number.new
         (store_file line)) }
     ensures front { let i = export.now.intact in
         let line = line_of_props false (table_of_intact i) (nodes_of_intact i) (STORE ∷ []) in
@@ -88,11 +88,11 @@ fn write_list<W: Write>(
 ) -> Result<(), ExportFault>
     ensures all { let i = export.now.intact in
         let text = line_of_folders (table_of_intact i) (nodes_of_intact i) (lost_in export.now.lost) in
-        let files = file_of (codes "folders.json") text ∷ [] in
-        OnOk result (Adds (W.contents out.old) (W.contents out.new) number.old number.new files) }
+        let files = member_named (codes "folders.json") text ∷ [] in
+        OnOk result (AddsFiles (W.contents out.old) (W.contents out.new) number.old number.new files) }
     ensures front { let i = export.now.intact in
         let text = line_of_folders (table_of_intact i) (nodes_of_intact i) (lost_in export.now.lost) in
-        let files = file_of (codes "folders.json") text ∷ [] in
+        let files = member_named (codes "folders.json") text ∷ [] in
         AddsFront (W.contents out.old) (W.contents out.new) number.old files }
 {
     let (intact, lost) = (export.intact, export.lost);
@@ -110,11 +110,11 @@ fn write_summaries<W: Write>(
 ) -> Result<(), ExportFault>
     ensures all { let i = export.now.intact in
         let text = text_of_messages (table_of_intact i) (nodes_of_intact i) in
-        let files = file_of (codes "messages.jsonl") text ∷ [] in
-        OnOk result (Adds (W.contents out.old) (W.contents out.new) number.old number.new files) }
+        let files = member_named (codes "messages.jsonl") text ∷ [] in
+        OnOk result (AddsFiles (W.contents out.old) (W.contents out.new) number.old number.new files) }
     ensures front { let i = export.now.intact in
         let text = text_of_messages (table_of_intact i) (nodes_of_intact i) in
-        let files = file_of (codes "messages.jsonl") text ∷ [] in
+        let files = member_named (codes "messages.jsonl") text ∷ [] in
         AddsFront (W.contents out.old) (W.contents out.new) number.old files }
 {
     let text = messages_text(alloc, &export.intact)?;
@@ -131,7 +131,7 @@ pub(crate) fn write_front<W: Write>(
 ) -> Result<(), ExportFault>
     ensures all { let i = export.now.intact in
         let files = front_files (table_of_intact i) (nodes_of_intact i) (lost_in export.now.lost) in
-        OnOk result (Adds (W.contents out.old) (W.contents out.new) number.old number.new files) }
+        OnOk result (AddsFiles (W.contents out.old) (W.contents out.new) number.old number.new files) }
     ensures front { let i = export.now.intact in
         let files = front_files (table_of_intact i) (nodes_of_intact i) (lost_in export.now.lost) in
         AddsFront (W.contents out.old) (W.contents out.new) number.old files }

@@ -9,7 +9,7 @@ ghost use Rattle.pst_value_json.specs.pst_pc.View.{node_of_pc, property_of};
 ghost use Rattle.pst_export.specs.Files.{file_at, files_at, held_files, member_in, named_file, path_of as path_text, place_files};
 ghost use Rattle.pst_verify.specs.pst_msg.View.{node_of_attachment, node_of_message};
 ghost use Rattle.pst_export.specs.Walk.{item_held, node_of_holder, of_attachment, of_message};
-ghost use Rattle.pst_export.specs.Written.{Adds, AddsFront};
+ghost use Rattle.pst_export.specs.Written.{AddsFiles, AddsFront};
 
 use crate::fault::ExportFault;
 use crate::files::{write_bytes, write_property};
@@ -43,7 +43,7 @@ fn write_named<W: Write>(
 ) -> Result<(), ExportFault>
     ensures all { let name = option_map (λ n. n.now) name.entry in
         let files = named_file folder.now time (property_of prop.entry) name in
-        OnOk result (Adds (W.contents out.old) (W.contents out.new) number.old number.new files) }
+        OnOk result (AddsFiles (W.contents out.old) (W.contents out.new) number.old number.new files) }
     ensures front { let name = option_map (λ n. n.now) name.entry in
         let files = named_file folder.now time (property_of prop.entry) name in
         AddsFront (W.contents out.old) (W.contents out.new) number.old files }
@@ -71,7 +71,7 @@ fn write_body<W: Write>(
 ) -> Result<(), ExportFault>
     ensures all { let node = node_of_pc pc.now in
         let files = file_at file_of_message (table_of_node node) (roots_of node) folder.now time id in
-        OnOk result (Adds (W.contents out.old) (W.contents out.new) number.old number.new files) }
+        OnOk result (AddsFiles (W.contents out.old) (W.contents out.new) number.old number.new files) }
     ensures front { let node = node_of_pc pc.now in
         let files = file_at file_of_message (table_of_node node) (roots_of node) folder.now time id in
         AddsFront (W.contents out.old) (W.contents out.new) number.old files }
@@ -97,7 +97,7 @@ fn write_content<W: Write>(
 ) -> Result<(), ExportFault>
     ensures all { let node = node_of_pc pc.now in let t = table_of_node node in
         let files = file_at file_of_attachment t (roots_of node) folder.now time CONTENT in
-        OnOk result (Adds (W.contents out.old) (W.contents out.new) number.old number.new files) }
+        OnOk result (AddsFiles (W.contents out.old) (W.contents out.new) number.old number.new files) }
     ensures front { let node = node_of_pc pc.now in let t = table_of_node node in
         let files = file_at file_of_attachment t (roots_of node) folder.now time CONTENT in
         AddsFront (W.contents out.old) (W.contents out.new) number.old files }
@@ -121,7 +121,7 @@ fn write_document<W: Write>(
     line: Vec<u8>,
     out: &mut W,
 ) -> Result<(), ExportFault>
-    ensures all { OnOk result (Adds (W.contents out.old) (W.contents out.new)
+    ensures all { OnOk result (AddsFiles (W.contents out.old) (W.contents out.new)
         number.old number.new (member_in folder.now time (codes "props.json") line.items ∷ [])) }
     ensures front { AddsFront (W.contents out.old) (W.contents out.new) number.old
         (member_in folder.now time (codes "props.json") line.items ∷ []) }
@@ -141,7 +141,7 @@ fn write_bodies<W: Write>(
     out: &mut W,
 ) -> Result<(), ExportFault>
     ensures all { let node = node_of_pc pc.now in let t = table_of_node node in
-        let r = roots_of node in OnOk result (Adds (W.contents out.old) (W.contents out.new)
+        let r = roots_of node in OnOk result (AddsFiles (W.contents out.old) (W.contents out.new)
         number.old number.new (files_at file_of_message t r folder.now time
         (HEADERS ∷ BODY ∷ HTML ∷ RTF ∷ []))) }
     ensures front { let node = node_of_pc pc.now in let t = table_of_node node in
@@ -171,7 +171,7 @@ fn write_message<W: Write>(
     requires { AreDocumentIndexes (table_of_node (node_of_message message)) indexes.old }
     ensures known { AreDocumentIndexes (table_of_node (node_of_message message.entry)) indexes.new }
     ensures all { let told = names_told names.entry in
-        let t = table_of_node (node_of_message message.entry) in OnOk result (Adds (W.contents out.old) (W.contents out.new)
+        let t = table_of_node (node_of_message message.entry) in OnOk result (AddsFiles (W.contents out.old) (W.contents out.new)
         number.old number.new (place_files told t time folder.now (of_message message.entry))) }
     ensures front { let told = names_told names.entry in
         let t = table_of_node (node_of_message message.entry) in AddsFront (W.contents out.old) (W.contents out.new) number.old
@@ -199,7 +199,7 @@ fn write_attachment<W: Write>(
     requires { AreDocumentIndexes (table_of_node (node_of_attachment attachment)) indexes.old }
     ensures known { AreDocumentIndexes (table_of_node (node_of_attachment attachment.entry)) indexes.new }
     ensures all { let told = names_told names.entry in
-        let t = table_of_node (node_of_attachment attachment.entry) in OnOk result (Adds (W.contents out.old) (W.contents out.new)
+        let t = table_of_node (node_of_attachment attachment.entry) in OnOk result (AddsFiles (W.contents out.old) (W.contents out.new)
         number.old number.new (place_files told t time folder.now (of_attachment attachment.entry))) }
     ensures front { let told = names_told names.entry in
         let t = table_of_node (node_of_attachment attachment.entry) in AddsFront (W.contents out.old) (W.contents out.new) number.old
@@ -225,7 +225,7 @@ pub(crate) fn write_item<W: Write>(
     requires { AreDocumentIndexes (table_of_node (node_of_holder item.now.holder)) indexes.old }
     ensures known { AreDocumentIndexes (table_of_node (node_of_holder item.now.holder)) indexes.new }
     ensures all { let told = names_told names.entry in
-        let t = table_of_node (node_of_holder item.now.holder) in OnOk result (Adds (W.contents out.old) (W.contents out.new)
+        let t = table_of_node (node_of_holder item.now.holder) in OnOk result (AddsFiles (W.contents out.old) (W.contents out.new)
         number.old number.new (held_files told t time (item_held item.now))) }
     ensures front { let told = names_told names.entry in
         let t = table_of_node (node_of_holder item.now.holder) in AddsFront (W.contents out.old) (W.contents out.new) number.old

@@ -8,8 +8,8 @@ use pst_json::{LastIndex, most_values};
 use pst_msg::Message;
 use std::alloc::{AllocError, Global};
 
-/// Turns to the list of a message, which asks it for as many attachments as its table of them may have rows: 8 bytes of its data are
-/// one at least. Or memory is refused.
+/// Turns to the list of a message, which asks it for its table of attachments, and then for as many of them as that may have rows:
+/// 8 bytes of its data are one at least. Or memory is refused.
 pub(crate) fn turn_to_attachments(
     alloc: Global,
     message: Message,
@@ -18,8 +18,10 @@ pub(crate) fn turn_to_attachments(
     requires { IsLastIndex (table_of_node (node_of_message message)) index.old }
     ensures { IsLastIndex (table_of_node (node_of_message message.entry)) index.new }
 {
-    match message.attachment_table() {
-        Some(table) => index.turn(alloc, message.node(), most_values(table.node())),
-        None => Ok(()),
-    }
+    index.turn(alloc, message.node(), 1)?;
+    let rows = match index.lend_message(message).attachment_table() {
+        Some(table) => most_values(table.node()),
+        None => 0,
+    };
+    index.turn(alloc, message.node(), rows)
 }

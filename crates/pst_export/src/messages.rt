@@ -10,7 +10,7 @@ ghost use Rattle.pst_verify.specs.pst_msg.Nid.{is_type as is_of_type};
 ghost use Rattle.pst_verify.specs.pst_msg.Values.{is_message};
 ghost use Rattle.pst_verify.specs.pst_msg.View.{node_of_message, message_roots};
 ghost use Rattle.pst_export.specs.Store.{message_files, messages_files, of_type};
-ghost use Rattle.pst_export.specs.Written.{Adds, AddsFront};
+ghost use Rattle.pst_export.specs.Written.{AddsFiles, AddsFront};
 
 use crate::fault::ExportFault;
 use crate::held::write_item;
@@ -38,7 +38,7 @@ fn write_lent<W: Write>(
     ensures all { let told = names_told names.entry in
         let t = table_of_node (node_of_message message.entry) in
         let files = message_files told t name.now (message_roots message.entry) in
-        OnOk result (Adds (W.contents out.old) (W.contents out.new) number.old number.new files) }
+        OnOk result (AddsFiles (W.contents out.old) (W.contents out.new) number.old number.new files) }
     ensures front { let told = names_told names.entry in
         let t = table_of_node (node_of_message message.entry) in
         let files = message_files told t name.now (message_roots message.entry) in
@@ -72,7 +72,7 @@ fn write_message<W: Write>(
     ensures all { let told = names_told names.entry in
         let t = table_of_node (node_of_message message.entry) in
         let files = message_files told t name.now (message_roots message.entry) in
-        OnOk result (Adds (W.contents out.old) (W.contents out.new) number.old number.new files) }
+        OnOk result (AddsFiles (W.contents out.old) (W.contents out.new) number.old number.new files) }
     ensures front { let told = names_told names.entry in
         let t = table_of_node (node_of_message message.entry) in
         let files = message_files told t name.now (message_roots message.entry) in
@@ -99,7 +99,7 @@ pub(crate) fn write_messages<W: Write>(
     ensures known { AreDocumentIndexes (table_of_intact intact.now) indexes.new }
     ensures all { let told = names_told names.entry in let i = intact.now in
         let files = messages_files told (table_of_intact i) name.now (of_type kind (nodes_of_intact i)) in
-        OnOk result (Adds (W.contents out.old) (W.contents out.new) number.old number.new files) }
+        OnOk result (AddsFiles (W.contents out.old) (W.contents out.new) number.old number.new files) }
     ensures front { let told = names_told names.entry in let i = intact.now in
         let files = messages_files told (table_of_intact i) name.now (of_type kind (nodes_of_intact i)) in
         AddsFront (W.contents out.old) (W.contents out.new) number.old files }

@@ -62,7 +62,7 @@ impl<'a> Walk<'a> {
     ghost use Rattle.pst_verify.specs.pst_msg.Values.{embedded_of};
     ghost use Rattle.pst_verify.specs.pst_msg.View.{node_of_message, node_of_attachment, message_roots, holder_left};
     ghost use Rattle.pst_export.specs.declared.walk.Task.TheVariants.{Message as Whole, Rest as Behind};
-    ghost use Rattle.pst_export.specs.Held.{embedded_held, held_of, nested_held};
+    ghost use Rattle.pst_export.specs.Held.{embedded_held, held_in_folder, nested_held};
     ghost use Rattle.pst_export.specs.Walk.{Begins, IsItemOver, IsWalkOver, StaysOver, TakesHeld, item_held, task_left, task_node, walk_left};
 
     /// A message of a store, in a folder of this name.
@@ -74,7 +74,7 @@ impl<'a> Walk<'a> {
     ) -> Result<Walk<'a>, AllocError>
         requires { nid_of (node_of_message message) ≡ top_of (node_of_message message) }
         ensures left { let t = table_of_node (node_of_message message.entry) in
-            IfOk result (λ w. walk_left w ≡ held_of t name.now (message_roots message.entry)) }
+            IfOk result (λ w. walk_left w ≡ held_in_folder t name.now (message_roots message.entry)) }
         ensures over { IfOk result (IsWalkOver (table_of_node (node_of_message message.entry))) }
     {
         let folder = folder_in(alloc, name, message.nid())?;

@@ -10,7 +10,7 @@ use Rattle.pst_verify.specs.pst_msg.Nid.{is_type}
 use Rattle.pst_verify.specs.pst_msg.Values.{is_message}
 use Rattle.pst_verify.specs.pst_store.Kind.{of_kind}
 use Rattle.pst_json.specs.Messages.{listed_in, messages_text, summary_data, summary_line, summary_lines}
-use Rattle.pst_value_json.specs.pst_text.Line.{line_of}
+use Rattle.pst_value_json.specs.pst_text.Line.{data_line}
 
 -- those of type 04 are among the messages
 among_more : (r : Roots) (rs : List Roots) (m a : Bool) → is_type MESSAGE r.top ≡ m → of_kind (is_type MESSAGE) (of_kind is_message rs) ≡ of_kind (is_type MESSAGE) rs
@@ -30,11 +30,11 @@ lines_are t nodes = ap (λ rs. concat (map (summary_line t nodes) rs)) (among (a
 
 -- the line of a message is put behind the text
 pub line_put : (t : Table) (nodes : List NodeEntry) (listed : ℕ → List ℕ) (r : Roots) (old left : List Roots) (had has all : List ℕ)
-    → ((nid : ℕ) → listed nid ≡ listed_in t nodes nid) → is_type MESSAGE r.top ≡ true → old ≡ r ∷ left → has ≡ had ++ line_of (summary_data t r (listed r.top))
+    → ((nid : ℕ) → listed nid ≡ listed_in t nodes nid) → is_type MESSAGE r.top ≡ true → old ≡ r ∷ left → has ≡ had ++ data_line (summary_data t r (listed r.top))
     → had ++ summary_lines t nodes old ≡ all → has ++ summary_lines t nodes left ≡ all
 unfolding summary_line
 line_put t nodes listed r old left had has all are kind is now so_far =
-    let line : has ≡ had ++ summary_line t nodes r = now ∙ ap (λ l. had ++ line_of (summary_data t r l)) (are r.top) in
+    let line : has ≡ had ++ summary_line t nodes r = now ∙ ap (λ l. had ++ data_line (summary_data t r l)) (are r.top) in
     rw line (append_assoc had (summary_line t nodes r) (summary_lines t nodes left) ∙ (rw (is, kind) at so_far))
 
 -- one that belongs to a folder itself is passed over

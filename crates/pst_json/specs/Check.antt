@@ -7,7 +7,7 @@ use Rattle.pst_amap.specs.declared.report.BitOrder.TheVariants.{High, Low}
 use Rattle.pst_verify.specs.declared.report.Report.{Report}
 use Rattle.pst_json.specs.declared.check.LostRows.{LostRows}
 use Rattle.pst_value_json.specs.pst_text.Parts.{natural, list_data}
-use Rattle.pst_value_json.specs.pst_text.Line.{line_of}
+use Rattle.pst_value_json.specs.pst_text.Line.{data_line}
 use Rattle.pst_value_json.specs.pst_text.Text.{hex_data}
 
 -- ---- what is shown of a report
@@ -31,11 +31,11 @@ unfoldable pub lost_data : Span → Data
 lost_data s = object (member (codes "at") (natural s.at) (member (codes "len") (natural s.len) no_members))
 
 -- the runs from one on
-abbrev pub lost_left : LostRows → List Span
-lost_left rows = drop rows.at rows.runs.now
+abbrev pub runs_left : LostRows → List Span
+runs_left rows = drop rows.at rows.runs.now
 
 abbrev pub lost_rows : LostRows → List Data
-lost_rows rows = map lost_data (lost_left rows)
+lost_rows rows = map lost_data (runs_left rows)
 
 abbrev pub order_data : BitOrder → Data
 order_data High = string (codes "high")
@@ -67,4 +67,4 @@ check_data r digest =
 
 -- the line that shows a report
 unfoldable pub check_line : ReportParts → Option (List ℕ) → List ℕ
-check_line r digest = line_of (check_data r digest)
+check_line r digest = data_line (check_data r digest)

@@ -32,8 +32,8 @@ text_there t None id = null
 text_there t (Some r) id = text_property t r id
 
 -- the message that a row names: its class, its identifier, who sent it, and its subject
-unfoldable pub listed_data : Table → List NodeEntry → RowParts → Data
-listed_data t nodes x =
+unfoldable pub listed_message_data : Table → List NodeEntry → RowParts → Data
+listed_message_data t nodes x =
     object
     (member (codes "class") (text_there t (node_of_kind is_message nodes x.id) CLASS)
     (member (codes "nid") (nid_data x.id)
@@ -46,24 +46,24 @@ unfoldable pub told_data : Fault → ℕ → Data
 told_data f nid = object (member (codes "fault") (fault_data f) (member (codes "nid") (nid_data nid) no_members))
 
 abbrev pub told_or_listed : Option Fault → Table → List NodeEntry → RowParts → Data
-told_or_listed None t nodes x = listed_data t nodes x
+told_or_listed None t nodes x = listed_message_data t nodes x
 told_or_listed (Some f) t nodes x = told_data f x.id
 
 -- a row
-unfoldable pub row_data : Table → List NodeEntry → LostParts → RowParts → Data
-row_data t nodes lost x = told_or_listed (told_lost lost x.id) t nodes x
+unfoldable pub listed_row_data : Table → List NodeEntry → LostParts → RowParts → Data
+listed_row_data t nodes lost x = told_or_listed (told_lost lost x.id) t nodes x
 
 -- the messages that are left
 abbrev pub listed_rows : ListedRows → List Data
 listed_rows rows =
-    map (row_data (table_of_intact rows.intact) (nodes_of_intact rows.intact) (lost_in rows.lost)) (rows_of_rest rows.rows)
+    map (listed_row_data (table_of_intact rows.intact) (nodes_of_intact rows.intact) (lost_in rows.lost)) (rows_of_rest rows.rows)
 
 -- the messages of a folder, their identifiers rising
 unfoldable pub contents_data : Table → List NodeEntry → LostParts → ℕ → Data
 contents_data t nodes lost nid =
     object
     (member (codes "folder") (nid_data nid)
-    (member (codes "messages") (list_data (row_data t nodes lost) (rows_there t (folder_table nodes Messages nid)))
+    (member (codes "messages") (list_data (listed_row_data t nodes lost) (rows_there t (folder_table nodes Messages nid)))
     no_members))
 
 -- where nothing is told

@@ -31,13 +31,13 @@ abbrev left_of : Bool → List Reach → List Roots → List Roots → List Root
 left_of true reached all rest = filter (is_shown true reached) rest
 left_of false reached all rest = filter (is_shown false reached) rest ++ filter (is_shown true reached) all
 
-abbrev pub rows_left : FolderRows → List Roots
-rows_left rows =
+abbrev pub folder_rows_left : FolderRows → List Roots
+folder_rows_left rows =
     left_of rows.lone rows.reached.now (of_kind is_folder (all_roots (nodes_of_intact rows.intact))) (intact_folders_left rows.rest)
 
 abbrev pub folder_rows : FolderRows → List Data
 folder_rows rows =
-    map (folder_data (table_of_intact rows.intact) (nodes_of_intact rows.intact) (lost_in rows.lost) rows.reached.now) (rows_left rows)
+    map (folder_data (table_of_intact rows.intact) (nodes_of_intact rows.intact) (lost_in rows.lost) rows.reached.now) (folder_rows_left rows)
 
 -- all of them
 abbrev pub all_rows : Table → List NodeEntry → LostParts → List Data

@@ -21,7 +21,7 @@ use Rattle.pst_verify.specs.pst_reach.Levels.{reaches_of}
 use Rattle.pst_verify.specs.pst_reach.Path.{path_in, is_reached_in, is_lost_in}
 use Rattle.pst_whole.specs.Lost.{LostParts, told_lost}
 use Rattle.pst_json.specs.declared.texts.TheConstants.{NAME}
-use Rattle.pst_value_json.specs.pst_text.Line.{line_of}
+use Rattle.pst_value_json.specs.pst_text.Line.{data_line}
 use Rattle.pst_value_json.specs.pst_text.Names.{nid_data}
 use Rattle.pst_value_json.specs.pst_text.Parts.{natural, list_data}
 use Rattle.pst_value_json.specs.pst_text.Text.{text_data}
@@ -94,4 +94,4 @@ folders_data t nodes lost =
 
 -- the line that shows them
 unfoldable pub folders_line : Table → List NodeEntry → LostParts → List ℕ
-folders_line t nodes lost = line_of (folders_data t nodes lost)
+folders_line t nodes lost = data_line (folders_data t nodes lost)

@@ -3,7 +3,7 @@ use Rattle.std.specs.Prelude.{ℕ, List, codes}
 use Rattle.serde_json.specs.Data.{Data, object, member, no_members}
 use Rattle.pst_header.specs.declared.header.Header.{Header}
 use Rattle.pst_header.specs.declared.header.Bref.{Bref}
-use Rattle.pst_value_json.specs.pst_text.Line.{line_of}
+use Rattle.pst_value_json.specs.pst_text.Line.{data_line}
 use Rattle.pst_value_json.specs.pst_text.Parts.{natural}
 
 abbrev pub bref_data : Bref → Data
@@ -26,4 +26,4 @@ head_data h =
 
 -- the line that shows a header
 abbrev pub head_line : Header → List ℕ
-head_line h = line_of (head_data h)
+head_line h = data_line (head_data h)

@@ -5,14 +5,14 @@ use Rattle.std.specs.Global.{Vec}
 use Rattle.std.specs.Ordering.{nat_cmp}
 use Rattle.pst_json.specs.declared.listings.Listings.{Listings}
 
--- the folders that are noted
-abbrev pub noted : Option (Vec ℕ) → List ℕ
-noted None = []
-noted (Some folders) = folders.items
+-- the folders that are noted_folders
+abbrev pub noted_folders : Option (Vec ℕ) → List ℕ
+noted_folders None = []
+noted_folders (Some folders) = folders.items
 
 -- those of a message
-abbrev pub folders_at : Listings → ℕ → List ℕ
-folders_at l nid = noted (get nat_cmp l.folders nid)
+abbrev pub folders_listing : Listings → ℕ → List ℕ
+folders_listing l nid = noted_folders (get nat_cmp l.folders nid)
 
 -- a folder, where it lists the message
 abbrev pub if_listed : Bool → ℕ → List ℕ

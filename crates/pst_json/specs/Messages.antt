@@ -18,7 +18,7 @@ use Rattle.pst_json.specs.declared.messages.TheConstants.{RECEIVED, SENT, SIZE}
 use Rattle.pst_json.specs.declared.texts.TheConstants.{CLASS, SENDER, SUBJECT}
 use Rattle.pst_json.specs.Folders.{row_total, text_property}
 use Rattle.pst_props.specs.Node.{recipient_nid}
-use Rattle.pst_value_json.specs.pst_text.Line.{line_of}
+use Rattle.pst_value_json.specs.pst_text.Line.{data_line}
 use Rattle.pst_value_json.specs.pst_text.Names.{nid_data}
 use Rattle.pst_value_json.specs.pst_text.Parts.{natural, list_data}
 use Rattle.pst_value_json.specs.pst_text.Time.{time_or_null, i32_or_null}
@@ -51,12 +51,12 @@ unfoldable pub time_property : Table → Roots → ℕ → Data
 time_property t r id = time_in (first_with id_of id (props_of t r))
 
 -- the number of a property, where it is there and is one
-abbrev pub number_in : Option Property → Data
-number_in None = null
-number_in (Some p) = if nat_eq p.kind 0x0003 then i32_or_null p.bytes else null
+abbrev pub number_or_null : Option Property → Data
+number_or_null None = null
+number_or_null (Some p) = if nat_eq p.kind 0x0003 then i32_or_null p.bytes else null
 
 unfoldable pub number_property : Table → Roots → ℕ → Data
-number_property t r id = number_in (first_with id_of id (props_of t r))
+number_property t r id = number_or_null (first_with id_of id (props_of t r))
 
 -- ---- the lines
 
@@ -79,7 +79,7 @@ summary_data t r folders =
 
 -- the line of a message
 unfoldable pub summary_line : Table → List NodeEntry → Roots → List ℕ
-summary_line t nodes r = line_of (summary_data t r (listed_in t nodes r.top))
+summary_line t nodes r = data_line (summary_data t r (listed_in t nodes r.top))
 
 -- those of the messages among some nodes
 abbrev pub summary_lines : Table → List NodeEntry → List Roots → List ℕ

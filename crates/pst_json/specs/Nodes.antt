@@ -6,7 +6,7 @@ use Rattle.pst_btree.specs.Nodes.{nodes_left}
 use Rattle.pst_json.specs.declared.nodes.NodeRows.{NodeRows}
 use Rattle.pst_value_json.specs.pst_text.Names.{nid_data}
 use Rattle.pst_value_json.specs.pst_text.Parts.{natural, list_data}
-use Rattle.pst_value_json.specs.pst_text.Line.{line_of}
+use Rattle.pst_value_json.specs.pst_text.Line.{data_line}
 
 -- the members stand in the order of their keys' bytes
 unfoldable pub node_data : NodeEntry → Data
@@ -27,4 +27,4 @@ nodes_data entries = object (member (codes "nodes") (list_data node_data entries
 
 -- the line that shows nodes
 unfoldable pub nodes_line : List NodeEntry → List ℕ
-nodes_line entries = line_of (nodes_data entries)
+nodes_line entries = data_line (nodes_data entries)

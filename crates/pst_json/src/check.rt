@@ -34,12 +34,12 @@ fn write_lost<P: Pen>(alloc: Global, run: Span, pen: &mut P) -> Result<(), Alloc
 
 impl LostRows<'_> {
     ghost use Rattle.std.specs.Prelude.{◌≡◌, [], ◌∷◌, MatchOption};
-    ghost use Rattle.pst_json.specs.Check.{lost_left};
+    ghost use Rattle.pst_json.specs.Check.{runs_left};
 
     // The next run.
     fn next_run(&mut self) -> Option<Span>
-        ensures { MatchOption result (lost_left self.old ≡ [])
-            (λ run. lost_left self.old ≡ run ∷ lost_left self.new) }
+        ensures { MatchOption result (runs_left self.old ≡ [])
+            (λ run. runs_left self.old ≡ run ∷ runs_left self.new) }
     {
         let run = *self.runs.get(self.at)?;
         self.at += 1;

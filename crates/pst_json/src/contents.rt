@@ -1,8 +1,7 @@
 //! The messages of a folder as a document.
 
-ghost use Rattle.std.specs.Prelude.{◌≡◌, ◌++◌, true, Ok, Err, IfOk, OnErr, OnOk, IfErr, IfSome, option_map};
+ghost use Rattle.std.specs.Prelude.{◌≡◌, true, Ok, Err, IfOk, IfErr, IfSome, option_map};
 ghost use Rattle.serde_json.specs.View.{view};
-ghost use Rattle.serde_json.specs.Written.{compact_text};
 ghost use Rattle.pst_block.specs.Table.{Table};
 ghost use Rattle.pst_ndb.specs.Views.{table_of_node, roots_of};
 ghost use Rattle.pst_intact.specs.View.{table_of_intact, nodes_of_intact};
@@ -19,21 +18,18 @@ ghost use Rattle.pst_verify.specs.pst_msg.Shown.{rows_there, folder_table};
 ghost use Rattle.pst_verify.specs.pst_msg.Values.{is_message};
 ghost use Rattle.pst_verify.specs.pst_store.Kind.{node_of_kind};
 ghost use Rattle.pst_verify.specs.pst_msg.View.{tc_roots, node_of_message, message_roots};
-ghost use Rattle.pst_json.specs.Contents.{text_there, listed_data, told_data, row_data, contents_data, contents_there, contents_of, contents_line as line_of_contents};
+ghost use Rattle.pst_json.specs.Contents.{text_there, listed_message_data, told_data, listed_row_data, contents_data, contents_there, contents_of, contents_line as line_of_contents};
 ghost use Rattle.pst_props.specs.LastIndex.{IsLastIndex};
 ghost use Rattle.pst_props.specs.Told.{TellsDoc};
-ghost use Rattle.pst_value_json.specs.pst_text.Kept.{BeginsWith};
 
 use crate::listed_rows::ListedRows;
-use crate::texts::{CLASS, SENDER, SUBJECT, put_text_property, text_property_doc};
+use crate::texts::{CLASS, SENDER, SUBJECT, text_property_doc};
 use pst_damage_json::fault_doc;
 use pst_fault::Fault;
 use pst_intact::Intact;
-use pst_msg::{Items, known_message, listing_nid};
+use pst_msg::{Items, listing_nid};
 use pst_props::{DocFault, LastIndex};
-use pst_value_json::{
-    Line, Made, Part, Pc, Row, Sink, Tc, TcRows, Tree, nid_text, put_nid, put_null,
-};
+use pst_value_json::{Line, Made, Part, Pc, Row, Sink, Tc, TcRows, Tree, nid_text};
 use pst_verify::{FOLDER, Message, is_type};
 use pst_whole::Lost;
 use serde_json::{Value as Doc, json};
@@ -42,8 +38,8 @@ use std::alloc::{AllocError, Global};
 // How many texts of a message are looked up, each of which may be a subnode.
 const TEXTS: u64 = 3;
 
-// The message that a row names, where that is there. The index turns to its list.
-fn message_in<'a>(
+/// The message that a row names, where that is there. The index turns to its list.
+pub(crate) fn message_in<'a>(
     alloc: Global,
     intact: &Intact<'a>,
     nid: u32,
@@ -65,8 +61,11 @@ fn message_in<'a>(
     }
 }
 
-// The properties of a message, where that is there, which is lent its indexes.
-fn properties_of<'a>(message: Option<Message<'a>>, index: &'a LastIndex) -> Option<Pc<'a>>
+/// The properties of a message, where that is there, which is lent its indexes.
+pub(crate) fn properties_of<'a>(
+    message: Option<Message<'a>>,
+    index: &'a LastIndex,
+) -> Option<Pc<'a>>
     requires { IfSome message (λ m. IsLastIndex (table_of_node (node_of_message m)) index.now) }
     ensures roots { option_map (λ p. roots_of (node_of_pc p)) result ≡
         option_map message_roots message.entry }
@@ -74,10 +73,7 @@ fn properties_of<'a>(message: Option<Message<'a>>, index: &'a LastIndex) -> Opti
         → IfSome result (λ p. table_of_node (node_of_pc p) ≡ t) }
 {
     match message {
-        Some(message) => {
-            message.is_sound();
-            Some(known_message(index.lend(message.node())).pc())
-        }
+        Some(message) => { Some(index.lend_message(message).pc()) }
         None => None,
     }
 }
@@ -95,7 +91,7 @@ fn text_of(alloc: Global, pc: Option<Pc>, id: u16) -> Result<Doc, AllocError>
 }
 
 // The message that a row names as an object.
-#[tactic(auto, unfolding(crate::specs::Contents::listed_data))]
+#[tactic(auto, unfolding(crate::specs::Contents::listed_message_data))]
 fn listed_doc(
     alloc: Global,
     intact: &Intact,
@@ -105,7 +101,7 @@ fn listed_doc(
     requires { IsLastIndex (table_of_intact intact.now) index.old }
     ensures known { IsLastIndex (table_of_intact intact.now) index.new }
     ensures shown { let t = table_of_intact intact.now in
-        IfOk result (λ d. view d ≡ listed_data t (nodes_of_intact intact.now)
+        IfOk result (λ d. view d ≡ listed_message_data t (nodes_of_intact intact.now)
         (row_parts row.entry)) }
 {
     let message = message_in(alloc, intact, row.id(), index)?;
@@ -117,9 +113,9 @@ fn listed_doc(
     json!(in alloc; {"class": class, "nid": nid, "sender": sender, "subject": subject})
 }
 
-// A fault, in place of the message with an identifier, as an object.
+/// A fault, in place of the message with an identifier, as an object.
 #[tactic(auto, unfolding(crate::specs::Contents::told_data))]
-fn told_doc(alloc: Global, fault: &Fault, nid: u32) -> Result<Doc, AllocError>
+pub(crate) fn told_doc(alloc: Global, fault: &Fault, nid: u32) -> Result<Doc, AllocError>
     ensures { IfOk result (λ d. view d ≡ told_data fault.now nid) }
 {
     let fault = fault_doc(alloc, fault)?;
@@ -128,7 +124,7 @@ fn told_doc(alloc: Global, fault: &Fault, nid: u32) -> Result<Doc, AllocError>
 }
 
 /// What a row names as an object: the message, or what is told of it.
-#[tactic(auto, unfolding(crate::specs::Contents::row_data))]
+#[tactic(auto, unfolding(crate::specs::Contents::listed_row_data))]
 pub(crate) fn row_doc(
     alloc: Global,
     intact: &Intact,
@@ -139,94 +135,12 @@ pub(crate) fn row_doc(
     requires { IsLastIndex (table_of_intact intact.now) index.old }
     ensures known { IsLastIndex (table_of_intact intact.now) index.new }
     ensures shown { let t = table_of_intact intact.now in
-        IfOk result (λ d. view d ≡ row_data t (nodes_of_intact intact.now) (lost_in lost.now)
+        IfOk result (λ d. view d ≡ listed_row_data t (nodes_of_intact intact.now) (lost_in lost.now)
         (row_parts row.entry)) }
 {
     match lost.told(row.id()) {
         Some(fault) => told_doc(alloc, &fault, row.id()),
         None => listed_doc(alloc, intact, row, index),
-    }
-}
-
-// Puts the text of one of these properties behind a text; null where there are none.
-fn put_text_of(
-    alloc: Global,
-    pc: &Option<Pc>,
-    id: u16,
-    text: &mut Vec<u8>,
-) -> Result<(), AllocError>
-    ensures put { (t : Table) → IfSome pc.now (λ p. table_of_node (node_of_pc p) ≡ t)
-        → OnOk result (text.new.items ≡ text.old.items
-        ++ compact_text (text_there t (option_map (λ p. roots_of (node_of_pc p)) pc.now) id)) }
-    ensures kept { OnErr result (BeginsWith text.new.items text.old.items) }
-{
-    match pc {
-        Some(pc) => put_text_property(alloc, pc, id, text),
-        None => put_null(text),
-    }
-}
-
-// Puts the message that a row names behind a text, as an object.
-#[tactic(auto, unfolding(crate::specs::Contents::listed_data))]
-fn put_listed(
-    alloc: Global,
-    intact: &Intact,
-    row: Row,
-    index: &mut LastIndex,
-    text: &mut Vec<u8>,
-) -> Result<(), AllocError>
-    requires { IsLastIndex (table_of_intact intact.now) index.old }
-    ensures known { IsLastIndex (table_of_intact intact.now) index.new }
-    ensures put { let t = table_of_intact intact.now in
-        let shown = listed_data t (nodes_of_intact intact.now) (row_parts row.entry) in
-        OnOk result (text.new.items ≡ text.old.items ++ compact_text shown) }
-    ensures kept { OnErr result (BeginsWith text.new.items text.old.items) }
-{
-    let message = message_in(alloc, intact, row.id(), index)?;
-    let pc = properties_of(message, index);
-    text.extend_from_slice(b"{\"class\":")?;
-    put_text_of(alloc, &pc, CLASS, text)?;
-    text.extend_from_slice(b",\"nid\":")?;
-    put_nid(row.id(), text)?;
-    text.extend_from_slice(b",\"sender\":")?;
-    put_text_of(alloc, &pc, SENDER, text)?;
-    text.extend_from_slice(b",\"subject\":")?;
-    put_text_of(alloc, &pc, SUBJECT, text)?;
-    text.push(b'}')?;
-    Ok(())
-}
-
-// Puts a fault behind a text, in place of the message with an identifier, as `told_doc` shows it.
-#[tactic(auto, using(crate::proofs::FolderLemmas::told_has_none))]
-fn put_told(alloc: Global, fault: &Fault, nid: u32, text: &mut Vec<u8>) -> Result<(), AllocError>
-    ensures put { OnOk result (text.new.items
-        ≡ text.old.items ++ compact_text (told_data fault.now nid)) }
-    ensures kept { OnErr result (BeginsWith text.new.items text.old.items) }
-{
-    let shown = told_doc(alloc, fault, nid)?.to_vec(alloc)?;
-    text.extend_from_slice(&shown)
-}
-
-/// Puts what a row names behind a text, as `row_doc` shows it.
-#[tactic(auto, unfolding(crate::specs::Contents::row_data))]
-pub(crate) fn put_row(
-    alloc: Global,
-    intact: &Intact,
-    lost: &Lost,
-    row: Row,
-    index: &mut LastIndex,
-    text: &mut Vec<u8>,
-) -> Result<(), AllocError>
-    requires { IsLastIndex (table_of_intact intact.now) index.old }
-    ensures known { IsLastIndex (table_of_intact intact.now) index.new }
-    ensures put { let t = table_of_intact intact.now in
-        let shown = row_data t (nodes_of_intact intact.now) (lost_in lost.now) (row_parts row.entry) in
-        OnOk result (text.new.items ≡ text.old.items ++ compact_text shown) }
-    ensures kept { OnErr result (BeginsWith text.new.items text.old.items) }
-{
-    match lost.told(row.id()) {
-        Some(fault) => put_told(alloc, &fault, row.id(), text),
-        None => put_listed(alloc, intact, row, index, text),
     }
 }
 

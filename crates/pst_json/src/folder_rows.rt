@@ -13,7 +13,8 @@ ghost use Rattle.pst_json.specs.Folders.{is_shown};
 ghost use Rattle.pst_props.specs.LastIndex.{IsLastIndex, IsLastIndex-prop};
 ghost use Rattle.pst_json.specs.RowCounts.{AreCountsTrue, AreCountsTrue-prop};
 
-use crate::folders::{folder_doc, put_folder};
+use crate::folder_lines::put_folder;
+use crate::folders::folder_doc;
 use crate::row_counts::RowCounts;
 use pst_intact::{Intact, IntactFolder, IntactFolders};
 use pst_props::LastIndex;
@@ -94,7 +95,7 @@ impl<'a> FolderRows<'a> {
     ghost use Rattle.pst_verify.specs.pst_reach.Levels.{reaches_of};
     ghost use Rattle.pst_verify.specs.pst_reach.Path.{reach_nid};
     ghost use Rattle.pst_whole.specs.View.{lost_in};
-    ghost use Rattle.pst_json.specs.FolderRows.{all_rows, folder_rows, intact_of, lost_of_rows, reached_of, rows_left};
+    ghost use Rattle.pst_json.specs.FolderRows.{all_rows, folder_rows, intact_of, lost_of_rows, reached_of, folder_rows_left};
 
     /// All folders among intact nodes, of which the root folder reaches these.
     #[tactic(auto, using(crate::proofs::RowsLemmas::rows_of_all))]
@@ -127,8 +128,8 @@ impl<'a> FolderRows<'a> {
         ensures intact { intact_of self.new ≡ intact_of self.old }
         ensures lost { lost_of_rows self.new ≡ lost_of_rows self.old }
         ensures reached { reached_of self.new ≡ reached_of self.old }
-        ensures takes { MatchOption result (rows_left self.old ≡ [])
-            (λ x. rows_left self.old ≡ intact_roots x ∷ rows_left self.new) }
+        ensures takes { MatchOption result (folder_rows_left self.old ≡ [])
+            (λ x. folder_rows_left self.old ≡ intact_roots x ∷ folder_rows_left self.new) }
         ensures table { IfSome result (λ x.
             table_of_nodes (intact_beside x) ≡ table_of_intact (intact_of self.old)) }
         ensures nodes { IfSome result (λ x.

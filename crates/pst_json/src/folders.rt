@@ -1,16 +1,13 @@
 //! The folders of a store as a document.
 
-ghost use Rattle.std.specs.Prelude.{◌≡◌, ◌++◌, None, IfOk, OnErr, OnOk, IfSome, length, map, option_map};
+ghost use Rattle.std.specs.Prelude.{◌≡◌, None, IfOk, map};
 ghost use Rattle.serde_json.specs.View.{view};
-ghost use Rattle.serde_json.specs.Written.{compact_text};
-ghost use Rattle.pst_block.specs.Table.{Table};
 ghost use Rattle.pst_btree.specs.Order.{Rises};
 ghost use Rattle.pst_ndb.specs.NodeTable.{table_of_nodes, entries_of_nodes};
 ghost use Rattle.pst_ndb.specs.Views.{table_of_node, roots_of, top_of};
 ghost use Rattle.pst_value_json.specs.pst_tc.Tc.{node_of_tc};
 ghost use Rattle.pst_value_json.specs.pst_tc.Values.{tc_rows};
-ghost use Rattle.pst_verify.specs.pst_msg.Shown.{rows_there, folder_table};
-ghost use Rattle.pst_verify.specs.pst_msg.View.{tc_roots};
+ghost use Rattle.pst_verify.specs.pst_msg.Shown.{folder_table};
 ghost use Rattle.pst_intact.specs.View.{table_of_intact, nodes_of_intact, intact_beside, intact_roots, intact_node};
 ghost use Rattle.pst_whole.specs.View.{lost_in};
 ghost use Rattle.pst_verify.specs.pst_reach.Levels.{reaches_of};
@@ -18,26 +15,28 @@ ghost use Rattle.pst_verify.specs.pst_reach.Path.{reach_nid, path_in};
 ghost use Rattle.pst_json.specs.Folders.{row_nid, row_total, text_property, path_data, count_data, nids_data, table_told, folder_data, folders_data, folders_line as line_of_folders};
 ghost use Rattle.pst_props.specs.LastIndex.{IsLastIndex};
 ghost use Rattle.pst_json.specs.RowCounts.{AreCountsTrue};
-ghost use Rattle.pst_value_json.specs.pst_text.Kept.{BeginsWith};
 ghost use Rattle.pst_value_json.specs.pst_text.Names.{nid_data};
 ghost use Rattle.pst_value_json.specs.pst_text.Parts.{list_data};
 
 use crate::folder_rows::FolderRows;
-use crate::nid_lists::{put_nid_list, put_nids_of};
 use crate::row_counts::RowCounts;
-use crate::texts::{NAME, put_text_property, text_property_doc};
+use crate::texts::{NAME, text_property_doc};
 use pst_fault::Fault;
 use pst_intact::{Intact, IntactFolder};
-use pst_msg::{FOLDER, Items, is_type, known_pc, listing_nid};
+use pst_msg::{FOLDER, Items, is_type, listing_nid};
 use pst_props::LastIndex;
-use pst_value_json::{Line, Part, Sink, Tc, Tree, nid_text, put_natural, put_nid, put_null};
+use pst_value_json::{Line, Part, Sink, Tc, Tree, nid_text};
 use pst_verify::{Reach, path_from_root};
 use pst_whole::Lost;
 use serde_json::{Value as Doc, json};
 use std::alloc::{AllocError, Global};
 
-// How many rows a table of a folder has, 0 where it is not there; or memory is refused.
-fn count_of(folder: &IntactFolder, items: Items, counts: &mut RowCounts) -> Result<u64, AllocError>
+/// How many rows a table of a folder has, 0 where it is not there; or memory is refused.
+pub(crate) fn count_of(
+    folder: &IntactFolder,
+    items: Items,
+    counts: &mut RowCounts,
+) -> Result<u64, AllocError>
     requires { AreCountsTrue (table_of_nodes (intact_beside folder.now)) counts.old }
     ensures known { AreCountsTrue (table_of_nodes (intact_beside folder.now)) counts.new }
     ensures count { let nodes = intact_beside folder.now in let nid = top_of (intact_node folder.now) in
@@ -75,8 +74,8 @@ fn nid_list_doc(alloc: Global, nids: &[u32]) -> Result<Doc, AllocError>
     Ok(Doc::from(docs))
 }
 
-// What is told of a table of a folder.
-fn told_of_table(lost: &Lost, items: Items, nid: u32) -> Option<Fault>
+/// What is told of a table of a folder.
+pub(crate) fn told_of_table(lost: &Lost, items: Items, nid: u32) -> Option<Fault>
     ensures { result ≡ table_told (lost_in lost.now) items nid }
 {
     if !is_type(FOLDER, nid) {
@@ -145,8 +144,7 @@ fn name_doc(alloc: Global, folder: &IntactFolder, index: &mut LastIndex) -> Resu
     folder.is_sound();
     let pc = folder.pc();
     index.turn(alloc, pc.node(), 1)?;
-    pc.is_sound();
-    text_property_doc(alloc, &known_pc(index.lend(pc.node())), NAME)
+    text_property_doc(alloc, &index.lend_pc(pc), NAME)
 }
 
 /// A folder as an object.
@@ -182,124 +180,6 @@ pub(crate) fn folder_doc(
         "path": path,
         "subfolders": subfolders,
     })
-}
-
-// Puts the name of a folder behind a text, as `name_doc` shows it.
-fn put_name(
-    alloc: Global,
-    folder: &IntactFolder,
-    index: &mut LastIndex,
-    text: &mut Vec<u8>,
-) -> Result<(), AllocError>
-    requires { IsLastIndex (table_of_nodes (intact_beside folder.now)) index.old }
-    ensures known { IsLastIndex (table_of_nodes (intact_beside folder.now)) index.new }
-    ensures put { let t = table_of_nodes (intact_beside folder.now) in
-        let shown = text_property t (intact_roots folder.now) NAME in
-        OnOk result (text.new.items ≡ text.old.items ++ compact_text shown) }
-    ensures kept { OnErr result (BeginsWith text.new.items text.old.items) }
-{
-    folder.is_sound();
-    let pc = folder.pc();
-    index.turn(alloc, pc.node(), 1)?;
-    pc.is_sound();
-    put_text_property(alloc, &known_pc(index.lend(pc.node())), NAME, text)
-}
-
-// Puts the path of a folder behind a text, as `path_doc` shows it.
-fn put_path(
-    alloc: Global,
-    reached: &[Reach],
-    nid: u32,
-    text: &mut Vec<u8>,
-) -> Result<(), AllocError>
-    requires rise { Rises 0 None (map reach_nid reached.now) }
-    ensures put { OnOk result (text.new.items
-        ≡ text.old.items ++ compact_text (path_data (path_in reached.now nid))) }
-    ensures kept { OnErr result (BeginsWith text.new.items text.old.items) }
-{
-    match path_from_root(alloc, reached, nid)? {
-        Some(path) => put_nid_list(&path, text),
-        None => put_null(text),
-    }
-}
-
-// Puts how many rows a table of a folder has behind a text, as `count_doc` shows it.
-fn put_count(
-    folder: &IntactFolder,
-    lost: &Lost,
-    items: Items,
-    counts: &mut RowCounts,
-    text: &mut Vec<u8>,
-) -> Result<(), AllocError>
-    requires { AreCountsTrue (table_of_nodes (intact_beside folder.now)) counts.old }
-    ensures known { AreCountsTrue (table_of_nodes (intact_beside folder.now)) counts.new }
-    ensures put { let nodes = intact_beside folder.now in let nid = top_of (intact_node folder.now) in
-        let shown = count_data (table_told (lost_in lost.now) items nid) (table_of_nodes nodes)
-        (folder_table (entries_of_nodes nodes) items nid) in
-        OnOk result (text.new.items ≡ text.old.items ++ compact_text shown) }
-    ensures kept { OnErr result (BeginsWith text.new.items text.old.items) }
-{
-    match told_of_table(lost, items, folder.nid()) {
-        Some(_) => put_null(text),
-        None => put_natural(count_of(folder, items, counts)?, text),
-    }
-}
-
-// Puts the identifiers of the rows of such a table behind a text, as `nids_doc` shows them.
-fn put_nids(
-    folder: &IntactFolder,
-    lost: &Lost,
-    items: Items,
-    text: &mut Vec<u8>,
-) -> Result<(), AllocError>
-    ensures put { let nodes = intact_beside folder.now in let nid = top_of (intact_node folder.now) in
-        let shown = nids_data (table_told (lost_in lost.now) items nid) (table_of_nodes nodes)
-        (folder_table (entries_of_nodes nodes) items nid) in
-        OnOk result (text.new.items ≡ text.old.items ++ compact_text shown) }
-    ensures kept { OnErr result (BeginsWith text.new.items text.old.items) }
-{
-    match told_of_table(lost, items, folder.nid()) {
-        Some(_) => put_null(text),
-        None => put_nids_of(&folder.table(items), text),
-    }
-}
-
-/// Puts a folder behind a text, as an object.
-#[tactic(auto, unfolding(crate::specs::Folders::folder_data))]
-pub(crate) fn put_folder(
-    alloc: Global,
-    folder: IntactFolder,
-    lost: &Lost,
-    reached: &[Reach],
-    counts: &mut RowCounts,
-    index: &mut LastIndex,
-    text: &mut Vec<u8>,
-) -> Result<(), AllocError>
-    requires rise { Rises 0 None (map reach_nid reached.now) }
-    requires known { AreCountsTrue (table_of_nodes (intact_beside folder)) counts.old }
-    requires index { IsLastIndex (table_of_nodes (intact_beside folder)) index.old }
-    ensures known { AreCountsTrue (table_of_nodes (intact_beside folder.entry)) counts.new }
-    ensures index { IsLastIndex (table_of_nodes (intact_beside folder.entry)) index.new }
-    ensures put { let nodes = intact_beside folder.entry in let t = table_of_nodes nodes in
-        let shown = folder_data t (entries_of_nodes nodes) (lost_in lost.now) reached.now
-        (intact_roots folder.entry) in
-        OnOk result (text.new.items ≡ text.old.items ++ compact_text shown) }
-    ensures kept { OnErr result (BeginsWith text.new.items text.old.items) }
-{
-    text.extend_from_slice(b"{\"associated\":")?;
-    put_count(&folder, lost, Items::Associated, counts, text)?;
-    text.extend_from_slice(b",\"messages\":")?;
-    put_count(&folder, lost, Items::Messages, counts, text)?;
-    text.extend_from_slice(b",\"name\":")?;
-    put_name(alloc, &folder, index, text)?;
-    text.extend_from_slice(b",\"nid\":")?;
-    put_nid(folder.nid(), text)?;
-    text.extend_from_slice(b",\"path\":")?;
-    put_path(alloc, reached, folder.nid(), text)?;
-    text.extend_from_slice(b",\"subfolders\":")?;
-    put_nids(&folder, lost, Items::Subfolders, text)?;
-    text.push(b'}')?;
-    Ok(())
 }
 
 // The document.

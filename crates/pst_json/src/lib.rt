@@ -12,9 +12,11 @@
 
 mod check;
 mod contents;
+mod folder_lines;
 mod folder_rows;
 mod folders;
 mod head;
+mod listed_lines;
 mod listed_rows;
 mod listings;
 mod messages;
@@ -33,11 +35,11 @@ pub use nodes::{nodes_doc, nodes_line};
 pub use output::{EmitFault, emit, emit_value};
 pub use pst_ndb::read_nodes;
 pub use pst_props::{
-    DocFault, DocumentIndexes, LastIndex, attachment_line, lost_at, message_line, most_values,
-    names_in, names_index, node_line, property_at, props_doc, props_line,
+    DocFault, DocumentIndexes, LastIndex, NamesIndex, attachment_line, lost_at, message_line,
+    most_values, names_in, names_index, node_line, property_at, props_doc, props_line,
 };
 pub use pst_value_json::{
-    NameIndex, Prop, PropType, Value, hex_doc, pc_doc, table_doc, text, text_of, value_doc,
+    Prop, PropType, Value, hex_doc, pc_doc, table_doc, text, text_of, value_doc,
 };
 pub use pst_verify::{Reach, Store, Verified, reach_among, verify};
 pub use pst_whole::{Intact, Lost, WholeNodes, find_whole};

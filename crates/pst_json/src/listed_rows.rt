@@ -3,7 +3,8 @@
 ghost use Rattle.pst_intact.specs.View.{table_of_intact};
 ghost use Rattle.pst_props.specs.LastIndex.{IsLastIndex, IsLastIndex-prop};
 
-use crate::contents::{put_row, row_doc};
+use crate::contents::row_doc;
+use crate::listed_lines::put_row;
 use pst_intact::Intact;
 use pst_props::LastIndex;
 use pst_value_json::{Rows, TcRows, put_comma};

@@ -2,7 +2,7 @@
 
 ghost use Rattle.std.specs.Prelude.{◌≡◌, ℕ, IfOk};
 ghost use Rattle.pst_intact.specs.View.{table_of_intact, nodes_of_intact};
-ghost use Rattle.pst_json.specs.Listings.{folders_at};
+ghost use Rattle.pst_json.specs.Listings.{folders_listing};
 ghost use Rattle.pst_json.specs.Messages.{listed_in};
 
 use pst_intact::{Intact, IntactFolder};
@@ -28,12 +28,12 @@ impl Listings {
     ghost use Rattle.pst_value_json.specs.pst_tc.Values.{tc_rows};
     ghost use Rattle.pst_intact.specs.View.{intact_beside, intact_roots};
     ghost use Rattle.pst_props.specs.LastIndex.{IsLastIndex};
-    ghost use Rattle.pst_json.specs.Listings.{folders_at, if_listed};
+    ghost use Rattle.pst_json.specs.Listings.{folders_listing, if_listed};
     ghost use Rattle.pst_json.specs.Messages.{lists, names};
 
     // Nothing is noted.
     fn new(alloc: Global) -> Listings
-        ensures { (nid : ℕ) → folders_at result nid ≡ [] }
+        ensures { (nid : ℕ) → folders_listing result nid ≡ [] }
     {
         Listings {
             alloc,
@@ -43,8 +43,8 @@ impl Listings {
 
     // A folder lists this message, too.
     fn note(&mut self, message: u32, folder: u32) -> Result<(), AllocError>
-        ensures { OnOk result ((nid : ℕ) → folders_at self.new nid
-            ≡ folders_at self.old nid ++ if_listed (nat_eq nid message) folder) }
+        ensures { OnOk result ((nid : ℕ) → folders_listing self.new nid
+            ≡ folders_listing self.old nid ++ if_listed (nat_eq nid message) folder) }
     {
         let folders = self.folders.entry(message)?.or_insert(Vec::new(self.alloc));
         folders.push(folder)?;
@@ -56,8 +56,8 @@ impl Listings {
     fn note_rows(&mut self, table: Tc, folder: u32) -> Result<(), AllocError>
         ensures { let node = node_of_tc table.entry in
             let rows = tc_rows (table_of_node node) (roots_of node) in
-            OnOk result ((nid : ℕ) → folders_at self.new nid
-            ≡ folders_at self.old nid ++ if_listed (list_any (names nid) rows) folder) }
+            OnOk result ((nid : ℕ) → folders_listing self.new nid
+            ≡ folders_listing self.old nid ++ if_listed (list_any (names nid) rows) folder) }
     {
         table.is_sound();
         tc_ids_rise();
@@ -73,8 +73,8 @@ impl Listings {
         ensures index { IsLastIndex (table_of_nodes (intact_beside folder.entry)) index.new }
         ensures noted { let all = intact_beside folder.entry in let t = table_of_nodes all in
             let r = intact_roots folder.entry in
-            OnOk result ((nid : ℕ) → folders_at self.new nid
-            ≡ folders_at self.old nid ++ if_listed (lists t (entries_of_nodes all) nid r) r.top) }
+            OnOk result ((nid : ℕ) → folders_listing self.new nid
+            ≡ folders_listing self.old nid ++ if_listed (lists t (entries_of_nodes all) nid r) r.top) }
     {
         folder.is_sound();
         match folder.contents() {
@@ -88,7 +88,7 @@ impl Listings {
 
     /// The folders that list a message, their identifiers rising.
     pub(crate) fn of(&self, message: u32) -> &[u32]
-        ensures { result.now ≡ folders_at self.now message }
+        ensures { result.now ≡ folders_listing self.now message }
     {
         match self.folders.get(&message) {
             Some(folders) => folders,
@@ -101,7 +101,7 @@ impl Listings {
 #[tactic(auto, unfolding(crate::specs::Messages::listed_in), using(crate::proofs::ListingLemmas::folder_noted, crate::proofs::ListingLemmas::folders_noted))]
 pub(crate) fn listings_of(alloc: Global, intact: &Intact) -> Result<Listings, AllocError>
     ensures { let i = intact.now in
-        IfOk result (λ l. (nid : ℕ) → folders_at l nid
+        IfOk result (λ l. (nid : ℕ) → folders_listing l nid
         ≡ listed_in (table_of_intact i) (nodes_of_intact i) nid) }
 {
     let mut listings = Listings::new(alloc);

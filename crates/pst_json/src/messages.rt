@@ -6,9 +6,9 @@ ghost use Rattle.pst_ndb.specs.Views.{table_of_node, roots_of, nid_of, top_of};
 ghost use Rattle.pst_intact.specs.View.{table_of_intact, nodes_of_intact};
 ghost use Rattle.pst_value_json.specs.pst_pc.View.{node_of_pc};
 ghost use Rattle.pst_verify.specs.pst_msg.View.{node_of_message, message_roots};
-ghost use Rattle.pst_value_json.specs.pst_text.Line.{line_of};
+ghost use Rattle.pst_value_json.specs.pst_text.Line.{data_line};
 ghost use Rattle.pst_props.specs.LastIndex.{IsLastIndex};
-ghost use Rattle.pst_json.specs.Listings.{folders_at};
+ghost use Rattle.pst_json.specs.Listings.{folders_listing};
 ghost use Rattle.pst_json.specs.Messages.{time_property, number_property, summary_data, messages_text as text_of_messages};
 ghost use Rattle.pst_json.specs.RowCounts.{AreCountsTrue, IsHeld};
 
@@ -17,7 +17,6 @@ use crate::nid_lists::put_nid_list;
 use crate::row_counts::{Held, RowCounts};
 use crate::texts::{CLASS, SENDER, SUBJECT, put_text_property};
 use pst_intact::Intact;
-use pst_msg::known_message;
 use pst_props::LastIndex;
 use pst_value_json::{
     Pc, PropType, put_i32_or_null, put_natural, put_nid, put_null, put_time_or_null,
@@ -109,7 +108,7 @@ fn put_shown(
 const VALUES: u64 = 6;
 
 // Puts the line of a message behind a text.
-#[tactic(auto, unfolding(pst_text::specs::Line::line_of))]
+#[tactic(auto, unfolding(pst_text::specs::Line::data_line))]
 fn put_summary(
     alloc: Global,
     message: Message,
@@ -126,12 +125,11 @@ fn put_summary(
     ensures put { let t = table_of_node (node_of_message message.entry) in
         let r = message_roots message.entry in
         OnOk result (text.new.items ≡ text.old.items
-        ++ line_of (summary_data t r (folders_at listings.now r.top))) }
+        ++ data_line (summary_data t r (folders_listing listings.now r.top))) }
 {
     let held = counts.held_by(message)?;
     index.turn(alloc, message.node(), VALUES)?;
-    message.is_sound();
-    let lent = known_message(index.lend(message.node()));
+    let lent = index.lend_message(message);
     put_shown(alloc, lent, held, listings.of(message.nid()), text)?;
     text.push(b'\n')?;
     Ok(())

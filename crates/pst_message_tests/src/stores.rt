@@ -3,6 +3,7 @@
 mod attached;
 mod bodies;
 mod folders;
+mod indexed;
 mod names;
 mod reached;
 

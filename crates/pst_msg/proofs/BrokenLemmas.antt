@@ -16,7 +16,7 @@ use Rattle.pst_msg.specs.declared.known.Known.{Known}
 use Rattle.pst_msg.specs.declared.role.Role.TheVariants.{Properties}
 use Rattle.pst_mail.specs.Fault.{held_fault, message_at, below_message}
 use Rattle.pst_msg.specs.Known.{IsTrueOf}
-use Rattle.pst_msg.specs.Frames.{left_of, holder_of, IsFrame, IsBelow, IsStack, IsBrokenBy, AreBrokenBy, WaitFor}
+use Rattle.pst_msg.specs.Frames.{left_of, holder_of, IsFrame, IsBelowMessage, IsStack, IsBrokenBy, AreBrokenBy, WaitFor}
 use Rattle.pst_msg.proofs.GrowLemmas.{by_first}
 use Rattle.pst_mail.proofs.LimitLemmas.{held_limit}
 use Rattle.pst_msg.proofs.OpenLemmas.{message_held}
@@ -31,8 +31,8 @@ whole_first t limit node e same sound first =
 broken_here : (t : Table) (k : Known) (now : Option Fault) (waits : Option Roots) (f : Frame) (e : Fault) → IsTrueOf t k → IsFirst now e → IsFrame t k now waits f → IsBrokenBy t e f
 broken_here t k now waits f e known refused is = (is.table, whole_first t f.limit f.node e is.table is.sound (rw is.first (is_first_then now (left_of t f) e refused)))
 
-below_broken : (t : Table) (root : Roots) (k : Known) (r : Roots) (limit : ℕ) (waits : Option Roots) (below : List Frame) (e : Fault) → IsTrueOf t k → IsFirst (message_at t limit r) e → IsBelow t root k r limit waits below → AreBrokenBy t e below
-unfolding IsBelow
+below_broken : (t : Table) (root : Roots) (k : Known) (r : Roots) (limit : ℕ) (waits : Option Roots) (below : List Frame) (e : Fault) → IsTrueOf t k → IsFirst (message_at t limit r) e → IsBelowMessage t root k r limit waits below → AreBrokenBy t e below
+unfolding IsBelowMessage
 below_broken t root k r limit waits [] e known refused is g within = absurd (omega (arith, within.1))
 below_broken t root k r limit waits (f ∷ below) e known refused is g within =
     let frame = is.0 in

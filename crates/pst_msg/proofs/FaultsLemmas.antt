@@ -92,7 +92,7 @@ role_retold t Recipients q nid f is = table_retold t q nid f is
 role_retold t Attachments q nid f is = table_retold t q nid f is
 
 -- a context, as the part with the number of its role
-role_again : (t : Table) (role : Role) (q : Key) (nid : ℕ) → q.1 ≡ role_number role → context_part t q nid ≡ role_fault t role (roots_at q nid)
+pub role_again : (t : Table) (role : Role) (q : Key) (nid : ℕ) → q.1 ≡ role_number role → context_part t q nid ≡ role_fault t role (roots_at q nid)
 role_again t role q nid number = ap (λ (x : Role). role_fault t x (roots_at q nid)) (ap role_with number ∙ role_back role)
 
 pub context_keep : (t : Table) (role : Role) (q : Key) (r : Roots) (answer : Result (Unit {0}) Fault) → roots_at q r.top ≡ r → q.1 ≡ role_number role → Tells answer (role_fault t role r) tt → (f : Fault) → answer ≡ Err f → IsTold f → IsFaultOf at_node (context_part t) q f

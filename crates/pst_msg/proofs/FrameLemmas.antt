@@ -16,7 +16,7 @@ use Rattle.pst_ndb.specs.declared.node.Node.{Node}
 use Rattle.pst_ndb.specs.Roots.{Roots}
 use Rattle.pst_ndb.specs.Views.{table_of_node, roots_of}
 use Rattle.pst_msg.specs.declared.rest.Rest.{Rest}
-use Rattle.pst_msg.specs.Rest.{rows_left}
+use Rattle.pst_msg.specs.Rest.{rows_of_table_left}
 use Rattle.pst_tc.specs.Values.{RowParts}
 use Rattle.pst_msg.specs.declared.frame.Frame.{Frame}
 use Rattle.pst_msg.specs.declared.known.Known.{Known}
@@ -27,7 +27,7 @@ use Rattle.pst_mail.specs.Grammar.{IsAttachmentRow}
 use Rattle.pst_msg.specs.Growth.{Grows}
 use Rattle.pst_msg.specs.Known.{WholeIn, NamedIn, HeldIn, IsTrueOf}
 use Rattle.pst_msg.specs.Steps.{frame_steps}
-use Rattle.pst_msg.specs.Frames.{left_of, holder_of, IsWaited, IsFrame, IsHolder, HasHolder, HolderIn, Reaches, IsBelow, IsStack, IsOpened, AttachmentKnown, IsRowKnown, IsRowOpened, with_rest, IsWentOn}
+use Rattle.pst_msg.specs.Frames.{left_of, holder_of, IsWaited, IsFrame, IsHolder, HasHolder, HolderIn, ComesWith, IsBelowMessage, IsStack, IsMessageOpened, AttachmentKnown, IsRowKnown, IsRowOpened, with_rest, IsWentOn}
 use Rattle.pst_msg.proofs.CountLemmas.{grows_of, grows_then}
 use Rattle.pst_msg.proofs.GrowLemmas.{by_first}
 use Rattle.pst_msg.proofs.KnownLemmas.{known_message}
@@ -55,15 +55,15 @@ some_later t H a b r (Some node) g is = record { table = is.table; properties = 
 pub holder_later : (t : Table) (H : List NodeEntry → Type 0) (a b : Known) (f : Frame) → Grows t H a b → HasHolder t a f → HasHolder t b f
 holder_later t H a b f g is = some_later t H a b (roots_of f.node) f.holder g is
 
-pub below_later : (t : Table) (H : List NodeEntry → Type 0) (root : Roots) (a b : Known) (r : Roots) (limit : ℕ) (waits : Option Roots) (below : List Frame) → Grows t H a b → IsBelow t root a r limit waits below → IsBelow t root b r limit waits below
-unfolding IsBelow
+pub below_later : (t : Table) (H : List NodeEntry → Type 0) (root : Roots) (a b : Known) (r : Roots) (limit : ℕ) (waits : Option Roots) (below : List Frame) → Grows t H a b → IsBelowMessage t root a r limit waits below → IsBelowMessage t root b r limit waits below
+unfolding IsBelowMessage
 below_later t H root a b r limit waits [] g is = is
 below_later t H root a b r limit waits (f ∷ below) g is = (frame_later t H a b (message_at t limit r) waits f g is.0, holder_later t H a b f g is.1, is.2, below_later t H root a b (roots_of f.node) f.limit (holder_of f) below g is.3)
 
 -- ---- a fault
 
-pub below_refused : (t : Table) (root : Roots) (k : Known) (r : Roots) (limit : ℕ) (waits : Option Roots) (below : List Frame) (e : Fault) → IsTrueOf t k → IsFirst (message_at t limit r) e → IsBelow t root k r limit waits below → IsFirst (message_fault t root) e
-unfolding IsBelow
+pub below_refused : (t : Table) (root : Roots) (k : Known) (r : Roots) (limit : ℕ) (waits : Option Roots) (below : List Frame) (e : Fault) → IsTrueOf t k → IsFirst (message_at t limit r) e → IsBelowMessage t root k r limit waits below → IsFirst (message_fault t root) e
+unfolding IsBelowMessage
 below_refused t root k r limit waits [] e known refused is = let same : message_at t limit r ≡ message_fault t root = rw (is.0, is.1) refl in rw (← same) refused
 below_refused t root k r limit waits (f ∷ below) e known refused is =
     let frame = is.0 in
@@ -93,8 +93,8 @@ frame_done t k now waits f none whole is = record {
   ];
 }
 
-below_done : (t : Table) (root : Roots) (k : Known) (r : Roots) (limit : ℕ) (waits : Option Roots) (below : List Frame) → message_at t limit r ≡ None → WholeIn k.messages r → ((a : Roots) → waits ≡ Some a → WholeIn k.attachments a) → IsBelow t root k r limit waits below → IsStack t root k below
-unfolding IsBelow IsStack
+below_done : (t : Table) (root : Roots) (k : Known) (r : Roots) (limit : ℕ) (waits : Option Roots) (below : List Frame) → message_at t limit r ≡ None → WholeIn k.messages r → ((a : Roots) → waits ≡ Some a → WholeIn k.attachments a) → IsBelowMessage t root k r limit waits below → IsStack t root k below
+unfolding IsBelowMessage IsStack
 below_done t root k r limit waits [] none there whole is = rw (← is.0) there
 below_done t root k r limit waits (f ∷ below) none there whole is = (frame_done t k (message_at t limit r) waits f none whole is.0, is.1, is.2, is.3)
 
@@ -110,9 +110,9 @@ stack_popped t H root old k f below is g known there whole =
 -- ---- a message is put above another
 
 pub stack_pushed : (t : Table) (H : List NodeEntry → Type 0) (root : Roots) (old k : Known) (f new above : Frame) (below : List Frame) → IsStack t root old (f ∷ below) → Grows t H old k → IsWentOn t k f new above → IsStack t root k (above ∷ new ∷ below)
-unfolding IsStack IsBelow
+unfolding IsStack IsBelowMessage
 stack_pushed t H root old k f new above below is g on =
-    let later : IsBelow t root k (roots_of f.node) f.limit (holder_of f) below = below_later t H root old k (roots_of f.node) f.limit (holder_of f) below g is.3 in
+    let later : IsBelowMessage t root k (roots_of f.node) f.limit (holder_of f) below = below_later t H root old k (roots_of f.node) f.limit (holder_of f) below g is.3 in
     let held : HasHolder t k f = holder_later t H old k f g is.1 in
     (on.upper, on.held, λ nodes h. on.reached nodes (is.2 nodes h), (on.frame, rw (on.holder, on.roots) held, rw on.roots is.2, rw (on.roots, on.limit, on.holder) later))
 
@@ -125,32 +125,32 @@ stack_refused t root k f below e known refused is = below_refused t root k (root
 row_contains : (x : RowParts) (xs rest : List RowParts) → xs ≡ x ∷ rest → Contains xs x
 row_contains x xs rest is = rw is (contains_here x rest)
 
-pub row_of_frame : (t : Table) (k : Known) (f : Frame) (rest : Rest) (x : RowParts) → rows_left f.rest ≡ x ∷ rows_left rest → IsFrame t k None None f → IsAttachmentRow t (roots_of f.node) x
-row_of_frame t k f rest x rows is = is.within x (row_contains x (rows_left f.rest) (rows_left rest) rows)
+pub row_of_frame : (t : Table) (k : Known) (f : Frame) (rest : Rest) (x : RowParts) → rows_of_table_left f.rest ≡ x ∷ rows_of_table_left rest → IsFrame t k None None f → IsAttachmentRow t (roots_of f.node) x
+row_of_frame t k f rest x rows is = is.within x (row_contains x (rows_of_table_left f.rest) (rows_of_table_left rest) rows)
 
 -- what is left is that of the row, and then of the rows after it
-row_left : (t : Table) (f : Frame) (rest : Rest) (x : RowParts) → rows_left f.rest ≡ x ∷ rows_left rest → left_of t f ≡ (attachment_row_fault t (below_message t f.limit) (roots_of f.node) f.bid x then left_of t (with_rest f rest))
+row_left : (t : Table) (f : Frame) (rest : Rest) (x : RowParts) → rows_of_table_left f.rest ≡ x ∷ rows_of_table_left rest → left_of t f ≡ (attachment_row_fault t (below_message t f.limit) (roots_of f.node) f.bid x then left_of t (with_rest f rest))
 unfolding first_of
 row_left t f rest x rows = ap (λ xs. first_of (attachment_row_fault t (below_message t f.limit) (roots_of f.node) f.bid) xs) rows
 
 -- a row is left, or named, or the one that is gone through
-rows_step : (t : Table) (k : Known) (waits : Option Roots) (f : Frame) (rest : Rest) (x : RowParts) → rows_left f.rest ≡ x ∷ rows_left rest → IsFrame t k None None f → NamedIn t k.attachments (roots_of f.node) x ⊎ IsWaited waits t (roots_of f.node) x → (y : RowParts) → IsAttachmentRow t (roots_of f.node) y → NamedIn t k.attachments (roots_of f.node) y ⊎ (IsWaited waits t (roots_of f.node) y ⊎ Contains (rows_left rest) y)
+rows_step : (t : Table) (k : Known) (waits : Option Roots) (f : Frame) (rest : Rest) (x : RowParts) → rows_of_table_left f.rest ≡ x ∷ rows_of_table_left rest → IsFrame t k None None f → NamedIn t k.attachments (roots_of f.node) x ⊎ IsWaited waits t (roots_of f.node) x → (y : RowParts) → IsAttachmentRow t (roots_of f.node) y → NamedIn t k.attachments (roots_of f.node) y ⊎ (IsWaited waits t (roots_of f.node) y ⊎ Contains (rows_of_table_left rest) y)
 rows_step t k waits f rest x rows is here y row =
     elim (is.attachments y row) [
       | inl there ↦ inl there
       | inr (inl never) ↦ absurd never
-      | inr (inr left) ↦ elim (by_first (λ z. x ≡ z) x y (rows_left rest) refl (rw rows at left)) [
+      | inr (inr left) ↦ elim (by_first (λ z. x ≡ z) x y (rows_of_table_left rest) refl (rw rows at left)) [
         | inl one ↦ elim here [ inl there ↦ inl (rw (← one) there) | inr waited ↦ inr (inl (rw (← one) waited)) ]
         | inr later ↦ inr (inr later)
       ]
     ]
 
-with_row : (t : Table) (k : Known) (now : Option Fault) (waits : Option Roots) (f : Frame) (rest : Rest) (x : RowParts) → rows_left f.rest ≡ x ∷ rows_left rest → IsFrame t k None None f → attachment_row_fault t (below_message t f.limit) (roots_of f.node) f.bid x ≡ now → NamedIn t k.attachments (roots_of f.node) x ⊎ IsWaited waits t (roots_of f.node) x → IsFrame t k now waits (with_rest f rest)
+with_row : (t : Table) (k : Known) (now : Option Fault) (waits : Option Roots) (f : Frame) (rest : Rest) (x : RowParts) → rows_of_table_left f.rest ≡ x ∷ rows_of_table_left rest → IsFrame t k None None f → attachment_row_fault t (below_message t f.limit) (roots_of f.node) f.bid x ≡ now → NamedIn t k.attachments (roots_of f.node) x ⊎ IsWaited waits t (roots_of f.node) x → IsFrame t k now waits (with_rest f rest)
 with_row t k now waits f rest x rows is first here = record {
   table = is.table;
   sound = is.sound;
   first = is.first ∙ row_left t f rest x rows ∙ ap (λ o. o then left_of t (with_rest f rest)) first;
-  within = λ y w. is.within y (rw rows (contains_later x y (rows_left rest) w));
+  within = λ y w. is.within y (rw rows (contains_later x y (rows_of_table_left rest) w));
   properties = is.properties;
   recipients = is.recipients;
   tables = is.tables;
@@ -158,20 +158,20 @@ with_row t k now waits f rest x rows is first here = record {
 }
 
 -- one that is remembered
-pub frame_step : (t : Table) (H : List NodeEntry → Type 0) (a b : Known) (f : Frame) (rest : Rest) (x : RowParts) → Grows t H a b → IsFrame t a None None f → rows_left f.rest ≡ x ∷ rows_left rest → IsRowKnown t b (roots_of f.node) f.limit f.bid x → IsFrame t b None None (with_rest f rest)
+pub frame_step : (t : Table) (H : List NodeEntry → Type 0) (a b : Known) (f : Frame) (rest : Rest) (x : RowParts) → Grows t H a b → IsFrame t a None None f → rows_of_table_left f.rest ≡ x ∷ rows_of_table_left rest → IsRowKnown t b (roots_of f.node) f.limit f.bid x → IsFrame t b None None (with_rest f rest)
 frame_step t H a b f rest x g is rows known = with_row t b None None f rest x rows (frame_later t H a b None None f g is) known.first (inl known.there)
 
-pub fewer_left : (t : Table) (f : Frame) (rest : Rest) (x : RowParts) (most : ℕ) → rows_left f.rest ≡ x ∷ rows_left rest → frame_steps t f ≤ most → frame_steps t (with_rest f rest) ≤ most
+pub fewer_left : (t : Table) (f : Frame) (rest : Rest) (x : RowParts) (most : ℕ) → rows_of_table_left f.rest ≡ x ∷ rows_of_table_left rest → frame_steps t f ≤ most → frame_steps t (with_rest f rest) ≤ most
 fewer_left t f rest x most rows h = omega (arith, h, fewer_steps t f rest x rows)
 
 -- one with a fault
-pub frame_refused : (t : Table) (k : Known) (f : Frame) (rest : Rest) (x : RowParts) (e : Fault) → IsTrueOf t k → IsFrame t k None None f → rows_left f.rest ≡ x ∷ rows_left rest → IsFirst (attachment_row_fault t (below_message t f.limit) (roots_of f.node) f.bid x) e → IsFirst (message_at t f.limit (roots_of f.node)) e
+pub frame_refused : (t : Table) (k : Known) (f : Frame) (rest : Rest) (x : RowParts) (e : Fault) → IsTrueOf t k → IsFrame t k None None f → rows_of_table_left f.rest ≡ x ∷ rows_of_table_left rest → IsFirst (attachment_row_fault t (below_message t f.limit) (roots_of f.node) f.bid x) e → IsFirst (message_at t f.limit (roots_of f.node)) e
 frame_refused t k f rest x e known is rows refused =
     rw (message_held t f.limit (roots_of f.node) (known.contexts Properties (roots_of f.node) is.properties), is.first, row_left t f rest x rows)
     (is_first_then (attachment_row_fault t (below_message t f.limit) (roots_of f.node) f.bid x) (left_of t (with_rest f rest)) e refused)
 
 -- one in whose attachment there is a message to be gone through first
-pub frame_opened : (t : Table) (H : List NodeEntry → Type 0) (a b : Known) (old f : Frame) (rest : Rest) (x : RowParts) (above : Frame) → Grows t H a b → IsFrame t a None None f → rows_left f.rest ≡ x ∷ rows_left rest → IsRowOpened t b (roots_of f.node) f.limit f.bid x above → roots_of f.node ≡ roots_of old.node → f.limit ≡ old.limit → f.holder ≡ old.holder → frame_steps t f ≤ frame_steps t old → IsWentOn t b old (with_rest f rest) above
+pub frame_opened : (t : Table) (H : List NodeEntry → Type 0) (a b : Known) (old f : Frame) (rest : Rest) (x : RowParts) (above : Frame) → Grows t H a b → IsFrame t a None None f → rows_of_table_left f.rest ≡ x ∷ rows_of_table_left rest → IsRowOpened t b (roots_of f.node) f.limit f.bid x above → roots_of f.node ≡ roots_of old.node → f.limit ≡ old.limit → f.holder ≡ old.holder → frame_steps t f ≤ frame_steps t old → IsWentOn t b old (with_rest f rest) above
 frame_opened t H a b old f rest x above g is rows one roots limit holder steps =
     let waited : IsWaited (holder_of above) t (roots_of f.node) x = rw one.holder one.found in
     let row : IsAttachmentRow t (roots_of f.node) x = row_of_frame t a f rest x rows is in
@@ -187,11 +187,11 @@ frame_opened t H a b old f rest x above g is rows one roots limit holder steps =
     }
 
 -- a message of which no row is left
-pub held_done : (t : Table) (k : Known) (f : Frame) → IsFrame t k None None f → rows_left f.rest ≡ [] → held_fault t (below_message t f.limit) (roots_of f.node) ≡ None
+pub held_done : (t : Table) (k : Known) (f : Frame) → IsFrame t k None None f → rows_of_table_left f.rest ≡ [] → held_fault t (below_message t f.limit) (roots_of f.node) ≡ None
 unfolding first_of
 held_done t k f is rows = is.first ∙ ap (λ xs. first_of (attachment_row_fault t (below_message t f.limit) (roots_of f.node) f.bid) xs) rows
 
-pub held_in : (t : Table) (k : Known) (f : Frame) → IsFrame t k None None f → rows_left f.rest ≡ [] → HeldIn t k (roots_of f.node)
+pub held_in : (t : Table) (k : Known) (f : Frame) → IsFrame t k None None f → rows_of_table_left f.rest ≡ [] → HeldIn t k (roots_of f.node)
 held_in t k f is rows = record {
   recipients = is.recipients;
   tables = is.tables;
@@ -218,8 +218,8 @@ none_held : (t : Table) (k : Known) (r : Roots) (o : Option Node) → o ≡ None
 none_held t k r None e = tt
 none_held t k r (Some a) e = cc
 
-pub stack_begins : (t : Table) (k : Known) (root : Roots) (f : Frame) → IsOpened t k root LISTS None f → IsStack t root k (f ∷ [])
-unfolding IsStack IsBelow
+pub stack_begins : (t : Table) (k : Known) (root : Roots) (f : Frame) → IsMessageOpened t k root LISTS None f → IsStack t root k (f ∷ [])
+unfolding IsStack IsBelowMessage
 stack_begins t k root f is = (is.frame, none_held t k (roots_of f.node) f.holder is.in_holder, rw is.roots (λ nodes h. h), (is.roots, is.nests))
 
 -- ---- what the calls need
@@ -234,7 +234,7 @@ pub row_of_message : (t : Table) (r : Roots) (x : RowParts) (a b c : Known) → 
 row_of_message t r x a b c row g h = grows_then t (λ nodes. HasMessage t nodes r) a b c g (grows_of t (λ nodes. HasMessage t nodes r × IsAttachmentRow t r x) (λ nodes. HasMessage t nodes r) b c (λ nodes held. (held, row)) h)
 
 -- the rows that are left, told by another iterator
-pub frame_same : (t : Table) (k : Known) (f : Frame) (rest : Rest) → rows_left rest ≡ rows_left f.rest → IsFrame t k None None f → IsFrame t k None None (with_rest f rest)
+pub frame_same : (t : Table) (k : Known) (f : Frame) (rest : Rest) → rows_of_table_left rest ≡ rows_of_table_left f.rest → IsFrame t k None None f → IsFrame t k None None (with_rest f rest)
 frame_same t k f rest same is = record {
   table = is.table;
   sound = is.sound;
@@ -254,13 +254,13 @@ frame_same t k f rest same is = record {
 pub record IsTop (t : Table) (root : Roots) (k : Known) (f : Frame) : Type 0 where
   pub frame : IsFrame t k None None f
   pub holder : HasHolder t k f
-  pub reached : Reaches t root (roots_of f.node)
+  pub reached : ComesWith t root (roots_of f.node)
 
 pub stack_top : (t : Table) (root : Roots) (k : Known) (f : Frame) (below : List Frame) → IsStack t root k (f ∷ below) → IsTop t root k f
 unfolding IsStack
 stack_top t root k f below is = record { frame = is.0; holder = is.1; reached = is.2 }
 
-pub turn_grows : (t : Table) (root r : Roots) (a b c : Known) → Reaches t root r → Grows t (λ nodes. HasMessage t nodes root) a b → Grows t (λ nodes. HasMessage t nodes r) b c → Grows t (λ nodes. HasMessage t nodes root) a c
+pub turn_grows : (t : Table) (root r : Roots) (a b c : Known) → ComesWith t root r → Grows t (λ nodes. HasMessage t nodes root) a b → Grows t (λ nodes. HasMessage t nodes r) b c → Grows t (λ nodes. HasMessage t nodes root) a c
 turn_grows t root r a b c reached g h = grows_then t (λ nodes. HasMessage t nodes root) a b c g (grows_of t (λ nodes. HasMessage t nodes r) (λ nodes. HasMessage t nodes root) b c reached h)
 
 pub stack_ends : (t : Table) (root : Roots) (k : Known) → IsStack t root k [] → WholeIn k.messages root
@@ -268,7 +268,7 @@ unfolding IsStack
 stack_ends t root k is = is
 
 -- one is gone on with, and the others wait for it
-pub stack_begun : (t : Table) (k : Known) (root : Roots) (all : List Frame) (f : Frame) → all ≡ [] → IsOpened t k root LISTS None f → IsStack t root k (f ∷ reverse all)
+pub stack_begun : (t : Table) (k : Known) (root : Roots) (all : List Frame) (f : Frame) → all ≡ [] → IsMessageOpened t k root LISTS None f → IsStack t root k (f ∷ reverse all)
 stack_begun t k root all f is opened = rw is (stack_begins t k root f opened)
 
 pub one_pushed : (t : Table) (H : List NodeEntry → Type 0) (root : Roots) (old k : Known) (all new : List Frame) (f below above : Frame) → new ≡ all ++ (below ∷ []) → IsStack t root old (f ∷ reverse all) → Grows t H old k → IsWentOn t k f below above → IsStack t root k (above ∷ reverse new)

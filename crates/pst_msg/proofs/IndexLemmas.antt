@@ -15,9 +15,9 @@ use Rattle.pst_msg.specs.declared.list_index.ListIndex.{ListIndex}
 use Rattle.pst_msg.specs.ListIndex.{IsIndexIn}
 
 -- that of a node is one of each node with the same list
-pub index_of_list : (node : Node) (index : SubIndex) (list asked times : ℕ) → IsIndexedBy node index → list ≡ bid_key (sub_bid_of node) → IsIndexIn (table_of_node node) (record { list = list; index = index; asked = asked; times = times })
+pub index_of_list : (node : Node) (index : SubIndex) (list : ℕ) → IsIndexedBy node index → list ≡ bid_key (sub_bid_of node) → IsIndexIn (table_of_node node) (record { list = list; index = index })
 unfolding IsIndexIn
-index_of_list node index list asked times is same bid e = index_of_key (table_of_node node) (sub_bid_of node) bid index (sym (e ∙ same)) is
+index_of_list node index list is same bid e = index_of_key (table_of_node node) (sub_bid_of node) bid index (sym (e ∙ same)) is
 
 pub indexed_by : (node : Node) (i : ListIndex) → IsIndexIn (table_of_node node) i → bid_key (sub_bid_of node) ≡ i.list → IsIndexedBy node i.index
 unfolding IsIndexIn

@@ -13,11 +13,13 @@ pub mod KeyOrderLemmas
 pub mod AloneLemmas
 pub mod KeyLemmas
 pub mod IndexLemmas
+pub mod SubIndexesLemmas
 pub mod HeldLemmas
 pub mod RowCountLemmas
 pub mod KnownLemmas
 pub mod AidLemmas
 pub mod FaultsLemmas
+pub mod DataFaultLemmas
 pub mod RetoldLemmas
 pub mod AskedLemmas
 pub mod ListingLemmas

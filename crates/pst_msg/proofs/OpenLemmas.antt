@@ -16,7 +16,7 @@ use Rattle.pst_ndb.specs.Roots.{Roots, subnode_of}
 use Rattle.pst_ndb.specs.Views.{table_of_node, sub_bid_of, roots_of}
 use Rattle.pst_pc.specs.Fault.{pc_fault}
 use Rattle.pst_tc.specs.Fault.{tc_fault}
-use Rattle.pst_msg.specs.Rest.{rows_left}
+use Rattle.pst_msg.specs.Rest.{rows_of_table_left}
 use Rattle.pst_tc.specs.Values.{RowParts, tc_rows}
 use Rattle.pst_msg.specs.declared.frame.Frame.{Frame}
 use Rattle.pst_msg.specs.declared.known.Known.{Known}
@@ -30,7 +30,7 @@ use Rattle.pst_msg.specs.Growth.{Grows}
 use Rattle.pst_msg.specs.Known.{ContextIn, WholeIn, IsTrueOf}
 use Rattle.pst_mail.specs.Values.{embedded_of}
 use Rattle.pst_msg.specs.Steps.{message_steps}
-use Rattle.pst_msg.specs.Frames.{IsOpened, IsObjectOpened, AttachmentKnown, IsAttachmentOpened, IsRowKnown, IsRowOpened}
+use Rattle.pst_msg.specs.Frames.{IsMessageOpened, IsObjectOpened, AttachmentKnown, IsAttachmentOpened, IsRowKnown, IsRowOpened}
 use Rattle.pst_msg.proofs.CountLemmas.{grows_of}
 use Rattle.pst_msg.proofs.KnownLemmas.{known_attachment}
 use Rattle.pst_mail.proofs.LimitLemmas.{message_limit, held_limit}
@@ -93,7 +93,7 @@ held_without t below r recipients is =
     then_none (if_there (tc_fault t) (subnode_of t r RECIPIENTS)) (if_there (attachments_fault t below r) (subnode_of t r ATTACHMENTS)) recipients
     ∙ ap (λ o. if_there (attachments_fault t below r) o) (sym is)
 
-pub opened : (t : Table) (k : Known) (f : Frame) (table : Roots) → table_of_node f.node ≡ t → sub_fault t f.limit (sub_bid_of f.node) ≡ None → if_there (tc_fault t) (subnode_of t (roots_of f.node) RECIPIENTS) ≡ None → subnode_of t (roots_of f.node) ATTACHMENTS ≡ Some table → tc_fault t table ≡ None → f.bid ≡ table.bid_data → rows_left f.rest ≡ tc_rows t table → ContextIn k Properties (roots_of f.node) → ((s : Roots) → subnode_of t (roots_of f.node) RECIPIENTS ≡ Some s → ContextIn k Recipients s) → ContextIn k Attachments table → IsOpened t k (roots_of f.node) f.limit f.holder f
+pub opened : (t : Table) (k : Known) (f : Frame) (table : Roots) → table_of_node f.node ≡ t → sub_fault t f.limit (sub_bid_of f.node) ≡ None → if_there (tc_fault t) (subnode_of t (roots_of f.node) RECIPIENTS) ≡ None → subnode_of t (roots_of f.node) ATTACHMENTS ≡ Some table → tc_fault t table ≡ None → f.bid ≡ table.bid_data → rows_of_table_left f.rest ≡ tc_rows t table → ContextIn k Properties (roots_of f.node) → ((s : Roots) → subnode_of t (roots_of f.node) RECIPIENTS ≡ Some s → ContextIn k Recipients s) → ContextIn k Attachments table → IsMessageOpened t k (roots_of f.node) f.limit f.holder f
 opened t k f table same sound recipients is none bid rows properties recipients_in there =
     let part = λ (b : ℕ). attachment_row_fault t (below_message t f.limit) (roots_of f.node) b in
     record {
@@ -140,9 +140,9 @@ unfolding embedded_fault
 object_refused t u limit r o s e same some found is = rw (← found, below_attachment_is t limit s some, ← same) is
 
 -- the message that an object names is put on the stack
-pub object_opened : (t u : Table) (k : Known) (a sub : Node) (limit : ℕ) (o : Object) (f : Frame) → u ≡ t → 0 < limit → Some (roots_of sub) ≡ subnode_of t (roots_of a) o.nid → IsOpened u k (roots_of sub) (limit - 1) (Some a) f → IsObjectOpened t k a limit o f
+pub object_opened : (t u : Table) (k : Known) (a sub : Node) (limit : ℕ) (o : Object) (f : Frame) → u ≡ t → 0 < limit → Some (roots_of sub) ≡ subnode_of t (roots_of a) o.nid → IsMessageOpened u k (roots_of sub) (limit - 1) (Some a) f → IsObjectOpened t k a limit o f
 object_opened t u k a sub limit o f same some found of_u =
-    let is : IsOpened t k (roots_of sub) (limit - 1) (Some a) f = rw (← same) of_u in
+    let is : IsMessageOpened t k (roots_of sub) (limit - 1) (Some a) f = rw (← same) of_u in
     let steps : message_steps t f.limit (roots_of f.node) ≡ message_steps t (limit - 1) (roots_of sub) = rw (is.nests, is.roots) refl in
     record {
       found = sym found ∙ ap (λ r. Some r) (sym is.roots);

@@ -6,7 +6,7 @@ use Rattle.pst_block.specs.Table.{Table}
 use Rattle.pst_ndb.specs.Roots.{Roots, subnode_of}
 use Rattle.pst_ndb.specs.Views.{roots_of}
 use Rattle.pst_msg.specs.declared.rest.Rest.{Rest}
-use Rattle.pst_msg.specs.Rest.{rows_left}
+use Rattle.pst_msg.specs.Rest.{rows_of_table_left}
 use Rattle.pst_tc.specs.Values.{RowParts, tc_rows}
 use Rattle.pst_msg.specs.declared.frame.Frame.{Frame}
 use Rattle.pst_mail.specs.declared.nid.TheConstants.{ATTACHMENTS}
@@ -39,7 +39,7 @@ rows_of_part : (t : Table) (below : Roots → ℕ) (r table : Roots) → subnode
 unfolding message_part_steps attachment_rows
 rows_of_part t below r table is = ap (λ o. 1 + sum_by (row_steps t below r) (rows_there t o)) is
 
-pub opened_steps : (t : Table) (f : Frame) (table : Roots) → subnode_of t (roots_of f.node) ATTACHMENTS ≡ Some table → rows_left f.rest ≡ tc_rows t table → frame_steps t f ≤ message_steps t f.limit (roots_of f.node)
+pub opened_steps : (t : Table) (f : Frame) (table : Roots) → subnode_of t (roots_of f.node) ATTACHMENTS ≡ Some table → rows_of_table_left f.rest ≡ tc_rows t table → frame_steps t f ≤ message_steps t f.limit (roots_of f.node)
 opened_steps t f table is rows =
     let same : frame_steps t f ≡ message_steps t f.limit (roots_of f.node) =
     ap (λ xs. 1 + sum_by (row_steps t (steps_below_message t f.limit) (roots_of f.node)) xs) rows
@@ -61,8 +61,8 @@ unfolding row_steps
 row_steps_is t limit r x s some found = ap (λ e. 1 + steps_there (steps_below_message t limit) e) found ∙ ap (λ n. 1 + n) (below_message_steps t limit s some)
 
 -- one row fewer is left
-pub fewer_steps : (t : Table) (f : Frame) (rest : Rest) (x : RowParts) → rows_left f.rest ≡ x ∷ rows_left rest → frame_steps t f ≡ row_steps t (steps_below_message t f.limit) (roots_of f.node) x + frame_steps t (with_rest f rest)
+pub fewer_steps : (t : Table) (f : Frame) (rest : Rest) (x : RowParts) → rows_of_table_left f.rest ≡ x ∷ rows_of_table_left rest → frame_steps t f ≡ row_steps t (steps_below_message t f.limit) (roots_of f.node) x + frame_steps t (with_rest f rest)
 fewer_steps t f rest x is =
-    let more = sum_by-cons (row_steps t (steps_below_message t f.limit) (roots_of f.node)) x (rows_left rest) in
-    let all : frame_steps t f ≡ 1 + sum_by (row_steps t (steps_below_message t f.limit) (roots_of f.node)) (x ∷ rows_left rest) = ap (λ xs. 1 + sum_by (row_steps t (steps_below_message t f.limit) (roots_of f.node)) xs) is in
+    let more = sum_by-cons (row_steps t (steps_below_message t f.limit) (roots_of f.node)) x (rows_of_table_left rest) in
+    let all : frame_steps t f ≡ 1 + sum_by (row_steps t (steps_below_message t f.limit) (roots_of f.node)) (x ∷ rows_of_table_left rest) = ap (λ xs. 1 + sum_by (row_steps t (steps_below_message t f.limit) (roots_of f.node)) xs) is in
     omega (arith, all, more)

@@ -20,6 +20,13 @@ roots_at q nid = record { top = nid; bid_data = q.0.0; bid_sub = q.0.1 }
 abbrev pub context_part : Table → Parts
 context_part t q nid = role_fault t (role_with q.1) (roots_at q nid)
 
+-- A fault of the heap of a context, or of a BTH in it, is that of each context with this data, whatever the node's list of subnodes:
+-- it is remembered by the data alone, under no list.
+abbrev pub is_of_data : Kind → Bool
+is_of_data Heap = true
+is_of_data Bth = true
+is_of_data _ = false
+
 -- a list of subnodes, as the part of it alone: what a message holds in it
 abbrev pub list_part : Roots → Key
 list_part r = ((0, r.bid_sub), 0)

@@ -12,7 +12,7 @@ use Rattle.pst_ndb.specs.declared.node.Node.{Node}
 use Rattle.pst_ndb.specs.Roots.{Roots, subnode_of}
 use Rattle.pst_ndb.specs.Views.{table_of_node, sub_bid_of, roots_of}
 use Rattle.pst_msg.specs.declared.rest.Rest.{Rest}
-use Rattle.pst_msg.specs.Rest.{rows_left}
+use Rattle.pst_msg.specs.Rest.{rows_of_table_left}
 use Rattle.pst_tc.specs.Values.{RowParts}
 use Rattle.pst_msg.specs.declared.frame.Frame.{Frame}
 use Rattle.pst_msg.specs.declared.known.Known.{Known}
@@ -30,7 +30,7 @@ use Rattle.pst_mail.specs.Values.{embedded_of}
 
 -- the first fault of the rows that are left
 abbrev pub left_of : Table → Frame → Option Fault
-left_of t f = first_of (attachment_row_fault t (below_message t f.limit) (roots_of f.node) f.bid) (rows_left f.rest)
+left_of t f = first_of (attachment_row_fault t (below_message t f.limit) (roots_of f.node) f.bid) (rows_of_table_left f.rest)
 
 -- the attachment that embeds it, where one does
 abbrev pub holder_of : Frame → Option Roots
@@ -48,13 +48,13 @@ pub record IsFrame (t : Table) (k : Known) (now : Option Fault) (waits : Option 
   pub sound : sub_fault t f.limit (sub_bid_of f.node) ≡ None
   -- the first fault of what it holds is that of what is above it, and else of its rows that are left
   pub first : held_fault t (below_message t f.limit) (roots_of f.node) ≡ (now then left_of t f)
-  pub within : (x : RowParts) → Contains (rows_left f.rest) x → IsAttachmentRow t (roots_of f.node) x
+  pub within : (x : RowParts) → Contains (rows_of_table_left f.rest) x → IsAttachmentRow t (roots_of f.node) x
   -- what it names is remembered, but for the rows that are left
   pub properties : ContextIn k Properties (roots_of f.node)
   pub recipients : (s : Roots) → subnode_of t (roots_of f.node) RECIPIENTS ≡ Some s → ContextIn k Recipients s
   pub tables : (s : Roots) → subnode_of t (roots_of f.node) ATTACHMENTS ≡ Some s → ContextIn k Attachments s
   pub attachments : (x : RowParts) → IsAttachmentRow t (roots_of f.node) x →
-      NamedIn t k.attachments (roots_of f.node) x ⊎ (IsWaited waits t (roots_of f.node) x ⊎ Contains (rows_left f.rest) x)
+      NamedIn t k.attachments (roots_of f.node) x ⊎ (IsWaited waits t (roots_of f.node) x ⊎ Contains (rows_of_table_left f.rest) x)
 
 -- an attachment embeds this message, and its own properties are remembered
 pub record IsHolder (t : Table) (k : Known) (r : Roots) (a : Node) : Type 0 where
@@ -72,19 +72,19 @@ abbrev pub HolderIn : Known → Frame → Type 0
 HolderIn k f = IfSome f.holder (λ a. WholeIn k.attachments (roots_of a))
 
 -- where a store has the one message, it has the other
-abbrev pub Reaches : Table → Roots → Roots → Type 0
-Reaches t root r = (nodes : List NodeEntry) → HasMessage t nodes root → HasMessage t nodes r
+abbrev pub ComesWith : Table → Roots → Roots → Type 0
+ComesWith t root r = (nodes : List NodeEntry) → HasMessage t nodes root → HasMessage t nodes r
 
 -- ---- all of them, the last one first
 
 -- those below a message of these roots, of this limit and in this attachment
-unfoldable pub IsBelow : Table → Roots → Known → Roots → ℕ → Option Roots → List Frame → Type 0
-IsBelow t root k r limit waits [] = (r ≡ root) × (limit ≡ LISTS)
-IsBelow t root k r limit waits (f ∷ below) =
+unfoldable pub IsBelowMessage : Table → Roots → Known → Roots → ℕ → Option Roots → List Frame → Type 0
+IsBelowMessage t root k r limit waits [] = (r ≡ root) × (limit ≡ LISTS)
+IsBelowMessage t root k r limit waits (f ∷ below) =
     IsFrame t k (message_at t limit r) waits f
     × HasHolder t k f
-    × Reaches t root (roots_of f.node)
-    × IsBelow t root k (roots_of f.node) f.limit (holder_of f) below
+    × ComesWith t root (roots_of f.node)
+    × IsBelowMessage t root k (roots_of f.node) f.limit (holder_of f) below
 
 -- Where none is left, the message at the bottom is remembered.
 unfoldable pub IsStack : Table → Roots → Known → List Frame → Type 0
@@ -92,8 +92,8 @@ IsStack t root k [] = WholeIn k.messages root
 IsStack t root k (f ∷ below) =
     IsFrame t k None None f
     × HasHolder t k f
-    × Reaches t root (roots_of f.node)
-    × IsBelow t root k (roots_of f.node) f.limit (holder_of f) below
+    × ComesWith t root (roots_of f.node)
+    × IsBelowMessage t root k (roots_of f.node) f.limit (holder_of f) below
 
 -- what a message holds, and what those hold that wait for it, have this fault
 abbrev pub IsBrokenBy : Table → Fault → Frame → Type 0
@@ -109,7 +109,7 @@ WaitFor t last stack = (e : Fault) → IsFirst (message_at t last.limit (roots_o
 -- ---- what the steps give
 
 -- a message is put on the stack: its first fault is that of the rows of its attachment table
-pub record IsOpened (t : Table) (k : Known) (r : Roots) (limit : ℕ) (holder : Option Node) (f : Frame) : Type 0 where
+pub record IsMessageOpened (t : Table) (k : Known) (r : Roots) (limit : ℕ) (holder : Option Node) (f : Frame) : Type 0 where
   pub roots : roots_of f.node ≡ r
   pub nests : f.limit ≡ limit
   pub in_holder : f.holder ≡ holder
@@ -170,5 +170,5 @@ pub record IsWentOn (t : Table) (k : Known) (old f above : Frame) : Type 0 where
   pub frame : IsFrame t k (message_at t above.limit (roots_of above.node)) (holder_of above) f
   pub upper : IsFrame t k None None above
   pub held : HasHolder t k above
-  pub reached : Reaches t (roots_of old.node) (roots_of above.node)
+  pub reached : ComesWith t (roots_of old.node) (roots_of above.node)
   pub steps : frame_steps t f + frame_steps t above < frame_steps t old

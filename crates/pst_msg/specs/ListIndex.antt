@@ -1,4 +1,4 @@
--- The index of the list of subnodes that was asked about last: of which list it is.
+-- An index of a list of subnodes: of which list it is.
 use Rattle.std.specs.Prelude.{◌≡◌, ℕ}
 use Rattle.pst_block.specs.Block.{bid_key}
 use Rattle.pst_block.specs.Table.{Table}

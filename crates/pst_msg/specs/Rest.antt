@@ -4,5 +4,5 @@ use Rattle.pst_tc.specs.Left.{tc_rows_left}
 use Rattle.pst_tc.specs.Values.{RowParts}
 use Rattle.pst_msg.specs.declared.rest.Rest.{Rest}
 
-abbrev pub rows_left : Rest → List RowParts
-rows_left rest = tc_rows_left rest.rows
+abbrev pub rows_of_table_left : Rest → List RowParts
+rows_of_table_left rest = tc_rows_left rest.rows

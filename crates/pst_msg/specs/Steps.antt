@@ -4,7 +4,7 @@ use Rattle.std.specs.Prelude.{ℕ, zero, suc, ◌+◌, Option, Some, None, sum_b
 use Rattle.pst_block.specs.Table.{Table}
 use Rattle.pst_ndb.specs.Roots.{Roots, subnode_of}
 use Rattle.pst_ndb.specs.Views.{roots_of}
-use Rattle.pst_msg.specs.Rest.{rows_left}
+use Rattle.pst_msg.specs.Rest.{rows_of_table_left}
 use Rattle.pst_tc.specs.Values.{RowParts}
 use Rattle.pst_msg.specs.declared.frame.Frame.{Frame}
 use Rattle.pst_mail.specs.declared.object.Object.{Object}
@@ -51,4 +51,4 @@ steps_below_attachment t (suc n) = message_steps t n
 
 -- what is left of a message on the stack
 abbrev pub frame_steps : Table → Frame → ℕ
-frame_steps t f = 1 + sum_by (row_steps t (steps_below_message t f.limit) (roots_of f.node)) (rows_left f.rest)
+frame_steps t f = 1 + sum_by (row_steps t (steps_below_message t f.limit) (roots_of f.node)) (rows_of_table_left f.rest)

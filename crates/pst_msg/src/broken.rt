@@ -1,8 +1,8 @@
 //! What is broken, as parts that any node may lead to.
 
-ghost use Rattle.std.specs.Prelude.{◌≡◌, true};
+ghost use Rattle.std.specs.Prelude.{◌≡◌, true, IfErr};
 ghost use Rattle.pst_ndb.specs.Views.{roots_of};
-ghost use Rattle.pst_msg.specs.Broken.{roots_at, list_part, is_of_a_context as of_a_context, retold, IsAlike};
+ghost use Rattle.pst_msg.specs.Broken.{roots_at, list_part, is_of_data as of_data, is_of_a_context as of_a_context, retold, IsAlike};
 
 use crate::faults::Part;
 use pst_fault::{Fault, Kind};
@@ -14,6 +14,34 @@ pub(crate) fn part_of(number: u64, node: Node) -> Part
     ensures number { result.1 ≡ number }
 {
     ((node.bid_data(), node.bid_sub()), number)
+}
+
+/// The data of a node as a part, whatever the node's list of subnodes, with a number.
+pub(crate) fn part_of_data(number: u64, node: Node) -> Part
+    ensures data { result.0.0 ≡ (roots_of node.entry).bid_data }
+    ensures number { result.1 ≡ number }
+{
+    ((node.bid_data(), 0), number)
+}
+
+/// Whether a fault of a context is that of each one with its data: of a heap, or of a BTH.
+pub(crate) fn is_of_data(fault: Fault) -> bool
+    ensures { result ≡ of_data fault.kind }
+{
+    match fault.kind {
+        Kind::Heap | Kind::Bth => true,
+        _ => false,
+    }
+}
+
+/// Whether a check of a context has told such a fault.
+pub(crate) fn has_broken_data(answer: &Result<(), Fault>) -> bool
+    ensures { result ≡ true → IfErr answer.now (λ f. of_data f.kind ≡ true) }
+{
+    match answer {
+        Ok(()) => false,
+        Err(fault) => is_of_data(*fault),
+    }
 }
 
 /// The list of subnodes of a node as a part, whatever the node's data.

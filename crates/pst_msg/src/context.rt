@@ -1,6 +1,6 @@
 //! The contexts, each checked once.
 
-ghost use Rattle.std.specs.Prelude.{◌≡◌, true, None, IfOk, IfErr, OnOk};
+ghost use Rattle.std.specs.Prelude.{◌≡◌, true, Some, None, IfSome, IfOk, IfErr, OnOk};
 ghost use Rattle.pst_block.specs.Block.{bid_key};
 ghost use Rattle.pst_fault.specs.Fault.{at_node, no_memory};
 ghost use Rattle.pst_fault.specs.First.{Tells};
@@ -16,7 +16,7 @@ ghost use Rattle.pst_msg.specs.Counts.{Names};
 ghost use Rattle.pst_msg.specs.Growth.{Grows};
 
 use crate::asked::Asked;
-use crate::broken::part_of;
+use crate::broken::{has_broken_data, is_of_data, part_of, part_of_data};
 use crate::faults::Faults;
 use crate::keys::{Key, key_of};
 use crate::known::Known;
@@ -48,9 +48,9 @@ fn answers_by(
     ensures memory { IfErr result (λ f. f ≡ no_memory) }
 {
     if asked.are_many(key) {
-        index.list.turn(alloc, node)?;
+        index.turn_to_list(alloc, node)?;
     }
-    Ok(asked.answers(key, role, index.list.lend(node)))
+    Ok(asked.answers(key, role, index.lists.lend(node)))
 }
 
 // Checks the context of a node, unless its data is known, by another list that was asked for the same, to have no fault.
@@ -81,7 +81,24 @@ fn check_by(
     asked.remember(alloc, role, lent)
 }
 
-// Checks the context of a node, unless it is known to have a fault; and one that it has is known from then on.
+// The fault that is known of the context of a node: of its data under its list, or of its data alone.
+fn known_fault(broken: &Faults, role: Role, node: Node) -> Option<Fault>
+    requires { AreFaultsOf at_node (context_part (table_of_node node)) broken.now }
+    ensures { let t = table_of_node node.entry in
+        IfSome result (λ f. role_fault t role (roots_of node.entry) ≡ Some f) }
+{
+    let number = role_number(role);
+    if let Some(fault) = broken.get(part_of(number, node)) {
+        return Some(fault.at_node(node.top()));
+    }
+    match broken.get(part_of_data(number, node)) {
+        Some(fault) if is_of_data(fault) => Some(fault.at_node(node.top())),
+        _ => None,
+    }
+}
+
+// Checks the context of a node, unless it is known to have a fault; and one that it has is known from then on, one of its data for
+// all contexts that have the same.
 fn check_anew(
     alloc: Global,
     role: Role,
@@ -102,12 +119,14 @@ fn check_anew(
     ensures exact { let t = table_of_node node.entry in
         Tells result (role_fault t role (roots_of node.entry)) tt }
 {
-    let part = part_of(role_number(role), node);
-    if let Some(fault) = broken.get(part) {
-        return Err(fault.at_node(node.top()));
+    if let Some(fault) = known_fault(broken, role, node) {
+        return Err(fault);
     }
     let answer = check_by(alloc, role, node, index, maps, asked);
-    broken.keep(part, answer)
+    if has_broken_data(&answer) {
+        return broken.keep(part_of_data(role_number(role), node), answer);
+    }
+    broken.keep(part_of(role_number(role), node), answer)
 }
 
 /// Checks the context of a node in a role, and counts it, unless it is remembered in that role.

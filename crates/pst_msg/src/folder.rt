@@ -101,7 +101,7 @@ fn check_table(
     match ndb.node(listing_nid(nid, items)) {
         Some(table) => {
             once(known, Role::Listed(items), table)?;
-            check_rows(ndb, items, table, listings)
+            check_rows(ndb, items, known.index.lend(table), listings)
         }
         None => Ok(()),
     }

@@ -38,8 +38,8 @@ pub(crate) struct Indexes {
     risen: u64,
 }
 
-// How many subnodes a node has.
-fn entries_of(node: Node) -> u64
+/// How many subnodes a node has.
+pub(crate) fn entries_of(node: Node) -> u64
     ensures { result ≡ capped
         (length (subs_of (table_of_node node.entry) (sub_bid_of node.entry))) }
 {

@@ -20,7 +20,7 @@ pub(crate) struct Known {
     pub(crate) attachments: Keys,
     /// Lists of subnodes: what a message holds in one is without fault.
     pub(crate) lists: Keys,
-    /// The index of the list of subnodes that was asked about last for a context, and those of the spans of data.
+    /// Indexes of the lists of subnodes that were asked about last for contexts, and of the spans of data.
     pub(crate) index: LastIndexes,
     /// Indexes of the lists of messages whose rows are being gone through.
     pub(crate) indexes: Indexes,

@@ -40,6 +40,7 @@ mod rest;
 mod rising;
 mod role;
 mod row_counts;
+mod sub_indexes;
 
 pub use check::check_messaging;
 pub use checker::Checker;
@@ -54,3 +55,4 @@ pub use pst_mail::{
     row_gives, tc_gives,
 };
 pub use role::Role;
+pub use sub_indexes::SubIndexes;

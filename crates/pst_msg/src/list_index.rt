@@ -1,4 +1,4 @@
-//! The index of the list of subnodes that was asked about last.
+//! An index of a list of subnodes.
 
 use crate::keys::cleared;
 use pst_fault::Fault;
@@ -6,20 +6,11 @@ use pst_ndb::Node;
 use pst_subnode::SubIndex;
 use std::alloc::Global;
 
-// A node whose data has more bytes than these may have so many values in subnodes that an index of them pays.
-const FEW: u64 = 512;
-
-// So many nodes with fewer bytes, one after another, ask the same list without an index.
-const OFTEN: u32 = 8;
-
 /// An index of a list of subnodes, by the identifier of its block with bit 0 cleared.
 #[derive(Drop)]
 pub(crate) struct ListIndex {
     list: u64,
     index: SubIndex,
-    // The list that was asked without an index last, and by how many nodes, one after another.
-    asked: u64,
-    times: u32,
 }
 
 impl ListIndex {
@@ -29,19 +20,6 @@ impl ListIndex {
     ghost use Rattle.pst_ndb.specs.Roots.{subnode_of};
     ghost use Rattle.pst_ndb.specs.Views.{table_of_node, nid_of, roots_of, IsIndexedBy};
     ghost use Rattle.pst_msg.specs.ListIndex.{IsIndexIn, index_in};
-
-    /// None yet.
-    #[tactic(auto, unfolding(crate::specs::ListIndex::IsIndexIn))]
-    pub(crate) fn none() -> ListIndex
-        ensures { (t : Table) → IsIndexIn t result }
-    {
-        ListIndex {
-            list: 0,
-            index: SubIndex::none(),
-            asked: 0,
-            times: 0,
-        }
-    }
 
     /// That of a node's list.
     #[tactic(auto, using(crate::proofs::IndexLemmas::index_of_list))]
@@ -53,8 +31,6 @@ impl ListIndex {
         Ok(ListIndex {
             list: cleared(node.bid_sub()),
             index,
-            asked: 0,
-            times: 0,
         })
     }
 
@@ -65,40 +41,6 @@ impl ListIndex {
         ensures { result ≡ true → IsIndexedBy node.entry (index_in self.now) }
     {
         self.list == cleared(node.bid_sub())
-    }
-
-    // Whether a list, which a node with few bytes asks, was asked so often that an index of it pays.
-    #[tactic(auto, unfolding(crate::specs::ListIndex::IsIndexIn))]
-    fn is_often_asked(&mut self, list: u64) -> bool
-        ensures { (t : Table) → IsIndexIn t self.old → IsIndexIn t self.new }
-    {
-        if self.asked != list {
-            self.asked = list;
-            self.times = 0;
-        }
-        self.times = self.times.saturating_add(1);
-        self.times > OFTEN
-    }
-
-    /// Makes the index of a node's list, where there is one and the node has long data, or many nodes asked it one after another;
-    /// unless it is that one already.
-    #[tactic(auto, using(crate::proofs::IndexLemmas::index_of_list))]
-    pub(crate) fn turn(&mut self, alloc: Global, node: Node) -> Result<(), Fault>
-        requires { IsIndexIn (table_of_node node) self.old }
-        ensures index { IsIndexIn (table_of_node node.entry) self.new }
-        ensures memory { IfErr result (λ f. f ≡ no_memory) }
-    {
-        let list = cleared(node.bid_sub());
-        if list == 0 || self.is_of(node) {
-            return Ok(());
-        }
-        if node.spans().size() <= FEW && !self.is_often_asked(list) {
-            return Ok(());
-        }
-        // The index before goes first, so that memory is taken for one.
-        *self = ListIndex::none();
-        *self = ListIndex::of(alloc, node)?;
-        Ok(())
     }
 
     /// The node, which is lent this index, where it is of the node's list.

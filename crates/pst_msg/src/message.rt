@@ -12,7 +12,7 @@ ghost use Rattle.pst_mail.specs.Fault.{held_fault, below_message, message_at, me
 ghost use Rattle.pst_msg.specs.Frames.{IsFrame, HasHolder, HolderIn, AreBrokenBy, WaitFor, IsWentOn};
 ghost use Rattle.pst_msg.specs.Growth.{Grows};
 ghost use Rattle.pst_msg.specs.Known.{WholeIn, IsTrueOf};
-ghost use Rattle.pst_msg.specs.Rest.{rows_left};
+ghost use Rattle.pst_msg.specs.Rest.{rows_of_table_left};
 
 use crate::frame::Frame;
 use crate::known::Known;
@@ -27,7 +27,7 @@ fn finish(frame: &Frame, known: &mut Known) -> Result<(), Fault>
     requires known { IsTrueOf (table_of_node frame.now.node) known.old }
     requires frame { IsFrame (table_of_node frame.now.node) known.old None None frame.now }
     requires holder { HasHolder (table_of_node frame.now.node) known.old frame.now }
-    requires done { rows_left frame.now.rest ≡ [] }
+    requires done { rows_of_table_left frame.now.rest ≡ [] }
     ensures known { IsTrueOf (table_of_node frame.now.node) known.new }
     ensures grows { Grows (table_of_node frame.now.node) (λ nodes. Unit {0}) known.old known.new }
     ensures there { OnOk result (WholeIn known.new.messages (roots_of frame.now.node)) }

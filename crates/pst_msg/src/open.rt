@@ -11,11 +11,11 @@ ghost use Rattle.pst_tc.specs.View.{row_parts};
 ghost use Rattle.pst_msg.specs.declared.role.Role.TheVariants.{Properties};
 ghost use Rattle.pst_msg.specs.Counts.{HasMessage, HasAttachment};
 ghost use Rattle.pst_mail.specs.Fault.{attachment_row_fault, held_fault, message_at, embedded_fault, attachment_at, below_message, below_attachment};
-ghost use Rattle.pst_msg.specs.Frames.{IsOpened, EmbedsKnown, IsObjectOpened, AttachmentKnown, IsAttachmentOpened, IsRowKnown, IsRowOpened};
+ghost use Rattle.pst_msg.specs.Frames.{IsMessageOpened, EmbedsKnown, IsObjectOpened, AttachmentKnown, IsAttachmentOpened, IsRowKnown, IsRowOpened};
 ghost use Rattle.pst_mail.specs.Grammar.{IsAttachmentRow};
 ghost use Rattle.pst_msg.specs.Growth.{Grows};
 ghost use Rattle.pst_msg.specs.Known.{ContextIn, WholeIn, NamedIn, IsTrueOf};
-ghost use Rattle.pst_msg.specs.Rest.{rows_left};
+ghost use Rattle.pst_msg.specs.Rest.{rows_of_table_left};
 ghost use Rattle.pst_mail.specs.Values.{embedded_of};
 
 use crate::broken::{part_of_list, told_of};
@@ -40,7 +40,7 @@ fn rows_of<'a>(table: Node<'a>, known: &mut Known) -> Result<Rest<'a>, Fault>
     ensures known { IsTrueOf (table_of_node table.entry) known.new }
     ensures grows { Grows (table_of_node table.entry) (λ nodes. Unit {0}) known.old known.new }
     ensures left { let t = table_of_node table.entry in
-        IfOk result (λ rest. rows_left rest ≡ tc_rows t (roots_of table.entry)) }
+        IfOk result (λ rest. rows_of_table_left rest ≡ tc_rows t (roots_of table.entry)) }
     ensures memory { IfErr result (λ f. f ≡ no_memory) }
 {
     let most = known.row_counts.of(table)?;
@@ -66,12 +66,12 @@ fn open_held<'a>(
         IfErr result (IsFirst (held_fault t (below_message t limit) (roots_of node.entry))) }
     ensures done { IfOk result (λ o. IfNone o (WholeIn known.new.messages (roots_of node.entry))) }
     ensures open { let t = table_of_node node.entry in
-        IfOk result (λ o. IfSome o (IsOpened t known.new (roots_of node.entry) limit holder.entry)) }
+        IfOk result (λ o. IfSome o (IsMessageOpened t known.new (roots_of node.entry) limit holder.entry)) }
 {
     if let Err(fault) = check_recipients(node, known) {
         return Err(refuse_held(node, limit, fault, known));
     }
-    match known.index.list.subnode(node, ATTACHMENTS) {
+    match known.index.lists.subnode(node, ATTACHMENTS) {
         Some(table) => {
             if let Err(fault) = once(known, Role::Attachments, table) {
                 return Err(refuse_held(node, limit, fault, known));
@@ -109,7 +109,7 @@ fn open_list<'a>(
         IfErr result (IsFirst (held_fault t (below_message t limit) (roots_of node.entry))) }
     ensures done { IfOk result (λ o. IfNone o (WholeIn known.new.messages (roots_of node.entry))) }
     ensures open { let t = table_of_node node.entry in
-        IfOk result (λ o. IfSome o (IsOpened t known.new (roots_of node.entry) limit holder.entry)) }
+        IfOk result (λ o. IfSome o (IsMessageOpened t known.new (roots_of node.entry) limit holder.entry)) }
 {
     if let Some(fault) = known.broken_lists.get(part_of_list(node)) {
         return Err(told_of(fault, node.top()));
@@ -134,7 +134,7 @@ pub(crate) fn open_message<'a>(
         IfErr result (IsFirst (message_at t limit (roots_of node.entry))) }
     ensures done { IfOk result (λ o. IfNone o (WholeIn known.new.messages (roots_of node.entry))) }
     ensures open { let t = table_of_node node.entry in
-        IfOk result (λ o. IfSome o (IsOpened t known.new (roots_of node.entry) limit holder.entry)) }
+        IfOk result (λ o. IfSome o (IsMessageOpened t known.new (roots_of node.entry) limit holder.entry)) }
 {
     if known.messages.has(key_of(0, node)) {
         return Ok(None);
@@ -168,7 +168,7 @@ fn open_embedded<'a>(
     ensures open { let t = table_of_node node.entry in
         IfOk result (λ o. IfSome o (IsObjectOpened t known.new node.entry limit object)) }
 {
-    match known.index.list.subnode(node, object.nid) {
+    match known.index.lists.subnode(node, object.nid) {
         Some(sub) => open_message(sub, limit - 1, Some(node), known),
         None => Err(named(Kind::NodeMissing, object.at, node.bid_data(), object.nid)),
     }
@@ -190,7 +190,7 @@ fn open_part<'a>(node: Node<'a>, limit: u32, known: &mut Known) -> Result<Option
         IfOk result (λ o. IfSome o (IsAttachmentOpened t known.new node.entry limit)) }
 {
     once(known, Role::Properties, node)?;
-    match embedded(&known_pc(node)) {
+    match embedded(&known_pc(known.index.lend(node))) {
         Some(object) => open_embedded(node, object, limit, known),
         None => Ok(None),
     }

@@ -19,12 +19,12 @@ impl<'a> Rest<'a> {
     ghost use Rattle.std.specs.Prelude.{◌≡◌, ◌≤◌, [], ◌∷◌, IfSome, IfNone, length};
     ghost use Rattle.pst_tc.specs.Left.{tc_rows_left};
     ghost use Rattle.pst_tc.specs.View.{row_parts};
-    ghost use Rattle.pst_msg.specs.Rest.{rows_left};
+    ghost use Rattle.pst_msg.specs.Rest.{rows_of_table_left};
 
     /// These rows, which are so many at most, where that is known.
     pub(crate) fn of(rows: Rows<'a>, most: Option<u64>) -> Rest<'a>
         requires { IfSome most (λ n. length (tc_rows_left rows) ≤ n) }
-        ensures { rows_left result ≡ tc_rows_left rows.entry }
+        ensures { rows_of_table_left result ≡ tc_rows_left rows.entry }
     {
         Rest { rows, most }
     }
@@ -37,8 +37,8 @@ impl<'a> Rest<'a> {
     /// The next row.
     pub(crate) fn next(&mut self) -> Option<Row<'a>>
         ensures some { IfSome result (λ row.
-            rows_left self.old ≡ row_parts row ∷ rows_left self.new) }
-        ensures none { IfNone result ((rows_left self.old ≡ []) × (rows_left self.new ≡ [])) }
+            rows_of_table_left self.old ≡ row_parts row ∷ rows_of_table_left self.new) }
+        ensures none { IfNone result ((rows_of_table_left self.old ≡ []) × (rows_of_table_left self.new ≡ [])) }
     {
         if self.most == Some(0) {
             return None;

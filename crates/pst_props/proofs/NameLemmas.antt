@@ -11,7 +11,7 @@ use Rattle.pst_value_json.specs.pst_names.Index.{NamesBy}
 use Rattle.pst_value_json.specs.pst_names.Name.{name_of, name_there, store_name}
 use Rattle.pst_value_json.specs.pst_names.View.{node_of_names, names_roots}
 use Rattle.pst_value_json.specs.Props.{names_told}
-use Rattle.pst_props.specs.NamesIndex.{IsNamesIndex}
+use Rattle.pst_props.specs.NamesIndex.{IsEntriesIndex}
 
 -- ---- what they are called
 
@@ -26,15 +26,15 @@ told_some m t nodes table roots =
 
 -- ---- an index
 
-pub index_none : (t : Table) (nodes : List NodeEntry) (i : NameIndex) → None ≡ node_in nodes NAME_MAP → IsNamesIndex t nodes i
+pub index_none : (t : Table) (nodes : List NodeEntry) (i : NameIndex) → None ≡ node_in nodes NAME_MAP → IsEntriesIndex t nodes i
 index_none t nodes i none r is = absurd (let bad : None ≡ Some r = none ∙ is in cc)
 
-pub index_some : (m : NameMap) (t : Table) (nodes : List NodeEntry) (i : NameIndex) → table_of_node (node_of_names m) ≡ t → Some (names_roots m) ≡ node_in nodes NAME_MAP → NamesBy (node_of_names m) i → IsNamesIndex t nodes i
+pub index_some : (m : NameMap) (t : Table) (nodes : List NodeEntry) (i : NameIndex) → table_of_node (node_of_names m) ≡ t → Some (names_roots m) ≡ node_in nodes NAME_MAP → NamesBy (node_of_names m) i → IsEntriesIndex t nodes i
 index_some m t nodes i table roots by r is id =
     let all : Some (names_roots m) ≡ Some r = roots ∙ is in
     let same : names_roots m ≡ r = cc in
     rw (table, same) at (by id)
 
 -- of the map that is there
-pub index_lent : (m : NameMap) (t : Table) (nodes : List NodeEntry) (i : NameIndex) → table_of_node (node_of_names m) ≡ t → Some (names_roots m) ≡ node_in nodes NAME_MAP → IsNamesIndex t nodes i → NamesBy (node_of_names m) i
+pub index_lent : (m : NameMap) (t : Table) (nodes : List NodeEntry) (i : NameIndex) → table_of_node (node_of_names m) ≡ t → Some (names_roots m) ≡ node_in nodes NAME_MAP → IsEntriesIndex t nodes i → NamesBy (node_of_names m) i
 index_lent m t nodes i table roots is id = rw (← table) at (is (names_roots m) (sym roots) id)

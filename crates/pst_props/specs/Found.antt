@@ -17,10 +17,10 @@ node_of_reached (Message m) = node_of_message m
 node_of_reached (Attachment a) = node_of_attachment a
 node_of_reached (Node n) = n
 
-abbrev pub place_of : Reached → Place
-place_of (Message m) = let n = node_of_message m in message (nid_of n) (roots_of n)
-place_of (Attachment a) = let n = node_of_attachment a in attachment (nid_of n) (roots_of n)
-place_of (Node n) = other (nid_of n) (roots_of n)
+abbrev pub place_of_reached : Reached → Place
+place_of_reached (Message m) = let n = node_of_message m in message (nid_of n) (roots_of n)
+place_of_reached (Attachment a) = let n = node_of_attachment a in attachment (nid_of n) (roots_of n)
+place_of_reached (Node n) = other (nid_of n) (roots_of n)
 
 -- ---- what has properties: its node, and as a place
 

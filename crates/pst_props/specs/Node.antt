@@ -18,7 +18,7 @@ use Rattle.pst_value_json.specs.pst_text.Names.{nid_data, nid_or_null}
 use Rattle.pst_value_json.specs.pst_text.Parts.{list_data}
 use Rattle.pst_value_json.specs.Props.{record_data}
 use Rattle.pst_props.specs.Path.{Place, message, attachment, other, found_at}
-use Rattle.pst_props.specs.Told.{lined, told_of}
+use Rattle.pst_props.specs.Told.{lined, told_or_fault}
 
 -- the properties of a node, which are called so, with files in place of these values, and with their places where these are told
 abbrev pub props_data : (ℕ → Option NameParts) → Filed → Bool → Table → Roots → Data
@@ -95,7 +95,7 @@ place_data names places t (other nid r) = node_props_data names places t r nid
 -- The document of what a path leads to: of a message, an attachment or another property context. Its properties, and those of
 -- attachments, are called as the store's name map says. Where places are asked for, each property and each cell has its own.
 unfoldable pub props_told : Bool → Table → List NodeEntry → List ℕ → Result Data DocFault
-props_told places t nodes path = told_of (place_data (store_name t nodes) places t) (found_at t nodes path)
+props_told places t nodes path = told_or_fault (place_data (store_name t nodes) places t) (found_at t nodes path)
 
 -- the line that shows it
 unfoldable pub props_line : Bool → Table → List NodeEntry → List ℕ → Result (List ℕ) DocFault

@@ -29,8 +29,8 @@ property_in t id (Err f) = Err f
 property_in t id (Ok place) = or_no_property id (first_with id_of id (props_of t (roots_of_place place)))
 
 -- The property with an identifier of what a path leads to.
-unfoldable pub property_at : Table → List NodeEntry → List ℕ → ℕ → Result Property DocFault
-property_at t nodes path id = property_in t id (found_at t nodes path)
+unfoldable pub property_by_path : Table → List NodeEntry → List ℕ → ℕ → Result Property DocFault
+property_by_path t nodes path id = property_in t id (found_at t nodes path)
 
 -- It is lent: it is that of the first record with the identifier in the property context that the path leads to, and its value
 -- shows the spans of that record, in the file's own memory.

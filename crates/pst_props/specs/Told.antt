@@ -4,7 +4,7 @@ use Rattle.serde_json.specs.Data.{Data}
 use Rattle.pst_fault.specs.Fault.{fault_text}
 use Rattle.pst_props.specs.declared.fault.DocFault.{DocFault}
 use Rattle.pst_props.specs.declared.fault.DocFault.TheVariants.{NoFolder, NoNode, Bad, NoProperty, TooManyPaths, Memory}
-use Rattle.pst_value_json.specs.pst_text.Line.{line_of}
+use Rattle.pst_value_json.specs.pst_text.Line.{data_line}
 use Rattle.pst_value_json.specs.pst_text.Names.{id_text}
 
 -- what is given shows the answer, or the answer is this fault, unless memory ran out
@@ -27,11 +27,11 @@ doc_fault_text TooManyPaths = codes "too many paths"
 doc_fault_text Memory = codes "out of memory"
 
 -- what is told of what there is
-abbrev pub told_of : {X Y : Type 0} → (X → Y) → Result X DocFault → Result Y DocFault
-told_of told (Ok x) = Ok (told x)
-told_of told (Err f) = Err f
+abbrev pub told_or_fault : {X Y : Type 0} → (X → Y) → Result X DocFault → Result Y DocFault
+told_or_fault told (Ok x) = Ok (told x)
+told_or_fault told (Err f) = Err f
 
 -- the line of a document, where there is one
 abbrev pub lined : Result Data DocFault → Result (List ℕ) DocFault
-lined (Ok d) = Ok (line_of d)
+lined (Ok d) = Ok (data_line d)
 lined (Err f) = Err f

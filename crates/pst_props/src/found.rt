@@ -4,10 +4,10 @@ ghost use Rattle.std.specs.Prelude.{◌≡◌, IfOk, IfSome, option_map, fold, S
 ghost use Rattle.pst_ndb.specs.Views.{image_of_node, table_of_node, nid_of, roots_of};
 ghost use Rattle.pst_intact.specs.View.{image_of_intact, table_of_intact, nodes_of_intact};
 ghost use Rattle.pst_verify.specs.pst_msg.View.{node_of_attachment, node_of_message};
-ghost use Rattle.pst_props.specs.Found.{node_of_reached, place_of, node_of_found, place_of_found};
+ghost use Rattle.pst_props.specs.Found.{node_of_reached, place_of_reached, node_of_found, place_of_found};
 ghost use Rattle.pst_props.specs.LastIndex.{IsLastIndex};
 ghost use Rattle.pst_props.specs.Path.{message, attachment, place_of_shown, attachment_with, embedded_with, first_place, found_at, place_at, step, step_from};
-ghost use Rattle.pst_props.specs.Told.{told_of};
+ghost use Rattle.pst_props.specs.Told.{told_or_fault};
 
 use crate::fault::DocFault;
 use crate::last_index::LastIndex;
@@ -43,7 +43,7 @@ pub(crate) enum Found<'a> {
 #[tactic(auto, unfolding(crate::specs::Found::node_of_kind))]
 fn first<'a>(intact: &Intact<'a>, nid: u32) -> Option<Reached<'a>>
     ensures place { let nodes = nodes_of_intact intact.now in
-        option_map place_of result ≡ first_place nodes nid }
+        option_map place_of_reached result ≡ first_place nodes nid }
     ensures table { let t = table_of_intact intact.now in
         IfSome result (λ r. table_of_node (node_of_reached r) ≡ t) }
     ensures image { let file = image_of_intact intact.now in
@@ -65,7 +65,7 @@ fn first<'a>(intact: &Intact<'a>, nid: u32) -> Option<Reached<'a>>
 fn attachment_in(message: Message<'_>, nid: u32) -> Option<Reached<'_>>
     ensures place { let node = node_of_message message.entry in
         let there = attachment_with (table_of_node node) (roots_of node) nid in
-        option_map place_of result ≡ place_of_shown attachment there }
+        option_map place_of_reached result ≡ place_of_shown attachment there }
     ensures table { let t = table_of_node (node_of_message message.entry) in
         IfSome result (λ r. table_of_node (node_of_reached r) ≡ t) }
     ensures image { let file = image_of_node (node_of_message message.entry) in
@@ -81,7 +81,7 @@ fn attachment_in(message: Message<'_>, nid: u32) -> Option<Reached<'_>>
 fn embedded_in(holder: Attachment<'_>, nid: u32) -> Option<Reached<'_>>
     ensures place { let node = node_of_attachment holder.entry in
         let there = embedded_with (table_of_node node) (roots_of node) nid in
-        option_map place_of result ≡ place_of_shown message there }
+        option_map place_of_reached result ≡ place_of_shown message there }
     ensures table { let t = table_of_node (node_of_attachment holder.entry) in
         IfSome result (λ r. table_of_node (node_of_reached r) ≡ t) }
     ensures image { let file = image_of_node (node_of_attachment holder.entry) in
@@ -96,7 +96,7 @@ fn embedded_in(holder: Attachment<'_>, nid: u32) -> Option<Reached<'_>>
 // One step.
 fn next(from: Reached<'_>, nid: u32) -> Option<Reached<'_>>
     ensures place { let t = table_of_node (node_of_reached from.entry) in
-        option_map place_of result ≡ step_from t (place_of from.entry) nid }
+        option_map place_of_reached result ≡ step_from t (place_of_reached from.entry) nid }
     ensures table { let t = table_of_node (node_of_reached from.entry) in
         IfSome result (λ r. table_of_node (node_of_reached r) ≡ t) }
     ensures image { let file = image_of_node (node_of_reached from.entry) in
@@ -113,7 +113,7 @@ fn next(from: Reached<'_>, nid: u32) -> Option<Reached<'_>>
 #[tactic(auto, using(crate::proofs::PathLemmas::step_on, crate::proofs::PathLemmas::steps_end))]
 fn walk<'a>(from: Reached<'a>, steps: &[u32]) -> Option<Reached<'a>>
     ensures place { let t = table_of_node (node_of_reached from.entry) in
-        option_map place_of result ≡ fold (step t) (Some (place_of from.entry)) steps.now }
+        option_map place_of_reached result ≡ fold (step t) (Some (place_of_reached from.entry)) steps.now }
     ensures table { let t = table_of_node (node_of_reached from.entry) in
         IfSome result (λ r. table_of_node (node_of_reached r) ≡ t) }
     ensures image { let file = image_of_node (node_of_reached from.entry) in
@@ -133,7 +133,7 @@ fn walk<'a>(from: Reached<'a>, steps: &[u32]) -> Option<Reached<'a>>
 fn walk_from<'a>(intact: &Intact<'a>, nid: u32, steps: &[u32]) -> Option<Reached<'a>>
     ensures place { let t = table_of_intact intact.now in
         let nodes = nodes_of_intact intact.now in
-        option_map place_of result ≡ fold (step t) (first_place nodes nid) steps.now }
+        option_map place_of_reached result ≡ fold (step t) (first_place nodes nid) steps.now }
     ensures table { let t = table_of_intact intact.now in
         IfSome result (λ r. table_of_node (node_of_reached r) ≡ t) }
     ensures image { let file = image_of_intact intact.now in
@@ -149,7 +149,7 @@ fn walk_from<'a>(intact: &Intact<'a>, nid: u32, steps: &[u32]) -> Option<Reached
 #[tactic(auto, unfolding(crate::specs::Path::place_at))]
 fn reached_by<'a>(intact: &Intact<'a>, path: &[u32]) -> Option<Reached<'a>>
     ensures place { let i = intact.now in
-        option_map place_of result ≡ place_at (table_of_intact i) (nodes_of_intact i) path.now }
+        option_map place_of_reached result ≡ place_at (table_of_intact i) (nodes_of_intact i) path.now }
     ensures table { let t = table_of_intact intact.now in
         IfSome result (λ r. table_of_node (node_of_reached r) ≡ t) }
     ensures image { let file = image_of_intact intact.now in
@@ -213,7 +213,7 @@ pub(crate) fn found_in<'a>(
 ) -> Result<Found<'a>, DocFault>
     requires { IfSome index (λ x. IsLastIndex (table_of_intact intact.now) x.now) }
     ensures place { let i = intact.now in
-        told_of place_of_found result ≡ found_at (table_of_intact i) (nodes_of_intact i) path.now }
+        told_or_fault place_of_found result ≡ found_at (table_of_intact i) (nodes_of_intact i) path.now }
     ensures table { let t = table_of_intact intact.now in
         IfOk result (λ f. table_of_node (node_of_found f) ≡ t) }
     ensures image { let file = image_of_intact intact.now in

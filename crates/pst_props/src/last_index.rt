@@ -1,17 +1,14 @@
 //! The indexes of nodes that are gone through one after another: of the list of subnodes that was asked last, and of the spans of data.
 
-ghost use Rattle.std.specs.Prelude.{◌≡◌, IfOk};
-ghost use Rattle.pst_ndb.specs.Views.{IsIndexedBy};
-
 use pst_mail::{known_message, known_pc};
-use pst_ndb::{Node, SpanIndexes, SubIndex};
-use pst_page::PageKind;
+use pst_msg::SubIndexes;
+use pst_ndb::{Node, SpanIndexes};
 use pst_tc::known_tc;
 use pst_value_json::{Pc, Tc};
 use pst_verify::Message;
 use std::alloc::{AllocError, Global};
 
-// So many subnodes are looked up in a list, one after another, without an index of it.
+// So many subnodes are looked up in lists without an index.
 const OFTEN: u64 = 24;
 
 /// How many subnodes the properties of a node may be: no more than its data has records of 8 bytes.
@@ -19,36 +16,21 @@ pub fn most_values(node: Node) -> u64 {
     node.spans().size() / 8
 }
 
-// An index of the subnodes of a node.
-fn index_of(alloc: Global, node: Node) -> Result<SubIndex, AllocError>
-    ensures { IfOk result (IsIndexedBy node.entry) }
-{
-    match node.index(alloc) {
-        Ok(index) => Ok(index),
-        Err(_) => Err(AllocError),
-    }
-}
-
-/// The list of subnodes that was asked last, by the identifier of its block with bit 0 cleared; for how many subnodes, one after
-/// another; and an index of it, which holds nothing until they are many. And the indexes of the spans of all data that was asked and
-/// has many parts.
+/// Indexes of the lists of subnodes that were asked last, and of the spans of all data that was asked and has many parts.
 #[derive(Drop)]
 pub struct LastIndex {
-    list: u64,
-    asked: u64,
-    subs: SubIndex,
+    lists: SubIndexes,
     spans: SpanIndexes,
 }
 
 impl LastIndex {
-    ghost use Rattle.std.specs.Prelude.{◌≡◌, IfOk, OnOk};
-    ghost use Rattle.pst_block.specs.Block.{bid_key};
+    ghost use Rattle.std.specs.Prelude.{◌≡◌, IfOk};
     ghost use Rattle.pst_block.specs.Table.{Table};
-    ghost use Rattle.pst_ndb.specs.Views.{image_of_node, table_of_node, nid_of, roots_of, sub_bid_of};
+    ghost use Rattle.pst_ndb.specs.Views.{image_of_node, table_of_node, nid_of, roots_of};
     ghost use Rattle.pst_tc.specs.Tc.{node_of_tc};
     ghost use Rattle.pst_value_json.specs.pst_pc.View.{node_of_pc};
     ghost use Rattle.pst_verify.specs.pst_msg.View.{message_roots, node_of_message};
-    ghost use Rattle.pst_props.specs.LastIndex.{IsLastIndex, list_in};
+    ghost use Rattle.pst_props.specs.LastIndex.{IsLastIndex};
 
     /// Nothing was asked yet. No memory is taken.
     #[tactic(auto, unfolding(crate::specs::LastIndex::IsLastIndex))]
@@ -56,44 +38,14 @@ impl LastIndex {
         ensures { (t : Table) → IsLastIndex t result }
     {
         LastIndex {
-            list: 0,
-            asked: 0,
-            subs: SubIndex::none(),
+            lists: SubIndexes::new(alloc, OFTEN),
             spans: SpanIndexes::new(alloc),
         }
     }
 
-    // A list is asked for so many subnodes more. Whether an index of it is worth its making, for the first time.
+    // Turns to the data of a node, and not to its list. Or memory is refused.
     #[tactic(auto, unfolding(crate::specs::LastIndex::IsLastIndex))]
-    fn is_often_asked(&mut self, list: u64, asks: u64) -> bool
-        ensures known { (t : Table) → IsLastIndex t self.old → IsLastIndex t self.new }
-        ensures list { list_in self.new ≡ list }
-    {
-        if self.list != list {
-            self.list = list;
-            self.asked = asks;
-            self.subs = SubIndex::none();
-            return asks > OFTEN;
-        }
-        let before = self.asked;
-        self.asked = before.saturating_add(asks);
-        before <= OFTEN && self.asked > OFTEN
-    }
-
-    // Makes the index of the subnodes of a node, whose list was turned to.
-    #[tactic(auto, using(crate::proofs::IndexLemmas::index_made))]
-    fn hold_subs(&mut self, alloc: Global, node: Node) -> Result<(), AllocError>
-        requires known { IsLastIndex (table_of_node node) self.old }
-        requires list { list_in self.old ≡ bid_key (sub_bid_of node) }
-        ensures known { IsLastIndex (table_of_node node.entry) self.new }
-    {
-        self.subs = index_of(alloc, node)?;
-        Ok(())
-    }
-
-    /// Turns to the data of a node, and not to its list. Or memory is refused.
-    #[tactic(auto, unfolding(crate::specs::LastIndex::IsLastIndex))]
-    pub fn turn_to_data(&mut self, alloc: Global, node: Node) -> Result<(), AllocError>
+    fn turn_to_data(&mut self, alloc: Global, node: Node) -> Result<(), AllocError>
         requires { IsLastIndex (table_of_node node) self.old }
         ensures { IsLastIndex (table_of_node node.entry) self.new }
     {
@@ -103,22 +55,22 @@ impl LastIndex {
         }
     }
 
-    /// Turns to the list of a node that asks it for so many subnodes, and to its data. It holds the entries of a list which this
-    /// node and those right before it ask often. Or memory is refused.
+    /// Turns to the list of a node that asks it for so many subnodes, and to its data. Where lists without an index were asked for more
+    /// than 24, this one gets one. Or memory is refused.
+    #[tactic(auto, unfolding(crate::specs::LastIndex::IsLastIndex))]
     pub fn turn(&mut self, alloc: Global, node: Node, asks: u64) -> Result<(), AllocError>
         requires { IsLastIndex (table_of_node node) self.old }
         ensures { IsLastIndex (table_of_node node.entry) self.new }
     {
         self.turn_to_data(alloc, node)?;
-        let list = PageKind::Bbt.key_of(node.bid_sub());
-        if !self.is_often_asked(list, asks) {
-            return Ok(());
+        match self.lists.turn(alloc, node, asks) {
+            Ok(()) => Ok(()),
+            Err(_) => Err(AllocError),
         }
-        self.hold_subs(alloc, node)
     }
 
     /// Turns to the list and the data of a node, and holds the entries of the list at once: of n subnodes they are made in about n log n
-    /// steps, of a list of one SLBLOCK there are none. Or memory is refused.
+    /// steps, of a list of at most 16 there are none. Or memory is refused.
     pub fn turn_at_once(&mut self, alloc: Global, node: Node) -> Result<(), AllocError>
         requires { IsLastIndex (table_of_node node) self.old }
         ensures { IsLastIndex (table_of_node node.entry) self.new }
@@ -135,8 +87,8 @@ impl LastIndex {
         Ok(index)
     }
 
-    /// A node, which is lent the index of its list, where that was asked last, and that of its data, where there is one.
-    #[tactic(auto, using(crate::proofs::IndexLemmas::indexed_by, crate::proofs::IndexLemmas::spans_known))]
+    /// A node, which is lent the index of its list and that of its data, where there are such.
+    #[tactic(auto, using(crate::proofs::IndexLemmas::lists_known, crate::proofs::IndexLemmas::spans_known))]
     pub fn lend<'a>(&'a self, node: Node<'a>) -> Node<'a>
         requires { IsLastIndex (table_of_node node) self.now }
         ensures roots { roots_of result ≡ roots_of node.entry }
@@ -144,10 +96,7 @@ impl LastIndex {
         ensures table { table_of_node result ≡ table_of_node node.entry }
         ensures nid { nid_of result ≡ nid_of node.entry }
     {
-        if self.list == PageKind::Bbt.key_of(node.bid_sub()) {
-            return self.spans.lend(node.indexed(&self.subs));
-        }
-        self.spans.lend(node)
+        self.spans.lend(self.lists.lend(node))
     }
 
     /// A property context, whose node is lent what `lend` lends it.

@@ -30,6 +30,6 @@ pub use fault::DocFault;
 pub use last_index::{LastIndex, most_values};
 pub use lines::{attachment_line, message_line, node_line};
 pub use lost::lost_at;
-pub use names::{names_in, names_index};
+pub use names::{NamesIndex, names_in, names_index};
 pub use node::{props_doc, props_line};
 pub use property::property_at;

@@ -3,7 +3,7 @@
 ghost use Rattle.std.specs.Prelude.{◌≡◌, Some, None, true, false, IfOk};
 ghost use Rattle.pst_ndb.specs.Views.{table_of_node, nid_of, roots_of};
 ghost use Rattle.pst_value_json.specs.declared.filed.Filed.TheVariants.{Attachment as InAttachment};
-ghost use Rattle.pst_value_json.specs.pst_text.Line.{line_of};
+ghost use Rattle.pst_value_json.specs.pst_text.Line.{data_line};
 ghost use Rattle.pst_value_json.specs.Props.{names_told};
 ghost use Rattle.pst_value_json.specs.pst_pc.View.{node_of_pc};
 ghost use Rattle.pst_verify.specs.pst_msg.View.{attachment_shown, node_of_attachment, node_of_message};
@@ -29,7 +29,7 @@ pub fn message_line(
     ensures known { AreDocumentIndexes (table_of_node (node_of_message message.entry)) indexes.new }
     ensures line { let node = node_of_message message.entry in let told = names_told names.entry in
         let shown = message_data told true false (table_of_node node) (roots_of node) (nid_of node) in
-        IfOk result (λ text. text.items ≡ line_of shown) }
+        IfOk result (λ text. text.items ≡ data_line shown) }
 {
     indexed_message::<Line>(alloc, message, names, true, false, indexes)
 }
@@ -46,7 +46,7 @@ pub fn attachment_line(
     ensures line { let t = table_of_node (node_of_attachment attachment.entry) in
         let shown = attachment_shown attachment.entry in let told = names_told names.entry in
         IfOk result (λ text.
-        text.items ≡ line_of (attachment_data told (InAttachment None) false t shown)) }
+        text.items ≡ data_line (attachment_data told (InAttachment None) false t shown)) }
 {
     shown_attachment::<Line>(
         alloc,
@@ -69,7 +69,7 @@ pub fn node_line(
     ensures known { AreDocumentIndexes (table_of_node (node_of_pc pc.entry)) indexes.new }
     ensures line { let node = node_of_pc pc.entry in let told = names_told names.entry in
         let shown = node_props_data told false (table_of_node node) (roots_of node) (nid_of node) in
-        IfOk result (λ text. text.items ≡ line_of shown) }
+        IfOk result (λ text. text.items ≡ data_line shown) }
 {
     indexes.shown.turn_at_once(alloc, pc.node())?;
     let lent = indexes.shown.lend_pc(pc);

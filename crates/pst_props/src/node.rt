@@ -23,11 +23,9 @@ use crate::fault::DocFault;
 use crate::found::{Found, found_in, index_at};
 use crate::last_index::LastIndex;
 use crate::lists::MessageRows;
-use crate::names::names_in;
+use crate::names::{NamesIndex, names_in};
 use pst_intact::Intact;
-use pst_value_json::{
-    Filed, Line, Made, NameIndex, NameMap, Part, Pc, Sink, Tree, prop_rows, table_rows,
-};
+use pst_value_json::{Filed, Line, Made, NameMap, Part, Pc, Sink, Tree, prop_rows, table_rows};
 use pst_verify::Message;
 use serde_json::Value as Doc;
 use std::alloc::{AllocError, Global};
@@ -205,7 +203,7 @@ fn shown_found<'a, S: Sink>(
 pub fn props_doc<'a>(
     alloc: Global,
     intact: &Intact<'a>,
-    index: &'a NameIndex,
+    index: &'a NamesIndex,
     path: &[u32],
     places: bool,
 ) -> Result<Doc, DocFault>
@@ -225,7 +223,7 @@ pub fn props_doc<'a>(
 pub fn props_line<'a>(
     alloc: Global,
     intact: &Intact<'a>,
-    index: &'a NameIndex,
+    index: &'a NamesIndex,
     path: &[u32],
     places: bool,
 ) -> Result<Vec<u8>, DocFault>

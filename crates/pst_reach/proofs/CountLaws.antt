@@ -12,7 +12,7 @@ use Rattle.pst_store.specs.pst_msg.pst_mail.declared.nid.TheConstants.{ROOT, FOL
 use Rattle.pst_store.specs.pst_msg.Nid.{is_type}
 use Rattle.pst_reach.specs.declared.reached.Reach.{Reach}
 use Rattle.pst_reach.specs.Reach.{folder_ids}
-use Rattle.pst_reach.specs.Levels.{Step, step_nid, steps_from, reached_by, root_reach, is_new, found, level, reaches_of, folders_at, folders_below, folders_in}
+use Rattle.pst_reach.specs.Levels.{FolderStep, step_nid, steps_from, reached_by, root_reach, is_new, found, level, reaches_of, folders_at, folders_below, folders_in}
 use Rattle.pst_reach.proofs.LevelLemmas.{is_folder_of, AllNamed, no_more}
 use Rattle.pst_reach.proofs.ListLemmas.{in_none, in_more, least_first, how_many, not_more}
 use Rattle.pst_reach.proofs.WayLaws.{in_ids, is_found, as_many, is_own}
@@ -94,7 +94,7 @@ module _ (t : Table) (nodes : List NodeEntry) (named : AllNamed t nodes) (rises 
   unfolding found
   one_or_other n nid = by_case (is_type FOLDER nid) (found t nodes n nid) (first_with step_nid nid (steps_from t nodes (level t nodes n)))
     where
-      by_case : (b : Bool) (o : Option Reach) (s : Option Step) → cond (b && is_some o) 1 0 + cond (b && (is_none o && is_some s)) 1 0 ≡ cond (b && is_some (option_or o (option_map (reached_by (suc n)) s))) 1 0
+      by_case : (b : Bool) (o : Option Reach) (s : Option FolderStep) → cond (b && is_some o) 1 0 + cond (b && (is_none o && is_some s)) 1 0 ≡ cond (b && is_some (option_or o (option_map (reached_by (suc n)) s))) 1 0
       by_case false o s = refl
       by_case true (Some x) s = refl
       by_case true None (Some s) = refl

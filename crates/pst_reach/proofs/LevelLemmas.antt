@@ -19,8 +19,8 @@ use Rattle.pst_btree.specs.Entries.{first_with}
 use Rattle.pst_btree.specs.Order.{Rises}
 use Rattle.pst_reach.specs.declared.reached.Reach.{Reach}
 use Rattle.pst_reach.specs.Reach.{folder_ids, subfolders_of}
-use Rattle.pst_reach.specs.Levels.{Step, step_nid, step_from, steps_named, steps_from, is_new, found, level}
-use Rattle.pst_reach.specs.Search.{found_in, is_in, found_with, new_with, Takes, IsWithin, IsLevel}
+use Rattle.pst_reach.specs.Levels.{FolderStep, step_nid, folder_step, steps_named, steps_from, is_new, found, level}
+use Rattle.pst_reach.specs.Search.{reach_so_far, is_in, found_with, new_with, Takes, IsReachedWithin, IsLevel}
 
 -- ---- numbers that rise are in order
 
@@ -44,7 +44,7 @@ is_folder_of nodes nid = list_any (is_at (nat_cmp nid)) (folder_ids nodes)
 abbrev pub AllNamed : Table → List NodeEntry → Type 0
 AllNamed t nodes = (parent nid : ℕ) → Contains (subfolders_of t nodes parent) nid → is_folder_of nodes nid ≡ true
 
-named_in : (parent : ℕ) (ids : List ℕ) (rest : List Step) (nid : ℕ) → is_some (first_with step_nid nid (steps_named parent ids ++ rest)) ≡ true → Contains ids nid ⊎ (is_some (first_with step_nid nid rest) ≡ true)
+named_in : (parent : ℕ) (ids : List ℕ) (rest : List FolderStep) (nid : ℕ) → is_some (first_with step_nid nid (steps_named parent ids ++ rest)) ≡ true → Contains ids nid ⊎ (is_some (first_with step_nid nid rest) ≡ true)
 unfolding first_with
 named_in parent [] rest nid there = inr there
 named_in parent (id ∷ ids) rest nid there = by_test (nat_eq id nid) refl (λ is. named_in parent ids rest nid is) there
@@ -55,7 +55,7 @@ named_in parent (id ∷ ids) rest nid there = by_test (nat_eq id nid) refl (λ i
       | inr r ↦ inr r
     ]
 
-    by_test : (v : Bool) → nat_eq id nid ≡ v → (is_some (first_with step_nid nid (steps_named parent ids ++ rest)) ≡ true → Contains ids nid ⊎ (is_some (first_with step_nid nid rest) ≡ true)) → is_some (cond v (Some (step_from parent id)) (first_with step_nid nid (steps_named parent ids ++ rest))) ≡ true → Contains (id ∷ ids) nid ⊎ (is_some (first_with step_nid nid rest) ≡ true)
+    by_test : (v : Bool) → nat_eq id nid ≡ v → (is_some (first_with step_nid nid (steps_named parent ids ++ rest)) ≡ true → Contains ids nid ⊎ (is_some (first_with step_nid nid rest) ≡ true)) → is_some (cond v (Some (folder_step parent id)) (first_with step_nid nid (steps_named parent ids ++ rest))) ≡ true → Contains (id ∷ ids) nid ⊎ (is_some (first_with step_nid nid rest) ≡ true)
     by_test true e more is = inl (rw (← number_of_test id nid e) (contains_here id ids))
     by_test false e more is = later (more is)
 
@@ -69,9 +69,9 @@ named_is_folder t nodes (p ∷ ps) nid named there = elim (named_in p (subfolder
 
 -- ---- a depth is gone through
 
-none_added : (depth : ℕ) (m : BTreeMap ℕ Reach) (nid : ℕ) → found_in m nid ≡ found_with depth m [] nid
+none_added : (depth : ℕ) (m : BTreeMap ℕ Reach) (nid : ℕ) → reach_so_far m nid ≡ found_with depth m [] nid
 unfolding first_with
-none_added depth m nid = by_case (found_in m nid)
+none_added depth m nid = by_case (reach_so_far m nid)
   where
     by_case : (o : Option Reach) → o ≡ option_or o None
     by_case None = refl
@@ -81,7 +81,7 @@ append_nil : {X : Type 0} (xs : List X) → xs ++ [] ≡ xs
 append_nil [] = refl
 append_nil (x ∷ xs) = ap (λ l. x ∷ l) (append_nil xs)
 
-pub within_next : (t : Table) (nodes : List NodeEntry) (n depth : ℕ) (old new : BTreeMap ℕ Reach) (before after : BTreeSet ℕ) (ps : List ℕ) → depth ≡ suc n → IsWithin t nodes n old → ps ≡ level t nodes n → Takes depth (steps_from t nodes ps) old before new after → IsWithin t nodes (suc n) new
+pub within_next : (t : Table) (nodes : List NodeEntry) (n depth : ℕ) (old new : BTreeMap ℕ Reach) (before after : BTreeSet ℕ) (ps : List ℕ) → depth ≡ suc n → IsReachedWithin t nodes n old → ps ≡ level t nodes n → Takes depth (steps_from t nodes ps) old before new after → IsReachedWithin t nodes (suc n) new
 unfolding found
 within_next t nodes n depth old new before after ps deep within is takes nid =
     none_added depth new nid ∙ takes.found [] nid
@@ -95,10 +95,10 @@ none_new false false = refl
 
 no_news : (m : BTreeMap ℕ Reach) (next : BTreeSet ℕ) (nid : ℕ) → is_in next nid ≡ new_with m next [] nid
 unfolding first_with
-no_news m next nid = none_new (is_in next nid) (is_none (found_in m nid))
+no_news m next nid = none_new (is_in next nid) (is_none (reach_so_far m nid))
 
 -- in the set of the next depth are those that are new
-new_in : (t : Table) (nodes : List NodeEntry) (n depth : ℕ) (old new : BTreeMap ℕ Reach) (empty next : BTreeSet ℕ) (ps : List ℕ) → IsWithin t nodes n old → empty.keys ≡ [] → Takes depth (steps_from t nodes ps) old empty new next → (nid : ℕ) → is_in next nid ≡ is_new (found t nodes n) (steps_from t nodes ps) nid
+new_in : (t : Table) (nodes : List NodeEntry) (n depth : ℕ) (old new : BTreeMap ℕ Reach) (empty next : BTreeSet ℕ) (ps : List ℕ) → IsReachedWithin t nodes n old → empty.keys ≡ [] → Takes depth (steps_from t nodes ps) old empty new next → (nid : ℕ) → is_in next nid ≡ is_new (found t nodes n) (steps_from t nodes ps) nid
 new_in t nodes n depth old new empty next ps within none takes nid =
     no_news new next nid ∙ takes.news [] nid
     ∙ ap (λ l. new_with old empty l nid) (append_nil (steps_from t nodes ps))
@@ -115,7 +115,7 @@ both false b h = refl
 abbrev set_of : List ℕ → BTreeSet ℕ
 set_of ks = record { keys = ks }
 
-pub level_next : (t : Table) (nodes : List NodeEntry) (n depth : ℕ) (old new : BTreeMap ℕ Reach) (empty next : BTreeSet ℕ) (ps : List ℕ) → AllNamed t nodes → Rises 0 None (folder_ids nodes) → IsWithin t nodes n old → ps ≡ level t nodes n → empty.keys ≡ [] → IsStrictlySortedBy nat_cmp next.keys → Takes depth (steps_from t nodes ps) old empty new next → IsLevel t nodes (suc n) next
+pub level_next : (t : Table) (nodes : List NodeEntry) (n depth : ℕ) (old new : BTreeMap ℕ Reach) (empty next : BTreeSet ℕ) (ps : List ℕ) → AllNamed t nodes → Rises 0 None (folder_ids nodes) → IsReachedWithin t nodes n old → ps ≡ level t nodes n → empty.keys ≡ [] → IsStrictlySortedBy nat_cmp next.keys → Takes depth (steps_from t nodes ps) old empty new next → IsLevel t nodes (suc n) next
 unfolding level
 level_next t nodes n depth old new empty next ps named rises within is none ordered takes =
     let p : ℕ → Bool = is_new (found t nodes n) (steps_from t nodes ps) in

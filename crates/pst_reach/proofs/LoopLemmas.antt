@@ -19,7 +19,7 @@ use Rattle.pst_store.specs.pst_msg.Values.{is_folder}
 use Rattle.pst_reach.specs.declared.reached.Reach.{Reach}
 use Rattle.pst_reach.specs.Reach.{folder_ids}
 use Rattle.pst_reach.specs.Levels.{root_reach, found, level, reaches_of, folders_at, folders_below, folders_in}
-use Rattle.pst_reach.specs.Search.{found_in, AreTaken, IsWithin, IsLevel, IsCountedTo}
+use Rattle.pst_reach.specs.Search.{reach_so_far, AreTaken, IsReachedWithin, IsLevel, IsCountedTo}
 use Rattle.pst_reach.proofs.SearchLemmas.{append_assoc}
 use Rattle.pst_reach.proofs.LevelLemmas.{no_more}
 use Rattle.pst_reach.proofs.StoreLemmas.{tops, lower}
@@ -35,11 +35,11 @@ no_length (k ∷ ks) is = cc
 
 -- ---- the beginning
 
-pub root_found : (t : Table) (nodes : List NodeEntry) (empty m : BTreeMap ℕ Reach) → ((q : ℕ) → found_in empty q ≡ None) → ((q : ℕ) → found_in m q ≡ cond (is_at (nat_cmp ROOT) q) (Some root_reach) (found_in empty q)) → IsWithin t nodes 0 m
+pub root_found : (t : Table) (nodes : List NodeEntry) (empty m : BTreeMap ℕ Reach) → ((q : ℕ) → reach_so_far empty q ≡ None) → ((q : ℕ) → reach_so_far m q ≡ cond (is_at (nat_cmp ROOT) q) (Some root_reach) (reach_so_far empty q)) → IsReachedWithin t nodes 0 m
 unfolding found
 root_found t nodes empty m none puts nid = puts nid ∙ rw (unsigned_tied ROOT nid, none nid) refl
 
-pub none_in_empty : (m : BTreeMap ℕ Reach) → m.entries ≡ [] → (q : ℕ) → found_in m q ≡ None
+pub none_in_empty : (m : BTreeMap ℕ Reach) → m.entries ≡ [] → (q : ℕ) → reach_so_far m q ≡ None
 none_in_empty m none q = rw none refl
 
 pub root_level : (t : Table) (nodes : List NodeEntry) (empty s : BTreeSet ℕ) → empty.keys ≡ [] → s.keys ≡ insert_key nat_cmp empty.keys ROOT → IsLevel t nodes 0 s
@@ -87,11 +87,11 @@ low_bits nid is = by_type (is_type FOLDER nid) refl (is_type SEARCH_FOLDER nid) 
 
 -- ---- the end
 
-pub stop_here : (t : Table) (nodes : List NodeEntry) (n k total : ℕ) (m : BTreeMap ℕ Reach) (s : BTreeSet ℕ) → n + k ≡ total → IsWithin t nodes n m → IsLevel t nodes n s → s.keys ≡ [] → IsWithin t nodes total m
+pub stop_here : (t : Table) (nodes : List NodeEntry) (n k total : ℕ) (m : BTreeMap ℕ Reach) (s : BTreeSet ℕ) → n + k ≡ total → IsReachedWithin t nodes n m → IsLevel t nodes n s → s.keys ≡ [] → IsReachedWithin t nodes total m
 stop_here t nodes n k total m s all within is none nid =
     within nid ∙ sym ((no_more t nodes n k (sym is ∙ none)).1 nid) ∙ ap (λ d. found t nodes d nid) all
 
-pub all_done : (t : Table) (nodes : List NodeEntry) (n total : ℕ) (left : List Roots) (m : BTreeMap ℕ Reach) → left ≡ [] → n + length left ≡ total → IsWithin t nodes n m → IsWithin t nodes total m
+pub all_done : (t : Table) (nodes : List NodeEntry) (n total : ℕ) (left : List Roots) (m : BTreeMap ℕ Reach) → left ≡ [] → n + length left ≡ total → IsReachedWithin t nodes n m → IsReachedWithin t nodes total m
 all_done t nodes n total left m none all within nid =
     let here : n + length {A = Roots} [] ≡ total = (rw none at all) in
     let same : n ≡ total = omega (arith, here) in

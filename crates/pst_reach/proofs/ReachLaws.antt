@@ -16,7 +16,7 @@ use Rattle.pst_btree.proofs.RiseLemmas.{tree_rises}
 use Rattle.pst_ndb.specs.Roots.{node_in}
 use Rattle.pst_store.specs.pst_msg.pst_mail.declared.nid.TheConstants.{ROOT}
 use Rattle.pst_store.specs.Grammar.{IsStore}
-use Rattle.pst_store.specs.Parts.{StoreParts, table_in, entries_in}
+use Rattle.pst_store.specs.Parts.{StoreParts, parts_table, parts_entries}
 use Rattle.pst_reach.specs.declared.reached.Reach.{Reach}
 use Rattle.pst_reach.specs.Reach.{folder_ids, IsWay, AreAllReached, AreAllUnreached}
 use Rattle.pst_reach.specs.Levels.{reaches_of}
@@ -32,15 +32,15 @@ unfolding node_entry_at key_at
 keys_at I [] = refl
 keys_at I (at ∷ rest) = rw (keys_at I rest) refl
 
-pub store_rises : (I : List ℕ) (s : StoreParts) → IsStore I s → Rises 0 None (folder_ids (entries_in I s))
-store_rises I s is = ids_rise (entries_in I s) (rw (keys_at I (entries_of s.nodes)) (tree_rises Nbt I s.nodes 0 None is.node_tree.1.bounded))
+pub store_rises : (I : List ℕ) (s : StoreParts) → IsStore I s → Rises 0 None (folder_ids (parts_entries I s))
+store_rises I s is = ids_rise (parts_entries I s) (rw (keys_at I (entries_of s.nodes)) (tree_rises Nbt I s.nodes 0 None is.node_tree.1.bounded))
 
-pub root_there : (I : List ℕ) (s : StoreParts) → IsStore I s → is_folder_of (entries_in I s) ROOT ≡ true
+pub root_there : (I : List ℕ) (s : StoreParts) → IsStore I s → is_folder_of (parts_entries I s) ROOT ≡ true
 unfolding node_in
-root_there I s is = in_ids (entries_in I s) ROOT is.root.0 is.root.1 refl
+root_there I s is = in_ids (parts_entries I s) ROOT is.root.0 is.root.1 refl
 
 pub reach_law : ReachLaw
-reach_law I s is = are_reached (table_in I s) (entries_in I s) (all_named (table_in I s) (entries_in I s)) (store_rises I s is) (root_there I s is)
+reach_law I s is = are_reached (parts_table I s) (parts_entries I s) (all_named (parts_table I s) (parts_entries I s)) (store_rises I s is) (root_there I s is)
 
 -- ---- and the others are all to which none leads
 
@@ -80,9 +80,9 @@ are_unreached t nodes xs rises reached = record {
 
 pub unreached_law : UnreachedLaw
 unfolding unreached_of
-unreached_law I s is = are_unreached (table_in I s) (entries_in I s) (reaches_of (table_in I s) (entries_in I s)) (store_rises I s is) (reach_law I s is)
+unreached_law I s is = are_unreached (parts_table I s) (parts_entries I s) (reaches_of (parts_table I s) (parts_entries I s)) (store_rises I s is) (reach_law I s is)
 
 -- ---- in rising order, of the table and the nodes that a store shows
 
-pub reached_rise : (I : List ℕ) (s : StoreParts) (t : Table) (nodes : List NodeEntry) (reached : List Reach) → IsStore I s → t ≡ table_in I s → nodes ≡ entries_in I s → reached ≡ reaches_of t nodes → Rises 0 None (map reach_nid reached)
+pub reached_rise : (I : List ℕ) (s : StoreParts) (t : Table) (nodes : List NodeEntry) (reached : List Reach) → IsStore I s → t ≡ parts_table I s → nodes ≡ parts_entries I s → reached ≡ reaches_of t nodes → Rises 0 None (map reach_nid reached)
 reached_rise I s t nodes reached is table entries found = rw (found, table, entries) (reach_law I s is).rise

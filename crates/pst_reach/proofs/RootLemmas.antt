@@ -16,7 +16,7 @@ use Rattle.pst_store.specs.pst_msg.Values.{is_folder}
 use Rattle.pst_store.specs.Kind.{of_kind, node_of_kind}
 use Rattle.pst_reach.specs.declared.reached.Reach.{Reach}
 use Rattle.pst_reach.specs.Reach.{folder_ids, is_folder_among}
-use Rattle.pst_reach.specs.Levels.{Step, steps_from, at_root, is_new, found, level, reaches_of, folders_in}
+use Rattle.pst_reach.specs.Levels.{FolderStep, steps_from, at_root, is_new, found, level, reaches_of, folders_in}
 use Rattle.pst_reach.specs.Path.{reach_nid}
 use Rattle.pst_reach.proofs.FolderLemmas.{no_folder}
 use Rattle.pst_reach.proofs.LevelLemmas.{no_more}
@@ -80,7 +80,7 @@ module _ (t : Table) (nodes : List NodeEntry) (none : node_of_kind is_folder nod
 
   first_level : level t nodes 1 ≡ []
   unfolding level
-  first_level = ap (λ (steps : List Step). filter (is_new (found t nodes 0) steps) (folder_ids nodes)) no_steps ∙ no_new (folder_ids nodes) (found t nodes 0)
+  first_level = ap (λ (steps : List FolderStep). filter (is_new (found t nodes 0) steps) (folder_ids nodes)) no_steps ∙ no_new (folder_ids nodes) (found t nodes 0)
 
   first_found : (nid : ℕ) → found t nodes 1 nid ≡ at_root nid
   unfolding found first_with

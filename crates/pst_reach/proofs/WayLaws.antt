@@ -14,7 +14,7 @@ use Rattle.pst_btree.specs.Order.{Rises}
 use Rattle.pst_store.specs.pst_msg.pst_mail.declared.nid.TheConstants.{ROOT}
 use Rattle.pst_reach.specs.declared.reached.Reach.{Reach}
 use Rattle.pst_reach.specs.Reach.{folder_ids, subfolders_of, IsWay, IsDepth, MayBeParent, IsParent, IsReach, AreAllReached}
-use Rattle.pst_reach.specs.Levels.{Step, step_nid, step_from, steps_named, steps_from, reached_by, by_rows, root_reach, is_new, found, level, reaches_of}
+use Rattle.pst_reach.specs.Levels.{FolderStep, step_nid, folder_step, steps_named, steps_from, reached_by, by_rows, root_reach, is_new, found, level, reaches_of}
 use Rattle.pst_reach.proofs.FolderLemmas.{named_first}
 use Rattle.pst_reach.proofs.LevelLemmas.{is_folder_of, AllNamed, named_is_folder}
 use Rattle.pst_reach.proofs.ListLemmas.{in_none, in_more, at_most_or_more, in_filter, of_filter, filter_rises, least_first, in_map, of_map, map_rises, how_many, not_more, one_passes, one_more}
@@ -23,7 +23,7 @@ module _ (t : Table) (nodes : List NodeEntry) (named : AllNamed t nodes) (rises 
   abbrev at : ℕ → ℕ → Option Reach
   at n nid = found t nodes n nid
 
-  abbrev steps_at : ℕ → List Step
+  abbrev steps_at : ℕ → List FolderStep
   steps_at n = steps_from t nodes (level t nodes n)
 
   -- ---- rows of the folders at a depth
@@ -31,12 +31,12 @@ module _ (t : Table) (nodes : List NodeEntry) (named : AllNamed t nodes) (rises 
   pub in_ids : (nid : ℕ) → is_folder_of nodes nid ≡ true → Contains (folder_ids nodes) nid
   in_ids nid e = Contains-from_any (tells_apart exact_unsigned) nid (folder_ids nodes) e
 
-  later_first : (parent : ℕ) (ids : List ℕ) (rest : List Step) (nid : ℕ) → is_some (first_with step_nid nid rest) ≡ true → is_some (first_with step_nid nid (steps_named parent ids ++ rest)) ≡ true
+  later_first : (parent : ℕ) (ids : List ℕ) (rest : List FolderStep) (nid : ℕ) → is_some (first_with step_nid nid rest) ≡ true → is_some (first_with step_nid nid (steps_named parent ids ++ rest)) ≡ true
   unfolding first_with
   later_first parent [] rest nid e = e
   later_first parent (id ∷ ids) rest nid e = by_test (nat_eq id nid) (later_first parent ids rest nid e)
     where
-      by_test : (v : Bool) → is_some (first_with step_nid nid (steps_named parent ids ++ rest)) ≡ true → is_some (cond v (Some (step_from parent id)) (first_with step_nid nid (steps_named parent ids ++ rest))) ≡ true
+      by_test : (v : Bool) → is_some (first_with step_nid nid (steps_named parent ids ++ rest)) ≡ true → is_some (cond v (Some (folder_step parent id)) (first_with step_nid nid (steps_named parent ids ++ rest))) ≡ true
       by_test true e = refl
       by_test false e = e
 
@@ -48,12 +48,12 @@ module _ (t : Table) (nodes : List NodeEntry) (named : AllNamed t nodes) (rises 
   ]
 
   -- the row by which a folder is found: of the first folder that names it
-  record IsFirstStep (ps : List ℕ) (nid : ℕ) (s : Step) : Type 0 where
+  record IsFirstStep (ps : List ℕ) (nid : ℕ) (s : FolderStep) : Type 0 where
     own : s.nid ≡ nid
     parent : Contains ps s.parent
     names : Contains (subfolders_of t nodes s.parent) nid
 
-  here_or_later : (parent : ℕ) (ids : List ℕ) (rest : List Step) (nid : ℕ) (s : Step) → first_with step_nid nid (steps_named parent ids ++ rest) ≡ Some s → ((s.nid ≡ nid) × (s.parent ≡ parent) × Contains ids nid) ⊎ ((first_with step_nid nid rest ≡ Some s) × (Contains ids nid → ⊥))
+  here_or_later : (parent : ℕ) (ids : List ℕ) (rest : List FolderStep) (nid : ℕ) (s : FolderStep) → first_with step_nid nid (steps_named parent ids ++ rest) ≡ Some s → ((s.nid ≡ nid) × (s.parent ≡ parent) × Contains ids nid) ⊎ ((first_with step_nid nid rest ≡ Some s) × (Contains ids nid → ⊥))
   unfolding first_with
   here_or_later parent [] rest nid s is = inr (is, in_none nid)
   here_or_later parent (id ∷ ids) rest nid s is = by_test (nat_eq id nid) refl (λ found. here_or_later parent ids rest nid s found) is
@@ -61,7 +61,7 @@ module _ (t : Table) (nodes : List NodeEntry) (named : AllNamed t nodes) (rises 
       Answer : Type 0
       Answer = ((s.nid ≡ nid) × (s.parent ≡ parent) × Contains (id ∷ ids) nid) ⊎ ((first_with step_nid nid rest ≡ Some s) × (Contains (id ∷ ids) nid → ⊥))
 
-      some_is : (x : Step) → (let o : Option Step = Some x in o ≡ Some s) → x ≡ s
+      some_is : (x : FolderStep) → (let o : Option FolderStep = Some x in o ≡ Some s) → x ≡ s
       some_is x e = cc
 
       not_here : nat_eq id nid ≡ false → (Contains ids nid → ⊥) → Contains (id ∷ ids) nid → ⊥
@@ -70,17 +70,17 @@ module _ (t : Table) (nodes : List NodeEntry) (named : AllNamed t nodes) (rises 
         | inr later ↦ none later
       ]
 
-      by_test : (v : Bool) → nat_eq id nid ≡ v → (first_with step_nid nid (steps_named parent ids ++ rest) ≡ Some s → ((s.nid ≡ nid) × (s.parent ≡ parent) × Contains ids nid) ⊎ ((first_with step_nid nid rest ≡ Some s) × (Contains ids nid → ⊥))) → cond v (Some (step_from parent id)) (first_with step_nid nid (steps_named parent ids ++ rest)) ≡ Some s → Answer
+      by_test : (v : Bool) → nat_eq id nid ≡ v → (first_with step_nid nid (steps_named parent ids ++ rest) ≡ Some s → ((s.nid ≡ nid) × (s.parent ≡ parent) × Contains ids nid) ⊎ ((first_with step_nid nid rest ≡ Some s) × (Contains ids nid → ⊥))) → cond v (Some (folder_step parent id)) (first_with step_nid nid (steps_named parent ids ++ rest)) ≡ Some s → Answer
       by_test true e more found =
-          let same : step_from parent id ≡ s = some_is (step_from parent id) found in
+          let same : folder_step parent id ≡ s = some_is (folder_step parent id) found in
           let one : id ≡ nid = number_of_test id nid e in
-          inl (sym (ap (λ (x : Step). x.nid) same) ∙ one, sym (ap (λ (x : Step). x.parent) same), rw one (contains_here nid ids))
+          inl (sym (ap (λ (x : FolderStep). x.nid) same) ∙ one, sym (ap (λ (x : FolderStep). x.parent) same), rw one (contains_here nid ids))
       by_test false e more found = elim (more found) [
         | inl w ↦ inl (w.0, w.1, contains_later id nid ids w.2)
         | inr w ↦ inr (w.0, not_here e w.1)
       ]
 
-  first_step : (ps : List ℕ) (nid : ℕ) (s : Step) → first_with step_nid nid (steps_from t nodes ps) ≡ Some s → IsFirstStep ps nid s
+  first_step : (ps : List ℕ) (nid : ℕ) (s : FolderStep) → first_with step_nid nid (steps_from t nodes ps) ≡ Some s → IsFirstStep ps nid s
   unfolding first_with
   first_step [] nid s is = cc
   first_step (p ∷ ps) nid s is = elim (here_or_later p (subfolders_of t nodes p) (steps_from t nodes ps) nid s is) [
@@ -97,7 +97,7 @@ module _ (t : Table) (nodes : List NodeEntry) (named : AllNamed t nodes) (rises 
   ]
 
   -- no folder before it names it: where they rise, it is the least
-  least_parent : (low : ℕ) (ps : List ℕ) (nid : ℕ) (s : Step) (other : ℕ) → Rises low None ps → first_with step_nid nid (steps_from t nodes ps) ≡ Some s → Contains ps other → Contains (subfolders_of t nodes other) nid → s.parent ≤ other
+  least_parent : (low : ℕ) (ps : List ℕ) (nid : ℕ) (s : FolderStep) (other : ℕ) → Rises low None ps → first_with step_nid nid (steps_from t nodes ps) ≡ Some s → Contains ps other → Contains (subfolders_of t nodes other) nid → s.parent ≤ other
   least_parent low [] nid s other up is w c = absurd (in_none other w)
   least_parent low (p ∷ ps) nid s other up is w c = elim (here_or_later p (subfolders_of t nodes p) (steps_from t nodes ps) nid s is) [
     | inl v ↦ let least = least_first p (p ∷ ps) other (omega arith, up.1, up.2) w in omega (arith, v.1, least)
@@ -120,7 +120,7 @@ module _ (t : Table) (nodes : List NodeEntry) (named : AllNamed t nodes) (rises 
   -- how a folder is found at a depth
   abbrev IsFoundAt : ℕ → ℕ → Reach → Type 0
   IsFoundAt zero nid x = (nid ≡ ROOT) × (x ≡ root_reach)
-  IsFoundAt (suc n) nid x = (at n nid ≡ None) × ((s : Step) × (first_with step_nid nid (steps_at n) ≡ Some s) × (x ≡ reached_by (suc n) s))
+  IsFoundAt (suc n) nid x = (at n nid ≡ None) × ((s : FolderStep) × (first_with step_nid nid (steps_at n) ≡ Some s) × (x ≡ reached_by (suc n) s))
 
   record FoundBy (n nid : ℕ) (x : Reach) : Type 0 where
     depth : ℕ
@@ -163,7 +163,7 @@ module _ (t : Table) (nodes : List NodeEntry) (named : AllNamed t nodes) (rises 
       some_is : (y : Reach) → (let o : Option Reach = Some y in o ≡ Some x) → y ≡ x
       some_is y e = cc
 
-      by_step : at n nid ≡ None → (o : Option Step) → first_with step_nid nid (steps_at n) ≡ o → option_map (reached_by (suc n)) o ≡ Some x → FoundBy (suc n) nid x
+      by_step : at n nid ≡ None → (o : Option FolderStep) → first_with step_nid nid (steps_at n) ≡ o → option_map (reached_by (suc n)) o ≡ Some x → FoundBy (suc n) nid x
       by_step none None e found = cc
       by_step none (Some s) e found = record {
         depth = suc n;
@@ -181,7 +181,7 @@ module _ (t : Table) (nodes : List NodeEntry) (named : AllNamed t nodes) (rises 
   unfolding found
   leads_on n parent nid w c = by_case (at n nid) (first_with step_nid nid (steps_at n)) (some_step (level t nodes n) parent nid w c)
     where
-      by_case : (o : Option Reach) (s : Option Step) → is_some s ≡ true → is_some (option_or o (option_map (reached_by (suc n)) s)) ≡ true
+      by_case : (o : Option Reach) (s : Option FolderStep) → is_some s ≡ true → is_some (option_or o (option_map (reached_by (suc n)) s)) ≡ true
       by_case (Some x) s e = refl
       by_case None (Some s) e = refl
       by_case None None e = cc
@@ -211,7 +211,7 @@ module _ (t : Table) (nodes : List NodeEntry) (named : AllNamed t nodes) (rises 
   some_none None e f = cc
   some_none (Some x) e f = cc
 
-  split_new : (o : Option Reach) (s : Option Step) → (is_none o && is_some s) ≡ true → (o ≡ None) × ((x : Step) × (s ≡ Some x))
+  split_new : (o : Option Reach) (s : Option FolderStep) → (is_none o && is_some s) ≡ true → (o ≡ None) × ((x : FolderStep) × (s ≡ Some x))
   split_new None (Some x) e = (refl, (x, refl))
   split_new None None e = cc
   split_new (Some y) s e = cc

@@ -11,34 +11,34 @@ use Rattle.pst_reach.specs.declared.reached.Reach.{Reach}
 use Rattle.pst_reach.specs.Reach.{folder_ids, subfolders_of}
 
 -- a row of a hierarchy table: the folder whose table it is, and the one that it names
-pub record Step : Type 0 where
+pub record FolderStep : Type 0 where
   pub parent : ℕ
   pub nid : ℕ
 
-abbrev pub step_from : ℕ → ℕ → Step
-step_from parent nid = record { parent = parent; nid = nid }
+abbrev pub folder_step : ℕ → ℕ → FolderStep
+folder_step parent nid = record { parent = parent; nid = nid }
 
-abbrev pub step_nid : Step → ℕ
+abbrev pub step_nid : FolderStep → ℕ
 step_nid s = s.nid
 
 -- the rows of a folder's table, which name these
-abbrev pub steps_named : ℕ → List ℕ → List Step
-steps_named parent ids = map (step_from parent) ids
+abbrev pub steps_named : ℕ → List ℕ → List FolderStep
+steps_named parent ids = map (folder_step parent) ids
 
 -- the rows of the tables of these folders, folder by folder
-abbrev pub steps_of : Table → List NodeEntry → ℕ → List Step
+abbrev pub steps_of : Table → List NodeEntry → ℕ → List FolderStep
 steps_of t nodes parent = steps_named parent (subfolders_of t nodes parent)
 
-abbrev pub steps_from : Table → List NodeEntry → List ℕ → List Step
+abbrev pub steps_from : Table → List NodeEntry → List ℕ → List FolderStep
 steps_from t nodes [] = []
 steps_from t nodes (parent ∷ rest) = steps_of t nodes parent ++ steps_from t nodes rest
 
 -- what a row reaches at a depth
-abbrev pub reached_by : ℕ → Step → Reach
+abbrev pub reached_by : ℕ → FolderStep → Reach
 reached_by depth s = record { nid = s.nid; parent = s.parent; depth = depth }
 
 -- what is found of a folder by these rows: by the first that names it
-abbrev pub by_rows : ℕ → List Step → ℕ → Option Reach
+abbrev pub by_rows : ℕ → List FolderStep → ℕ → Option Reach
 by_rows depth steps nid = option_map (reached_by depth) (first_with step_nid nid steps)
 
 -- the root folder is at depth 0
@@ -49,7 +49,7 @@ abbrev pub at_root : ℕ → Option Reach
 at_root nid = if ROOT == nid then Some root_reach else None
 
 -- a folder that these rows name, and that was not found before
-abbrev pub is_new : (ℕ → Option Reach) → List Step → ℕ → Bool
+abbrev pub is_new : (ℕ → Option Reach) → List FolderStep → ℕ → Bool
 is_new before steps nid = is_none (before nid) && is_some (first_with step_nid nid steps)
 
 -- What is found of a folder within a depth: by the least depth, and there by the first row that names it. And the folders at a

@@ -8,7 +8,7 @@ ghost use Rattle.pst_tc.specs.Values.{tc_rows};
 ghost use Rattle.pst_intact.specs.View.{nodes_of_intact};
 ghost use Rattle.pst_reach.specs.Levels.{steps_named};
 ghost use Rattle.pst_reach.specs.Reach.{folders_named, is_folder_among};
-ghost use Rattle.pst_reach.specs.Search.{found_in, Takes};
+ghost use Rattle.pst_reach.specs.Search.{reach_so_far, Takes};
 
 use crate::reached::Reach;
 use pst_intact::Intact;
@@ -33,8 +33,8 @@ fn take_row(
     ensures takes { let named = filter (is_folder_among (nodes_of_intact intact.now)) (row.nid ∷ []) in
         OnOk result (Takes row.depth (steps_named row.parent named) found.old next.old found.new
         next.new) }
-    ensures keeps { (nid : ℕ) → is_some (found_in found.old nid) ≡ true →
-        is_some (found_in found.new nid) ≡ true }
+    ensures keeps { (nid : ℕ) → is_some (reach_so_far found.old nid) ≡ true →
+        is_some (reach_so_far found.new nid) ≡ true }
 {
     if found.contains_key(&row.nid) {
         return Ok(());
@@ -60,8 +60,8 @@ pub(crate) fn take_rows(
         let rows = tc_rows (table_of_node node) (roots_of node) in
         let ids = folders_named (nodes_of_intact intact.now) rows in
         OnOk result (Takes depth (steps_named parent ids) found.old next.old found.new next.new) }
-    ensures keeps { (nid : ℕ) → is_some (found_in found.old nid) ≡ true →
-        is_some (found_in found.new nid) ≡ true }
+    ensures keeps { (nid : ℕ) → is_some (reach_so_far found.old nid) ≡ true →
+        is_some (reach_so_far found.new nid) ≡ true }
 {
     for row in table.rows() {
         let nid = row.id();

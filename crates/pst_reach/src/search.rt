@@ -65,7 +65,7 @@ impl<'a> Search<'a> {
     ghost use Rattle.pst_reach.specs.Levels.{steps_of, reaches_of, folders_in, folders_at};
     ghost use Rattle.pst_reach.specs.Reach.{folder_ids, is_folder_among};
     ghost use Rattle.pst_store.specs.pst_msg.pst_mail.declared.nid.TheConstants.{ROOT as ROOT_NID};
-    ghost use Rattle.pst_reach.specs.Search.{Takes, AreTaken, IsWithin, IsLevel};
+    ghost use Rattle.pst_reach.specs.Search.{Takes, AreTaken, IsReachedWithin, IsLevel};
 
     // The rows of the hierarchy table of a folder at the depth before.
     fn take_folder(
@@ -106,11 +106,11 @@ impl<'a> Search<'a> {
             OnOk result (AreTaken t (nodes_of_intact self.old.intact) self.new.tables self.new.found) }
         ensures within { let t = table_of_intact self.old.intact in
             let nodes = nodes_of_intact self.old.intact in
-            (n : ℕ) → depth ≡ suc n → IsWithin t nodes n self.old.found → IsLevel t nodes n level →
-            OnOk result (IsWithin t nodes (suc n) self.new.found) }
+            (n : ℕ) → depth ≡ suc n → IsReachedWithin t nodes n self.old.found → IsLevel t nodes n level →
+            OnOk result (IsReachedWithin t nodes (suc n) self.new.found) }
         ensures level { let t = table_of_intact self.old.intact in
             let nodes = nodes_of_intact self.old.intact in
-            (n : ℕ) → depth ≡ suc n → IsWithin t nodes n self.old.found → IsLevel t nodes n level →
+            (n : ℕ) → depth ≡ suc n → IsReachedWithin t nodes n self.old.found → IsLevel t nodes n level →
             IfOk result (IsLevel t nodes (suc n)) }
         ensures walked { (before : ℕ) → self.old.walked ≡ capped before →
             OnOk result (self.new.walked ≡ capped (before + folders_at level.keys)) }
@@ -131,13 +131,13 @@ impl<'a> Search<'a> {
         requires taken { AreTaken (table_of_intact self.old.intact) (nodes_of_intact self.old.intact) self.old.tables self.old.found }
         requires root { is_folder_among (nodes_of_intact self.old.intact) ROOT_NID ≡ true }
         requires within { let t = table_of_intact self.old.intact in
-            IsWithin t (nodes_of_intact self.old.intact) 0 self.old.found }
+            IsReachedWithin t (nodes_of_intact self.old.intact) 0 self.old.found }
         requires level { let t = table_of_intact self.old.intact in
             IsLevel t (nodes_of_intact self.old.intact) 0 level }
         ensures intact { self.new.intact ≡ self.old.intact }
         ensures within { let t = table_of_intact self.old.intact in
             let nodes = nodes_of_intact self.old.intact in
-            OnOk result (IsWithin t nodes (length (folder_ids nodes)) self.new.found) }
+            OnOk result (IsReachedWithin t nodes (length (folder_ids nodes)) self.new.found) }
         ensures walked { let all = reaches_of (table_of_intact self.old.intact)
             (nodes_of_intact self.old.intact) in
             (before : ℕ) → self.old.walked ≡ capped before →
@@ -161,7 +161,7 @@ impl<'a> Search<'a> {
     // What is found, the identifiers rising.
     fn list(&self) -> Result<Vec<Reach>, AllocError>
         requires within { let nodes = nodes_of_intact self.now.intact in
-            IsWithin (table_of_intact self.now.intact) nodes (length (folder_ids nodes)) self.now.found }
+            IsReachedWithin (table_of_intact self.now.intact) nodes (length (folder_ids nodes)) self.now.found }
         ensures { let t = table_of_intact self.now.intact in
             IfOk result (λ v. v.items ≡ reaches_of t (nodes_of_intact self.now.intact)) }
     {

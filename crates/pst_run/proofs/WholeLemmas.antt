@@ -8,7 +8,7 @@ use Rattle.pst_header.specs.Header.{header_fault, fields}
 use Rattle.pst_json.specs.pst_ndb.Fault.{ndb_fault, file_fault}
 use Rattle.pst_json.specs.pst_store.Fault.{store_fault}
 use Rattle.pst_json.specs.pst_store.Grammar.{IsStore}
-use Rattle.pst_json.specs.pst_store.Parts.{StoreParts, table_in, entries_in}
+use Rattle.pst_json.specs.pst_store.Parts.{StoreParts, parts_table, parts_entries}
 use Rattle.pst_json.specs.pst_store.Values.{store_in}
 use Rattle.pst_json.specs.pst_whole.Laws.{IsAllWhole}
 use Rattle.pst_json.specs.pst_whole.Lost.{lost_of, nothing_lost}
@@ -56,7 +56,7 @@ broken_none (value text path id) d is = refl
 broken_none export d is = rw is refl
 
 -- what is read where all is whole, of so many bytes
-all_read : (ask : Wanted) (size : ℕ) (I : List ℕ) (r : RemainsParts) → IsAllWhole r (table_in I (store_in I)) (entries_in I (store_in I)) → IsUntold (damage_in r) → size ≡ length I
+all_read : (ask : Wanted) (size : ℕ) (I : List ℕ) (r : RemainsParts) → IsAllWhole r (parts_table I (store_in I)) (parts_entries I (store_in I)) → IsUntold (damage_in r) → size ≡ length I
     → store_fault I ≡ None → read_left ask size r ≡ read_of_store ask I
 all_read ask size I r all un long none =
     let nodes = whole_nodes r.table r.nodes r.broken in
@@ -76,8 +76,8 @@ store_untold I s is = ((nothing_broken_law I s).0 is).1
 stored : (ask : Wanted) (I : List ℕ) (s : StoreParts) → IsStore I s → whole_by None ask I ≡ read_of_store ask I
 stored ask I s is =
     let there = (store_law I s).0 is in
-    let all : IsAllWhole (remains_of I) (table_in I (store_in I)) (entries_in I (store_in I)) =
-    subst (λ p. IsAllWhole (remains_of I) (table_in I p) (entries_in I p)) there.1 (store_whole_law I s is) in
+    let all : IsAllWhole (remains_of I) (parts_table I (store_in I)) (parts_entries I (store_in I)) =
+    subst (λ p. IsAllWhole (remains_of I) (parts_table I p) (parts_entries I p)) there.1 (store_whole_law I s is) in
     ap (λ o. of_store o (read_left ask (length I) (remains_of I))) (inside I there.0) ∙ all_read ask (length I) I (remains_of I) all (store_untold I s is) refl there.0
 
 decoded : (ask : Wanted) (I : List ℕ) (method : Method) (s : StoreParts) → All IsByte I → method_of I ≡ Some method → IsStore (twin_of I) s
@@ -86,8 +86,8 @@ decoded ask I method s bytes encoded is =
     let T = twin_of I in
     let there = (store_law T s).0 is in
     let r = decoded_remains_of method I in
-    let all : IsAllWhole r (table_in T (store_in T)) (entries_in T (store_in T)) =
-    subst (λ p. IsAllWhole r (table_in T p) (entries_in T p)) there.1 (decoded_store_law I method s bytes encoded is) in
+    let all : IsAllWhole r (parts_table T (store_in T)) (parts_entries T (store_in T)) =
+    subst (λ p. IsAllWhole r (parts_table T p) (parts_entries T p)) there.1 (decoded_store_law I method s bytes encoded is) in
     all_read ask (length I) T r all ((decoded_nothing_law I method s bytes encoded).0 is).0 (sym (places_law I bytes).length_same) there.0
 
 -- with a method or without

@@ -11,7 +11,7 @@ use Rattle.pst_json.specs.pst_ndb.Roots.{all_roots}
 use Rattle.pst_json.specs.pst_ndb.Trees.{listed_nodes}
 use Rattle.pst_json.specs.pst_msg.Values.{is_folder, is_message}
 use Rattle.pst_json.specs.pst_store.Fault.{store_fault}
-use Rattle.pst_json.specs.pst_store.Parts.{table_in, entries_in}
+use Rattle.pst_json.specs.pst_store.Parts.{parts_table, parts_entries}
 use Rattle.pst_json.specs.pst_store.Values.{store_in}
 use Rattle.pst_json.specs.pst_verify.Counts.{count_of}
 use Rattle.pst_json.specs.pst_whole.Lost.{LostParts, lost_of, nothing_lost}
@@ -27,8 +27,8 @@ use Rattle.pst_json.specs.Messages.{messages_text}
 use Rattle.pst_json.specs.Node.{props_line}
 use Rattle.pst_json.specs.Nodes.{nodes_line}
 use Rattle.pst_json.specs.Path.{path_told}
-use Rattle.pst_json.specs.Told.{told_of}
-use Rattle.pst_json.specs.Property.{property_at, written_of}
+use Rattle.pst_json.specs.Told.{told_or_fault}
+use Rattle.pst_json.specs.Property.{property_by_path, written_of}
 use Rattle.pst_encoding.specs.declared.method.Method.{Method}
 use Rattle.pst_plain.specs.Twin.{method_of, twin_of}
 use Rattle.pst_remains.specs.Decoded.{decoded_remains_of}
@@ -102,9 +102,9 @@ abbrev pub report_in : List ℕ → ReportParts
 report_in I = let s = store_in I in record {
   pages = length (pages_of s.blocks) + length (pages_of s.nodes);
   blocks = length (blocks_in I s.blocks);
-  nodes = length (entries_in I s);
-  folders = count_of is_folder (all_roots (entries_in I s));
-  messages = count_of is_message (all_roots (entries_in I s));
+  nodes = length (parts_entries I s);
+  folders = count_of is_folder (all_roots (parts_entries I s));
+  messages = count_of is_message (all_roots (parts_entries I s));
   order = s.order;
   lost = s.lost;
 }
@@ -115,10 +115,10 @@ report_told strict digest r = record { text = check_line r digest; fails = stric
 
 -- its blocks, and the entries of its node B-tree
 abbrev pub table_of_file : List ℕ → Table
-table_of_file I = table_in I (store_in I)
+table_of_file I = parts_table I (store_in I)
 
 abbrev pub entries_of_file : List ℕ → List NodeEntry
-entries_of_file I = entries_in I (store_in I)
+entries_of_file I = parts_entries I (store_in I)
 
 -- nothing is broken
 abbrev pub is_whole : DamageParts → Bool
@@ -166,7 +166,7 @@ props_read places t entries lost paths = lines_of_paths (path_read places t entr
 
 abbrev pub value_read : Bool → Table → List NodeEntry → LostParts → List ℕ → ℕ → Result ToldText Refused
 value_read text t entries lost path id =
-    line_at path (unless_fault (path_told lost path) (told_of (written_of text) (property_at t entries path id)))
+    line_at path (unless_fault (path_told lost path) (told_or_fault (written_of text) (property_by_path t entries path id)))
 
 -- the commands that read nodes
 abbrev pub reads : Wanted → Bool

@@ -20,7 +20,7 @@ use crate::shown::{Shown, Text};
 use pst_ask::{Ask, Path};
 use pst_export::export_of;
 use pst_json::{
-    DocFault, Intact, Lost, NameIndex, Prop, Reach, TEXT, contents_line, folders_line, lost_at,
+    DocFault, Intact, Lost, NamesIndex, Prop, Reach, TEXT, contents_line, folders_line, lost_at,
     messages_text, names_index, property_at, props_line, reach_among, text_of,
 };
 use std::alloc::{AllocError, Global};
@@ -71,7 +71,7 @@ fn path_line<'a>(
     path: &[u32],
     intact: &Intact<'a>,
     lost: &Lost,
-    index: &'a NameIndex,
+    index: &'a NamesIndex,
 ) -> Result<Vec<u8>, DocFault>
     requires { IsNamesIndex (table_of_intact intact.now) (nodes_of_intact intact.now) index.now }
     ensures { let t = table_of_intact intact.now in let nodes = nodes_of_intact intact.now in
@@ -91,7 +91,7 @@ fn props_lines<'p, 'a>(
     paths: &'p [Path],
     intact: &Intact<'a>,
     lost: &Lost,
-    index: &'a NameIndex,
+    index: &'a NamesIndex,
 ) -> Result<Shown<'static>, Refusal<'p>>
     requires { IsNamesIndex (table_of_intact intact.now) (nodes_of_intact intact.now) index.now }
     ensures { let t = table_of_intact intact.now in let nodes = nodes_of_intact intact.now in

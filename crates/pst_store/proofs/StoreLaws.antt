@@ -23,10 +23,10 @@ use Rattle.pst_space.specs.Claimed.{Claimed, unit_total, nothing_claimed, with_s
 use Rattle.pst_msg.specs.Fault.{messaging_fault}
 use Rattle.pst_msg.specs.Grammar.{Contents}
 use Rattle.pst_msg.proofs.ContentsLaws.{contents_law}
-use Rattle.pst_store.specs.Parts.{StoreParts, table_in, entries_in, used_in}
+use Rattle.pst_store.specs.Parts.{StoreParts, parts_table, parts_entries, used_in}
 use Rattle.pst_store.specs.Grammar.{IsStore}
 use Rattle.pst_store.specs.Fault.{store_fault}
-use Rattle.pst_store.specs.Values.{old_in, lost_in, store_in}
+use Rattle.pst_store.specs.Values.{old_in, lost_runs_in, store_in}
 use Rattle.pst_store.specs.Laws.{StoreLaw}
 
 -- ---- a store is a node database, and its contents
@@ -42,7 +42,7 @@ database_of I s is = record {
   trees = is.trees;
 }
 
-contents_of : (I : List ℕ) (s : StoreParts) → IsStore I s → Contents (table_in I s) (entries_in I s)
+contents_of : (I : List ℕ) (s : StoreParts) → IsStore I s → Contents (parts_table I s) (parts_entries I s)
 contents_of I s is = record {
   store = is.store;
   root = is.root;
@@ -53,7 +53,7 @@ contents_of I s is = record {
   associated = λ r w e. is.associated r (w, e);
 }
 
-both_make : (I : List ℕ) (s : StoreParts) → Database I s.header s.blocks s.nodes s.order → IsBeside I s.header s.order (used_in I s) s.old s.lost → Contents (table_in I s) (entries_in I s) → IsStore I s
+both_make : (I : List ℕ) (s : StoreParts) → Database I s.header s.blocks s.nodes s.order → IsBeside I s.header s.order (used_in I s) s.old s.lost → Contents (parts_table I s) (parts_entries I s) → IsStore I s
 both_make I s d beside contents = record {
   header = d.head;
   block_tree = d.block_tree;
@@ -85,7 +85,7 @@ abbrev Beside : List ℕ → StoreParts → Type 0
 Beside I s = (s.old ≡ old_pages s.order I (end_of s.header) (used_in I s) (amap_count_of s.header)) × (s.lost ≡ runs_beside s.order I (unit_total s.header) (used_in I s ++ s.old))
 
 spelt_is : (I : List ℕ) (s : StoreParts) → Spelt I s → Beside I s → s ≡ store_in I
-unfolding store_in old_in lost_in
+unfolding store_in old_in lost_runs_in
 spelt_is I s w marks = by_parts s.header s.blocks s.nodes s.order s.old s.lost w.0 w.1 w.2 w.3 marks.0 marks.1
   where
     by_parts : (h : Header) (b n : Tree) (o : BitOrder) (old lost : List Span) → h ≡ fields I → b ≡ tree_under Bbt I h.bbt → n ≡ tree_under Nbt I h.nbt → o ≡ bit_order_of I (space_claimed I h)
@@ -94,15 +94,15 @@ spelt_is I s w marks = by_parts s.header s.blocks s.nodes s.order s.old s.lost w
     by_parts h b n o old lost p q r t u v = rw (v, u, t, q, r, p) refl
 
 is_spelt : (I : List ℕ) (s : StoreParts) → s ≡ store_in I → Spelt I s × Beside I s
-unfolding store_in old_in lost_in
+unfolding store_in old_in lost_runs_in
 is_spelt I s e = rw e ((refl, refl, refl, refl), (refl, refl))
 
 -- the blocks and nodes that it spells, in the words of its first fault
-pub table_is : (I : List ℕ) → table_in I (store_in I) ≡ block_table I (fields I)
+pub table_is : (I : List ℕ) → parts_table I (store_in I) ≡ block_table I (fields I)
 unfolding store_in block_list
 table_is I = refl
 
-pub entries_are : (I : List ℕ) → entries_in I (store_in I) ≡ node_list I (fields I)
+pub entries_are : (I : List ℕ) → parts_entries I (store_in I) ≡ node_list I (fields I)
 unfolding store_in node_list
 entries_are I = refl
 
@@ -127,17 +127,17 @@ halves_store I a b = both_none (ndb_fault I) (messaging_fault (block_table I (fi
 -- ---- the law
 
 -- of what the file spells, contents are no first fault of messaging
-contents_none : (I : List ℕ) → ndb_fault I ≡ None → Contents (table_in I (store_in I)) (entries_in I (store_in I)) → messaging_fault (block_table I (fields I)) (node_list I (fields I)) ≡ None
+contents_none : (I : List ℕ) → ndb_fault I ≡ None → Contents (parts_table I (store_in I)) (parts_entries I (store_in I)) → messaging_fault (block_table I (fields I)) (node_list I (fields I)) ≡ None
 contents_none I sound is = (contents_law (block_table I (fields I)) (node_list I (fields I)) (sound_nodes I sound)).0 (rw (table_is I, entries_are I) at is)
 
-none_contents : (I : List ℕ) → ndb_fault I ≡ None → messaging_fault (block_table I (fields I)) (node_list I (fields I)) ≡ None → Contents (table_in I (store_in I)) (entries_in I (store_in I))
+none_contents : (I : List ℕ) → ndb_fault I ≡ None → messaging_fault (block_table I (fields I)) (node_list I (fields I)) ≡ None → Contents (parts_table I (store_in I)) (parts_entries I (store_in I))
 none_contents I sound none = rw (table_is I, entries_are I) ((contents_law (block_table I (fields I)) (node_list I (fields I)) (sound_nodes I sound)).1 none)
 
 store_none : (I : List ℕ) (s : StoreParts) → IsStore I s → (store_fault I ≡ None) × (s ≡ store_in I)
 store_none I s is =
     let d = (database_law I s.header s.blocks s.nodes s.order).0 (database_of I s is) in
     let same = spelt_is I s (d.1, d.2, d.3, d.4) (beside_is I s.header s.order (used_in I s) s.old s.lost is.header is.old is.lost) in
-    let contents : Contents (table_in I (store_in I)) (entries_in I (store_in I)) = (rw same at (contents_of I s is)) in
+    let contents : Contents (parts_table I (store_in I)) (parts_entries I (store_in I)) = (rw same at (contents_of I s is)) in
     (halves_store I d.0 (contents_none I d.0 contents), same)
 
 none_store : (I : List ℕ) (s : StoreParts) → store_fault I ≡ None → s ≡ store_in I → IsStore I s
@@ -159,7 +159,7 @@ sound_store I none = none_store I (store_in I) none refl
 
 -- those that the comparison with the maps finds are the store's
 pub lost_is : (I : List ℕ) → ndb_fault I ≡ None → lost_runs (bit_order_of I (space_claimed I (fields I))) I (old_maps I (fields I) (space_claimed I (fields I))).claimed ≡ (store_in I).lost
-unfolding store_in lost_in old_in
+unfolding store_in lost_runs_in old_in
 lost_is I none =
     let h = fields I in
     let d = is_database I (bit_order_of I (space_claimed I h)) none refl in

@@ -30,7 +30,7 @@ use Rattle.pst_msg.specs.pst_names.View.{node_of_names, names_roots, name_parts,
 use Rattle.pst_msg.proofs.pst_names.NameLaws.{names_none}
 use Rattle.pst_msg.proofs.ContentsLaws.{none_required, none_are_names}
 use Rattle.pst_msg.proofs.FolderLemmas.{of_message}
-use Rattle.pst_store.specs.Parts.{table_in, entries_in}
+use Rattle.pst_store.specs.Parts.{parts_table, parts_entries}
 use Rattle.pst_store.specs.Fault.{store_fault}
 use Rattle.pst_store.specs.Values.{store_in}
 use Rattle.pst_store.proofs.StoreLaws.{table_is as table_spelt, entries_are as entries_spelt, halves_store}
@@ -47,10 +47,10 @@ pub header_is : (I : List ℕ) (h : Header) → h ≡ fields I → h ≡ (store_
 unfolding store_in
 header_is I h is = is
 
-pub table_is : (I : List ℕ) (h : Header) (t : Table) → h ≡ fields I → t ≡ block_table I h → t ≡ table_in I (store_in I)
+pub table_is : (I : List ℕ) (h : Header) (t : Table) → h ≡ fields I → t ≡ block_table I h → t ≡ parts_table I (store_in I)
 table_is I h t is table = table ∙ ap (block_table I) is ∙ sym (table_spelt I)
 
-pub entries_are : (I : List ℕ) (h : Header) (nodes : List NodeEntry) → h ≡ fields I → nodes ≡ node_list I h → nodes ≡ entries_in I (store_in I)
+pub entries_are : (I : List ℕ) (h : Header) (nodes : List NodeEntry) → h ≡ fields I → nodes ≡ node_list I h → nodes ≡ parts_entries I (store_in I)
 entries_are I h nodes is entries = entries ∙ ap (node_list I) is ∙ sym (entries_spelt I)
 
 -- ---- the parts of messaging

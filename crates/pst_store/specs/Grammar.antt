@@ -15,7 +15,7 @@ use Rattle.pst_ndb.specs.Roots.{Roots}
 use Rattle.pst_msg.specs.pst_pc.Grammar.{IsPc}
 use Rattle.pst_msg.specs.pst_mail.declared.nid.TheConstants.{STORE, ROOT, FOLDER, SEARCH_FOLDER, MESSAGE, ASSOCIATED}
 use Rattle.pst_msg.specs.Grammar.{HasProperties, MayHaveNames, IsFolder, IsMessage}
-use Rattle.pst_store.specs.Parts.{StoreParts, table_in, entries_in, used_in, HasNode}
+use Rattle.pst_store.specs.Parts.{StoreParts, parts_table, parts_entries, used_in, HasNode}
 
 pub record IsStore (I : List ℕ) (s : StoreParts) : Type 0 where
   -- The header is good, and its fields are these (2.2.2.6).
@@ -37,18 +37,18 @@ pub record IsStore (I : List ℕ) (s : StoreParts) : Type 0 where
   -- The maps mark exactly the units in which something in use lies, or an old map page, or a lost run.
   pub marks : MarkJust s.order I (unit_total s.header) (used_in I s ++ (s.old ++ s.lost))
   -- The data of each node has a tree of blocks, and its subnodes have lists, which nest no deeper than they may (2.2.2.8.3).
-  pub trees : AllHaveTrees (table_in I s) (entries_in I s)
+  pub trees : AllHaveTrees (parts_table I s) (parts_entries I s)
   -- The message store and the root folder are there: their nodes are property contexts (2.4.3, 2.4.4).
-  pub store : HasProperties (table_in I s) (entries_in I s) STORE
-  pub root : HasProperties (table_in I s) (entries_in I s) ROOT
+  pub store : HasProperties (parts_table I s) (parts_entries I s) STORE
+  pub root : HasProperties (parts_table I s) (parts_entries I s) ROOT
   -- Where the node of the name map is there, it is a property context, whose streams name properties (2.4.7).
-  pub names : MayHaveNames (table_in I s) (entries_in I s)
+  pub names : MayHaveNames (parts_table I s) (parts_entries I s)
   -- A node of the type of folders is a property context, and its tables, where they are there, are table contexts, whose rows name
   -- nodes of the types that belong there; a search folder is a property context (2.4.4).
-  pub folders : (r : Roots) → HasNode I s FOLDER r → IsFolder (table_in I s) (entries_in I s) r
-  pub searches : (r : Roots) → HasNode I s SEARCH_FOLDER r → IsPc (table_in I s) r
+  pub folders : (r : Roots) → HasNode I s FOLDER r → IsFolder (parts_table I s) (parts_entries I s) r
+  pub searches : (r : Roots) → HasNode I s SEARCH_FOLDER r → IsPc (parts_table I s) r
   -- A node of a type of messages is a property context, and its subnodes are: its recipient table and its attachment table, where
   -- they are there, which are table contexts; for each row of the latter the attachment, a property context, and so, in turn, the
   -- message that it embeds (2.4.5, 2.4.6).
-  pub messages : (r : Roots) → HasNode I s MESSAGE r → IsMessage (table_in I s) r
-  pub associated : (r : Roots) → HasNode I s ASSOCIATED r → IsMessage (table_in I s) r
+  pub messages : (r : Roots) → HasNode I s MESSAGE r → IsMessage (parts_table I s) r
+  pub associated : (r : Roots) → HasNode I s ASSOCIATED r → IsMessage (parts_table I s) r

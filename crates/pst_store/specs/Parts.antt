@@ -23,12 +23,12 @@ pub record StoreParts : Type 0 where
   pub lost : List Span
 
 -- its blocks, by their identifiers
-abbrev pub table_in : List ℕ → StoreParts → Table
-table_in I s = table_with I (blocks_in I s.blocks)
+abbrev pub parts_table : List ℕ → StoreParts → Table
+parts_table I s = table_with I (blocks_in I s.blocks)
 
 -- the entries of its nodes, in order
-abbrev pub entries_in : List ℕ → StoreParts → List NodeEntry
-entries_in I s = nodes_in I s.nodes
+abbrev pub parts_entries : List ℕ → StoreParts → List NodeEntry
+parts_entries I s = nodes_in I s.nodes
 
 -- the spans in use: of its map pages, the pages of both trees, and its blocks
 abbrev pub used_in : List ℕ → StoreParts → List Span
@@ -36,4 +36,4 @@ used_in I s = used_spans I s.header s.blocks s.nodes
 
 -- it has a node of a type
 abbrev pub HasNode : List ℕ → StoreParts → ℕ → Roots → Type 0
-HasNode I s kind r = Contains (all_roots (entries_in I s)) r × (type_of r.top ≡ kind)
+HasNode I s kind r = Contains (all_roots (parts_entries I s)) r × (type_of r.top ≡ kind)

@@ -16,15 +16,15 @@ use Rattle.pst_store.specs.Parts.{StoreParts}
 abbrev pub order_in : List ℕ → BitOrder
 order_in I = bit_order_of I (space_claimed I (fields I))
 
-abbrev pub spans_in : List ℕ → List Span
-spans_in I = used_spans I (fields I) (tree_under Bbt I (fields I).bbt) (tree_under Nbt I (fields I).nbt)
+abbrev pub spans_in_use : List ℕ → List Span
+spans_in_use I = used_spans I (fields I) (tree_under Bbt I (fields I).bbt) (tree_under Nbt I (fields I).nbt)
 
 -- the old map pages, and the lost runs
 unfoldable pub old_in : List ℕ → List Span
-old_in I = old_pages (order_in I) I (end_of (fields I)) (spans_in I) (amap_count_of (fields I))
+old_in I = old_pages (order_in I) I (end_of (fields I)) (spans_in_use I) (amap_count_of (fields I))
 
-unfoldable pub lost_in : List ℕ → List Span
-lost_in I = runs_beside (order_in I) I (unit_total (fields I)) (spans_in I ++ old_in I)
+unfoldable pub lost_runs_in : List ℕ → List Span
+lost_runs_in I = runs_beside (order_in I) I (unit_total (fields I)) (spans_in_use I ++ old_in I)
 
 unfoldable pub store_in : List ℕ → StoreParts
 store_in I = record {
@@ -33,5 +33,5 @@ store_in I = record {
   nodes = tree_under Nbt I (fields I).nbt;
   order = order_in I;
   old = old_in I;
-  lost = lost_in I;
+  lost = lost_runs_in I;
 }

@@ -35,7 +35,7 @@ impl<'a> Store<'a> {
     ghost use Rattle.pst_store.specs.Fault.{store_fault};
     ghost use Rattle.pst_store.specs.Grammar.{IsStore};
     ghost use Rattle.pst_store.specs.Kind.{of_kind, node_of_kind};
-    ghost use Rattle.pst_store.specs.Parts.{table_in, entries_in};
+    ghost use Rattle.pst_store.specs.Parts.{parts_table, parts_entries};
     ghost use Rattle.pst_store.specs.Values.{store_in};
     ghost use Rattle.pst_store.specs.View.{ndb_of_store, bytes_of_store, image_of_store, header_of_store, table_of_store, nodes_of_store};
     ghost use Rattle.pst_store.specs.View.{folders_left, folders_ndb, messages_left, messages_ndb};
@@ -59,9 +59,9 @@ impl<'a> Store<'a> {
         ensures header { let I = bytes_of_store self.now in
             header_of_store self.now ≡ (store_in I).header }
         ensures table { let I = bytes_of_store self.now in
-            table_of_store self.now ≡ table_in I (store_in I) }
+            table_of_store self.now ≡ parts_table I (store_in I) }
         ensures nodes { let I = bytes_of_store self.now in
-            nodes_of_store self.now ≡ entries_in I (store_in I) }
+            nodes_of_store self.now ≡ parts_entries I (store_in I) }
     {
         self.ndb.is_sound();
     }

@@ -63,7 +63,29 @@ fn is_behind(blocks: &Blocks, bid: u64, nid: u32) -> bool {
     body.len() < 32 || nid < sub_at(body, 0).nid
 }
 
-// Among the entries of the SLBLOCKs that an SIBLOCK's body names.
+// Whether an SLBLOCK has no entries.
+fn is_empty(blocks: &Blocks, bid: u64) -> bool {
+    match blocks.entry(bid) {
+        Some(entry) => body_in(blocks, entry).len() < 32,
+        None => true,
+    }
+}
+
+// The first of some SLBLOCKs that an SIBLOCK's body names, from one on and before another, that has entries; or that other one.
+fn first_with_entries(blocks: &Blocks, body: Image, from: u16, end: u16) -> u16
+    requires order { from ≤ end }
+    requires fits { 8 + 16 * end ≤ length (bytes_of body) }
+    ensures low { from ≤ result }
+    ensures high { result ≤ end }
+{
+    let mut i = from;
+    while i < end && is_empty(blocks, bid_at(body, i)) {
+        i += 1;
+    }
+    i
+}
+
+// Among the entries of the SLBLOCKs that an SIBLOCK's body names. Those without entries are passed: they lie neither before nor behind.
 fn guess_of_leaves(blocks: &Blocks, body: Image, nid: u32) -> Option<Sub>
     requires { 8 + 16 * count_in (bytes_of body) ≤ length (bytes_of body) }
     ensures there { IfSome result (Contains (join_below
@@ -74,10 +96,11 @@ fn guess_of_leaves(blocks: &Blocks, body: Image, nid: u32) -> Option<Sub>
     let mut high = body.number16(2);
     while low < high {
         let middle = low + (high - low) / 2;
-        if is_behind(blocks, bid_at(body, middle), nid) {
+        let full = first_with_entries(blocks, body, middle, high);
+        if full == high || is_behind(blocks, bid_at(body, full), nid) {
             high = middle;
         } else {
-            low = middle + 1;
+            low = full + 1;
         }
     }
     if low == 0 {

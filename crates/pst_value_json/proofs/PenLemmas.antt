@@ -9,7 +9,7 @@ use Rattle.serde_json.specs.Data.{Data, object, array, Members, no_members, memb
 use Rattle.serde_json.specs.Written.{compact_text, items_text, members_text}
 use Rattle.serde_json.specs.View.{items_of}
 use Rattle.pst_text.specs.Quoted.{all_plain}
-use Rattle.pst_value_json.specs.Pen.{marked, and_member, and_member_if, before, is_last, IsLast, InObject}
+use Rattle.pst_value_json.specs.Pen.{key_and_colon, and_member, and_member_if, before, is_last, IsLast, InObject}
 use Rattle.pst_value_json.specs.Places.{member_if}
 use Rattle.pst_text.proofs.EscapeLemmas.{all_escaped}
 
@@ -68,21 +68,21 @@ member_is k d rest all =
     ap (λ l. 34 ∷ l) (append_assoc (escape k) (34 ∷ []) (58 ∷ behind)) ∙ ap (λ l. 34 ∷ (l ++ 34 ∷ 58 ∷ behind)) (all_escaped k all)
 
 -- a key is put, behind a mark
-key_put : (old now mark k : List ℕ) (x : ℕ) (d : Data) (rest : Members) → all_plain k ≡ true → mark ≡ x ∷ marked k → now ≡ old ++ mark
+key_put : (old now mark k : List ℕ) (x : ℕ) (d : Data) (rest : Members) → all_plain k ≡ true → mark ≡ x ∷ key_and_colon k → now ≡ old ++ mark
     → now ++ (compact_text d ++ members_text true rest) ≡ old ++ x ∷ members_text false (member k d rest)
 key_put old now mark k x d rest all marks is =
     ap (λ l. l ++ (compact_text d ++ members_text true rest)) (is ∙ ap (λ l. old ++ l) marks) ∙ shape old k (compact_text d) (members_text true rest) x
     ∙ ap (λ l. old ++ x ∷ l) (sym (member_is k d rest all))
 
 -- the first key is put
-pub first_key : (base now mark k : List ℕ) (d : Data) (rest : Members) → all_plain k ≡ true → mark ≡ 123 ∷ marked k → now ≡ base ++ mark
+pub first_key : (base now mark k : List ℕ) (d : Data) (rest : Members) → all_plain k ≡ true → mark ≡ 123 ∷ key_and_colon k → now ≡ base ++ mark
     → now ++ (compact_text d ++ members_text true rest) ≡ base ++ compact_text (object (member k d rest))
 first_key base now mark k d rest all marks is = key_put base now mark k 123 d rest all marks is
 
 -- the next key is put, behind a value
 pub next_key : (base s old now mark k : List ℕ) (front : Members) (last : List ℕ) (e : Data) (done : Members) (d : Data) (rest : Members) → all_plain k ≡ true
     → ((x : Data) (xs : Members) → s ++ (compact_text x ++ members_text true xs) ≡ base ++ compact_text (object (before front (member last x xs))))
-    → old ≡ s ++ compact_text e → done ≡ and_member front last e → mark ≡ 44 ∷ marked k → now ≡ old ++ mark
+    → old ≡ s ++ compact_text e → done ≡ and_member front last e → mark ≡ 44 ∷ key_and_colon k → now ≡ old ++ mark
     → now ++ (compact_text d ++ members_text true rest) ≡ base ++ compact_text (object (before done (member k d rest)))
 next_key base s old now mark k front last e done d rest all so_far put all_are marks is =
     key_put old now mark k 44 d rest all marks is

@@ -18,7 +18,7 @@ use Rattle.pst_pc.specs.Values.{spans_in}
 use Rattle.pst_tc.specs.Values.{tc_cell}
 use Rattle.pst_value.specs.View.{IsValueOf}
 use Rattle.pst_value_json.specs.Laws.{AreBytesAt, PropPlacesLaw, CellPlacesLaw}
-use Rattle.pst_value_json.specs.Places.{in_file, places_of, places_in, content_of, content_in}
+use Rattle.pst_value_json.specs.Places.{in_file, places_of, places_in, joined_content, content_in}
 
 -- ---- spans without bytes
 
@@ -104,7 +104,7 @@ value_places file spans (Whole at slice) is = rw (is.1, is.2) (first_place (byte
 value_places file spans (Pieces p) is = rw (is.1, is.2) refl
 
 pub value_content : (file : Image) (spans : Option (List Span)) (value : Option Value) → IsValueOf file spans value
-    → option_map content_in value ≡ option_map (content_of (bytes_of file)) spans
+    → option_map content_in value ≡ option_map (joined_content (bytes_of file)) spans
 value_content file None None is = refl
 value_content file None (Some v) is = absurd is
 value_content file (Some spans) None is = absurd is
@@ -143,7 +143,7 @@ places_hold I spans = (same_bytes I spans, all_inside I spans, nonempty_twice (m
 pub prop_places : PropPlacesLaw
 prop_places t r x = places_hold t.image (spans_in t r x)
 
-cell_hold : (I : List ℕ) (spans : Option (List Span)) → IfSome (option_map (content_of I) spans) (λ c. AreBytesAt I c.places c.bytes)
+cell_hold : (I : List ℕ) (spans : Option (List Span)) → IfSome (option_map (joined_content I) spans) (λ c. AreBytesAt I c.places c.bytes)
 cell_hold I None = tt
 cell_hold I (Some spans) = places_hold I spans
 

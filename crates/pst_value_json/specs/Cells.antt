@@ -15,7 +15,7 @@ use Rattle.pst_value_json.specs.declared.shown_rows.TableRows.{TableRows}
 use Rattle.pst_value_json.specs.Columns.{distinct_columns}
 use Rattle.pst_text.specs.Names.{nid_data, tag_text}
 use Rattle.pst_text.specs.Parts.{list_data}
-use Rattle.pst_value_json.specs.Places.{Content, content_of, places_data, if_asked, member_if}
+use Rattle.pst_value_json.specs.Places.{Content, joined_content, places_data, if_asked, member_if}
 use Rattle.pst_text.specs.Text.{hex_data}
 use Rattle.pst_value_json.specs.Value.{value_data}
 
@@ -60,7 +60,7 @@ cell_in c (Some content) = cell_with c content ∷ []
 
 -- what is told of the cell that the row at a place has in the first column with a tag
 abbrev pub cell_content : Table → Roots → ℕ → ℕ → Option Content
-cell_content t r row tag = option_map (content_of t.image) (tc_cell t r row tag)
+cell_content t r row tag = option_map (joined_content t.image) (tc_cell t r row tag)
 
 -- the cells that it has in these columns
 unfoldable pub cells_of : Table → Roots → ℕ → List ColumnParts → List Cell

@@ -28,8 +28,8 @@ abbrev pub IsLast : Members → List ℕ → Type 0
 IsLast ms k = is_last ms k ≡ true
 
 -- the key of a member in its quotes, with its colon
-abbrev pub marked : List ℕ → List ℕ
-marked k = 34 ∷ (k ++ 34 ∷ 58 ∷ [])
+abbrev pub key_and_colon : List ℕ → List ℕ
+key_and_colon k = 34 ∷ (k ++ 34 ∷ 58 ∷ [])
 
 -- An object is begun behind what stood there, and has these members: the value of the last key stands there. By what a pen puts, and
 -- where it has a key.

@@ -32,8 +32,8 @@ pub record Content : Type 0 where
   pub bytes : List ℕ
   pub places : List Span
 
-abbrev pub content_of : List ℕ → List Span → Content
-content_of I spans = record { bytes = joined_bytes I spans; places = places_of I spans }
+abbrev pub joined_content : List ℕ → List Span → Content
+joined_content I spans = record { bytes = joined_bytes I spans; places = places_of I spans }
 
 abbrev pub content_in : Value → Content
 content_in v = record { bytes = bytes_in v; places = places_in v }

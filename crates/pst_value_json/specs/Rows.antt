@@ -6,9 +6,9 @@ use Rattle.serde_json.specs.Written.{items_text}
 use Rattle.serde_json.specs.declared.value.Value.{Value}
 
 -- what is taken shows the first that is left; nothing is taken exactly where none is left
-abbrev pub TakesNext : Option Value → List Data → List Data → Type 0
-TakesNext None old new = old ≡ []
-TakesNext (Some d) old new = old ≡ view d ∷ new
+abbrev pub TakesShown : Option Value → List Data → List Data → Type 0
+TakesShown None old new = old ≡ []
+TakesShown (Some d) old new = old ≡ view d ∷ new
 
 -- The first that is left is put behind a text, or none is left. The text, with that of the rows that are left and the bracket
 -- behind them, is the same before and after.

@@ -4,7 +4,7 @@ ghost use Rattle.std.specs.Prelude.{◌≡◌, ◌++◌, List, IfOk, OnErr, OnOk
 ghost use Rattle.serde_json.specs.Data.{Data, array};
 ghost use Rattle.serde_json.specs.View.{view, items_of};
 ghost use Rattle.serde_json.specs.Written.{compact_text};
-ghost use Rattle.pst_value_json.specs.Rows.{TakesNext, PutsNext};
+ghost use Rattle.pst_value_json.specs.Rows.{TakesShown, PutsNext};
 ghost use Rattle.pst_text.specs.Kept.{BeginsWith};
 
 use serde_json::Value as Doc;
@@ -17,7 +17,7 @@ pub trait Rows: Drop {
 
     /// The document of the next row, if one is left.
     fn next_doc(&mut self, alloc: Global) -> Result<Option<Doc>, AllocError>
-        ensures next { IfOk result (λ row. TakesNext row (left self.old) (left self.new)) };
+        ensures next { IfOk result (λ row. TakesShown row (left self.old) (left self.new)) };
 
     /// Puts the next row behind a text, if one is left, and a comma before it where others stand there. Where memory is
     /// refused, the text begins with what it had, and a part of the row may stand behind that.

@@ -7,7 +7,7 @@ ghost use Rattle.serde_json.specs.Written.{compact_text, members_text, items_tex
 ghost use Rattle.pst_text.specs.Kept.{BeginsWith};
 ghost use Rattle.pst_value_json.specs.Leaf.{leaf_data};
 ghost use Rattle.pst_text.specs.Quoted.{all_plain};
-ghost use Rattle.pst_value_json.specs.Pen.{and_member, before, IsLast, marked, InObject};
+ghost use Rattle.pst_value_json.specs.Pen.{and_member, before, IsLast, key_and_colon, InObject};
 
 use crate::leaf::Leaf;
 use crate::put_values::put_leaf;
@@ -45,7 +45,7 @@ pub trait Pen {
         mark: &'static [u8],
     ) -> Result<(), AllocError>
         requires plain { all_plain key.now ≡ true }
-        requires mark { mark.now ≡ 123 ∷ marked key.now }
+        requires mark { mark.now ≡ 123 ∷ key_and_colon key.now }
         ensures put { OnOk result (AtKey self.old self.new no_members key.now) }
         ensures kept { (base : Self) → Keeps base self.old → Keeps base self.new };
 
@@ -57,7 +57,7 @@ pub trait Pen {
         mark: &'static [u8],
     ) -> Result<(), AllocError>
         requires plain { all_plain key.now ≡ true }
-        requires mark { mark.now ≡ 44 ∷ marked key.now }
+        requires mark { mark.now ≡ 44 ∷ key_and_colon key.now }
         ensures put { (base : Self) (done : Members) → InObject Puts AtKey base self.old done
             → OnOk result (AtKey base self.new done key.now) }
         ensures kept { (base : Self) → Keeps base self.old → Keeps base self.new };

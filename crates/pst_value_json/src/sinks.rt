@@ -4,7 +4,7 @@ ghost use Rattle.std.specs.Prelude.{◌≡◌, ◌++◌, IfOk, OnErr, OnOk};
 ghost use Rattle.serde_json.specs.Data.{Data};
 ghost use Rattle.serde_json.specs.View.{view, members_view};
 ghost use Rattle.serde_json.specs.Written.{compact_text};
-ghost use Rattle.pst_text.specs.Line.{line_of, row_text};
+ghost use Rattle.pst_text.specs.Line.{data_line, row_text};
 ghost use Rattle.pst_value_json.specs.Object.{put_part, parts_data, KeysRise, part_text};
 ghost use Rattle.pst_text.specs.Kept.{BeginsWith};
 
@@ -131,11 +131,11 @@ pub fn put_object<R: Rows>(
     put_parts(alloc, parts, text)
 }
 
-#[tactic(auto, unfolding(pst_text::specs::Line::line_of))]
+#[tactic(auto, unfolding(pst_text::specs::Line::data_line))]
 impl Sink for Line {
     type Out = Vec<u8>;
 
-    ghost Shows = { λ out d. out.items ≡ line_of d };
+    ghost Shows = { λ out d. out.items ≡ data_line d };
 
     fn object<R: Rows>(alloc: Global, parts: Vec<Part<R>>) -> Result<Vec<u8>, AllocError> {
         let mut text = Vec::new(alloc);

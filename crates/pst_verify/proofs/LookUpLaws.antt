@@ -13,7 +13,7 @@ use Rattle.pst_reach.specs.pst_store.pst_msg.LookUps.{FolderLookUps, ViewLookUps
 use Rattle.pst_reach.specs.pst_store.pst_msg.View.{ndb_of_folder, node_of_message}
 use Rattle.pst_reach.proofs.pst_store.pst_msg.LookUpLaws.{folder_law, views_law}
 use Rattle.pst_reach.specs.pst_store.declared.store.Store.{Store}
-use Rattle.pst_reach.specs.pst_store.Parts.{table_in, entries_in}
+use Rattle.pst_reach.specs.pst_store.Parts.{parts_table, parts_entries}
 use Rattle.pst_reach.specs.pst_store.Values.{store_in}
 use Rattle.pst_reach.specs.pst_store.View.{ndb_of_store, memory_of_store, bytes_of_store, image_of_store, table_of_store, nodes_of_store}
 use Rattle.pst_reach.proofs.pst_store.StoreLemmas.{table_is, entries_are}
@@ -82,15 +82,15 @@ own_look_ups s = record {
 
 -- ---- and in those of the store that the bytes are
 
-blocks_are : (s : Store) → table_of_store s ≡ table_in (bytes_of_store s) (store_in (bytes_of_store s))
+blocks_are : (s : Store) → table_of_store s ≡ parts_table (bytes_of_store s) (store_in (bytes_of_store s))
 blocks_are s = table_is (bytes_of_store s) (header_of s.ndb) (table_of_store s) s.ndb.fields s.ndb.table
 
-nodes_are : (s : Store) → nodes_of_store s ≡ entries_in (bytes_of_store s) (store_in (bytes_of_store s))
+nodes_are : (s : Store) → nodes_of_store s ≡ parts_entries (bytes_of_store s) (store_in (bytes_of_store s))
 nodes_are s = entries_are (bytes_of_store s) (header_of s.ndb) (nodes_of_store s) s.ndb.fields s.ndb.entries
 
 spelt_look_ups : (s : Store) → LookUps (memory_of_store s) (store_in (bytes_of_store s)) s
 spelt_look_ups s =
-    subst (λ t. StoreLookUps (memory_of_store s) t (entries_in (bytes_of_store s) (store_in (bytes_of_store s))) s) (blocks_are s)
+    subst (λ t. StoreLookUps (memory_of_store s) t (parts_entries (bytes_of_store s) (store_in (bytes_of_store s))) s) (blocks_are s)
     (subst (λ nodes. StoreLookUps (memory_of_store s) (table_of_store s) nodes s) (nodes_are s) (own_look_ups s))
 
 pub look_ups_law : LookUpsLaw

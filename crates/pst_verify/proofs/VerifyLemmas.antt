@@ -24,7 +24,7 @@ use Rattle.pst_reach.specs.pst_store.pst_msg.Fault.{messaging_fault}
 use Rattle.pst_reach.specs.pst_store.pst_msg.Values.{is_folder, is_message}
 use Rattle.pst_reach.specs.pst_store.Fault.{store_fault}
 use Rattle.pst_reach.specs.pst_store.Grammar.{IsStore}
-use Rattle.pst_reach.specs.pst_store.Parts.{StoreParts, table_in, entries_in}
+use Rattle.pst_reach.specs.pst_store.Parts.{StoreParts, parts_table, parts_entries}
 use Rattle.pst_reach.specs.pst_store.Values.{store_in}
 use Rattle.pst_reach.specs.pst_store.View.{memory_of_store}
 use Rattle.pst_reach.proofs.pst_store.StoreLaws.{store_law, sound_store, table_is, entries_are, lost_is}
@@ -66,11 +66,11 @@ report_with map work counts reached unreached = record { pages = work.pages; blo
 -- what was found, in the words of the store that the file spells
 spelt_told : (I : List ℕ) (map : MapReport) (work : Work) (counts : Counts) (reached : Vec Reach) (unreached : Vec ℕ) →
     IsReport I (fields I) (space_claimed I (fields I)) map → map.lost.items ≡ (store_in I).lost → work.pages ≡ page_total I (fields I) →
-    work.sums ≡ length (block_list I (fields I)) → counts.nodes ≡ length (entries_in I (store_in I)) →
-    counts.folders ≡ count_of is_folder (all_roots (entries_in I (store_in I))) →
-    counts.messages ≡ count_of is_message (all_roots (entries_in I (store_in I))) →
-    reached.items ≡ reaches_of (table_in I (store_in I)) (entries_in I (store_in I)) →
-    unreached.items ≡ unreached_of (table_in I (store_in I)) (entries_in I (store_in I)) →
+    work.sums ≡ length (block_list I (fields I)) → counts.nodes ≡ length (parts_entries I (store_in I)) →
+    counts.folders ≡ count_of is_folder (all_roots (parts_entries I (store_in I))) →
+    counts.messages ≡ count_of is_message (all_roots (parts_entries I (store_in I))) →
+    reached.items ≡ reaches_of (parts_table I (store_in I)) (parts_entries I (store_in I)) →
+    unreached.items ≡ unreached_of (parts_table I (store_in I)) (parts_entries I (store_in I)) →
     IsToldOf I (store_in I) (report_with map work counts reached unreached)
 unfolding store_in page_total block_list
 spelt_told I map work counts reached unreached is lost pages sums nodes folders messages found left = record {
@@ -100,8 +100,8 @@ pub record AreFound (t : Table) (nodes : List NodeEntry) (reached : Vec Reach) (
 
 spelt_report : (I : List ℕ) (map : MapReport) (work : Work) (counts : Counts) (reached : Vec Reach) (unreached : Vec ℕ) →
     store_fault I ≡ None → IsToldOf I (store_in I) (report_with map work counts reached unreached) →
-    IsWork I (table_in I (store_in I)) (entries_in I (store_in I)) work →
-    AreFound (table_in I (store_in I)) (entries_in I (store_in I)) reached unreached →
+    IsWork I (parts_table I (store_in I)) (parts_entries I (store_in I)) work →
+    AreFound (parts_table I (store_in I)) (parts_entries I (store_in I)) reached unreached →
     IsReportOf I (store_in I) (report_with map work counts reached unreached)
 spelt_report I map work counts reached unreached none told done found =
     let is = sound_store I none in record {
@@ -123,9 +123,9 @@ pub report_is : (I : List ℕ) (h : Header) (t : Table) (entries : List NodeEntr
     counts.messages ≡ count_of is_message (all_roots entries) →
     IsReportOf I (store_in I) (report_with map work counts reached unreached)
 report_is I h t entries map work counts reached unreached is table nodes_are report sound none done found nodes folders messages =
-    let a : t ≡ table_in I (store_in I) = table ∙ ap (block_table I) is ∙ sym (table_is I) in
-    let b : entries ≡ entries_in I (store_in I) = nodes_are ∙ ap (node_list I) is ∙ sym (entries_are I) in
-    let whole : AreFound (table_in I (store_in I)) (entries_in I (store_in I)) reached unreached = (rw (a, b) at found) in
+    let a : t ≡ parts_table I (store_in I) = table ∙ ap (block_table I) is ∙ sym (table_is I) in
+    let b : entries ≡ parts_entries I (store_in I) = nodes_are ∙ ap (node_list I) is ∙ sym (entries_are I) in
+    let whole : AreFound (parts_table I (store_in I)) (parts_entries I (store_in I)) reached unreached = (rw (a, b) at found) in
     spelt_report I map work counts reached unreached (is_store I h t entries sound is table nodes_are none)
     (spelt_told I map work counts reached unreached report (report.lost ∙ lost_is I sound) done.pages done.sums (rw b at nodes) (rw b at folders) (rw b at messages) whole.all whole.others)
     (rw (a, b) at done) whole

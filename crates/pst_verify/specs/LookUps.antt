@@ -33,7 +33,7 @@ use Rattle.pst_reach.specs.pst_store.declared.folders.Folders.{Folders}
 use Rattle.pst_reach.specs.pst_store.declared.messages.Messages.{Messages}
 use Rattle.pst_reach.specs.pst_store.Kind.{of_kind, node_of_kind}
 use Rattle.pst_reach.specs.pst_store.LookUps.{GivesNode, GivesStoreProps, GivesNames, GivesName, GivesRoot, GivesFolder, GivesFolders, GivesMessage, GivesMessages}
-use Rattle.pst_reach.specs.pst_store.Parts.{StoreParts, table_in, entries_in}
+use Rattle.pst_reach.specs.pst_store.Parts.{StoreParts, parts_table, parts_entries}
 use Rattle.pst_reach.specs.pst_store.Values.{store_in}
 use Rattle.pst_reach.specs.pst_store.View.{ndb_of_store, image_of_store, folders_left, folders_ndb, messages_left, messages_ndb, TakesFolder, TakesMessage}
 use Rattle.pst_verify.specs.declared.verified.Verified.{Verified}
@@ -93,7 +93,7 @@ pub record StoreLookUps (bytes : Bor (List ℕ)) (t : Table) (nodes : List NodeE
 
 -- of the store that bytes are
 abbrev pub LookUps : Bor (List ℕ) → StoreParts → Store → Type 0
-LookUps bytes s store = StoreLookUps bytes (table_in bytes.now s) (entries_in bytes.now s) store
+LookUps bytes s store = StoreLookUps bytes (parts_table bytes.now s) (parts_entries bytes.now s) store
 
 -- Of whatever bytes the check said yes, each later look-up is of the store that they are.
 abbrev pub LookUpsLaw : Type 0

@@ -13,7 +13,7 @@ use Rattle.pst_remains.specs.declared.pages.Broken.{Broken}
 use Rattle.pst_remains.specs.Pages.{page_before}
 use Rattle.pst_intact.specs.pst_msg.pst_mail.declared.nid.TheConstants.{STORE, ROOT}
 use Rattle.pst_damage.specs.declared.broken.BrokenNode.{BrokenNode}
-use Rattle.pst_damage.specs.Judged.{Judged, told_node, told_by, sound_by}
+use Rattle.pst_damage.specs.Judged.{Judged, told_node, broken_by, sound_by}
 use Rattle.pst_damage.specs.Laws.{told_nid, fault_told}
 use Rattle.pst_damage.specs.Nodes.{node_damage, missing, with_required, nodes_damage}
 use Rattle.pst_damage.specs.Order.{put_in}
@@ -26,13 +26,13 @@ lower_told : (low less : ℕ) (told : List BrokenNode) → less ≤ low → Rise
 lower_told low less [] le r = tt
 lower_told low less (b ∷ rest) le r = (omega (arith, le, r.0), r.1, r.2)
 
-told_rises : (part : Judged) (low : ℕ) (nodes : List NodeEntry) → Rises low None (map node_key nodes) → Rises low None (map told_nid (told_by part nodes))
-unfolding told_by
+told_rises : (part : Judged) (low : ℕ) (nodes : List NodeEntry) → Rises low None (map node_key nodes) → Rises low None (map told_nid (broken_by part nodes))
+unfolding broken_by
 told_rises part low [] r = tt
 told_rises part low (e ∷ rest) r = by_fault (part e) (told_rises part (e.nid + 1) rest r.2)
   where
-    by_fault : (o : Option Fault) → Rises (e.nid + 1) None (map told_nid (told_by part rest)) → Rises low None (map told_nid (told_node o e (told_by part rest)))
-    by_fault None more = lower_told (e.nid + 1) low (told_by part rest) (omega (arith, r.0)) more
+    by_fault : (o : Option Fault) → Rises (e.nid + 1) None (map told_nid (broken_by part rest)) → Rises low None (map told_nid (told_node o e (broken_by part rest)))
+    by_fault None more = lower_told (e.nid + 1) low (broken_by part rest) (omega (arith, r.0)) more
     by_fault (Some f) more = (r.0, r.1, more)
 
 pub broken_rise : (t : Table) (nodes : List NodeEntry) (broken : List Broken) (told : List BrokenNode) → Rises 0 None (map node_key nodes) → told ≡ broken_nodes t nodes broken → Rises 0 None (map told_nid told)
@@ -50,17 +50,17 @@ none_told : (nid : ℕ) → fault_told nid [] ≡ None
 unfolding first_with
 none_told nid = refl
 
-told_behind : (part : Judged) (nid low : ℕ) (nodes : List NodeEntry) → nid < low → Rises low None (map node_key nodes) → fault_told nid (told_by part nodes) ≡ None
-unfolding told_by
+told_behind : (part : Judged) (nid low : ℕ) (nodes : List NodeEntry) → nid < low → Rises low None (map node_key nodes) → fault_told nid (broken_by part nodes) ≡ None
+unfolding broken_by
 told_behind part nid low [] lt r = none_told nid
 told_behind part nid low (e ∷ rest) lt r = by_fault (part e) (told_behind part nid (e.nid + 1) rest (omega (arith, lt, r.0)) r.2)
   where
     other : (a b : ℕ) → b < a → nat_eq a b ≡ false
     other a b lt = grind (arith, nat_tests, lt)
 
-    by_fault : (o : Option Fault) → fault_told nid (told_by part rest) ≡ None → fault_told nid (told_node o e (told_by part rest)) ≡ None
+    by_fault : (o : Option Fault) → fault_told nid (broken_by part rest) ≡ None → fault_told nid (told_node o e (broken_by part rest)) ≡ None
     by_fault None more = more
-    by_fault (Some f) more = told_by_test nid (record { nid = e.nid; fault = f }) (told_by part rest) false (other e.nid nid (omega (arith, lt, r.0))) ∙ more
+    by_fault (Some f) more = told_by_test nid (record { nid = e.nid; fault = f }) (broken_by part rest) false (other e.nid nid (omega (arith, lt, r.0))) ∙ more
 
 pub with_by_test : (nid : ℕ) (e : NodeEntry) (rest : List NodeEntry) (v : Bool) → nat_eq e.nid nid ≡ v → node_with nid (e ∷ rest) ≡ cond v (Some e) (node_with nid rest)
 unfolding first_with
@@ -71,19 +71,19 @@ pub none_with : (nid : ℕ) → node_with nid [] ≡ None
 unfolding first_with
 none_with nid = refl
 
-pub told_among : (part : Judged) (nid low : ℕ) (nodes : List NodeEntry) → Rises low None (map node_key nodes) → fault_told nid (told_by part nodes) ≡ if_there part (node_with nid nodes)
-unfolding told_by
+pub told_among : (part : Judged) (nid low : ℕ) (nodes : List NodeEntry) → Rises low None (map node_key nodes) → fault_told nid (broken_by part nodes) ≡ if_there part (node_with nid nodes)
+unfolding broken_by
 told_among part nid low [] r = none_told nid ∙ ap (if_there part) (sym (none_with nid))
 told_among part nid low (e ∷ rest) r = by_test (nat_eq e.nid nid) refl (part e) refl (told_among part nid (e.nid + 1) rest r.2)
   where
-    by_test : (v : Bool) → nat_eq e.nid nid ≡ v → (o : Option Fault) → part e ≡ o → fault_told nid (told_by part rest) ≡ if_there part (node_with nid rest)
-        → fault_told nid (told_node o e (told_by part rest)) ≡ if_there part (node_with nid (e ∷ rest))
+    by_test : (v : Bool) → nat_eq e.nid nid ≡ v → (o : Option Fault) → part e ≡ o → fault_told nid (broken_by part rest) ≡ if_there part (node_with nid rest)
+        → fault_told nid (told_node o e (broken_by part rest)) ≡ if_there part (node_with nid (e ∷ rest))
     by_test true h None is more =
         let same : e.nid ≡ nid = grind (arith, nat_tests, h) in
         told_behind part nid (e.nid + 1) rest (omega (arith, same)) r.2 ∙ sym is ∙ ap (if_there part) (sym (with_by_test nid e rest true h))
-    by_test true h (Some f) is more = told_by_test nid (record { nid = e.nid; fault = f }) (told_by part rest) true h ∙ sym is ∙ ap (if_there part) (sym (with_by_test nid e rest true h))
+    by_test true h (Some f) is more = told_by_test nid (record { nid = e.nid; fault = f }) (broken_by part rest) true h ∙ sym is ∙ ap (if_there part) (sym (with_by_test nid e rest true h))
     by_test false h None is more = more ∙ ap (if_there part) (sym (with_by_test nid e rest false h))
-    by_test false h (Some f) is more = told_by_test nid (record { nid = e.nid; fault = f }) (told_by part rest) false h ∙ more ∙ ap (if_there part) (sym (with_by_test nid e rest false h))
+    by_test false h (Some f) is more = told_by_test nid (record { nid = e.nid; fault = f }) (broken_by part rest) false h ∙ more ∙ ap (if_there part) (sym (with_by_test nid e rest false h))
 
 pub own_is : (t : Table) (nodes : List NodeEntry) (broken : List Broken) (told : List BrokenNode) (nid : ℕ) (found : Option Fault) → Rises 0 None (map node_key nodes) → told ≡ broken_nodes t nodes broken → found ≡ fault_told nid told → found ≡ own_lost t nodes broken nid
 unfolding broken_nodes
@@ -117,8 +117,8 @@ there_required nodes broken nid told = by_found (node_with nid nodes) refl (is_n
     by_found None is false = refl
     by_found None is true = there_put nodes (missing nid) told (rw is refl)
 
-all_there : (part : Judged) (all nodes : List NodeEntry) → ((e : NodeEntry) (f : Fault) → is_some (node_with e.nid nodes) ≡ true → is_some (node_with e.nid all) ≡ true) → filter (is_there all) (told_by part nodes) ≡ told_by part nodes
-unfolding told_by
+all_there : (part : Judged) (all nodes : List NodeEntry) → ((e : NodeEntry) (f : Fault) → is_some (node_with e.nid nodes) ≡ true → is_some (node_with e.nid all) ≡ true) → filter (is_there all) (broken_by part nodes) ≡ broken_by part nodes
+unfolding broken_by
 all_there part all [] among = refl
 all_there part all (e ∷ rest) among = by_fault (part e) (all_there part all rest later)
   where
@@ -135,19 +135,19 @@ all_there part all (e ∷ rest) among = by_fault (part e) (all_there part all re
     here : (f : Fault) → is_some (node_with e.nid all) ≡ true
     here f = among e f (ap is_some (with_by_test e.nid e rest true own))
 
-    by_fault : (o : Option Fault) → filter (is_there all) (told_by part rest) ≡ told_by part rest → filter (is_there all) (told_node o e (told_by part rest)) ≡ told_node o e (told_by part rest)
+    by_fault : (o : Option Fault) → filter (is_there all) (broken_by part rest) ≡ broken_by part rest → filter (is_there all) (told_node o e (broken_by part rest)) ≡ told_node o e (broken_by part rest)
     by_fault None more = more
     by_fault (Some f) more = rw (here f) (ap (λ l. record { nid = e.nid; fault = f } ∷ l) more)
 
 pub told_there_is : (t : Table) (nodes : List NodeEntry) (broken : List Broken) (all told : List BrokenNode) → all ≡ nodes_damage t nodes broken → told ≡ filter (is_there nodes) all → told ≡ broken_nodes t nodes broken
 unfolding nodes_damage broken_nodes
 told_there_is t nodes broken all told is kept =
-    let list = told_by (node_damage t nodes broken) nodes in
+    let list = broken_by (node_damage t nodes broken) nodes in
     kept ∙ ap (filter (is_there nodes)) is
     ∙ there_required nodes broken ROOT (with_required nodes broken STORE list)
     ∙ there_required nodes broken STORE list
     ∙ all_there (node_damage t nodes broken) nodes nodes (λ e f is. is)
 
-pub untold_is : (t : Table) (nodes : List NodeEntry) (broken : List Broken) (told : List BrokenNode) (entries : List NodeEntry) → told ≡ broken_nodes t nodes broken → ((part : Judged) → told ≡ told_by part nodes → entries ≡ sound_by part nodes) → entries ≡ whole_nodes t nodes broken
+pub untold_is : (t : Table) (nodes : List NodeEntry) (broken : List Broken) (told : List BrokenNode) (entries : List NodeEntry) → told ≡ broken_nodes t nodes broken → ((part : Judged) → told ≡ broken_by part nodes → entries ≡ sound_by part nodes) → entries ≡ whole_nodes t nodes broken
 unfolding broken_nodes whole_nodes
 untold_is t nodes broken told entries is others = others (node_damage t nodes broken) is

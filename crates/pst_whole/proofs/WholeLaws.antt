@@ -25,7 +25,7 @@ use Rattle.pst_intact.specs.pst_msg.pst_mail.declared.nid.TheConstants.{STORE, R
 use Rattle.pst_intact.proofs.pst_store.StoreLaws.{table_is, entries_are}
 use Rattle.pst_damage.specs.declared.broken.BrokenNode.{BrokenNode}
 use Rattle.pst_damage.specs.Damage.{damage_in, damage_of}
-use Rattle.pst_damage.specs.Judged.{Judged, kept_node, told_node, sound_by, told_by}
+use Rattle.pst_damage.specs.Judged.{Judged, kept_node, told_node, sound_by, broken_by}
 use Rattle.pst_damage.specs.Laws.{IsUntold}
 use Rattle.pst_damage.specs.Nodes.{node_damage, missing, with_required, nodes_damage}
 use Rattle.pst_damage.specs.Order.{put_in}
@@ -38,20 +38,20 @@ use Rattle.pst_whole.proofs.WholeLemmas.{found_sound, found_is_sound}
 
 -- ---- where nothing is told
 
-none_here : (part : Judged) (e : NodeEntry) (rest : List NodeEntry) → told_by part (e ∷ rest) ≡ [] → (part e ≡ None) × (told_by part rest ≡ [])
-unfolding told_by
+none_here : (part : Judged) (e : NodeEntry) (rest : List NodeEntry) → broken_by part (e ∷ rest) ≡ [] → (part e ≡ None) × (broken_by part rest ≡ [])
+unfolding broken_by
 none_here part e rest none = by_fault (part e) refl none
   where
-    by_fault : (o : Option Fault) → part e ≡ o → told_node o e (told_by part rest) ≡ [] → (part e ≡ None) × (told_by part rest ≡ [])
+    by_fault : (o : Option Fault) → part e ≡ o → told_node o e (broken_by part rest) ≡ [] → (part e ≡ None) × (broken_by part rest ≡ [])
     by_fault None is h = (is, h)
     by_fault (Some f) is h = absurd cc
 
-all_sound : (part : Judged) (nodes : List NodeEntry) → told_by part nodes ≡ [] → sound_by part nodes ≡ nodes
+all_sound : (part : Judged) (nodes : List NodeEntry) → broken_by part nodes ≡ [] → sound_by part nodes ≡ nodes
 unfolding sound_by
 all_sound part [] none = refl
 all_sound part (e ∷ rest) none = let both = none_here part e rest none in rw both.0 (ap (λ (xs : List NodeEntry). e ∷ xs) (all_sound part rest both.1))
 
-none_own : (part : Judged) (nid : ℕ) (nodes : List NodeEntry) → told_by part nodes ≡ [] → if_there part (node_with nid nodes) ≡ None
+none_own : (part : Judged) (nid : ℕ) (nodes : List NodeEntry) → broken_by part nodes ≡ [] → if_there part (node_with nid nodes) ≡ None
 none_own part nid [] none = ap (if_there part) (none_with nid)
 none_own part nid (e ∷ rest) none =
     let both = none_here part e rest none in
@@ -78,7 +78,7 @@ none_broken t nodes broken none = sym (told_there_is t nodes broken [] [] (sym n
 is_all : (t : Table) (nodes : List NodeEntry) (broken : List Broken) → nodes_damage t nodes broken ≡ [] → broken ≡ [] → (whole_nodes t nodes broken ≡ nodes) × (lost_of t nodes broken ≡ nothing_lost)
 unfolding whole_nodes broken_nodes
 is_all t nodes broken none pages =
-    let told : told_by (node_damage t nodes broken) nodes ≡ [] = none_broken t nodes broken none in
+    let told : broken_by (node_damage t nodes broken) nodes ≡ [] = none_broken t nodes broken none in
     let own : own_lost t nodes broken ≡ (λ _. None) = fun_ext (λ nid. none_own (node_damage t nodes broken) nid nodes told) in
     let behind : behind_lost nodes broken ≡ (λ _. None) = fun_ext (λ nid. rw pages (none_behind nodes nid)) in
     (all_sound (node_damage t nodes broken) nodes told, parts own behind)
@@ -189,8 +189,8 @@ has_whole part (e ∷ rest) x w none = elim (in_more e rest x w) [
 
 -- ---- those that are told
 
-is_told : (part : Judged) (nodes : List NodeEntry) (b : BrokenNode) → Contains (told_by part nodes) b → (e : NodeEntry) × Contains nodes e × (e.nid ≡ b.nid) × (part e ≡ Some b.fault)
-unfolding told_by
+is_told : (part : Judged) (nodes : List NodeEntry) (b : BrokenNode) → Contains (broken_by part nodes) b → (e : NodeEntry) × Contains nodes e × (e.nid ≡ b.nid) × (part e ≡ Some b.fault)
+unfolding broken_by
 is_told part [] b w = absurd (in_none b w)
 is_told part (e ∷ rest) b w = by_fault (part e) refl (λ v. is_told part rest b v) w
   where
@@ -200,9 +200,9 @@ is_told part (e ∷ rest) b w = by_fault (part e) refl (λ v. is_told part rest 
     later : Found rest → Found (e ∷ rest)
     later v = (v.0, contains_later e v.0 rest v.1, v.2, v.3)
 
-    by_fault : (o : Option Fault) → part e ≡ o → (Contains (told_by part rest) b → Found rest) → Contains (told_node o e (told_by part rest)) b → Found (e ∷ rest)
+    by_fault : (o : Option Fault) → part e ≡ o → (Contains (broken_by part rest) b → Found rest) → Contains (told_node o e (broken_by part rest)) b → Found (e ∷ rest)
     by_fault None is more v = later (more v)
-    by_fault (Some f) is more v = elim (in_more (record { nid = e.nid; fault = f }) (told_by part rest) b v) [
+    by_fault (Some f) is more v = elim (in_more (record { nid = e.nid; fault = f }) (broken_by part rest) b v) [
       | inl same ↦ (e, contains_here e rest, ap (λ (x : BrokenNode). x.nid) same, is ∙ ap (λ (x : BrokenNode). Some x.fault) same)
       | inr behind ↦ later (more behind)
     ]
@@ -245,11 +245,11 @@ module _ (t : Table) (nodes : List NodeEntry) (broken : List Broken) (rises : Ri
   abbrev part : Judged
   part e = node_damage t nodes broken e
 
-  in_all : (b : BrokenNode) → Contains (nodes_damage t nodes broken) b → (node_with b.nid nodes ≡ None) ⊎ Contains (told_by part nodes) b
+  in_all : (b : BrokenNode) → Contains (nodes_damage t nodes broken) b → (node_with b.nid nodes ≡ None) ⊎ Contains (broken_by part nodes) b
   unfolding nodes_damage
-  in_all b w = elim (in_required nodes broken ROOT (with_required nodes broken STORE (told_by part nodes)) b w) [
+  in_all b w = elim (in_required nodes broken ROOT (with_required nodes broken STORE (broken_by part nodes)) b w) [
     | inl lacks ↦ inl lacks
-    | inr there ↦ in_required nodes broken STORE (told_by part nodes) b there
+    | inr there ↦ in_required nodes broken STORE (broken_by part nodes) b there
   ]
 
   there : (e : NodeEntry) → Contains nodes e → node_with e.nid nodes ≡ Some e
@@ -279,7 +279,7 @@ module _ (t : Table) (nodes : List NodeEntry) (broken : List Broken) (rises : Ri
           let none : part x ≡ None = (found_is_sound part nid nodes x h).0 in
           absurd (let bad : Some f ≡ None = sym is ∙ ap part one ∙ none in cc)
 
-  told_there : (b : BrokenNode) → Contains (told_by part nodes) b → (e : NodeEntry) × (node_with b.nid nodes ≡ Some e) × (part e ≡ Some b.fault)
+  told_there : (b : BrokenNode) → Contains (broken_by part nodes) b → (e : NodeEntry) × (node_with b.nid nodes ≡ Some e) × (part e ≡ Some b.fault)
   told_there b w = let found = is_told part nodes b w in (found.0, rw found.2 at (there found.0 found.1), found.3)
 
   lacks_broken : (b : BrokenNode) → Contains (nodes_damage t nodes broken) b → node_with b.nid (sound_by part nodes) ≡ None

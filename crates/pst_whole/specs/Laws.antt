@@ -13,7 +13,7 @@ use Rattle.pst_remains.specs.Decoded.{decoded_remains_of}
 use Rattle.pst_remains.specs.Pages.{page_before}
 use Rattle.pst_remains.specs.Remains.{RemainsParts, remains_of}
 use Rattle.pst_intact.specs.pst_store.Grammar.{IsStore}
-use Rattle.pst_intact.specs.pst_store.Parts.{StoreParts, table_in, entries_in}
+use Rattle.pst_intact.specs.pst_store.Parts.{StoreParts, parts_table, parts_entries}
 use Rattle.pst_damage.specs.declared.broken.BrokenNode.{BrokenNode}
 use Rattle.pst_damage.specs.Nodes.{node_damage, nodes_damage}
 use Rattle.pst_whole.specs.Lost.{lost_of, nothing_lost, told_lost, own_lost, behind_lost}
@@ -29,12 +29,12 @@ pub record IsAllWhole (r : RemainsParts) (t : Table) (nodes : List NodeEntry) : 
 
 -- So what is read of what is whole of a store is read of its blocks and its nodes.
 abbrev pub StoreWholeLaw : Type 0
-StoreWholeLaw = (I : List ℕ) (s : StoreParts) → IsStore I s → IsAllWhole (remains_of I) (table_in I s) (entries_in I s)
+StoreWholeLaw = (I : List ℕ) (s : StoreParts) → IsStore I s → IsAllWhole (remains_of I) (parts_table I s) (parts_entries I s)
 
 -- The same of an encoded file, its blocks decoded, whose plain twin is a store.
 abbrev pub DecodedStoreLaw : Type 0
 DecodedStoreLaw = (I : List ℕ) (method : Method) (s : StoreParts) → All IsByte I → method_of I ≡ Some method → IsStore (twin_of I) s →
-    IsAllWhole (decoded_remains_of method I) (table_in (twin_of I) s) (entries_in (twin_of I) s)
+    IsAllWhole (decoded_remains_of method I) (parts_table (twin_of I) s) (parts_entries (twin_of I) s)
 
 -- ---- of any file, of which these nodes are left, over the blocks without fault, beside these pages with a fault
 

@@ -3,7 +3,7 @@
 ghost use Rattle.std.specs.Prelude.{◌≡◌, ◌++◌, [], IfOk, OnOk};
 ghost use Rattle.std.specs.List.{filter};
 ghost use Rattle.pst_btree.specs.Lists.{listed_nodes};
-ghost use Rattle.pst_damage.specs.Judged.{Judged, kept_node, sound_by, told_by};
+ghost use Rattle.pst_damage.specs.Judged.{Judged, kept_node, sound_by, broken_by};
 ghost use Rattle.pst_whole.specs.Nodes.{is_there};
 
 use pst_btree::NodeList;
@@ -41,7 +41,7 @@ pub(crate) fn untold(
     nodes: NodeList,
     told: &[BrokenNode],
 ) -> Result<Vec<NodeEntry>, AllocError>
-    ensures { (part : Judged) → told.now ≡ told_by part (listed_nodes nodes.entry) →
+    ensures { (part : Judged) → told.now ≡ broken_by part (listed_nodes nodes.entry) →
         IfOk result (λ v. v.items ≡ sound_by part (listed_nodes nodes.entry)) }
 {
     let mut whole = Vec::new(alloc);

@@ -105,6 +105,32 @@ fn trees_that_nodes_share(rt: HostRuntime) -> Result<(), Fail> {
     is_told(&rt, rt.alloc(), 0, &image, line)
 }
 
+// Search folders that have a table for properties, each under a list of subnodes of its own.
+fn with_lists(alloc: Global) -> Result<Plan, Fail> {
+    let mut plan = with_row(alloc, 0x42, &[STORE, ROOT])?;
+    let head = [2, 0, 1, 0, 0, 0, 0, 0];
+    for (bid, sub) in [(0x12, 0x41f), (0x16, 0x43f)] {
+        add_block(alloc, &mut plan, bid, &head, &[sub, 8, 0])?;
+    }
+    for (nid, bid_sub) in [(0x143, 0x12), (0x163, 0x16)] {
+        plan.nodes.push(NodePlan {
+            nid,
+            bid_data: 12,
+            bid_sub,
+            parent: 0,
+        })?;
+    }
+    Ok(plan)
+}
+
+#[test]
+fn data_that_lists_share(rt: HostRuntime) -> Result<(), Fail> {
+    let plan = with_lists(rt.alloc())?;
+    let image = changed(rt.alloc(), &plan, &[])?;
+    let line = "0x143 Heap 0x4c80 0xc 0x143, 0x163 Heap 0x4c80 0xc 0x163, whole 2 1 0";
+    is_told(&rt, rt.alloc(), 0, &image, line)
+}
+
 // The properties of an attachment that embeds the message which is its subnode 0x200024; and attachment tables of one row, 0x8025,
 // and of two, 0x8025 and 0x8045.
 const EMBEDS: [u8; 56] = [

@@ -2,7 +2,7 @@ use Rattle.std.proofs.Common.{List, [], ◌∷◌, codes}
 use Rattle.std.specs.Prelude.{false}
 use Rattle.pst_ndb.specs.Views.{table_of_node, roots_of}
 use Rattle.pst_tar.specs.Archive.{Member}
-use Rattle.pst_value_json.specs.pst_text.Line.{line_of}
+use Rattle.pst_value_json.specs.pst_text.Line.{data_line}
 use Rattle.pst_value_json.specs.Props.{names_told}
 use Rattle.std.specs.Prelude.{None}
 use Rattle.pst_value_json.specs.declared.filed.Filed.TheVariants.{Attachment}
@@ -21,7 +21,7 @@ returns-in_err-write_document-clause-front g c =
     let node = node_of_attachment c.args.attachment in
     let t = table_of_node node in
     let r = roots_of node in
-    let doc : Member = member_in c.args.folder.now c.args.time (codes "props.json") (line_of (attachment_data told (Attachment None) false t (attachment_shown c.args.attachment))) in
+    let doc : Member = member_in c.args.folder.now c.args.time (codes "props.json") (data_line (attachment_data told (Attachment None) false t (attachment_shown c.args.attachment))) in
     let files : List Member = file_at attachment_file t r c.args.folder.now c.args.time CONTENT in
     front_first _ _ _ (doc ∷ []) files (rw c.in_ok-line.ensures.line at c.in_err-write_document.ensures.front)
 
@@ -32,7 +32,7 @@ returns-in_err-write_content-clause-front g c =
     let node = node_of_attachment c.args.attachment in
     let t = table_of_node node in
     let r = roots_of node in
-    let doc : Member = member_in c.args.folder.now c.args.time (codes "props.json") (line_of (attachment_data told (Attachment None) false t (attachment_shown c.args.attachment))) in
+    let doc : Member = member_in c.args.folder.now c.args.time (codes "props.json") (data_line (attachment_data told (Attachment None) false t (attachment_shown c.args.attachment))) in
     let files : List Member = file_at attachment_file t r c.args.folder.now c.args.time CONTENT in
     front_second _ _ _ _ _ (doc ∷ []) files (rw c.in_ok-line.ensures.line at c.in_ok-write_document.ensures.all) (rw c.attachment_pc-pc.ensures.table at (rw c.attachment_pc-pc.ensures.roots at c.in_err-write_content.ensures.front))
 
@@ -43,7 +43,7 @@ returns-clause-all g c =
     let node = node_of_attachment c.args.attachment in
     let t = table_of_node node in
     let r = roots_of node in
-    let doc : Member = member_in c.args.folder.now c.args.time (codes "props.json") (line_of (attachment_data told (Attachment None) false t (attachment_shown c.args.attachment))) in
+    let doc : Member = member_in c.args.folder.now c.args.time (codes "props.json") (data_line (attachment_data told (Attachment None) false t (attachment_shown c.args.attachment))) in
     let files : List Member = file_at attachment_file t r c.args.folder.now c.args.time CONTENT in
     adds_two _ _ _ _ _ _ (doc ∷ []) files (rw c.in_ok-line.ensures.line at c.in_ok-write_document.ensures.all) (rw c.attachment_pc-pc.ensures.table at (rw c.attachment_pc-pc.ensures.roots at c.in_ok-write_content.ensures.all))
 
@@ -54,7 +54,7 @@ returns-clause-front g c =
     let node = node_of_attachment c.args.attachment in
     let t = table_of_node node in
     let r = roots_of node in
-    let doc : Member = member_in c.args.folder.now c.args.time (codes "props.json") (line_of (attachment_data told (Attachment None) false t (attachment_shown c.args.attachment))) in
+    let doc : Member = member_in c.args.folder.now c.args.time (codes "props.json") (data_line (attachment_data told (Attachment None) false t (attachment_shown c.args.attachment))) in
     let files : List Member = file_at attachment_file t r c.args.folder.now c.args.time CONTENT in
     front_whole _ _ _ _ (doc ∷ files)
     (adds_two _ _ _ _ _ _ (doc ∷ []) files (rw c.in_ok-line.ensures.line at c.in_ok-write_document.ensures.all) (rw c.attachment_pc-pc.ensures.table at (rw c.attachment_pc-pc.ensures.roots at c.in_ok-write_content.ensures.all)))

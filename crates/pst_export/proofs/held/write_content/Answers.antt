@@ -4,7 +4,7 @@ use Rattle.pst_ndb.specs.Views.{table_of_node, roots_of}
 use Rattle.pst_value_json.specs.declared.filed.TheConstants.{CONTENT}
 use Rattle.pst_value_json.specs.Filed.{attachment_file}
 use Rattle.pst_value_json.specs.pst_pc.View.{node_of_pc, property_of}
-use Rattle.pst_export.specs.Written.{Adds, AddsFront}
+use Rattle.pst_export.specs.Written.{AddsFiles, AddsFront}
 use Rattle.pst_export.proofs.FileLemmas.{file_there, none_there}
 use Rattle.pst_export.proofs.held.write_content.Goals as goal
 
@@ -12,7 +12,7 @@ pub returns-in-Some-clause-all : goal.returns-in-Some-clause-all
 returns-in-Some-clause-all g c =
     let node = node_of_pc c.args.pc.now in
     let is = file_there attachment_file (table_of_node node) (roots_of node) c.args.folder.now c.args.time CONTENT (property_of c.in-Some.prop) _ c.in-Some.ensures.value c.attachment_file-name.ensures in
-    subst (λ ms. OnOk c.write_named.result (Adds (g.W.Write.contents c.args.out.now) (g.W.Write.contents c.write_named.new.out) c.args.number.now c.write_named.new.number ms)) is
+    subst (λ ms. OnOk c.write_named.result (AddsFiles (g.W.Write.contents c.args.out.now) (g.W.Write.contents c.write_named.new.out) c.args.number.now c.write_named.new.number ms)) is
     c.write_named.ensures.all
 
 pub returns-in-Some-clause-front : goal.returns-in-Some-clause-front

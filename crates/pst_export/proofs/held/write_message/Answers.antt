@@ -2,7 +2,7 @@ use Rattle.std.proofs.Common.{List, [], ◌∷◌, codes}
 use Rattle.std.specs.Prelude.{true, false}
 use Rattle.pst_ndb.specs.Views.{table_of_node, nid_of, roots_of}
 use Rattle.pst_tar.specs.Archive.{Member}
-use Rattle.pst_value_json.specs.pst_text.Line.{line_of}
+use Rattle.pst_value_json.specs.pst_text.Line.{data_line}
 use Rattle.pst_value_json.specs.Props.{names_told}
 use Rattle.pst_value_json.specs.declared.filed.TheConstants.{HEADERS, BODY, HTML, RTF}
 use Rattle.pst_value_json.specs.Filed.{message_file}
@@ -19,7 +19,7 @@ returns-in_err-write_document-clause-front g c =
     let node = node_of_message c.args.message in
     let t = table_of_node node in
     let r = roots_of node in
-    let doc : Member = member_in c.args.folder.now c.args.time (codes "props.json") (line_of (message_data told true false t r (nid_of node))) in
+    let doc : Member = member_in c.args.folder.now c.args.time (codes "props.json") (data_line (message_data told true false t r (nid_of node))) in
     let files : List Member = files_at message_file t r c.args.folder.now c.args.time (HEADERS ∷ BODY ∷ HTML ∷ RTF ∷ []) in
     front_first _ _ _ (doc ∷ []) files (rw c.in_ok-line.ensures.line at c.in_err-write_document.ensures.front)
 
@@ -30,7 +30,7 @@ returns-in_err-write_bodies-clause-front g c =
     let node = node_of_message c.args.message in
     let t = table_of_node node in
     let r = roots_of node in
-    let doc : Member = member_in c.args.folder.now c.args.time (codes "props.json") (line_of (message_data told true false t r (nid_of node))) in
+    let doc : Member = member_in c.args.folder.now c.args.time (codes "props.json") (data_line (message_data told true false t r (nid_of node))) in
     let files : List Member = files_at message_file t r c.args.folder.now c.args.time (HEADERS ∷ BODY ∷ HTML ∷ RTF ∷ []) in
     front_second _ _ _ _ _ (doc ∷ []) files (rw c.in_ok-line.ensures.line at c.in_ok-write_document.ensures.all) (rw c.message_pc-pc.ensures.table at (rw c.message_pc-pc.ensures.roots at c.in_err-write_bodies.ensures.front))
 
@@ -41,7 +41,7 @@ returns-clause-all g c =
     let node = node_of_message c.args.message in
     let t = table_of_node node in
     let r = roots_of node in
-    let doc : Member = member_in c.args.folder.now c.args.time (codes "props.json") (line_of (message_data told true false t r (nid_of node))) in
+    let doc : Member = member_in c.args.folder.now c.args.time (codes "props.json") (data_line (message_data told true false t r (nid_of node))) in
     let files : List Member = files_at message_file t r c.args.folder.now c.args.time (HEADERS ∷ BODY ∷ HTML ∷ RTF ∷ []) in
     adds_two _ _ _ _ _ _ (doc ∷ []) files (rw c.in_ok-line.ensures.line at c.in_ok-write_document.ensures.all) (rw c.message_pc-pc.ensures.table at (rw c.message_pc-pc.ensures.roots at c.in_ok-write_bodies.ensures.all))
 
@@ -52,7 +52,7 @@ returns-clause-front g c =
     let node = node_of_message c.args.message in
     let t = table_of_node node in
     let r = roots_of node in
-    let doc : Member = member_in c.args.folder.now c.args.time (codes "props.json") (line_of (message_data told true false t r (nid_of node))) in
+    let doc : Member = member_in c.args.folder.now c.args.time (codes "props.json") (data_line (message_data told true false t r (nid_of node))) in
     let files : List Member = files_at message_file t r c.args.folder.now c.args.time (HEADERS ∷ BODY ∷ HTML ∷ RTF ∷ []) in
     front_whole _ _ _ _ (doc ∷ files)
     (adds_two _ _ _ _ _ _ (doc ∷ []) files (rw c.in_ok-line.ensures.line at c.in_ok-write_document.ensures.all) (rw c.message_pc-pc.ensures.table at (rw c.message_pc-pc.ensures.roots at c.in_ok-write_bodies.ensures.all)))

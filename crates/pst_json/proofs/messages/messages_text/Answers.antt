@@ -5,7 +5,7 @@ use Rattle.pst_intact.specs.View.{table_of_intact, nodes_of_intact}
 use Rattle.pst_verify.specs.pst_msg.pst_mail.declared.nid.TheConstants.{MESSAGE}
 use Rattle.pst_verify.specs.pst_msg.Nid.{is_type}
 use Rattle.pst_verify.specs.pst_msg.View.{node_of_message, message_roots}
-use Rattle.pst_json.specs.Listings.{folders_at}
+use Rattle.pst_json.specs.Listings.{folders_listing}
 use Rattle.pst_json.proofs.MessageLemmas.{line_put}
 use Rattle.pst_json.proofs.messages.messages_text.Goals as goal
 
@@ -22,5 +22,5 @@ loop-message-preserved-in-Continue-branch-2 c =
       table = ap table_of_nodes steps.1 ∙ i.table;
       known = rw table at c.put_summary.ensures.known;
       index = rw table at c.put_summary.ensures.index;
-      lines = line_put t nodes (folders_at c.in_ok-listings.listings) r _ _ _ _ _ c.in_ok-listings.ensures kind steps.0 (rw table at c.in_ok-put_summary.ensures.put) i.lines;
+      lines = line_put t nodes (folders_listing c.in_ok-listings.listings) r _ _ _ _ _ c.in_ok-listings.ensures kind steps.0 (rw table at c.in_ok-put_summary.ensures.put) i.lines;
     }

@@ -1,6 +1,6 @@
 use Rattle.std.proofs.Common.{◌≡◌, ◌≤◌, length, None}
 use Rattle.pst_ndb.specs.Views.{table_of_node, roots_of}
-use Rattle.pst_msg.specs.Rest.{rows_left}
+use Rattle.pst_msg.specs.Rest.{rows_of_table_left}
 use Rattle.pst_msg.specs.Counts.{HasMessage}
 use Rattle.pst_msg.specs.Frames.{IsFrame, HasHolder, with_rest}
 use Rattle.pst_msg.specs.Growth.{Grows}
@@ -22,4 +22,4 @@ invariant-loop-row l =
     }
 
 abbrev pub decreases-loop-row : goal.decreases-loop-row
-decreases-loop-row l = length (rows_left l.frame.rest)
+decreases-loop-row l = length (rows_of_table_left l.frame.rest)

@@ -2,7 +2,7 @@ use Rattle.std.proofs.Common.{◌-◌, Some, arith}
 use Rattle.pst_fault.specs.First.{IsFirst}
 use Rattle.pst_ndb.specs.Views.{table_of_node, roots_of}
 use Rattle.pst_mail.specs.Fault.{embedded_fault, message_at, below_attachment}
-use Rattle.pst_msg.specs.Frames.{IsOpened, IsObjectOpened}
+use Rattle.pst_msg.specs.Frames.{IsMessageOpened, IsObjectOpened}
 use Rattle.pst_msg.proofs.OpenLemmas.{err_map, some_map, object_refused, object_opened}
 use Rattle.pst_msg.proofs.GrowLemmas.{object_grows}
 use Rattle.pst_mail.proofs.SubnodeLemmas.{found_limit, found_sound}
@@ -27,7 +27,7 @@ returns-in-Some-clause-open c =
     let t = table_of_node c.args.node in
     let u = table_of_node c.in-Some.sub in
     let some = found_limit t c.args.limit c.args.object.nid (roots_of c.args.node) c.in-Some.sub c.requires.sound c.in-Some.ensures.roots in
-    some_map c.open_message.result (IsOpened u c.open_message.new.known (roots_of c.in-Some.sub) (c.args.limit - 1) (Some c.args.node)) (IsObjectOpened t c.open_message.new.known c.args.node c.args.limit c.args.object)
+    some_map c.open_message.result (IsMessageOpened u c.open_message.new.known (roots_of c.in-Some.sub) (c.args.limit - 1) (Some c.args.node)) (IsObjectOpened t c.open_message.new.known c.args.node c.args.limit c.args.object)
     (λ f is. object_opened t u c.open_message.new.known c.args.node c.in-Some.sub c.args.limit c.args.object f c.in-Some.ensures.table (omega (arith, some)) c.in-Some.ensures.roots is) c.open_message.ensures.open
 
 pub open_message-requires-clause-sound : goal.open_message-requires-clause-sound

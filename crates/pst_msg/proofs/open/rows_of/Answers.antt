@@ -1,6 +1,4 @@
-use Rattle.std.proofs.Common.{ap, ◌∙◌}
-use Rattle.pst_ndb.specs.Views.{table_of_node, roots_of}
-use Rattle.pst_tc.specs.Values.{tc_rows}
+use Rattle.pst_ndb.specs.Views.{table_of_node}
 use Rattle.pst_msg.proofs.AidLemmas.{counts_turned}
 use Rattle.pst_msg.proofs.open.rows_of.Goals as goal
 

@@ -5,7 +5,7 @@ use Rattle.pst_intact.specs.View.{intact_roots}
 use Rattle.pst_store.specs.Kind.{of_kind}
 use Rattle.pst_intact.specs.View.{table_of_intact, nodes_of_intact, intact_folders_left}
 use Rattle.pst_reach.specs.Reach.{folder_ids}
-use Rattle.pst_reach.specs.Search.{AreTaken, IsWithin, IsLevel}
+use Rattle.pst_reach.specs.Search.{AreTaken, IsReachedWithin, IsLevel}
 use Rattle.pst_reach.proofs.CountLaws.{all_walked, all_walked_at_last}
 use Rattle.pst_reach.proofs.LoopLemmas.{no_length, all_to_go, all_rise, one_less, rise_on, stop_here, nothing_below, counted_deeper, counted_in_all, at_last}
 use Rattle.pst_store.specs.pst_msg.pst_mail.declared.nid.TheConstants.{ROOT}
@@ -54,13 +54,13 @@ loop-folder-preserved c =
     let before = c.loop-folder.invariant in
     let depth = c.loop-folder.depth in
     let more : depth + 1 ≡ suc depth = omega arith in
-    let within = subst (λ s. IsWithin (table_of_intact s) (nodes_of_intact s) depth c.loop-folder.self.found) (sym before.intact) before.within in
+    let within = subst (λ s. IsReachedWithin (table_of_intact s) (nodes_of_intact s) depth c.loop-folder.self.found) (sym before.intact) before.within in
     let level = subst (λ s. IsLevel (table_of_intact s) (nodes_of_intact s) depth c.loop-folder.level) (sym before.intact) before.level in
     let next = c.in_ok-level.ensures in
     let step = c.in-Some.ensures.steps.0 in record {
       intact = c.take_level.ensures.intact ∙ before.intact;
       taken = subst (λ s. AreTaken (table_of_intact s) (nodes_of_intact s) c.take_level.new.self.tables c.take_level.new.self.found) before.intact next.taken;
-      within = subst (λ n. IsWithin t nodes n c.take_level.new.self.found) (sym more) (subst (λ s. IsWithin (table_of_intact s) (nodes_of_intact s) (suc depth) c.take_level.new.self.found) before.intact (next.within depth more within level));
+      within = subst (λ n. IsReachedWithin t nodes n c.take_level.new.self.found) (sym more) (subst (λ s. IsReachedWithin (table_of_intact s) (nodes_of_intact s) (suc depth) c.take_level.new.self.found) before.intact (next.within depth more within level));
       level = subst (λ n. IsLevel t nodes n c.in_ok-level.level) (sym more) (subst (λ s. IsLevel (table_of_intact s) (nodes_of_intact s) (suc depth) c.in_ok-level.level) before.intact (next.level depth more within level));
       left = one_less depth (length (folder_ids nodes)) (intact_folders_left c.loop-folder.rest) (intact_folders_left c.next.new.self) (intact_roots c.in-Some.folder) step before.left;
       rise = rise_on depth (intact_folders_left c.loop-folder.rest) (intact_folders_left c.next.new.self) (intact_roots c.in-Some.folder) step before.rise;

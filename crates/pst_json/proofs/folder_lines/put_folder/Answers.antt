@@ -14,7 +14,7 @@ use Rattle.pst_verify.specs.pst_reach.Path.{path_in}
 use Rattle.pst_json.specs.declared.texts.TheConstants.{NAME}
 use Rattle.pst_json.specs.Folders.{path_data, text_property, table_told, count_data, nids_data, folder_data}
 use Rattle.pst_value_json.proofs.pst_text.KeptLemmas.{kept_here, kept_more, kept_still, kept_through, kept_so}
-use Rattle.pst_json.proofs.folders.put_folder.Goals as goal
+use Rattle.pst_json.proofs.folder_lines.put_folder.Goals as goal
 
 pub returns-clause-put : goal.returns-clause-put
 unfolding folder_data

@@ -8,12 +8,12 @@ use Rattle.pst_value_json.specs.pst_pc.View.{node_of_pc}
 use Rattle.pst_value_json.specs.pst_text.Names.{nid_data}
 use Rattle.pst_value_json.proofs.MemberLemmas.{first_marked, next_marked, closed}
 use Rattle.pst_json.specs.declared.texts.TheConstants.{CLASS, SENDER, SUBJECT}
-use Rattle.pst_json.specs.Contents.{text_there, listed_data}
+use Rattle.pst_json.specs.Contents.{text_there, listed_message_data}
 use Rattle.pst_value_json.proofs.pst_text.KeptLemmas.{kept_here, kept_more, kept_still, kept_through, kept_so}
-use Rattle.pst_json.proofs.contents.put_listed.Goals as goal
+use Rattle.pst_json.proofs.listed_lines.put_listed.Goals as goal
 
 pub returns-clause-put : goal.returns-clause-put
-unfolding listed_data
+unfolding listed_message_data
 returns-clause-put c =
     let t = table_of_intact c.args.intact.now in
     let known : IfSome c.properties_of-pc.result (λ p. table_of_node (node_of_pc p) ≡ t) = c.properties_of-pc.ensures.table t c.in_ok-message.ensures.table in
