@@ -14,6 +14,9 @@ ghost use Rattle.pst_damage.specs.Folder.{row_damage, items_damage, table_damage
 ghost use Rattle.pst_damage.specs.Known.{IsKnownOf};
 ghost use Rattle.pst_damage.specs.Left.{left_table, left_nodes, left_pages};
 ghost use Rattle.pst_damage.specs.Listings.{AreListingsTrue, items_number};
+ghost use Rattle.pst_damage.specs.Rows.{as_it_is, rows_part};
+ghost use Rattle.pst_msg.specs.Checker.{IsCheckerOf};
+ghost use Rattle.pst_msg.specs.Faults.{AreFaultsOf};
 
 use crate::known::Known;
 use crate::left::{Left, node_of};
@@ -21,7 +24,7 @@ use crate::listings::{Listings, number_of};
 use pst_btree::NodeEntry;
 use pst_datatree::is_internal;
 use pst_fault::{Fault, Kind};
-use pst_msg::{Items, Part, Tc, listing_nid, may_list, named};
+use pst_msg::{Checker, Faults, Items, Part, Tc, listing_nid, may_list, named};
 use pst_ndb::Node;
 use pst_tc::{Row, known_tc};
 
@@ -107,24 +110,62 @@ fn rows_of(items: Items, table: Node) -> Part
 }
 
 // All rows of a table, whose fault is remembered.
-fn check_all(left: &Left, items: Items, table: Node, known: &mut Known) -> Result<(), Fault>
+fn check_all(
+    left: &Left,
+    items: Items,
+    table: Node,
+    listings: &mut Listings,
+    rows: &mut Faults,
+) -> Result<(), Fault>
     requires table { table_of_node table ≡ left_table left.now }
     requires sound { tc_fault (table_of_node table) (roots_of table) ≡ None }
-    requires known { let nodes = left_nodes left.now in
-        IsKnownOf (left_table left.now) nodes (left_pages left.now) known.old }
-    ensures known { let nodes = left_nodes left.now in
-        IsKnownOf (left_table left.now) nodes (left_pages left.now) known.new }
+    requires listings { let nodes = left_nodes left.now in
+        AreListingsTrue (left_table left.now) nodes (left_pages left.now) listings.old }
+    requires rows { let part = rows_part (left_table left.now) (left_nodes left.now) (left_pages left.now) in
+        AreFaultsOf as_it_is part rows.old }
+    ensures listings { let nodes = left_nodes left.now in
+        AreListingsTrue (left_table left.now) nodes (left_pages left.now) listings.new }
+    ensures rows { let part = rows_part (left_table left.now) (left_nodes left.now) (left_pages left.now) in
+        AreFaultsOf as_it_is part rows.new }
     ensures exact { let r = roots_of table.entry in
         let rows = tc_rows (table_of_node table.entry) r in
         Tells result (first_of (row_damage (left_nodes left.now) (left_pages left.now) items
         r.bid_data) rows) tt }
 {
     let part = rows_of(items, table);
-    if let Some(fault) = known.rows.get(part) {
+    if let Some(fault) = rows.get(part) {
         return Err(fault);
     }
-    let answer = check_rows(left, items, table, &mut known.listings);
-    known.rows.keep(part, answer)
+    let answer = check_rows(left, items, table, listings);
+    rows.keep(part, answer)
+}
+
+// All rows of a table, whose matrix is found by what its context was found by.
+fn check_lent(
+    left: &Left,
+    items: Items,
+    table: Node,
+    contexts: &Checker,
+    listings: &mut Listings,
+    rows: &mut Faults,
+) -> Result<(), Fault>
+    requires table { table_of_node table ≡ left_table left.now }
+    requires sound { tc_fault (table_of_node table) (roots_of table) ≡ None }
+    requires contexts { IsCheckerOf (table_of_node table) contexts.now }
+    requires listings { let nodes = left_nodes left.now in
+        AreListingsTrue (left_table left.now) nodes (left_pages left.now) listings.old }
+    requires rows { let part = rows_part (left_table left.now) (left_nodes left.now) (left_pages left.now) in
+        AreFaultsOf as_it_is part rows.old }
+    ensures listings { let nodes = left_nodes left.now in
+        AreListingsTrue (left_table left.now) nodes (left_pages left.now) listings.new }
+    ensures rows { let part = rows_part (left_table left.now) (left_nodes left.now) (left_pages left.now) in
+        AreFaultsOf as_it_is part rows.new }
+    ensures exact { let r = roots_of table.entry in
+        let rows = tc_rows (table_of_node table.entry) r in
+        Tells result (first_of (row_damage (left_nodes left.now) (left_pages left.now) items
+        r.bid_data) rows) tt }
+{
+    check_all(left, items, contexts.lend(table), listings, rows)
 }
 
 // The table of an entry: its context, then its rows.
@@ -142,7 +183,14 @@ fn check_items(left: &Left, items: Items, entry: NodeEntry, known: &mut Known) -
     let list = [entry];
     let table = node_of(left.blocks, entry, &list);
     known.contexts.check_listing(items, table)?;
-    check_all(left, items, table, known)
+    check_lent(
+        left,
+        items,
+        table,
+        &known.contexts,
+        &mut known.listings,
+        &mut known.rows,
+    )
 }
 
 // A table of a folder, where its node is sound.

@@ -6,15 +6,16 @@ ghost use Rattle.pst_intact.specs.View.{table_of_intact, nodes_of_intact};
 ghost use Rattle.pst_verify.specs.pst_msg.Nid.{is_type as is_of_type};
 ghost use Rattle.pst_verify.specs.pst_msg.Values.{is_message};
 ghost use Rattle.pst_verify.specs.pst_msg.View.{node_of_message, message_roots};
-ghost use Rattle.pst_json.specs.LastIndex.{IsLastIndex};
+ghost use Rattle.pst_ndb.specs.NodeIndexes.{AreNodeIndexes};
 ghost use Rattle.pst_export.specs.Export.{CountsDown};
 ghost use Rattle.pst_export.specs.Held.{held_in_folder};
 ghost use Rattle.pst_export.specs.Store.{all_held, of_type};
 
 use crate::index::turn_to_attachments;
 use crate::walk::Walk;
-use pst_json::{Intact, LastIndex};
+use pst_json::{Intact, lend_message, new_indexes};
 use pst_msg::{Message, is_type};
+use pst_ndb::NodeIndexes;
 use std::alloc::{AllocError, Global};
 
 // Counts a message and what it holds down from so many: how many are left, or None where there are more. No more of them are gone
@@ -24,18 +25,18 @@ fn count_message(
     name: &str,
     message: Message,
     most: u64,
-    index: &mut LastIndex,
+    index: &mut NodeIndexes,
 ) -> Result<Option<u64>, AllocError>
     requires top { nid_of (node_of_message message) ≡ top_of (node_of_message message) }
-    requires index { IsLastIndex (table_of_node (node_of_message message)) index.old }
-    ensures index { IsLastIndex (table_of_node (node_of_message message.entry)) index.new }
+    requires index { AreNodeIndexes (table_of_node (node_of_message message)) index.old }
+    ensures index { AreNodeIndexes (table_of_node (node_of_message message.entry)) index.new }
     ensures counted { let t = table_of_node (node_of_message message.entry) in
         let held = held_in_folder t name.now (message_roots message.entry) in
         IfOk result (CountsDown most (length held)) }
 {
     let mut left = most;
     turn_to_attachments(alloc, message, index)?;
-    let mut walk = Walk::of(alloc, name, index.lend_message(message))?;
+    let mut walk = Walk::of(alloc, name, lend_message(index, message))?;
     while let Some(_item) = walk.next()? {
         if left == 0 {
             return Ok(None);
@@ -59,7 +60,7 @@ pub(crate) fn count_down(
         IfOk result (CountsDown most (length held)) }
 {
     let mut left = most;
-    let mut index = LastIndex::new(alloc);
+    let mut index = new_indexes(alloc);
     for message in intact.messages() {
         if is_type(kind, message.nid()) {
             match count_message(alloc, name, message, left, &mut index)? {

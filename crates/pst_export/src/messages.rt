@@ -4,7 +4,7 @@ ghost use Rattle.std.specs.Prelude.{◌≡◌, ℕ, true, OnOk};
 ghost use Rattle.pst_ndb.specs.Views.{table_of_node, nid_of, top_of};
 ghost use Rattle.pst_intact.specs.View.{table_of_intact, nodes_of_intact};
 ghost use Rattle.pst_json.specs.DocumentIndexes.{AreDocumentIndexes};
-ghost use Rattle.pst_json.specs.LastIndex.{IsLastIndex};
+ghost use Rattle.pst_ndb.specs.NodeIndexes.{AreNodeIndexes};
 ghost use Rattle.pst_value_json.specs.Props.{names_told};
 ghost use Rattle.pst_verify.specs.pst_msg.Nid.{is_type as is_of_type};
 ghost use Rattle.pst_verify.specs.pst_msg.Values.{is_message};
@@ -17,8 +17,9 @@ use crate::held::write_item;
 use crate::index::turn_to_attachments;
 use crate::time::received;
 use crate::walk::Walk;
-use pst_json::{DocumentIndexes, Intact, LastIndex};
+use pst_json::{DocumentIndexes, Intact, lend_message, new_indexes};
 use pst_msg::{Message, NameMap, is_type};
+use pst_ndb::NodeIndexes;
 use std::alloc::Global;
 use std::io::Write;
 
@@ -60,14 +61,14 @@ fn write_message<W: Write>(
     names: Option<NameMap>,
     name: &str,
     message: Message,
-    index: &mut LastIndex,
+    index: &mut NodeIndexes,
     indexes: &mut DocumentIndexes,
     out: &mut W,
 ) -> Result<(), ExportFault>
     requires top { nid_of (node_of_message message) ≡ top_of (node_of_message message) }
-    requires index { IsLastIndex (table_of_node (node_of_message message)) index.old }
+    requires index { AreNodeIndexes (table_of_node (node_of_message message)) index.old }
     requires known { AreDocumentIndexes (table_of_node (node_of_message message)) indexes.old }
-    ensures index { IsLastIndex (table_of_node (node_of_message message.entry)) index.new }
+    ensures index { AreNodeIndexes (table_of_node (node_of_message message.entry)) index.new }
     ensures known { AreDocumentIndexes (table_of_node (node_of_message message.entry)) indexes.new }
     ensures all { let told = names_told names.entry in
         let t = table_of_node (node_of_message message.entry) in
@@ -79,7 +80,7 @@ fn write_message<W: Write>(
         AddsFront (W.contents out.old) (W.contents out.new) number.old files }
 {
     turn_to_attachments(alloc, message, index)?;
-    let lent = index.lend_message(message);
+    let lent = lend_message(index, message);
     write_lent(alloc, number, names, name, lent, indexes, out)
 }
 
@@ -104,7 +105,7 @@ pub(crate) fn write_messages<W: Write>(
         let files = messages_files told (table_of_intact i) name.now (of_type kind (nodes_of_intact i)) in
         AddsFront (W.contents out.old) (W.contents out.new) number.old files }
 {
-    let mut index = LastIndex::new(alloc);
+    let mut index = new_indexes(alloc);
     for message in intact.messages() {
         if is_type(kind, message.nid()) {
             write_message(

@@ -7,7 +7,6 @@ pub use Rattle.pst_value_json.specs.Filed
 pub use Rattle.pst_value_json.specs.Props
 pub use Rattle.pst_value_json.specs.Cells
 pub use Rattle.pst_props.specs.Told
-pub use Rattle.pst_props.specs.LastIndex
 pub use Rattle.pst_props.specs.DocumentIndexes
 pub use Rattle.pst_props.specs.NamesIndex
 pub use Rattle.pst_props.specs.Path

@@ -19,7 +19,7 @@ ghost use Rattle.pst_verify.specs.pst_msg.Values.{is_message};
 ghost use Rattle.pst_verify.specs.pst_store.Kind.{node_of_kind};
 ghost use Rattle.pst_verify.specs.pst_msg.View.{tc_roots, node_of_message, message_roots};
 ghost use Rattle.pst_json.specs.Contents.{text_there, listed_message_data, told_data, listed_row_data, contents_data, contents_there, contents_of, contents_line as line_of_contents};
-ghost use Rattle.pst_props.specs.LastIndex.{IsLastIndex};
+ghost use Rattle.pst_ndb.specs.NodeIndexes.{AreNodeIndexes};
 ghost use Rattle.pst_props.specs.Told.{TellsDoc};
 
 use crate::listed_rows::ListedRows;
@@ -28,7 +28,8 @@ use pst_damage_json::fault_doc;
 use pst_fault::Fault;
 use pst_intact::Intact;
 use pst_msg::{Items, listing_nid};
-use pst_props::{DocFault, LastIndex};
+use pst_ndb::NodeIndexes;
+use pst_props::{DocFault, lend_message, new_indexes};
 use pst_value_json::{Line, Made, Part, Pc, Row, Sink, Tc, TcRows, Tree, nid_text};
 use pst_verify::{FOLDER, Message, is_type};
 use pst_whole::Lost;
@@ -43,10 +44,10 @@ pub(crate) fn message_in<'a>(
     alloc: Global,
     intact: &Intact<'a>,
     nid: u32,
-    index: &mut LastIndex,
+    index: &mut NodeIndexes,
 ) -> Result<Option<Message<'a>>, AllocError>
-    requires { IsLastIndex (table_of_intact intact.now) index.old }
-    ensures known { IsLastIndex (table_of_intact intact.now) index.new }
+    requires { AreNodeIndexes (table_of_intact intact.now) index.old }
+    ensures known { AreNodeIndexes (table_of_intact intact.now) index.new }
     ensures roots { let nodes = nodes_of_intact intact.now in
         IfOk result (λ m. option_map message_roots m ≡ node_of_kind is_message nodes nid) }
     ensures table { let t = table_of_intact intact.now in
@@ -64,16 +65,16 @@ pub(crate) fn message_in<'a>(
 /// The properties of a message, where that is there, which is lent its indexes.
 pub(crate) fn properties_of<'a>(
     message: Option<Message<'a>>,
-    index: &'a LastIndex,
+    index: &'a NodeIndexes,
 ) -> Option<Pc<'a>>
-    requires { IfSome message (λ m. IsLastIndex (table_of_node (node_of_message m)) index.now) }
+    requires { IfSome message (λ m. AreNodeIndexes (table_of_node (node_of_message m)) index.now) }
     ensures roots { option_map (λ p. roots_of (node_of_pc p)) result ≡
         option_map message_roots message.entry }
     ensures table { (t : Table) → IfSome message.entry (λ m. table_of_node (node_of_message m) ≡ t)
         → IfSome result (λ p. table_of_node (node_of_pc p) ≡ t) }
 {
     match message {
-        Some(message) => { Some(index.lend_message(message).pc()) }
+        Some(message) => { Some(lend_message(index, message).pc()) }
         None => None,
     }
 }
@@ -96,10 +97,10 @@ fn listed_doc(
     alloc: Global,
     intact: &Intact,
     row: Row,
-    index: &mut LastIndex,
+    index: &mut NodeIndexes,
 ) -> Result<Doc, AllocError>
-    requires { IsLastIndex (table_of_intact intact.now) index.old }
-    ensures known { IsLastIndex (table_of_intact intact.now) index.new }
+    requires { AreNodeIndexes (table_of_intact intact.now) index.old }
+    ensures known { AreNodeIndexes (table_of_intact intact.now) index.new }
     ensures shown { let t = table_of_intact intact.now in
         IfOk result (λ d. view d ≡ listed_message_data t (nodes_of_intact intact.now)
         (row_parts row.entry)) }
@@ -130,10 +131,10 @@ pub(crate) fn row_doc(
     intact: &Intact,
     lost: &Lost,
     row: Row,
-    index: &mut LastIndex,
+    index: &mut NodeIndexes,
 ) -> Result<Doc, AllocError>
-    requires { IsLastIndex (table_of_intact intact.now) index.old }
-    ensures known { IsLastIndex (table_of_intact intact.now) index.new }
+    requires { AreNodeIndexes (table_of_intact intact.now) index.old }
+    ensures known { AreNodeIndexes (table_of_intact intact.now) index.new }
     ensures shown { let t = table_of_intact intact.now in
         IfOk result (λ d. view d ≡ listed_row_data t (nodes_of_intact intact.now) (lost_in lost.now)
         (row_parts row.entry)) }
@@ -229,7 +230,7 @@ fn shown_contents<'a, S: Sink>(
         intact: *intact,
         lost: *lost,
         rows: rows_of(table),
-        index: LastIndex::new(alloc),
+        index: new_indexes(alloc),
     };
     let parts = vec![in alloc;
         Part::Value("folder", Made::Nid(Some(nid))),

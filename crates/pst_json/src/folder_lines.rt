@@ -10,7 +10,7 @@ ghost use Rattle.pst_intact.specs.View.{intact_beside, intact_roots, intact_node
 ghost use Rattle.pst_whole.specs.View.{lost_in};
 ghost use Rattle.pst_verify.specs.pst_reach.Path.{reach_nid, path_in};
 ghost use Rattle.pst_json.specs.Folders.{row_nid, text_property, path_data, count_data, nids_data, table_told, folder_data};
-ghost use Rattle.pst_props.specs.LastIndex.{IsLastIndex};
+ghost use Rattle.pst_ndb.specs.NodeIndexes.{AreNodeIndexes};
 ghost use Rattle.pst_json.specs.RowCounts.{AreCountsTrue};
 ghost use Rattle.pst_value_json.specs.pst_text.Kept.{BeginsWith};
 ghost use Rattle.pst_value_json.specs.pst_text.Parts.{list_data};
@@ -21,7 +21,8 @@ use crate::row_counts::RowCounts;
 use crate::texts::{NAME, put_text_property};
 use pst_intact::IntactFolder;
 use pst_msg::Items;
-use pst_props::LastIndex;
+use pst_ndb::NodeIndexes;
+use pst_props::{lend_pc, lend_tc};
 use pst_value_json::{put_natural, put_nid, put_null};
 use pst_verify::{Reach, path_from_root};
 use pst_whole::Lost;
@@ -31,11 +32,11 @@ use std::alloc::{AllocError, Global};
 fn put_name(
     alloc: Global,
     folder: &IntactFolder,
-    index: &mut LastIndex,
+    index: &mut NodeIndexes,
     text: &mut Vec<u8>,
 ) -> Result<(), AllocError>
-    requires { IsLastIndex (table_of_nodes (intact_beside folder.now)) index.old }
-    ensures known { IsLastIndex (table_of_nodes (intact_beside folder.now)) index.new }
+    requires { AreNodeIndexes (table_of_nodes (intact_beside folder.now)) index.old }
+    ensures known { AreNodeIndexes (table_of_nodes (intact_beside folder.now)) index.new }
     ensures put { let t = table_of_nodes (intact_beside folder.now) in
         let shown = text_property t (intact_roots folder.now) NAME in
         OnOk result (text.new.items ≡ text.old.items ++ compact_text shown) }
@@ -44,7 +45,7 @@ fn put_name(
     folder.is_sound();
     let pc = folder.pc();
     index.turn(alloc, pc.node(), 1)?;
-    put_text_property(alloc, &index.lend_pc(pc), NAME, text)
+    put_text_property(alloc, &lend_pc(index, pc), NAME, text)
 }
 
 // Puts the path of a folder behind a text, as `path_doc` shows it.
@@ -92,11 +93,11 @@ fn put_listed_nids(
     alloc: Global,
     folder: &IntactFolder,
     items: Items,
-    index: &mut LastIndex,
+    index: &mut NodeIndexes,
     text: &mut Vec<u8>,
 ) -> Result<(), AllocError>
-    requires { IsLastIndex (table_of_nodes (intact_beside folder.now)) index.old }
-    ensures known { IsLastIndex (table_of_nodes (intact_beside folder.now)) index.new }
+    requires { AreNodeIndexes (table_of_nodes (intact_beside folder.now)) index.old }
+    ensures known { AreNodeIndexes (table_of_nodes (intact_beside folder.now)) index.new }
     ensures put { let nodes = intact_beside folder.now in let nid = top_of (intact_node folder.now) in
         let table = folder_table (entries_of_nodes nodes) items nid in
         let shown = list_data row_nid (rows_there (table_of_nodes nodes) table) in
@@ -106,7 +107,7 @@ fn put_listed_nids(
     match folder.table(items) {
         Some(table) => {
             index.turn(alloc, table.node(), 1)?;
-            put_nids_of(&Some(index.lend_tc(table)), text)
+            put_nids_of(&Some(lend_tc(index, table)), text)
         }
         None => put_nids_of(&None, text),
     }
@@ -118,11 +119,11 @@ fn put_nids(
     folder: &IntactFolder,
     lost: &Lost,
     items: Items,
-    index: &mut LastIndex,
+    index: &mut NodeIndexes,
     text: &mut Vec<u8>,
 ) -> Result<(), AllocError>
-    requires { IsLastIndex (table_of_nodes (intact_beside folder.now)) index.old }
-    ensures known { IsLastIndex (table_of_nodes (intact_beside folder.now)) index.new }
+    requires { AreNodeIndexes (table_of_nodes (intact_beside folder.now)) index.old }
+    ensures known { AreNodeIndexes (table_of_nodes (intact_beside folder.now)) index.new }
     ensures put { let nodes = intact_beside folder.now in let nid = top_of (intact_node folder.now) in
         let shown = nids_data (table_told (lost_in lost.now) items nid) (table_of_nodes nodes)
         (folder_table (entries_of_nodes nodes) items nid) in
@@ -143,14 +144,14 @@ pub(crate) fn put_folder(
     lost: &Lost,
     reached: &[Reach],
     counts: &mut RowCounts,
-    index: &mut LastIndex,
+    index: &mut NodeIndexes,
     text: &mut Vec<u8>,
 ) -> Result<(), AllocError>
     requires rise { Rises 0 None (map reach_nid reached.now) }
     requires known { AreCountsTrue (table_of_nodes (intact_beside folder)) counts.old }
-    requires index { IsLastIndex (table_of_nodes (intact_beside folder)) index.old }
+    requires index { AreNodeIndexes (table_of_nodes (intact_beside folder)) index.old }
     ensures known { AreCountsTrue (table_of_nodes (intact_beside folder.entry)) counts.new }
-    ensures index { IsLastIndex (table_of_nodes (intact_beside folder.entry)) index.new }
+    ensures index { AreNodeIndexes (table_of_nodes (intact_beside folder.entry)) index.new }
     ensures put { let nodes = intact_beside folder.entry in let t = table_of_nodes nodes in
         let shown = folder_data t (entries_of_nodes nodes) (lost_in lost.now) reached.now
         (intact_roots folder.entry) in

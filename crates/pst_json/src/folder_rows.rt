@@ -10,14 +10,15 @@ ghost use Rattle.pst_intact.specs.View.{table_of_intact, nodes_of_intact, folder
 ghost use Rattle.pst_verify.specs.pst_reach.Levels.{reaches_of};
 ghost use Rattle.pst_verify.specs.pst_reach.Path.{reach_nid};
 ghost use Rattle.pst_json.specs.Folders.{is_shown};
-ghost use Rattle.pst_props.specs.LastIndex.{IsLastIndex, IsLastIndex-prop};
+ghost use Rattle.pst_ndb.specs.NodeIndexes.{AreNodeIndexes, AreNodeIndexes-prop};
 ghost use Rattle.pst_json.specs.RowCounts.{AreCountsTrue, AreCountsTrue-prop};
 
 use crate::folder_lines::put_folder;
 use crate::folders::folder_doc;
 use crate::row_counts::RowCounts;
 use pst_intact::{Intact, IntactFolder, IntactFolders};
-use pst_props::LastIndex;
+use pst_ndb::NodeIndexes;
+use pst_props::new_indexes;
 use pst_value_json::{Rows, put_comma};
 use pst_verify::{Reach, find_reach};
 use pst_whole::Lost;
@@ -75,12 +76,12 @@ pub(crate) struct FolderRows<'a> {
     // How many rows their tables have, as far as they were counted.
     counts: RowCounts,
     // The index of the list that they ask.
-    index: LastIndex,
+    index: NodeIndexes,
     ghost table: { table_of_nodes (folders_beside rest) ≡ table_of_intact intact },
     ghost nodes: { entries_of_nodes (folders_beside rest) ≡ nodes_of_intact intact },
     ghost known: { AreCountsTrue (table_of_intact intact) counts } by { AreCountsTrue-prop
         (table_of_intact intact) counts },
-    ghost indexed: { IsLastIndex (table_of_intact intact) index } by { IsLastIndex-prop
+    ghost indexed: { AreNodeIndexes (table_of_intact intact) index } by { AreNodeIndexes-prop
         (table_of_intact intact) index },
     ghost all: { reached.now ≡ reaches_of (table_of_intact intact) (nodes_of_intact intact) },
     ghost rise: { Rises 0 None (map reach_nid reached.now) } by { Rises-prop 0 None
@@ -118,7 +119,7 @@ impl<'a> FolderRows<'a> {
             rest: intact.folders(),
             lone: false,
             counts: RowCounts::new(alloc),
-            index: LastIndex::new(alloc),
+            index: new_indexes(alloc),
         }
     }
 
@@ -146,7 +147,7 @@ impl<'a> FolderRows<'a> {
     }
 }
 
-#[tactic(auto, using(crate::proofs::RowCountLemmas::counts_of, pst_props::proofs::IndexLemmas::last_of))]
+#[tactic(auto, using(crate::proofs::RowCountLemmas::counts_of, pst_ndb::proofs::NodeIndexesLemmas::last_of))]
 impl Rows for FolderRows<'_> {
     ghost use Rattle.pst_json.specs.FolderRows.{folder_rows};
 

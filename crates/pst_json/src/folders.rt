@@ -13,7 +13,7 @@ ghost use Rattle.pst_whole.specs.View.{lost_in};
 ghost use Rattle.pst_verify.specs.pst_reach.Levels.{reaches_of};
 ghost use Rattle.pst_verify.specs.pst_reach.Path.{reach_nid, path_in};
 ghost use Rattle.pst_json.specs.Folders.{row_nid, row_total, text_property, path_data, count_data, nids_data, table_told, folder_data, folders_data, folders_line as line_of_folders};
-ghost use Rattle.pst_props.specs.LastIndex.{IsLastIndex};
+ghost use Rattle.pst_ndb.specs.NodeIndexes.{AreNodeIndexes};
 ghost use Rattle.pst_json.specs.RowCounts.{AreCountsTrue};
 ghost use Rattle.pst_value_json.specs.pst_text.Names.{nid_data};
 ghost use Rattle.pst_value_json.specs.pst_text.Parts.{list_data};
@@ -24,7 +24,8 @@ use crate::texts::{NAME, text_property_doc};
 use pst_fault::Fault;
 use pst_intact::{Intact, IntactFolder};
 use pst_msg::{FOLDER, Items, is_type, listing_nid};
-use pst_props::LastIndex;
+use pst_ndb::NodeIndexes;
+use pst_props::lend_pc;
 use pst_value_json::{Line, Part, Sink, Tc, Tree, nid_text};
 use pst_verify::{Reach, path_from_root};
 use pst_whole::Lost;
@@ -135,16 +136,20 @@ fn path_doc(alloc: Global, reached: &[Reach], nid: u32) -> Result<Doc, AllocErro
 }
 
 // The name of a folder, where it has one; else null. The index turns to the list of its subnodes.
-fn name_doc(alloc: Global, folder: &IntactFolder, index: &mut LastIndex) -> Result<Doc, AllocError>
-    requires { IsLastIndex (table_of_nodes (intact_beside folder.now)) index.old }
-    ensures known { IsLastIndex (table_of_nodes (intact_beside folder.now)) index.new }
+fn name_doc(
+    alloc: Global,
+    folder: &IntactFolder,
+    index: &mut NodeIndexes,
+) -> Result<Doc, AllocError>
+    requires { AreNodeIndexes (table_of_nodes (intact_beside folder.now)) index.old }
+    ensures known { AreNodeIndexes (table_of_nodes (intact_beside folder.now)) index.new }
     ensures shown { let t = table_of_nodes (intact_beside folder.now) in
         IfOk result (λ d. view d ≡ text_property t (intact_roots folder.now) NAME) }
 {
     folder.is_sound();
     let pc = folder.pc();
     index.turn(alloc, pc.node(), 1)?;
-    text_property_doc(alloc, &index.lend_pc(pc), NAME)
+    text_property_doc(alloc, &lend_pc(index, pc), NAME)
 }
 
 /// A folder as an object.
@@ -155,13 +160,13 @@ pub(crate) fn folder_doc(
     lost: &Lost,
     reached: &[Reach],
     counts: &mut RowCounts,
-    index: &mut LastIndex,
+    index: &mut NodeIndexes,
 ) -> Result<Doc, AllocError>
     requires rise { Rises 0 None (map reach_nid reached.now) }
     requires known { AreCountsTrue (table_of_nodes (intact_beside folder)) counts.old }
-    requires index { IsLastIndex (table_of_nodes (intact_beside folder)) index.old }
+    requires index { AreNodeIndexes (table_of_nodes (intact_beside folder)) index.old }
     ensures known { AreCountsTrue (table_of_nodes (intact_beside folder.entry)) counts.new }
-    ensures index { IsLastIndex (table_of_nodes (intact_beside folder.entry)) index.new }
+    ensures index { AreNodeIndexes (table_of_nodes (intact_beside folder.entry)) index.new }
     ensures shown { let nodes = intact_beside folder.entry in let t = table_of_nodes nodes in
         IfOk result (λ d. view d ≡ folder_data t (entries_of_nodes nodes) (lost_in lost.now)
         reached.now (intact_roots folder.entry)) }

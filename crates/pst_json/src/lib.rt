@@ -35,8 +35,8 @@ pub use nodes::{nodes_doc, nodes_line};
 pub use output::{EmitFault, emit, emit_value};
 pub use pst_ndb::read_nodes;
 pub use pst_props::{
-    DocFault, DocumentIndexes, LastIndex, NamesIndex, attachment_line, lost_at, message_line,
-    most_values, names_in, names_index, node_line, property_at, props_doc, props_line,
+    DocFault, DocumentIndexes, NamesIndex, attachment_line, lend_message, lost_at, message_line,
+    names_in, names_index, new_indexes, node_line, property_at, props_doc, props_line,
 };
 pub use pst_value_json::{
     Prop, PropType, Value, hex_doc, pc_doc, table_doc, text, text_of, value_doc,

@@ -9,14 +9,14 @@ ghost use Rattle.pst_whole.specs.View.{lost_in};
 ghost use Rattle.pst_value_json.specs.pst_pc.View.{node_of_pc};
 ghost use Rattle.pst_value_json.specs.pst_tc.View.{row_parts};
 ghost use Rattle.pst_json.specs.Contents.{text_there, listed_message_data, told_data, listed_row_data};
-ghost use Rattle.pst_props.specs.LastIndex.{IsLastIndex};
+ghost use Rattle.pst_ndb.specs.NodeIndexes.{AreNodeIndexes};
 ghost use Rattle.pst_value_json.specs.pst_text.Kept.{BeginsWith};
 
 use crate::contents::{message_in, properties_of, told_doc};
 use crate::texts::{CLASS, SENDER, SUBJECT, put_text_property};
 use pst_fault::Fault;
 use pst_intact::Intact;
-use pst_props::LastIndex;
+use pst_ndb::NodeIndexes;
 use pst_value_json::{Pc, Row, put_nid, put_null};
 use pst_whole::Lost;
 use std::alloc::{AllocError, Global};
@@ -45,11 +45,11 @@ fn put_listed(
     alloc: Global,
     intact: &Intact,
     row: Row,
-    index: &mut LastIndex,
+    index: &mut NodeIndexes,
     text: &mut Vec<u8>,
 ) -> Result<(), AllocError>
-    requires { IsLastIndex (table_of_intact intact.now) index.old }
-    ensures known { IsLastIndex (table_of_intact intact.now) index.new }
+    requires { AreNodeIndexes (table_of_intact intact.now) index.old }
+    ensures known { AreNodeIndexes (table_of_intact intact.now) index.new }
     ensures put { let t = table_of_intact intact.now in
         let shown = listed_message_data t (nodes_of_intact intact.now) (row_parts row.entry) in
         OnOk result (text.new.items ≡ text.old.items ++ compact_text shown) }
@@ -87,11 +87,11 @@ pub(crate) fn put_row(
     intact: &Intact,
     lost: &Lost,
     row: Row,
-    index: &mut LastIndex,
+    index: &mut NodeIndexes,
     text: &mut Vec<u8>,
 ) -> Result<(), AllocError>
-    requires { IsLastIndex (table_of_intact intact.now) index.old }
-    ensures known { IsLastIndex (table_of_intact intact.now) index.new }
+    requires { AreNodeIndexes (table_of_intact intact.now) index.old }
+    ensures known { AreNodeIndexes (table_of_intact intact.now) index.new }
     ensures put { let t = table_of_intact intact.now in
         let shown = listed_row_data t (nodes_of_intact intact.now) (lost_in lost.now) (row_parts row.entry) in
         OnOk result (text.new.items ≡ text.old.items ++ compact_text shown) }

@@ -1,12 +1,12 @@
 //! The messages that are left of those that a table lists, row by row.
 
 ghost use Rattle.pst_intact.specs.View.{table_of_intact};
-ghost use Rattle.pst_props.specs.LastIndex.{IsLastIndex, IsLastIndex-prop};
+ghost use Rattle.pst_ndb.specs.NodeIndexes.{AreNodeIndexes, AreNodeIndexes-prop};
 
 use crate::contents::row_doc;
 use crate::listed_lines::put_row;
 use pst_intact::Intact;
-use pst_props::LastIndex;
+use pst_ndb::NodeIndexes;
 use pst_value_json::{Rows, TcRows, put_comma};
 use pst_whole::Lost;
 use serde_json::Value as Doc;
@@ -19,8 +19,8 @@ pub(crate) struct ListedRows<'a> {
     pub(crate) lost: Lost<'a>,
     pub(crate) rows: Option<TcRows<'a>>,
     /// The index of the list that they ask.
-    pub(crate) index: LastIndex,
-    ghost indexed: { IsLastIndex (table_of_intact intact) index } by { IsLastIndex-prop
+    pub(crate) index: NodeIndexes,
+    ghost indexed: { AreNodeIndexes (table_of_intact intact) index } by { AreNodeIndexes-prop
         (table_of_intact intact) index },
 }
 

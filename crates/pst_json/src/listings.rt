@@ -6,7 +6,8 @@ ghost use Rattle.pst_json.specs.Listings.{folders_listing};
 ghost use Rattle.pst_json.specs.Messages.{listed_in};
 
 use pst_intact::{Intact, IntactFolder};
-use pst_props::LastIndex;
+use pst_ndb::NodeIndexes;
+use pst_props::{lend_tc, new_indexes};
 use pst_value_json::{Tc, tc_ids_rise};
 use std::alloc::{AllocError, Global};
 use std::collections::BTreeMap;
@@ -27,7 +28,7 @@ impl Listings {
     ghost use Rattle.pst_value_json.specs.pst_tc.Tc.{node_of_tc};
     ghost use Rattle.pst_value_json.specs.pst_tc.Values.{tc_rows};
     ghost use Rattle.pst_intact.specs.View.{intact_beside, intact_roots};
-    ghost use Rattle.pst_props.specs.LastIndex.{IsLastIndex};
+    ghost use Rattle.pst_ndb.specs.NodeIndexes.{AreNodeIndexes};
     ghost use Rattle.pst_json.specs.Listings.{folders_listing, if_listed};
     ghost use Rattle.pst_json.specs.Messages.{lists, names};
 
@@ -68,9 +69,13 @@ impl Listings {
     }
 
     // A folder lists what its contents table has. The index turns to that.
-    fn note_folder(&mut self, folder: IntactFolder, index: &mut LastIndex) -> Result<(), AllocError>
-        requires { IsLastIndex (table_of_nodes (intact_beside folder)) index.old }
-        ensures index { IsLastIndex (table_of_nodes (intact_beside folder.entry)) index.new }
+    fn note_folder(
+        &mut self,
+        folder: IntactFolder,
+        index: &mut NodeIndexes,
+    ) -> Result<(), AllocError>
+        requires { AreNodeIndexes (table_of_nodes (intact_beside folder)) index.old }
+        ensures index { AreNodeIndexes (table_of_nodes (intact_beside folder.entry)) index.new }
         ensures noted { let all = intact_beside folder.entry in let t = table_of_nodes all in
             let r = intact_roots folder.entry in
             OnOk result ((nid : ℕ) → folders_listing self.new nid
@@ -80,7 +85,7 @@ impl Listings {
         match folder.contents() {
             Some(table) => {
                 index.turn(self.alloc, table.node(), 1)?;
-                self.note_rows(index.lend_tc(table), folder.nid())
+                self.note_rows(lend_tc(index, table), folder.nid())
             }
             None => Ok(()),
         }
@@ -105,7 +110,7 @@ pub(crate) fn listings_of(alloc: Global, intact: &Intact) -> Result<Listings, Al
         ≡ listed_in (table_of_intact i) (nodes_of_intact i) nid) }
 {
     let mut listings = Listings::new(alloc);
-    let mut index = LastIndex::new(alloc);
+    let mut index = new_indexes(alloc);
     for folder in intact.folders() {
         listings.note_folder(folder, &mut index)?;
     }

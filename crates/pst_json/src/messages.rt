@@ -7,7 +7,7 @@ ghost use Rattle.pst_intact.specs.View.{table_of_intact, nodes_of_intact};
 ghost use Rattle.pst_value_json.specs.pst_pc.View.{node_of_pc};
 ghost use Rattle.pst_verify.specs.pst_msg.View.{node_of_message, message_roots};
 ghost use Rattle.pst_value_json.specs.pst_text.Line.{data_line};
-ghost use Rattle.pst_props.specs.LastIndex.{IsLastIndex};
+ghost use Rattle.pst_ndb.specs.NodeIndexes.{AreNodeIndexes};
 ghost use Rattle.pst_json.specs.Listings.{folders_listing};
 ghost use Rattle.pst_json.specs.Messages.{time_property, number_property, summary_data, messages_text as text_of_messages};
 ghost use Rattle.pst_json.specs.RowCounts.{AreCountsTrue, IsHeld};
@@ -17,7 +17,8 @@ use crate::nid_lists::put_nid_list;
 use crate::row_counts::{Held, RowCounts};
 use crate::texts::{CLASS, SENDER, SUBJECT, put_text_property};
 use pst_intact::Intact;
-use pst_props::LastIndex;
+use pst_ndb::NodeIndexes;
+use pst_props::{lend_message, new_indexes};
 use pst_value_json::{
     Pc, PropType, put_i32_or_null, put_natural, put_nid, put_null, put_time_or_null,
 };
@@ -114,14 +115,14 @@ fn put_summary(
     message: Message,
     listings: &Listings,
     counts: &mut RowCounts,
-    index: &mut LastIndex,
+    index: &mut NodeIndexes,
     text: &mut Vec<u8>,
 ) -> Result<(), AllocError>
     requires nid { nid_of (node_of_message message) ≡ top_of (node_of_message message) }
     requires known { AreCountsTrue (table_of_node (node_of_message message)) counts.old }
-    requires index { IsLastIndex (table_of_node (node_of_message message)) index.old }
+    requires index { AreNodeIndexes (table_of_node (node_of_message message)) index.old }
     ensures known { AreCountsTrue (table_of_node (node_of_message message.entry)) counts.new }
-    ensures index { IsLastIndex (table_of_node (node_of_message message.entry)) index.new }
+    ensures index { AreNodeIndexes (table_of_node (node_of_message message.entry)) index.new }
     ensures put { let t = table_of_node (node_of_message message.entry) in
         let r = message_roots message.entry in
         OnOk result (text.new.items ≡ text.old.items
@@ -129,7 +130,7 @@ fn put_summary(
 {
     let held = counts.held_by(message)?;
     index.turn(alloc, message.node(), VALUES)?;
-    let lent = index.lend_message(message);
+    let lent = lend_message(index, message);
     put_shown(alloc, lent, held, listings.of(message.nid()), text)?;
     text.push(b'\n')?;
     Ok(())
@@ -147,7 +148,7 @@ pub fn messages_text(alloc: Global, intact: &Intact) -> Result<Vec<u8>, AllocErr
 {
     let listings = listings_of(alloc, intact)?;
     let mut counts = RowCounts::new(alloc);
-    let mut index = LastIndex::new(alloc);
+    let mut index = new_indexes(alloc);
     let mut text = Vec::new(alloc);
     for message in intact.messages() {
         if is_type(MESSAGE, message.nid()) {

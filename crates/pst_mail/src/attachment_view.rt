@@ -6,7 +6,7 @@ ghost use Rattle.pst_mail.specs.Fault.{attachment_fault};
 
 use crate::message_view::Message;
 use crate::object::embedded;
-use pst_ndb::Node;
+use pst_ndb::{Node, NodeIndexes};
 use pst_pc::{Pc, known_pc};
 
 /// An attachment without fault ([MS-PST] 2.4.6): a subnode of a message.
@@ -18,6 +18,7 @@ pub struct Attachment<'a> {
 
 impl<'a> Attachment<'a> {
     ghost use Rattle.std.specs.Prelude.{◌≡◌, None, IfSome, option_map};
+    ghost use Rattle.pst_ndb.specs.NodeIndexes.{AreNodeIndexes};
     ghost use Rattle.pst_ndb.specs.Views.{image_of_node, table_of_node, nid_of, roots_of};
     ghost use Rattle.pst_pc.specs.View.{node_of_pc};
     ghost use Rattle.pst_mail.specs.Fault.{attachment_fault};
@@ -78,6 +79,24 @@ impl<'a> Attachment<'a> {
     {
         let object = embedded(&self.pc())?;
         match self.node.sub(object.nid) {
+            Some(sub) => Some(Message::of(sub)),
+            None => unreachable!(),
+        }
+    }
+    /// The same, found by indexes of lists and data, where they have those of the attachment.
+    #[tactic(auto, using(crate::proofs::ViewLemmas::attachment_properties, crate::proofs::ViewLemmas::object_there, crate::proofs::ViewLemmas::object_sound))]
+    pub fn embedded_by(&self, indexes: &NodeIndexes) -> Option<Message<'a>>
+        requires { AreNodeIndexes (table_of_node (node_of_attachment self.now)) indexes.now }
+        ensures shown { let node = node_of_attachment self.now in
+            let t = table_of_node node in let r = roots_of node in
+            option_map message_shown result ≡ option_map (object_shown t r) (embedded_of t r) }
+        ensures table { IfSome result (λ m.
+            table_of_node (node_of_message m) ≡ table_of_node (node_of_attachment self.now)) }
+        ensures image { IfSome result (λ m.
+            image_of_node (node_of_message m) ≡ image_of_node (node_of_attachment self.now)) }
+    {
+        let object = embedded(&known_pc(indexes.lend(self.node)))?;
+        match indexes.subnode(self.node, object.nid) {
             Some(sub) => Some(Message::of(sub)),
             None => unreachable!(),
         }

@@ -7,7 +7,7 @@ ghost use Rattle.pst_mail.specs.Fault.{message_fault};
 use crate::attachment_view::Attachment;
 use crate::attachments::Attachments;
 use crate::nid::{ATTACHMENTS, RECIPIENTS};
-use pst_ndb::{Node, SubIndex};
+use pst_ndb::{Node, NodeIndexes, SubIndex};
 use pst_pc::{Pc, known_pc};
 use pst_tc::{Row, Rows, Tc, known_tc};
 
@@ -21,6 +21,7 @@ pub struct Message<'a> {
 impl<'a> Message<'a> {
     ghost use Rattle.std.specs.Prelude.{◌≡◌, None, IfSome, option_map, map};
     ghost use Rattle.pst_btree.specs.Entries.{first_with};
+    ghost use Rattle.pst_ndb.specs.NodeIndexes.{AreNodeIndexes};
     ghost use Rattle.pst_ndb.specs.Roots.{subnode_of};
     ghost use Rattle.pst_ndb.specs.Views.{image_of_node, table_of_node, nid_of, roots_of, IsIndexedBy};
     ghost use Rattle.pst_pc.specs.View.{node_of_pc};
@@ -155,6 +156,47 @@ impl<'a> Message<'a> {
         ensures holder { holder_left result ≡ node_of_message self.now }
     {
         Attachments::of(self.node, self.rows())
+    }
+
+    /// Its attachment table, found by the index of its list, where there is one among these.
+    #[tactic(auto, using(crate::proofs::ViewLemmas::message_attachments))]
+    pub fn attachment_table_by(&self, indexes: &NodeIndexes) -> Option<Tc<'a>>
+        requires { AreNodeIndexes (table_of_node (node_of_message self.now)) indexes.now }
+        ensures roots { let node = node_of_message self.now in
+            option_map tc_roots result
+            ≡ subnode_of (table_of_node node) (roots_of node) ATTACHMENTS }
+        ensures table { IfSome result (λ x.
+            table_of_node (node_of_tc x) ≡ table_of_node (node_of_message self.now)) }
+    {
+        match indexes.subnode(self.node, ATTACHMENTS) {
+            Some(table) => Some(known_tc(table)),
+            None => None,
+        }
+    }
+
+    // Its rows, where it has one.
+    #[tactic(auto, using(crate::proofs::ViewLemmas::rows_are, crate::proofs::ViewLemmas::rows_none))]
+    fn rows_by(&self, indexes: &NodeIndexes) -> Option<Rows<'a>>
+        requires { AreNodeIndexes (table_of_node (node_of_message self.now)) indexes.now }
+        ensures { let node = node_of_message self.now in
+            rows_of_rest result ≡ attachment_rows (table_of_node node) (roots_of node) }
+    {
+        match self.attachment_table_by(indexes) {
+            Some(table) => Some(table.rows()),
+            None => None,
+        }
+    }
+
+    /// Its attachments, whose table is found by these indexes; `Attachments::next_by` finds them, too.
+    #[tactic(auto, using(crate::proofs::ViewLemmas::rows_sound))]
+    pub fn attachments_by(&self, indexes: &NodeIndexes) -> Attachments<'a>
+        requires { AreNodeIndexes (table_of_node (node_of_message self.now)) indexes.now }
+        ensures left { let node = node_of_message self.now in
+            let t = table_of_node node in let r = roots_of node in
+            attachments_left result ≡ map (row_shown t r) (attachment_rows t r) }
+        ensures holder { holder_left result ≡ node_of_message self.now }
+    {
+        Attachments::of(self.node, self.rows_by(indexes))
     }
 
     /// The attachment that the row with this identifier of its attachment table names; None exactly where no row has it.

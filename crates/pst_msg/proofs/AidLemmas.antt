@@ -3,23 +3,23 @@ use Rattle.pst_fault.specs.Fault.{at_node}
 use Rattle.pst_block.specs.Table.{Table}
 use Rattle.pst_pc.specs.pst_heap.declared.maps.Maps.{Maps}
 use Rattle.pst_pc.specs.pst_heap.Maps.{AreMapsTrue}
+use Rattle.pst_ndb.specs.declared.node_indexes.NodeIndexes.{NodeIndexes}
+use Rattle.pst_ndb.specs.NodeIndexes.{AreNodeIndexes}
 use Rattle.pst_msg.specs.declared.asked.Asked.{Asked}
 use Rattle.pst_msg.specs.declared.faults.Faults.{Faults}
 use Rattle.pst_msg.specs.declared.indexes.Indexes.{Indexes}
 use Rattle.pst_msg.specs.declared.known.Known.{Known}
-use Rattle.pst_msg.specs.declared.last_indexes.LastIndexes.{LastIndexes}
 use Rattle.pst_msg.specs.declared.row_counts.RowCounts.{RowCounts}
 use Rattle.pst_msg.specs.Asked.{AreAskedTrue}
 use Rattle.pst_msg.specs.Broken.{context_part}
 use Rattle.pst_msg.specs.Faults.{AreFaultsOf}
 use Rattle.pst_msg.specs.Indexes.{AreIndexes}
 use Rattle.pst_msg.specs.Known.{IsTrueOf}
-use Rattle.pst_msg.specs.LastIndexes.{AreLastIndexes}
 use Rattle.pst_msg.specs.RowCounts.{AreRowCounts}
 use Rattle.pst_msg.proofs.KnownLemmas.{held_later, message_later, attachment_later}
 
 -- those of a context, and its faults
-pub aids_turned : (t : Table) (k : Known) (index : LastIndexes) (maps : Maps) (asked : Asked) (broken : Faults) → IsTrueOf t k → AreLastIndexes t index → AreMapsTrue t maps → AreAskedTrue t asked → AreFaultsOf at_node (context_part t) broken → IsTrueOf t (record k { index = index; maps = maps; asked = asked; broken = broken })
+pub aids_turned : (t : Table) (k : Known) (index : NodeIndexes) (maps : Maps) (asked : Asked) (broken : Faults) → IsTrueOf t k → AreNodeIndexes t index → AreMapsTrue t maps → AreAskedTrue t asked → AreFaultsOf at_node (context_part t) broken → IsTrueOf t (record k { index = index; maps = maps; asked = asked; broken = broken })
 aids_turned t k index maps asked broken is turned more kept faults = record {
   contexts = is.contexts;
   messages = is.messages;

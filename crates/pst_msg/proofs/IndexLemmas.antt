@@ -22,11 +22,3 @@ index_of_list node index list is same bid e = index_of_key (table_of_node node) 
 pub indexed_by : (node : Node) (i : ListIndex) → IsIndexIn (table_of_node node) i → bid_key (sub_bid_of node) ≡ i.list → IsIndexedBy node i.index
 unfolding IsIndexIn
 indexed_by node i is e = is (sub_bid_of node) e
-
--- an entry that is found in the list of a node which is lent an index is that of the node's subnode
-pub found_lent : (t u : Table) (r l : Roots) (nid : ℕ) (found : Option Sub) → u ≡ t → l ≡ r → found ≡ first_with sub_nid nid (subs_of u l.bid_sub) → option_map (sub_roots r) found ≡ subnode_of t r nid
-unfolding subnode_of
-found_lent t u r l nid found table roots is = ap (option_map (sub_roots r)) (rw (table, roots) at is)
-
-pub none_lent : (t u : Table) (r l : Roots) (nid : ℕ) → u ≡ t → l ≡ r → None ≡ first_with sub_nid nid (subs_of u l.bid_sub) → None ≡ subnode_of t r nid
-none_lent t u r l nid table roots is = found_lent t u r l nid None table roots is

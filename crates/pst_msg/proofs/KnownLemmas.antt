@@ -7,6 +7,7 @@ use Rattle.pst_subnode.specs.declared.check.TheConstants.{LISTS}
 use Rattle.pst_subnode.specs.Tree.{sub_fault}
 use Rattle.pst_ndb.specs.declared.node.Node.{Node}
 use Rattle.pst_ndb.specs.Views.{table_of_node, roots_of}
+use Rattle.pst_ndb.specs.NodeIndexes.{AreNodeIndexes}
 use Rattle.pst_ndb.specs.Roots.{Roots}
 use Rattle.pst_pc.specs.pst_heap.Maps.{AreMapsTrue}
 use Rattle.pst_msg.specs.declared.faults.Faults.{Faults}
@@ -14,7 +15,6 @@ use Rattle.pst_mail.specs.declared.items.Items.TheVariants.{Subfolders, Messages
 use Rattle.pst_msg.specs.declared.keys.Keys.{Keys}
 use Rattle.pst_msg.specs.declared.known.Known.{Known}
 use Rattle.pst_msg.specs.Indexes.{AreIndexes}
-use Rattle.pst_msg.specs.LastIndexes.{AreLastIndexes}
 use Rattle.pst_mail.specs.declared.nid.TheConstants.{ATTACHMENTS, RECIPIENTS}
 use Rattle.pst_msg.specs.declared.role.Role.{Role}
 use Rattle.pst_msg.specs.declared.role.Role.TheVariants.{Properties, Listed, Recipients, Attachments}
@@ -116,7 +116,7 @@ known_list t keys limit node same holds is sound =
 from_none : (keys : Keys) (P : Type 0) (q : Key) → ((k : Key) → holds keys k ≡ false) → holds keys q ≡ true → P
 from_none keys P q none there = absurd (false≢true (sym (none q) ∙ there))
 
-pub nothing_known : (t : Table) (k : Known) → ((q : Key) → holds k.contexts q ≡ false) → ((q : Key) → holds k.messages q ≡ false) → ((q : Key) → holds k.attachments q ≡ false) → ((q : Key) → holds k.lists q ≡ false) → AreLastIndexes t k.index → AreIndexes t k.indexes → AreMapsTrue t k.maps → AreAskedTrue t k.asked → AreRowCounts t k.row_counts → AreFaultsOf at_node (context_part t) k.broken → AreFaultsOf retold (held_part t) k.broken_lists → IsTrueOf t k
+pub nothing_known : (t : Table) (k : Known) → ((q : Key) → holds k.contexts q ≡ false) → ((q : Key) → holds k.messages q ≡ false) → ((q : Key) → holds k.attachments q ≡ false) → ((q : Key) → holds k.lists q ≡ false) → AreNodeIndexes t k.index → AreIndexes t k.indexes → AreMapsTrue t k.maps → AreAskedTrue t k.asked → AreRowCounts t k.row_counts → AreFaultsOf at_node (context_part t) k.broken → AreFaultsOf retold (held_part t) k.broken_lists → IsTrueOf t k
 nothing_known t k contexts messages attachments lists index indexes maps asked row_counts broken broken_lists = record {
   contexts = λ role s there. from_none k.contexts _ _ contexts there;
   messages = λ s there. from_none k.messages _ _ messages there;

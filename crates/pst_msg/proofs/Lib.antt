@@ -13,7 +13,6 @@ pub mod KeyOrderLemmas
 pub mod AloneLemmas
 pub mod KeyLemmas
 pub mod IndexLemmas
-pub mod SubIndexesLemmas
 pub mod HeldLemmas
 pub mod RowCountLemmas
 pub mod KnownLemmas

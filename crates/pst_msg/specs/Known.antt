@@ -8,6 +8,7 @@ use Rattle.pst_page.specs.declared.entry.NodeEntry.{NodeEntry}
 use Rattle.pst_block.specs.Table.{Table}
 use Rattle.pst_subnode.specs.declared.check.TheConstants.{LISTS}
 use Rattle.pst_subnode.specs.Tree.{sub_fault}
+use Rattle.pst_ndb.specs.NodeIndexes.{AreNodeIndexes}
 use Rattle.pst_ndb.specs.Roots.{Roots, subnode_of}
 use Rattle.pst_pc.specs.pst_heap.Maps.{AreMapsTrue}
 use Rattle.pst_tc.specs.Values.{RowParts, tc_rows}
@@ -22,7 +23,6 @@ use Rattle.pst_msg.specs.Asked.{AreAskedTrue}
 use Rattle.pst_msg.specs.Broken.{context_part, held_part, retold}
 use Rattle.pst_msg.specs.Faults.{AreFaultsOf}
 use Rattle.pst_msg.specs.Keys.{holds, has, data_key, list_key}
-use Rattle.pst_msg.specs.LastIndexes.{AreLastIndexes}
 use Rattle.pst_msg.specs.Indexes.{AreIndexes}
 use Rattle.pst_msg.specs.Roles.{role_number, role_fault}
 use Rattle.pst_msg.specs.RowCounts.{AreRowCounts}
@@ -87,7 +87,7 @@ pub record IsTrueOf (t : Table) (k : Known) : Type 0 where
   pub messages : MessagesAreTrue t k.messages
   pub attachments : AttachmentsAreTrue t k.attachments
   pub lists : ListsAreTrue t k.lists
-  pub index : AreLastIndexes t k.index
+  pub index : AreNodeIndexes t k.index
   pub indexes : AreIndexes t k.indexes
   pub maps : AreMapsTrue t k.maps
   pub asked : AreAskedTrue t k.asked

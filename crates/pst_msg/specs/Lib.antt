@@ -13,8 +13,6 @@ pub mod Rising
 pub mod Keys
 pub mod Roles
 pub mod ListIndex
-pub mod SubIndexes
-pub mod LastIndexes
 pub mod Indexes
 pub mod Asked
 pub mod Faults

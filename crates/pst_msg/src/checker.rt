@@ -84,4 +84,12 @@ impl Checker {
     {
         check_map(node, &mut self.known)
     }
+    /// A node, which is lent what contexts are found by that have its list or its data, where such were checked.
+    pub fn lend<'a>(&'a self, node: Node<'a>) -> Node<'a>
+        requires { IsCheckerOf (table_of_node node) self.now }
+        ensures roots { roots_of result ≡ roots_of node.entry }
+        ensures table { table_of_node result ≡ table_of_node node.entry }
+    {
+        self.known.index.lend(node)
+    }
 }

@@ -4,12 +4,12 @@ ghost use Rattle.std.specs.Prelude.{◌≡◌, true, Some, None, IfSome, IfOk, I
 ghost use Rattle.pst_block.specs.Block.{bid_key};
 ghost use Rattle.pst_fault.specs.Fault.{at_node, no_memory};
 ghost use Rattle.pst_fault.specs.First.{Tells};
+ghost use Rattle.pst_ndb.specs.NodeIndexes.{AreNodeIndexes};
 ghost use Rattle.pst_ndb.specs.Views.{table_of_node, roots_of};
 ghost use Rattle.pst_pc.specs.pst_heap.Maps.{AreMapsTrue};
 ghost use Rattle.pst_msg.specs.Asked.{AreAskedTrue};
 ghost use Rattle.pst_msg.specs.Broken.{context_part};
 ghost use Rattle.pst_msg.specs.Faults.{AreFaultsOf};
-ghost use Rattle.pst_msg.specs.LastIndexes.{AreLastIndexes};
 ghost use Rattle.pst_msg.specs.Roles.{role_fault, role_number as number_of};
 ghost use Rattle.pst_msg.specs.Known.{ContextIn, IsTrueOf};
 ghost use Rattle.pst_msg.specs.Counts.{Names};
@@ -20,12 +20,19 @@ use crate::broken::{has_broken_data, is_of_data, part_of, part_of_data};
 use crate::faults::Faults;
 use crate::keys::{Key, key_of};
 use crate::known::Known;
-use crate::last_indexes::LastIndexes;
 use crate::role::{Role, check_context, role_number};
 use pst_fault::Fault;
-use pst_ndb::Node;
+use pst_ndb::{Node, NodeIndexes, most_values};
 use pst_pc::Maps;
 use std::alloc::Global;
+
+// For how many subnodes a context asks the list of its node at most: none, where that has none.
+fn asks_of(node: Node) -> u64 {
+    if node.bid_sub() == 0 {
+        return 0;
+    }
+    most_values(node)
+}
 
 // Whether the context of a node, which has this key, is known to have no fault, by another list that was asked for the same. It is
 // asked of few, so this stands apart.
@@ -35,22 +42,22 @@ fn answers_by(
     key: Key,
     role: Role,
     node: Node,
-    index: &mut LastIndexes,
+    index: &mut NodeIndexes,
     asked: &Asked,
 ) -> Result<bool, Fault>
     requires block { key.0.0 ≡ bid_key (roots_of node).bid_data }
     requires role { key.1 ≡ number_of role }
-    requires index { AreLastIndexes (table_of_node node) index.old }
+    requires index { AreNodeIndexes (table_of_node node) index.old }
     requires asked { AreAskedTrue (table_of_node node) asked.now }
-    ensures index { AreLastIndexes (table_of_node node.entry) index.new }
+    ensures index { AreNodeIndexes (table_of_node node.entry) index.new }
     ensures known { let t = table_of_node node.entry in IfOk result (λ yes. yes ≡ true →
         role_fault t role (roots_of node.entry) ≡ None) }
     ensures memory { IfErr result (λ f. f ≡ no_memory) }
 {
     if asked.are_many(key) {
-        index.turn_to_list(alloc, node)?;
+        index.turn_to_list(alloc, node, asks_of(node))?;
     }
-    Ok(asked.answers(key, role, index.lists.lend(node)))
+    Ok(asked.answers(key, role, index.lend_list(node)))
 }
 
 // Checks the context of a node, unless its data is known, by another list that was asked for the same, to have no fault.
@@ -58,14 +65,14 @@ fn check_by(
     alloc: Global,
     role: Role,
     node: Node,
-    index: &mut LastIndexes,
+    index: &mut NodeIndexes,
     maps: &mut Maps,
     asked: &mut Asked,
 ) -> Result<(), Fault>
-    requires index { AreLastIndexes (table_of_node node) index.old }
+    requires index { AreNodeIndexes (table_of_node node) index.old }
     requires maps { AreMapsTrue (table_of_node node) maps.old }
     requires asked { AreAskedTrue (table_of_node node) asked.old }
-    ensures index { AreLastIndexes (table_of_node node.entry) index.new }
+    ensures index { AreNodeIndexes (table_of_node node.entry) index.new }
     ensures maps { AreMapsTrue (table_of_node node.entry) maps.new }
     ensures asked { AreAskedTrue (table_of_node node.entry) asked.new }
     ensures exact { let t = table_of_node node.entry in
@@ -75,7 +82,7 @@ fn check_by(
     if asked.has(key) && answers_by(alloc, key, role, node, index, asked)? {
         return Ok(());
     }
-    index.turn(alloc, node)?;
+    index.turn(alloc, node, asks_of(node))?;
     let lent = index.lend(node);
     check_context(role, lent, maps)?;
     asked.remember(alloc, role, lent)
@@ -103,16 +110,16 @@ fn check_anew(
     alloc: Global,
     role: Role,
     node: Node,
-    index: &mut LastIndexes,
+    index: &mut NodeIndexes,
     maps: &mut Maps,
     asked: &mut Asked,
     broken: &mut Faults,
 ) -> Result<(), Fault>
-    requires index { AreLastIndexes (table_of_node node) index.old }
+    requires index { AreNodeIndexes (table_of_node node) index.old }
     requires maps { AreMapsTrue (table_of_node node) maps.old }
     requires asked { AreAskedTrue (table_of_node node) asked.old }
     requires broken { AreFaultsOf at_node (context_part (table_of_node node)) broken.old }
-    ensures index { AreLastIndexes (table_of_node node.entry) index.new }
+    ensures index { AreNodeIndexes (table_of_node node.entry) index.new }
     ensures maps { AreMapsTrue (table_of_node node.entry) maps.new }
     ensures asked { AreAskedTrue (table_of_node node.entry) asked.new }
     ensures broken { AreFaultsOf at_node (context_part (table_of_node node.entry)) broken.new }

@@ -7,9 +7,9 @@ ghost use Rattle.pst_ndb.specs.Views.{table_of_node, sub_bid_of};
 
 use crate::keys::cleared;
 use crate::list_index::ListIndex;
+use crate::rest::Rest;
 use pst_fault::Fault;
 use pst_ndb::Node;
-use pst_tc::Rows;
 use std::alloc::Global;
 
 // So many entries stand in one SLBLOCK at most, and are looked through without an index.
@@ -65,17 +65,6 @@ fn is_long(node: Node) -> bool
         count += 1;
     }
     false
-}
-
-// How many rows are left; no more than these are looked at.
-fn count_left(rows: &Rows, most: u32) -> u32 {
-    let mut rest = *rows;
-    for count in 0..most {
-        if rest.next().is_none() {
-            return count;
-        }
-    }
-    most
 }
 
 // Whether the identifiers of a node's subnodes rise in its list: each is found there by halving.
@@ -152,10 +141,10 @@ impl Indexes {
     }
 
     // Whether so many rows are left that an index of a node's list is worth its making: many, or some where the list does not rise.
-    fn pays(&mut self, node: Node, rows: &Rows) -> bool
+    fn pays(&mut self, node: Node, rest: &Rest) -> bool
         ensures { (t : Table) → AreIndexes t self.old → AreIndexes t self.new }
     {
-        let left = count_left(rows, FEW_ROWS);
+        let left = rest.count(FEW_ROWS);
         if left == FEW_ROWS {
             return true;
         }
@@ -166,10 +155,10 @@ impl Indexes {
     }
 
     /// Makes the index of a node's list, where that is long and many rows are left to be looked up there; unless it is there
-    /// already. The rows are looked at only where the list is long: behind the last one there may be leaves without rows, which
-    /// have to be passed to see that none is left. It is made at the expense of those of lists with fewer than twice as many
+    /// already. The rows are looked at only where the list is long, and where it is not known how many they are: behind the last one
+    /// there may be leaves without rows, which have to be passed to see that none is left. It is made at the expense of those of lists with fewer than twice as many
     /// entries: to make them again takes no more than a few times what this one does.
-    pub(crate) fn turn(&mut self, alloc: Global, node: Node, rows: &Rows) -> Result<(), Fault>
+    pub(crate) fn turn(&mut self, alloc: Global, node: Node, rest: &Rest) -> Result<(), Fault>
         requires { AreIndexes (table_of_node node) self.old }
         ensures index { AreIndexes (table_of_node node.entry) self.new }
         ensures memory { IfErr result (λ f. f ≡ no_memory) }
@@ -177,7 +166,7 @@ impl Indexes {
         if self.of_list(node).is_some() || !is_long(node) {
             return Ok(());
         }
-        if !self.pays(node, rows) {
+        if !self.pays(node, rest) {
             return Ok(());
         }
         let entries = entries_of(node);

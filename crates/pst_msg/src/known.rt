@@ -4,10 +4,13 @@ use crate::asked::Asked;
 use crate::faults::Faults;
 use crate::indexes::Indexes;
 use crate::keys::Keys;
-use crate::last_indexes::LastIndexes;
 use crate::row_counts::RowCounts;
+use pst_ndb::NodeIndexes;
 use pst_pc::Maps;
 use std::alloc::Global;
+
+// Lists are asked for so many values of contexts, as 512 bytes may have, before one gets an index.
+const OFTEN: u64 = 64;
 
 /// The contexts, messages and attachments that have no fault; and the faults of contexts and of lists that have one.
 #[derive(Drop)]
@@ -20,8 +23,8 @@ pub(crate) struct Known {
     pub(crate) attachments: Keys,
     /// Lists of subnodes: what a message holds in one is without fault.
     pub(crate) lists: Keys,
-    /// Indexes of the lists of subnodes that were asked about last for contexts, and of the spans of data.
-    pub(crate) index: LastIndexes,
+    /// Indexes of the lists of subnodes that contexts ask, and of the spans of their data.
+    pub(crate) index: NodeIndexes,
     /// Indexes of the lists of messages whose rows are being gone through.
     pub(crate) indexes: Indexes,
     /// The page maps of the data that contexts share.
@@ -59,7 +62,7 @@ impl Known {
             messages: Keys::new(alloc),
             attachments: Keys::new(alloc),
             lists: Keys::new(alloc),
-            index: LastIndexes::new(alloc),
+            index: NodeIndexes::new(alloc, OFTEN),
             indexes: Indexes::new(alloc),
             maps: Maps::new(alloc),
             asked: Asked::new(alloc),

@@ -29,7 +29,6 @@ mod frame;
 mod indexes;
 mod keys;
 mod known;
-mod last_indexes;
 mod laws;
 mod list_index;
 mod message;
@@ -40,7 +39,6 @@ mod rest;
 mod rising;
 mod role;
 mod row_counts;
-mod sub_indexes;
 
 pub use check::check_messaging;
 pub use checker::Checker;
@@ -55,4 +53,3 @@ pub use pst_mail::{
     row_gives, tc_gives,
 };
 pub use role::Role;
-pub use sub_indexes::SubIndexes;

@@ -56,7 +56,7 @@ impl ListIndex {
     }
 
     /// The subnode of a node with an identifier, by this index, where it is of the node's list.
-    #[tactic(auto, using(crate::proofs::IndexLemmas::none_lent))]
+    #[tactic(auto, using(pst_ndb::proofs::SubIndexesLemmas::none_lent))]
     pub(crate) fn subnode<'a>(&self, node: Node<'a>, nid: u32) -> Option<Node<'a>>
         requires { IsIndexIn (table_of_node node) self.now }
         ensures nid { IfSome result (λ s. nid_of s ≡ nid) }

@@ -52,9 +52,7 @@ fn turn_to(frame: &Frame, gone: u32, known: &mut Known) -> Result<(), Fault>
     if gone != 1 {
         return Ok(());
     }
-    known
-        .indexes
-        .turn(known.alloc, frame.node, frame.rest.rows())
+    known.indexes.turn(known.alloc, frame.node, &frame.rest)
 }
 
 // A fault in what a message holds is that of those which wait for it, too: it is known from then on of each.

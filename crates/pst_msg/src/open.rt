@@ -71,7 +71,7 @@ fn open_held<'a>(
     if let Err(fault) = check_recipients(node, known) {
         return Err(refuse_held(node, limit, fault, known));
     }
-    match known.index.lists.subnode(node, ATTACHMENTS) {
+    match known.index.subnode(node, ATTACHMENTS) {
         Some(table) => {
             if let Err(fault) = once(known, Role::Attachments, table) {
                 return Err(refuse_held(node, limit, fault, known));
@@ -168,7 +168,7 @@ fn open_embedded<'a>(
     ensures open { let t = table_of_node node.entry in
         IfOk result (λ o. IfSome o (IsObjectOpened t known.new node.entry limit object)) }
 {
-    match known.index.lists.subnode(node, object.nid) {
+    match known.index.subnode(node, object.nid) {
         Some(sub) => open_message(sub, limit - 1, Some(node), known),
         None => Err(named(Kind::NodeMissing, object.at, node.bid_data(), object.nid)),
     }

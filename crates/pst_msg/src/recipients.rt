@@ -31,7 +31,7 @@ pub(crate) fn check_recipients(node: Node, known: &mut Known) -> Result<(), Faul
     ensures exact { let t = table_of_node node.entry in
         Tells result (if_there (tc_fault t) (subnode_of t (roots_of node.entry) RECIPIENTS)) tt }
 {
-    match known.index.lists.subnode(node, RECIPIENTS) {
+    match known.index.subnode(node, RECIPIENTS) {
         Some(table) => {
             once(known, Role::Recipients, table)?;
             Ok(())

@@ -29,9 +29,18 @@ impl<'a> Rest<'a> {
         Rest { rows, most }
     }
 
-    /// They, as an iterator that looks at what lies behind the last one.
-    pub(crate) fn rows(&self) -> &Rows<'a> {
-        &self.rows
+    /// How many rows are left at most, where that is known; else they are looked at. No more than these are told.
+    pub(crate) fn count(&self, most: u32) -> u32 {
+        if let Some(known) = self.most {
+            return known.min(u64::from(most)) as u32;
+        }
+        let mut rest = self.rows;
+        for count in 0..most {
+            if rest.next().is_none() {
+                return count;
+            }
+        }
+        most
     }
 
     /// The next row.

@@ -8,4 +8,6 @@ pub mod CountLemmas
 pub mod ListingLaws
 pub mod SpanLemmas
 pub mod SpanIndexesLemmas
+pub mod SubIndexesLemmas
+pub mod NodeIndexesLemmas
 pub use Rattle.pst_subnode.proofs as pst_subnode

@@ -15,5 +15,7 @@ pub mod Counts
 pub mod Trees
 pub mod SpanIndex
 pub mod SpanIndexes
+pub mod SubIndexes
+pub mod NodeIndexes
 pub use Rattle.pst_block.specs as pst_block
 pub use Rattle.pst_subnode.specs as pst_subnode

@@ -24,7 +24,7 @@ use std::alloc::Global;
 /// A node of a checked file, or a subnode of one: its data and its subnodes are known to be without fault.
 #[derive(Clone, Copy)]
 pub struct Node<'a> {
-    blocks: Blocks<'a>,
+    pub(crate) blocks: Blocks<'a>,
     top: u32,
     nid: u32,
     bid_data: u64,

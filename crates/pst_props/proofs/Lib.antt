@@ -1,6 +1,5 @@
 pub mod AttachmentLemmas
 pub mod FoundLemmas
-pub mod IndexLemmas
 pub mod NameLemmas
 pub mod PathLemmas
 pub mod PropertyLemmas

@@ -1,10 +1,10 @@
 -- The indexes that the documents of one file keep, one after another.
 use Rattle.pst_block.specs.Table.{Table}
 use Rattle.pst_props.specs.declared.document_indexes.DocumentIndexes.{DocumentIndexes}
-use Rattle.pst_props.specs.LastIndex.{IsLastIndex}
+use Rattle.pst_ndb.specs.NodeIndexes.{AreNodeIndexes}
 
 -- among these blocks each is one of what it was asked for last
 pub record AreDocumentIndexes (t : Table) (i : DocumentIndexes) : Type 0 where
-  pub shown : IsLastIndex t i.shown
-  pub recipients : IsLastIndex t i.recipients
-  pub attachments : IsLastIndex t i.attachments
+  pub shown : AreNodeIndexes t i.shown
+  pub recipients : AreNodeIndexes t i.recipients
+  pub attachments : AreNodeIndexes t i.attachments

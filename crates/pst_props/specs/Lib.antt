@@ -1,5 +1,4 @@
 pub mod Told
-pub mod LastIndex
 pub mod DocumentIndexes
 pub mod NamesIndex
 pub mod Path

@@ -9,9 +9,10 @@ ghost use Rattle.pst_value_json.specs.pst_text.Line.{row_text};
 ghost use Rattle.pst_value_json.specs.Object.{parts_data, KeysRise};
 ghost use Rattle.pst_value_json.specs.Props.{names_told, prop_rows_left};
 ghost use Rattle.pst_props.specs.Node.{embedded_there, attachment_data, filed_in_list as filed_below, listed_data};
-ghost use Rattle.pst_props.specs.LastIndex.{IsLastIndex, IsLastIndex-prop};
+ghost use Rattle.pst_ndb.specs.NodeIndexes.{AreNodeIndexes, AreNodeIndexes-prop};
 
-use crate::last_index::{LastIndex, most_values};
+use crate::lent::lend_pc;
+use pst_ndb::{NodeIndexes, most_values};
 use pst_value_json::{
     Filed, Made, NameMap, Part, PropRows, Rows, Sink, Tree, prop_rows, put_object,
 };
@@ -19,13 +20,14 @@ use pst_verify::{Attachment, Attachments};
 use serde_json::Value as Doc;
 use std::alloc::{AllocError, Global};
 
-// The identifier of the message that an attachment embeds.
+// The identifier of the message that an attachment embeds, found by these indexes.
 #[tactic(auto, using(crate::proofs::AttachmentLemmas::embedded_there_is, crate::proofs::AttachmentLemmas::embedded_none))]
-fn embedded_nid(attachment: Attachment) -> Option<u32>
+fn embedded_nid(attachment: Attachment, index: &NodeIndexes) -> Option<u32>
+    requires { AreNodeIndexes (table_of_node (node_of_attachment attachment)) index.now }
     ensures { let node = node_of_attachment attachment.entry in
         result ≡ embedded_there (table_of_node node) (Some (roots_of node)) }
 {
-    match attachment.embedded() {
+    match attachment.embedded_by(index) {
         Some(message) => Some(message.nid()),
         None => None,
     }
@@ -39,18 +41,18 @@ pub(crate) fn attachment_parts<'a>(
     names: Option<NameMap<'a>>,
     filed: Filed,
     places: bool,
-    index: &'a LastIndex,
+    index: &'a NodeIndexes,
 ) -> Result<Vec<Part<PropRows<'a>>>, AllocError>
-    requires { IsLastIndex (table_of_node (node_of_attachment attachment)) index.now }
+    requires { AreNodeIndexes (table_of_node (node_of_attachment attachment)) index.now }
     ensures shown { let t = table_of_node (node_of_attachment attachment.entry) in
         let shown = attachment_shown attachment.entry in let told = names_told names.entry in
         IfOk result (λ parts.
         parts_data prop_rows_left parts.items ≡ attachment_data told filed places t shown) }
     ensures keys { IfOk result (λ parts. KeysRise prop_rows_left parts.items) }
 {
-    let lent = index.lend_pc(attachment.pc());
+    let lent = lend_pc(index, attachment.pc());
     let parts = vec![in alloc;
-        Part::Value("embedded", Made::Nid(embedded_nid(attachment))),
+        Part::Value("embedded", Made::Nid(embedded_nid(attachment, index))),
         Part::Value("nid", Made::Nid(Some(attachment.nid()))),
         Part::Rows("props", prop_rows(&lent, names, filed, places)),
     ]?;
@@ -75,10 +77,10 @@ pub(crate) fn shown_attachment<S: Sink>(
     names: Option<NameMap>,
     filed: Filed,
     places: bool,
-    index: &mut LastIndex,
+    index: &mut NodeIndexes,
 ) -> Result<S::Out, AllocError>
-    requires { IsLastIndex (table_of_node (node_of_attachment attachment)) index.old }
-    ensures known { IsLastIndex (table_of_node (node_of_attachment attachment.entry)) index.new }
+    requires { AreNodeIndexes (table_of_node (node_of_attachment attachment)) index.old }
+    ensures known { AreNodeIndexes (table_of_node (node_of_attachment attachment.entry)) index.new }
     ensures shown { let t = table_of_node (node_of_attachment attachment.entry) in
         let shown = attachment_shown attachment.entry in let told = names_told names.entry in
         IfOk result (λ out. S.Shows out (attachment_data told filed places t shown)) }
@@ -96,10 +98,10 @@ fn listed_doc(
     names: Option<NameMap>,
     files: bool,
     places: bool,
-    index: &mut LastIndex,
+    index: &mut NodeIndexes,
 ) -> Result<Doc, AllocError>
-    requires { IsLastIndex (table_of_node (node_of_attachment attachment)) index.old }
-    ensures known { IsLastIndex (table_of_node (node_of_attachment attachment.entry)) index.new }
+    requires { AreNodeIndexes (table_of_node (node_of_attachment attachment)) index.old }
+    ensures known { AreNodeIndexes (table_of_node (node_of_attachment attachment.entry)) index.new }
     ensures shown { let t = table_of_node (node_of_attachment attachment.entry) in
         let shown = attachment_shown attachment.entry in let told = names_told names.entry in
         IfOk result (λ d. view d ≡ listed_data told files places t shown) }
@@ -115,12 +117,12 @@ fn put_listed(
     names: Option<NameMap>,
     files: bool,
     places: bool,
-    index: &mut LastIndex,
+    index: &mut NodeIndexes,
     later: bool,
     text: &mut Vec<u8>,
 ) -> Result<(), AllocError>
-    requires { IsLastIndex (table_of_node (node_of_attachment attachment)) index.old }
-    ensures known { IsLastIndex (table_of_node (node_of_attachment attachment.entry)) index.new }
+    requires { AreNodeIndexes (table_of_node (node_of_attachment attachment)) index.old }
+    ensures known { AreNodeIndexes (table_of_node (node_of_attachment attachment.entry)) index.new }
     ensures put { let t = table_of_node (node_of_attachment attachment.entry) in
         let shown = attachment_shown attachment.entry in let told = names_told names.entry in
         OnOk result (text.new.items
@@ -142,12 +144,12 @@ pub(crate) struct AttachmentRows<'a> {
     pub(crate) names: Option<NameMap<'a>>,
     pub(crate) files: bool,
     pub(crate) places: bool,
-    pub(crate) index: LastIndex,
-    ghost indexed: { IsLastIndex (table_of_node (holder_left attachments)) index } by { IsLastIndex-prop
+    pub(crate) index: NodeIndexes,
+    ghost indexed: { AreNodeIndexes (table_of_node (holder_left attachments)) index } by { AreNodeIndexes-prop
         (table_of_node (holder_left attachments)) index },
 }
 
-#[tactic(auto, using(crate::proofs::IndexLemmas::last_of, pst_value_json::proofs::RowLemmas::puts_next))]
+#[tactic(auto, using(pst_ndb::proofs::NodeIndexesLemmas::last_of, pst_value_json::proofs::RowLemmas::puts_next))]
 impl Rows for AttachmentRows<'_> {
     ghost use Rattle.pst_props.specs.Lists.{attachment_rows_left};
 

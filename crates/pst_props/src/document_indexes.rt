@@ -1,18 +1,18 @@
 //! The indexes that the documents of one file keep.
 
-use crate::last_index::LastIndex;
+use crate::lent::{lend_pc, new_indexes};
+use pst_ndb::NodeIndexes;
 use pst_value_json::Pc;
 use pst_verify::{Attachment, Message};
 use std::alloc::Global;
 
-/// The indexes that the documents of one file keep, one after another: of the list of subnodes and the data of the message or the
-/// folder that was shown last, of those of its recipients, and of those of the attachment that was shown last. So documents that share
-/// a list or data make one index of it.
+/// The indexes that the documents of one file keep: of the lists of subnodes and the data of messages and folders, of those of their
+/// recipients, and of those of attachments. So documents that share a list or data make one index of it.
 #[derive(Drop)]
 pub struct DocumentIndexes {
-    pub(crate) shown: LastIndex,
-    pub(crate) recipients: LastIndex,
-    pub(crate) attachments: LastIndex,
+    pub(crate) shown: NodeIndexes,
+    pub(crate) recipients: NodeIndexes,
+    pub(crate) attachments: NodeIndexes,
 }
 
 impl DocumentIndexes {
@@ -28,20 +28,19 @@ impl DocumentIndexes {
         ensures { (t : Table) → AreDocumentIndexes t result }
     {
         DocumentIndexes {
-            shown: LastIndex::new(alloc),
-            recipients: LastIndex::new(alloc),
-            attachments: LastIndex::new(alloc),
+            shown: new_indexes(alloc),
+            recipients: new_indexes(alloc),
+            attachments: new_indexes(alloc),
         }
     }
 
-    /// The properties of a message, which are lent the indexes of the message that was shown last, where these are of its list and its
-    /// data.
+    /// The properties of a message, which are lent the indexes of its list and its data, where there are such.
     pub fn message_pc<'a>(&'a self, message: Message<'a>) -> Pc<'a>
         requires { AreDocumentIndexes (table_of_node (node_of_message message)) self.now }
         ensures roots { roots_of (node_of_pc result) ≡ roots_of (node_of_message message.entry) }
         ensures table { table_of_node (node_of_pc result) ≡ table_of_node (node_of_message message.entry) }
     {
-        self.shown.lend_pc(message.pc())
+        lend_pc(&self.shown, message.pc())
     }
 
     /// The properties of an attachment, likewise.
@@ -50,6 +49,6 @@ impl DocumentIndexes {
         ensures roots { roots_of (node_of_pc result) ≡ roots_of (node_of_attachment attachment.entry) }
         ensures table { table_of_node (node_of_pc result) ≡ table_of_node (node_of_attachment attachment.entry) }
     {
-        self.attachments.lend_pc(attachment.pc())
+        lend_pc(&self.attachments, attachment.pc())
     }
 }

@@ -5,14 +5,14 @@ ghost use Rattle.pst_ndb.specs.Views.{image_of_node, table_of_node, nid_of, root
 ghost use Rattle.pst_intact.specs.View.{image_of_intact, table_of_intact, nodes_of_intact};
 ghost use Rattle.pst_verify.specs.pst_msg.View.{node_of_attachment, node_of_message};
 ghost use Rattle.pst_props.specs.Found.{node_of_reached, place_of_reached, node_of_found, place_of_found};
-ghost use Rattle.pst_props.specs.LastIndex.{IsLastIndex};
+ghost use Rattle.pst_ndb.specs.NodeIndexes.{AreNodeIndexes};
 ghost use Rattle.pst_props.specs.Path.{message, attachment, place_of_shown, attachment_with, embedded_with, first_place, found_at, place_at, step, step_from};
 ghost use Rattle.pst_props.specs.Told.{told_or_fault};
 
 use crate::fault::DocFault;
-use crate::last_index::LastIndex;
+use crate::lent::new_indexes;
 use pst_intact::Intact;
-use pst_ndb::Node as NodeView;
+use pst_ndb::{Node as NodeView, NodeIndexes};
 use pst_value_json::{Pc, check_pc};
 use pst_verify::{Attachment, Message, is_message};
 use std::alloc::{AllocError, Global};
@@ -181,18 +181,18 @@ pub(crate) fn index_at(
     alloc: Global,
     intact: &Intact,
     path: &[u32],
-) -> Result<LastIndex, AllocError>
-    ensures { IfOk result (IsLastIndex (table_of_intact intact.now)) }
+) -> Result<NodeIndexes, AllocError>
+    ensures { IfOk result (AreNodeIndexes (table_of_intact intact.now)) }
 {
     match reached_by(intact, path) {
-        Some(Reached::Node(node)) => LastIndex::of(alloc, node),
-        _ => Ok(LastIndex::new(alloc)),
+        Some(Reached::Node(node)) => NodeIndexes::of(alloc, node),
+        _ => Ok(new_indexes(alloc)),
     }
 }
 
 // A node, which is lent these indexes, where there are any.
-fn lent<'a>(node: NodeView<'a>, index: Option<&'a LastIndex>) -> NodeView<'a>
-    requires { IfSome index (λ i. IsLastIndex (table_of_node node) i.now) }
+fn lent<'a>(node: NodeView<'a>, index: Option<&'a NodeIndexes>) -> NodeView<'a>
+    requires { IfSome index (λ i. AreNodeIndexes (table_of_node node) i.now) }
     ensures roots { roots_of result ≡ roots_of node.entry }
     ensures image { image_of_node result ≡ image_of_node node.entry }
     ensures table { table_of_node result ≡ table_of_node node.entry }
@@ -209,9 +209,9 @@ fn lent<'a>(node: NodeView<'a>, index: Option<&'a LastIndex>) -> NodeView<'a>
 pub(crate) fn found_in<'a>(
     intact: &Intact<'a>,
     path: &[u32],
-    index: Option<&'a LastIndex>,
+    index: Option<&'a NodeIndexes>,
 ) -> Result<Found<'a>, DocFault>
-    requires { IfSome index (λ x. IsLastIndex (table_of_intact intact.now) x.now) }
+    requires { IfSome index (λ x. AreNodeIndexes (table_of_intact intact.now) x.now) }
     ensures place { let i = intact.now in
         told_or_fault place_of_found result ≡ found_at (table_of_intact i) (nodes_of_intact i) path.now }
     ensures table { let t = table_of_intact intact.now in

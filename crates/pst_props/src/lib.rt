@@ -10,14 +10,14 @@
 //! ```
 //!
 //! `message_line`, `attachment_line` and `node_line` show what is at hand already, and keep `DocumentIndexes`. Whoever goes through
-//! nodes that share a list of subnodes keeps a `LastIndex`.
+//! nodes that share a list of subnodes keeps `NodeIndexes`.
 #![tactic(auto)]
 
 mod attachment;
 mod document_indexes;
 mod fault;
 mod found;
-mod last_index;
+mod lent;
 mod lines;
 mod lists;
 mod lost;
@@ -27,7 +27,7 @@ mod property;
 
 pub use document_indexes::DocumentIndexes;
 pub use fault::DocFault;
-pub use last_index::{LastIndex, most_values};
+pub use lent::{lend_message, lend_pc, lend_tc, new_indexes};
 pub use lines::{attachment_line, message_line, node_line};
 pub use lost::lost_at;
 pub use names::{NamesIndex, names_in, names_index};

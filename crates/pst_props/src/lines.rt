@@ -12,6 +12,7 @@ ghost use Rattle.pst_props.specs.Node.{attachment_data, message_data, node_props
 
 use crate::attachment::shown_attachment;
 use crate::document_indexes::DocumentIndexes;
+use crate::lent::lend_pc;
 use crate::node::{indexed_message, shown_node};
 use pst_value_json::{Filed, Line, NameMap, Pc};
 use pst_verify::{Attachment, Message};
@@ -72,6 +73,6 @@ pub fn node_line(
         IfOk result (λ text. text.items ≡ data_line shown) }
 {
     indexes.shown.turn_at_once(alloc, pc.node())?;
-    let lent = indexes.shown.lend_pc(pc);
+    let lent = lend_pc(&indexes.shown, pc);
     shown_node::<Line>(alloc, pc.node().nid(), &lent, names, false)
 }

@@ -8,12 +8,13 @@ ghost use Rattle.pst_value_json.specs.pst_names.Name.{store_name};
 ghost use Rattle.pst_value_json.specs.pst_names.View.{node_of_names, names_roots};
 ghost use Rattle.pst_value_json.specs.pst_names.declared.name_map.TheConstants.{NAME_MAP as name_map_nid};
 ghost use Rattle.pst_value_json.specs.Props.{names_told};
-ghost use Rattle.pst_props.specs.LastIndex.{IsLastIndex};
+ghost use Rattle.pst_ndb.specs.NodeIndexes.{AreNodeIndexes};
 ghost use Rattle.pst_props.specs.NamesIndex.{IsEntriesIndex, IsNamesIndex};
 
-use crate::last_index::LastIndex;
+use crate::lent::new_indexes;
 use pst_intact::Intact;
 use pst_mail::{known_names, known_pc};
+use pst_ndb::NodeIndexes;
 use pst_value_json::{NameIndex, NameMap};
 use std::alloc::{AllocError, Global};
 
@@ -22,13 +23,13 @@ use std::alloc::{AllocError, Global};
 #[derive(Drop)]
 pub struct NamesIndex {
     pub(crate) names: NameIndex,
-    pub(crate) node: LastIndex,
+    pub(crate) node: NodeIndexes,
 }
 
 // The name map among intact nodes, whose node is lent its indexes.
-#[tactic(auto, using(pst_intact::proofs::IntactLemmas::names_properties, pst_intact::proofs::IntactLemmas::names_sound, crate::proofs::IndexLemmas::last_of))]
-fn lent<'a>(intact: &Intact, map: NameMap<'a>, index: &'a LastIndex) -> NameMap<'a>
-    requires known { IsLastIndex (table_of_intact intact.now) index.now }
+#[tactic(auto, using(pst_intact::proofs::IntactLemmas::names_properties, pst_intact::proofs::IntactLemmas::names_sound, pst_ndb::proofs::NodeIndexesLemmas::last_of))]
+fn lent<'a>(intact: &Intact, map: NameMap<'a>, index: &'a NodeIndexes) -> NameMap<'a>
+    requires known { AreNodeIndexes (table_of_intact intact.now) index.now }
     requires roots { Some (names_roots map) ≡ node_in (nodes_of_intact intact.now) name_map_nid }
     requires table { table_of_node (node_of_names map) ≡ table_of_intact intact.now }
     ensures roots { names_roots result ≡ names_roots map.entry }
@@ -39,19 +40,23 @@ fn lent<'a>(intact: &Intact, map: NameMap<'a>, index: &'a LastIndex) -> NameMap<
 }
 
 // The indexes of the list and the data of its node.
-#[tactic(auto, using(crate::proofs::IndexLemmas::last_of))]
-fn node_index(alloc: Global, intact: &Intact) -> Result<LastIndex, AllocError>
-    ensures { IfOk result (IsLastIndex (table_of_intact intact.now)) }
+#[tactic(auto, using(pst_ndb::proofs::NodeIndexesLemmas::last_of))]
+fn node_index(alloc: Global, intact: &Intact) -> Result<NodeIndexes, AllocError>
+    ensures { IfOk result (AreNodeIndexes (table_of_intact intact.now)) }
 {
     match intact.names() {
-        Some(map) => LastIndex::of(alloc, map.node()),
-        None => Ok(LastIndex::new(alloc)),
+        Some(map) => NodeIndexes::of(alloc, map.node()),
+        None => Ok(new_indexes(alloc)),
     }
 }
 
 // The index of its entries, whose streams are found by these.
-fn entries_index(alloc: Global, intact: &Intact, node: &LastIndex) -> Result<NameIndex, AllocError>
-    requires { IsLastIndex (table_of_intact intact.now) node.now }
+fn entries_index(
+    alloc: Global,
+    intact: &Intact,
+    node: &NodeIndexes,
+) -> Result<NameIndex, AllocError>
+    requires { AreNodeIndexes (table_of_intact intact.now) node.now }
     ensures { let i = intact.now in
         IfOk result (IsEntriesIndex (table_of_intact i) (nodes_of_intact i)) }
 {

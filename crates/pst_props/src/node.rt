@@ -11,7 +11,7 @@ ghost use Rattle.pst_value_json.specs.pst_pc.View.{node_of_pc};
 ghost use Rattle.pst_verify.specs.pst_msg.View.{node_of_message};
 ghost use Rattle.pst_props.specs.DocumentIndexes.{AreDocumentIndexes};
 ghost use Rattle.pst_props.specs.Found.{node_of_found, place_of_found};
-ghost use Rattle.pst_props.specs.LastIndex.{IsLastIndex};
+ghost use Rattle.pst_ndb.specs.NodeIndexes.{AreNodeIndexes};
 ghost use Rattle.pst_props.specs.Lists.{list_left};
 ghost use Rattle.pst_props.specs.NamesIndex.{IsNamesIndex};
 ghost use Rattle.pst_props.specs.Node.{recipient_nid, recipients_there, filed_of_message, message_data, node_props_data, place_data, props_told, props_line as line_of_props};
@@ -21,10 +21,11 @@ use crate::attachment::{AttachmentRows, shown_attachment};
 use crate::document_indexes::DocumentIndexes;
 use crate::fault::DocFault;
 use crate::found::{Found, found_in, index_at};
-use crate::last_index::LastIndex;
+use crate::lent::{lend_message, lend_tc, new_indexes};
 use crate::lists::MessageRows;
 use crate::names::{NamesIndex, names_in};
 use pst_intact::Intact;
+use pst_ndb::NodeIndexes;
 use pst_value_json::{Filed, Line, Made, NameMap, Part, Pc, Sink, Tree, prop_rows, table_rows};
 use pst_verify::Message;
 use serde_json::Value as Doc;
@@ -65,7 +66,7 @@ fn shown_lists<'a, S: Sink>(
         names,
         files,
         places,
-        index: LastIndex::new(alloc),
+        index: new_indexes(alloc),
     });
     let filed = filed_of(files);
     let props = MessageRows::Props(prop_rows(&message.pc(), names, filed, places));
@@ -79,7 +80,7 @@ fn shown_lists<'a, S: Sink>(
 }
 
 // The document of a message, under the identifier of its node. The index turns to its recipients.
-#[tactic(auto, using(crate::proofs::IndexLemmas::last_of))]
+#[tactic(auto, using(pst_ndb::proofs::NodeIndexesLemmas::last_of))]
 fn shown_message<S: Sink>(
     alloc: Global,
     nid: u32,
@@ -87,10 +88,10 @@ fn shown_message<S: Sink>(
     names: Option<NameMap>,
     files: bool,
     places: bool,
-    index: &mut LastIndex,
+    index: &mut NodeIndexes,
 ) -> Result<S::Out, AllocError>
-    requires { IsLastIndex (table_of_node (node_of_message message)) index.old }
-    ensures known { IsLastIndex (table_of_node (node_of_message message.entry)) index.new }
+    requires { AreNodeIndexes (table_of_node (node_of_message message)) index.old }
+    ensures known { AreNodeIndexes (table_of_node (node_of_message message.entry)) index.new }
     ensures shown { let node = node_of_message message.entry in let told = names_told names.entry in
         IfOk result (λ out.
         S.Shows out (message_data told files places (table_of_node node) (roots_of node) nid)) }
@@ -98,7 +99,7 @@ fn shown_message<S: Sink>(
     match message.recipients() {
         Some(table) => {
             index.turn_at_once(alloc, table.node())?;
-            let rows = table_rows(alloc, &index.lend_tc(table), places)?;
+            let rows = table_rows(alloc, &lend_tc(index, table), places)?;
             shown_lists::<S>(
                 alloc,
                 nid,
@@ -137,7 +138,7 @@ pub(crate) fn indexed_message<S: Sink>(
         (message_data told files places (table_of_node node) (roots_of node) (nid_of node))) }
 {
     indexes.shown.turn_at_once(alloc, message.node())?;
-    let lent = indexes.shown.lend_message(message);
+    let lent = lend_message(&indexes.shown, message);
     shown_message::<S>(
         alloc,
         message.nid(),
@@ -185,7 +186,7 @@ fn shown_found<'a, S: Sink>(
             indexed_message::<S>(alloc, message, names, false, places, &mut indexes)
         }
         Found::Attachment(attachment) => {
-            let mut index = LastIndex::new(alloc);
+            let mut index = new_indexes(alloc);
             shown_attachment::<S>(alloc, attachment, names, Filed::Nothing, places, &mut index)
         }
         Found::Pc(pc) => shown_node::<S>(alloc, pc.node().nid(), &pc, names, places),

@@ -16,6 +16,14 @@ unfoldable pub nids_rise : ℕ → List ℕ → Bool
 nids_rise end [] = true
 nids_rise end (n ∷ rest) = not (nat_lt n end) && nids_rise (n + 1) rest
 
+-- A list is an SIBLOCK's, or an SLBLOCK's with a body of more than 400 bytes: it may have more than 16 entries.
+abbrev is_long_block : Table → Option BlockEntry → Bool
+is_long_block t None = false
+is_long_block t (Some e) = has_level_one (body_of t e) || nat_lt SHORT (length (body_of t e))
+
+unfoldable pub is_long_list : Table → ℕ → Bool
+is_long_list t bid = is_long_block t (entry_of t bid)
+
 -- A list is an SIBLOCK's, and so may be long, or it is an SLBLOCK's with a body of more than 400 bytes, whose identifiers do not rise:
 -- halving does not find each entry.
 abbrev is_unsorted : Table → BlockEntry → Bool
@@ -31,6 +39,14 @@ is_scanned t bid = is_block_scanned t (entry_of t bid)
 -- an index holds the entries of a list, and finds each without it
 unfoldable pub is_held : SubIndex → Bool
 is_held index = is_some index.entries
+
+-- how many entries it holds
+abbrev length_of : Option (Vec Sub) → ℕ
+length_of None = 0
+length_of (Some entries) = length entries.items
+
+unfoldable pub held_count : SubIndex → ℕ
+held_count index = length_of index.entries
 
 -- the first with each nid is the same in both, and in both there is none where one has none
 abbrev pub HasFirst : List Sub → List Sub → Type 0

@@ -9,7 +9,7 @@ ghost use Rattle.pst_subnode.specs.declared.check.TheConstants.{LISTS};
 ghost use Rattle.pst_subnode.specs.List.{sub_nid, subs_of};
 ghost use Rattle.pst_subnode.specs.Left.{subs_left};
 ghost use Rattle.pst_subnode.specs.Tree.{sub_fault};
-ghost use Rattle.pst_subnode.specs.Index.{HasFirst, IsIndexOf, is_scanned, nids_rise};
+ghost use Rattle.pst_subnode.specs.Index.{HasFirst, IsIndexOf, is_long_list, is_scanned, nids_rise};
 
 use crate::body::{body_in, has_level_one};
 use crate::entries::Subs;
@@ -90,6 +90,21 @@ fn may_be_scanned(blocks: &Blocks, bid: u64) -> bool
     }
 }
 
+/// Whether the list of a block identifier may have more than 16 entries: it has an SIBLOCK, or an SLBLOCK whose body has more than
+/// 400 bytes. That is one look-up of a block, and none of its entries.
+#[tactic(auto, unfolding(crate::specs::Index::is_long_list))]
+pub fn may_be_long(blocks: &Blocks, bid: u64) -> bool
+    ensures { result ≡ is_long_list (table_of blocks.now) bid }
+{
+    match blocks.entry(bid) {
+        Some(entry) => {
+            let body = body_in(blocks, entry);
+            has_level_one(body) || body.len() > SHORT
+        }
+        None => false,
+    }
+}
+
 /// An index of one subnode list: its entries in the order of their identifiers, in whatever order they stand there. It may hold
 /// none of them, and then they are looked up in the list itself.
 #[derive(Drop)]
@@ -103,7 +118,7 @@ impl SubIndex {
     ghost use Rattle.pst_block.specs.Blocks.{table_of};
     ghost use Rattle.pst_subnode.specs.declared.sub.Sub.{Sub};
     ghost use Rattle.pst_subnode.specs.List.{subs_of};
-    ghost use Rattle.pst_subnode.specs.Index.{IsIndexOf, is_held, is_scanned};
+    ghost use Rattle.pst_subnode.specs.Index.{IsIndexOf, held_count, is_held, is_scanned};
 
     /// The index that holds nothing, which is one of every list. No memory is taken.
     #[tactic(auto, unfolding(crate::specs::Index::IsIndexOf, crate::specs::Index::is_held))]
@@ -130,6 +145,17 @@ impl SubIndex {
         Ok(SubIndex {
             entries: Some(entries),
         })
+    }
+
+    /// How many entries it holds.
+    #[tactic(auto, unfolding(crate::specs::Index::held_count))]
+    pub fn len(&self) -> usize
+        ensures { result ≡ held_count self.now }
+    {
+        match &self.entries {
+            Some(entries) => entries.len(),
+            None => 0,
+        }
     }
 }
 

@@ -44,7 +44,7 @@ pub use entries::Subs;
 pub use faults::SubFaults;
 pub use find::{find_sub, subs};
 pub use heights::Heights;
-pub use index::{SubIndex, find_sub_by};
+pub use index::{SubIndex, find_sub_by, may_be_long};
 pub use laws::{
     deeper_has_none, entries_are_lower, entries_have_none, found_has_none, found_nests_fewer,
     height_is_enough, height_tells, limit_says_nothing, no_height_no_entries, sub_decides,

@@ -5,7 +5,7 @@ ghost use Rattle.pst_subnode.specs.Index.{IsIndexOf};
 ghost use Rattle.pst_subnode.specs.List.{subs_of};
 
 use super::*;
-use crate::told::is;
+use crate::told::{holds, is};
 
 // An SIBLOCK of two SLBLOCKs, whose identifiers fall in and across them.
 const LISTS_THAT_FALL: [(u64, Body); 5] = [
@@ -23,6 +23,9 @@ fn a_list_that_falls_by_its_index(rt: HostRuntime) {
     let tree = Tree::read(&rt, alloc, Image::new(&bytes), 7);
     are_found(&rt, &tree.indexed(&rt, alloc));
     are_found(&rt, &tree.without_index());
+    is(&rt, tree.indexed(&rt, alloc).held(), 4);
+    is(&rt, tree.without_index().held(), 0);
+    holds(&rt, tree.may_be_long());
 }
 
 fn are_found<R: Abort>(rt: &R, list: &Indexed)

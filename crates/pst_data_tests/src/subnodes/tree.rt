@@ -142,6 +142,11 @@ impl<'a> Tree<'a> {
         find_sub(&self.blocks, self.bid, nid)
     }
 
+    /// Whether it may have many entries.
+    pub(crate) fn may_be_long(&self) -> bool {
+        may_be_long(&self.blocks, self.bid)
+    }
+
     /// The list with an index of it.
     pub(crate) fn indexed<R: Abort>(&self, rt: &R, alloc: Global) -> Indexed<'a>
         ensures { IsIndexOf result.index (subs_of (table_of result.blocks) result.bid) }
@@ -187,5 +192,10 @@ impl<'a> Indexed<'a> {
         requires { IsIndexOf self.now.index (subs_of (table_of self.now.blocks) self.now.bid) }
     {
         find_sub_by(&self.blocks, self.bid, &self.index, nid)
+    }
+
+    /// How many entries the index holds.
+    pub(crate) fn held(&self) -> usize {
+        self.index.len()
     }
 }

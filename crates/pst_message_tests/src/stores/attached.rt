@@ -1,9 +1,15 @@
 //! What a message holds, and what its attachments embed.
 
+ghost use Rattle.std.specs.Prelude.{◌≡◌};
+ghost use Rattle.pst_ndb.specs.NodeIndexes.{AreNodeIndexes};
+ghost use Rattle.pst_ndb.specs.Views.{table_of_node};
+ghost use Rattle.pst_msg.specs.View.{holder_left};
+
 use super::bodies::{EMBEDS, NAMES_NOTHING};
 use super::{Store, image, store_of};
 use crate::told::{MEMORY, holds, is};
-use pst_msg::Message;
+use pst_msg::{Attachments, Message};
+use pst_ndb::NodeIndexes;
 use std::alloc::Global;
 use std::process::Abort;
 
@@ -43,6 +49,19 @@ fn message_line<R: Abort>(rt: &R, alloc: Global, message: Message) -> String {
         put_attachment(rt, alloc, &mut line, message, attachment.nid());
     }
     line
+}
+
+// The next attachment of a message, and the message that it embeds, found by the indexes of nodes.
+fn attached_by(rest: &mut Attachments, indexes: &NodeIndexes) -> Option<(u32, u32)>
+    requires { AreNodeIndexes (table_of_node (holder_left rest.old)) indexes.now }
+    ensures { holder_left rest.new ≡ holder_left rest.old }
+{
+    let attachment = rest.next_by(indexes)?;
+    let embedded = match attachment.embedded_by(indexes) {
+        Some(inner) => inner.nid(),
+        None => 0,
+    };
+    Some((attachment.nid(), embedded))
 }
 
 const ATTACHMENTS: [(&[u8], &str); 2] = [
@@ -87,6 +106,27 @@ fn attachments_are_found(rt: HostRuntime) {
     for (attachment, line) in &ATTACHMENTS {
         are_found(&rt, attachment, line);
     }
+}
+
+#[test]
+fn attachments_by_the_indexes_of_nodes(rt: HostRuntime) {
+    let image = image(&rt, rt.alloc(), &EMBEDS);
+    let store = store_of(&rt, rt.alloc(), &image);
+    let message = message_in(&rt, &store, 0x20_0024);
+    let indexes = NodeIndexes::of(rt.alloc(), message.node()).expect(&rt, MEMORY);
+    let mut rest = message.attachments_by(&indexes);
+    is(&rt, attached_by(&mut rest, &indexes), Some((0x8025, 0)));
+    is(
+        &rt,
+        attached_by(&mut rest, &indexes),
+        Some((0x8045, 0x20_0024)),
+    );
+    is(&rt, attached_by(&mut rest, &indexes), None);
+    let rows = match message.attachment_table_by(&indexes) {
+        Some(table) => table.row_count(),
+        None => 0,
+    };
+    is(&rt, rows, 2);
 }
 
 #[test]

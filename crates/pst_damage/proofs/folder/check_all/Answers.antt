@@ -11,17 +11,13 @@ returns-in-Some-clause-exact c =
     let nodes = left_nodes c.args.left.now in
     let broken = left_pages c.args.left.now in
     let r = roots_of c.args.table in
-    inr (rows_kept t (table_of_node c.args.table) nodes broken c.args.items r c.rows_of-part.result c.args.known.now.rows c.in-Some.fault c.requires.table c.rows_of-part.ensures.content c.rows_of-part.ensures.items c.requires.known.rows c.in-Some.ensures)
+    inr (rows_kept t (table_of_node c.args.table) nodes broken c.args.items r c.rows_of-part.result c.args.rows.now c.in-Some.fault c.requires.table c.rows_of-part.ensures.content c.rows_of-part.ensures.items c.requires.rows c.in-Some.ensures)
 
-pub returns-clause-known : goal.returns-clause-known
-returns-clause-known c =
+pub returns-clause-rows : goal.returns-clause-rows
+returns-clause-rows c =
     let t = left_table c.args.left.now in
     let nodes = left_nodes c.args.left.now in
     let broken = left_pages c.args.left.now in
     let r = roots_of c.args.table in
-    record {
-      contexts = c.requires.known.contexts;
-      listings = c.check_rows-answer.ensures.listings;
-      rows = c.keep.ensures.known as_it_is (rows_part t nodes broken)
-          (rows_keep t (table_of_node c.args.table) nodes broken c.args.items r c.rows_of-part.result c.check_rows-answer.result c.requires.table c.rows_of-part.ensures.content c.rows_of-part.ensures.items c.check_rows-answer.ensures.exact) c.requires.known.rows;
-    }
+    c.keep.ensures.known as_it_is (rows_part t nodes broken)
+    (rows_keep t (table_of_node c.args.table) nodes broken c.args.items r c.rows_of-part.result c.check_rows-answer.result c.requires.table c.rows_of-part.ensures.content c.rows_of-part.ensures.items c.check_rows-answer.ensures.exact) c.requires.rows

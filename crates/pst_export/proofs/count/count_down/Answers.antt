@@ -15,6 +15,6 @@ loop-message-init c =
     let these = ap (of_kind (is_type c.args.kind)) e ∙ among c.args.kind (all_roots (nodes_of_intact i)) c.requires in
     record {
       same = ap (λ m. table_of_nodes (messages_beside m)) c.into_iter-message-iterator.ensures.into_iter_gives ∙ c.messages-message-items.ensures.table;
-      index = c.new-index.ensures (table_of_intact i);
+      index = c.new_indexes-index.ensures (table_of_intact i);
       counted = ap (λ rs. c.args.most + length (all_held (table_of_intact i) c.args.name.now rs)) (sym these);
     }

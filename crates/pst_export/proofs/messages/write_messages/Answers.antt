@@ -19,7 +19,7 @@ loop-message-init g c =
     let these = ap (of_kind (is_type c.args.kind)) e ∙ among c.args.kind (all_roots (nodes_of_intact i)) c.requires.kind in
     record {
       same = ap (λ m. table_of_nodes (messages_beside m)) c.into_iter-message-iterator.ensures.into_iter_gives ∙ c.messages-message-items.ensures.table;
-      index = c.new-index.ensures (table_of_intact i);
+      index = c.new_indexes-index.ensures (table_of_intact i);
       known = c.requires.known;
       left = added_none _ _ _ _ (ap (messages_files (names_told c.args.names) (table_of_intact i) c.args.name.now) these);
     }

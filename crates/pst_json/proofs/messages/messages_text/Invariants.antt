@@ -1,7 +1,7 @@
 use Rattle.std.proofs.Common.{◌≡◌, ◌++◌}
 use Rattle.pst_ndb.specs.NodeTable.{table_of_nodes}
 use Rattle.pst_intact.specs.View.{table_of_intact, nodes_of_intact, intact_messages_left, messages_beside}
-use Rattle.pst_props.specs.LastIndex.{IsLastIndex}
+use Rattle.pst_ndb.specs.NodeIndexes.{AreNodeIndexes}
 use Rattle.pst_json.specs.Messages.{messages_text, summary_lines}
 use Rattle.pst_json.specs.RowCounts.{AreCountsTrue}
 use Rattle.pst_json.proofs.messages.messages_text.Given as goal
@@ -11,6 +11,6 @@ abbrev pub invariant-loop-message : goal.invariant-loop-message
 invariant-loop-message l = let t = table_of_intact l.intact in let nodes = nodes_of_intact l.intact in record {
   table : table_of_nodes (messages_beside l.message-iterator) ≡ t;
   known : AreCountsTrue t l.counts;
-  index : IsLastIndex t l.index;
+  index : AreNodeIndexes t l.index;
   lines : l.text.items ++ summary_lines t nodes (intact_messages_left l.message-iterator) ≡ messages_text t nodes;
 }

@@ -1,6 +1,6 @@
 use Rattle.std.proofs.Common.{Some, ap, ◌∙◌}
 use Rattle.pst_ndb.specs.Views.{table_of_node, roots_of}
-use Rattle.pst_msg.proofs.IndexLemmas.{found_lent}
+use Rattle.pst_ndb.proofs.SubIndexesLemmas.{found_lent}
 use Rattle.pst_msg.proofs.list_index.ListIndex.subnode.Goals as goal
 
 pub returns-in-Some-clause-roots : goal.returns-in-Some-clause-roots

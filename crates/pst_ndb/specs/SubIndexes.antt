@@ -11,7 +11,7 @@ use Rattle.pst_subnode.specs.declared.index.SubIndex.{SubIndex}
 use Rattle.pst_subnode.specs.declared.sub.Sub.{Sub}
 use Rattle.pst_subnode.specs.Index.{HoldsFirst, IsIndexOf}
 use Rattle.pst_subnode.specs.List.{subs_of}
-use Rattle.pst_msg.specs.declared.sub_indexes.SubIndexes.{SubIndexes}
+use Rattle.pst_ndb.specs.declared.sub_indexes.SubIndexes.{SubIndexes}
 
 -- among these blocks an index of each list with this identifier, bit 0 cleared
 abbrev pub IsIndexUnder : Table → ℕ → SubIndex → Type 0

@@ -1,5 +1,5 @@
-use Rattle.pst_msg.proofs.SubIndexesLemmas.{one_made, same_made}
-use Rattle.pst_msg.proofs.sub_indexes.SubIndexes.put.Goals as goal
+use Rattle.pst_ndb.proofs.SubIndexesLemmas.{one_made, same_made}
+use Rattle.pst_ndb.proofs.sub_indexes.SubIndexes.put.Goals as goal
 
 pub returns-in_err-_before : goal.returns-in_err-_before
 returns-in_err-_before c t is are = same_made t c.args.self.now _ c.in_err-_before.ensures.err are

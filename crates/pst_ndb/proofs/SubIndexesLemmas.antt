@@ -1,17 +1,22 @@
 -- Indexes of lists of subnodes: one more of them, and the one of a node.
-use Rattle.std.proofs.Common.{◌≡◌, ℕ, Bool, true, false, cond, Some, None, refl, sym, ◌∙◌}
+use Rattle.std.proofs.Common.{◌≡◌, ℕ, Bool, true, false, cond, Option, Some, None, refl, sym, ap, ◌∙◌}
+use Rattle.std.specs.Prelude.{option_map}
 use Rattle.std.specs.Ordering.{nat_cmp, eq_by_cmp}
 use Rattle.std.specs.BTreeMap.{get, IsEmpty, IsUnchanged}
 use Rattle.std.proofs.lemmas.Map.Lookups.{exact_unsigned}
 use Rattle.std.proofs.lemmas.Map.Views.{tells_apart}
 use Rattle.pst_block.specs.Block.{bid_key}
 use Rattle.pst_block.specs.Table.{Table}
+use Rattle.pst_btree.specs.Entries.{first_with}
 use Rattle.pst_subnode.specs.declared.index.SubIndex.{SubIndex}
+use Rattle.pst_subnode.specs.declared.sub.Sub.{Sub}
+use Rattle.pst_subnode.specs.List.{sub_nid, subs_of}
 use Rattle.pst_subnode.proofs.IndexLemmas.{index_of_key}
 use Rattle.pst_ndb.specs.declared.node.Node.{Node}
+use Rattle.pst_ndb.specs.Roots.{Roots, sub_roots, subnode_of}
 use Rattle.pst_ndb.specs.Views.{table_of_node, sub_bid_of, IsIndexedBy}
-use Rattle.pst_msg.specs.declared.sub_indexes.SubIndexes.{SubIndexes}
-use Rattle.pst_msg.specs.SubIndexes.{IsIndexUnder, AreSubIndexes}
+use Rattle.pst_ndb.specs.declared.sub_indexes.SubIndexes.{SubIndexes}
+use Rattle.pst_ndb.specs.SubIndexes.{IsIndexUnder, AreSubIndexes}
 
 pub none_made : (t : Table) (i : SubIndexes) → IsEmpty i.indexes → AreSubIndexes t i
 unfolding AreSubIndexes
@@ -43,3 +48,11 @@ index_under node index list is same bid e = index_of_key (table_of_node node) (s
 pub made_for : (node : Node) (i : SubIndexes) (index : SubIndex) (list : ℕ) → AreSubIndexes (table_of_node node) i → list ≡ bid_key (sub_bid_of node) → get nat_cmp i.indexes list ≡ Some index → IsIndexedBy node index
 unfolding AreSubIndexes
 made_for node i index list are same found = are list index found (sub_bid_of node) (sym same)
+
+-- an entry that is found in the list of a node which is lent an index is that of the node's subnode
+pub found_lent : (t u : Table) (r l : Roots) (nid : ℕ) (found : Option Sub) → u ≡ t → l ≡ r → found ≡ first_with sub_nid nid (subs_of u l.bid_sub) → option_map (sub_roots r) found ≡ subnode_of t r nid
+unfolding subnode_of
+found_lent t u r l nid found table roots is = ap (option_map (sub_roots r)) (rw (table, roots) at is)
+
+pub none_lent : (t u : Table) (r l : Roots) (nid : ℕ) → u ≡ t → l ≡ r → None ≡ first_with sub_nid nid (subs_of u l.bid_sub) → None ≡ subnode_of t r nid
+none_lent t u r l nid table roots is = found_lent t u r l nid None table roots is
