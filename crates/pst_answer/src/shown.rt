@@ -98,7 +98,8 @@ fn write_whole_of<'p>(
     text: &mut Vec<u8>,
 ) -> Result<bool, Refusal<'p>>
     requires { whole_wanted (request_of request.now) ≡ true }
-    ensures { EndsShowing result (whole_by (method_for request.now.decode bytes.now) (wanted_of request.now.ask) bytes.now)
+    ensures { EndsShowing result (whole_by (method_for request.now.decode bytes.now)
+        (wanted_of request.now.ask) bytes.now)
         (Some text.old.items) (Some text.new.items) }
 {
     if !request.decode || method_of(Image::new(bytes)).is_none() {
@@ -126,7 +127,8 @@ fn whole_of<'p>(
     bytes: &[u8],
 ) -> Result<(Vec<u8>, bool), Refusal<'p>>
     requires { whole_wanted (request_of request.now) ≡ true }
-    ensures { Yields result (whole_by (method_for request.now.decode bytes.now) (wanted_of request.now.ask) bytes.now) }
+    ensures { Yields result (whole_by (method_for request.now.decode bytes.now)
+        (wanted_of request.now.ask) bytes.now) }
 {
     let mut text = Vec::new(alloc);
     match write_whole_of(alloc, request, bytes, &mut text) {

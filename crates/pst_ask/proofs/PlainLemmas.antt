@@ -6,7 +6,7 @@ use Rattle.std.proofs.lemmas.Bool.{eqb-true}
 use Rattle.clap.specs.Words.{Text}
 use Rattle.pst_fault.specs.declared.kind.Kind.{Kind}
 use Rattle.pst_explain.specs.Kinds.{kind_in_word}
-use Rattle.pst_ask.specs.Nid.{all_named, nid_of_word, number_in, path_of_word, paths_of, pieces_of, with_named}
+use Rattle.pst_ask.specs.Nid.{all_named, nid_of_word, hex_number_in, path_of_word, paths_of, pieces_of, with_named}
 use Rattle.pst_ask.specs.Property.{property_of_word}
 
 -- a word that begins with no hyphen, and is not empty
@@ -77,14 +77,14 @@ where_four : (four : Bool) (id : ℕ) (o : Option ℕ) → cond four o None ≡ 
 where_four true id o is = is
 where_four false id o is = absurd (never id is)
 
-property_first : (e : ℕ) (more : List ℕ) (id : ℕ) (b : Bool) → nat_eq e 45 ≡ b → number_in (e ∷ more) ≡ Some id → b ≡ false
+property_first : (e : ℕ) (more : List ℕ) (id : ℕ) (b : Bool) → nat_eq e 45 ≡ b → hex_number_in (e ∷ more) ≡ Some id → b ≡ false
 property_first e more id false is named = refl
 property_first e more id true is named = absurd (never id (rw (eqb-true e 45 is) at named))
 
 pub property_plain : (word : Text) (id : ℕ) → property_of_word word ≡ Some id → IsPlain word
 unfolding property_of_word
 property_plain [] id named = never id named
-property_plain (e ∷ more) id named = property_first e more id (nat_eq e 45) refl (where_four (nat_eq (length (e ∷ more)) 4) id (number_in (e ∷ more)) named)
+property_plain (e ∷ more) id named = property_first e more id (nat_eq e 45) refl (where_four (nat_eq (length (e ∷ more)) 4) id (hex_number_in (e ∷ more)) named)
 
 -- ---- a kind
 

@@ -107,18 +107,18 @@ abbrev pub or_lack : {X : Type 0} → Lack → Option X → Result X Lack
 or_lack lack None = Err lack
 or_lack lack (Some x) = Ok x
 
-abbrev pub named : {X : Type 0} → Lack → (Text → Option X) → Option Text → Result X Lack
-named lack name None = Err Nothing
-named lack name (Some word) = or_lack lack (name word)
+abbrev pub word_named : {X : Type 0} → Lack → (Text → Option X) → Option Text → Result X Lack
+word_named lack name None = Err Nothing
+word_named lack name (Some word) = or_lack lack (name word)
 
 abbrev pub node_named : Option Text → Result ℕ Lack
-node_named word = named Nid nid_of_word word
+node_named word = word_named Nid nid_of_word word
 
 abbrev pub path_named : Option Text → Result (List ℕ) Lack
-path_named word = named Nid path_of_word word
+path_named word = word_named Nid path_of_word word
 
 abbrev pub property_named : Option Text → Result ℕ Lack
-property_named word = named lack.Property property_of_word word
+property_named word = word_named lack.Property property_of_word word
 
 abbrev pub paths_named : Option (List Text) → Result (List (List ℕ)) Lack
 paths_named None = Err Nothing

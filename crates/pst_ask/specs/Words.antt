@@ -33,15 +33,15 @@ abbrev pub flag_rule : Text → Rule
 flag_rule id = record (new_rule id) { long = Some id; action = Some SetTrue }
 
 -- with the flags that not every command with a file has
-abbrev pub with_flags : Takes → App → App
-with_flags File a = a
-with_flags Report a = with_rule (with_rule a (flag_rule (codes "strict"))) (flag_rule (codes "digest"))
-with_flags Digest a = with_rule a (flag_rule (codes "digest"))
-with_flags takes.Whole a = with_rule a (flag_rule (codes "whole"))
-with_flags Node a = with_rule a (flag_rule (codes "whole"))
-with_flags takes.Paths a = with_rule (with_rule a (flag_rule (codes "places"))) (flag_rule (codes "whole"))
-with_flags takes.Property a = with_rule (with_rule a (flag_rule (codes "text"))) (flag_rule (codes "whole"))
-with_flags takes.Kind a = a
+abbrev pub with_file_flags : Takes → App → App
+with_file_flags File a = a
+with_file_flags Report a = with_rule (with_rule a (flag_rule (codes "strict"))) (flag_rule (codes "digest"))
+with_file_flags Digest a = with_rule a (flag_rule (codes "digest"))
+with_file_flags takes.Whole a = with_rule a (flag_rule (codes "whole"))
+with_file_flags Node a = with_rule a (flag_rule (codes "whole"))
+with_file_flags takes.Paths a = with_rule (with_rule a (flag_rule (codes "places"))) (flag_rule (codes "whole"))
+with_file_flags takes.Property a = with_rule (with_rule a (flag_rule (codes "text"))) (flag_rule (codes "whole"))
+with_file_flags takes.Kind a = a
 
 -- with a file, which may be decoded
 abbrev pub with_file : Takes → App → App
@@ -61,7 +61,7 @@ with_words takes.Kind a = with_rule a (new_rule (codes "KIND"))
 
 -- a command of a name, and what stands behind that
 abbrev pub app_taking : Takes → Text → App
-app_taking takes name = with_words takes (with_file takes (with_flags takes (new_app name)))
+app_taking takes name = with_words takes (with_file takes (with_file_flags takes (new_app name)))
 
 abbrev pub app_for : Verb → App
 app_for verb = app_taking (takes_of verb) (name_of verb)

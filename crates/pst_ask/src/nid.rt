@@ -1,13 +1,13 @@
 //! The word that names a node.
 
 ghost use Rattle.std.specs.Prelude.{◌≡◌, ◌≤◌, ◌<◌, ◌*◌, ◌^◌, IfSome, length};
-ghost use Rattle.pst_ask.specs.Nid.{number_in, nid_of_word};
+ghost use Rattle.pst_ask.specs.Nid.{hex_number_in, nid_of_word};
 
 /// The number that up to eight hexadecimal digits write; None where one is none.
 #[tactic(auto, using(crate::proofs::NidLemmas::digits_fit, crate::proofs::NidLemmas::digits_grow, crate::proofs::NidLemmas::number_next, crate::proofs::NidLemmas::good_next))]
 pub(crate) fn number_of(digits: &[u8]) -> Option<u32>
     requires { length digits.now ≤ 8 }
-    ensures is { result ≡ number_in digits.now }
+    ensures is { result ≡ hex_number_in digits.now }
     ensures fits { IfSome result (λ n. n < 2 ^ (4 * length digits.now)) }
 {
     let mut number: u64 = 0;

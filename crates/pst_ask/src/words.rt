@@ -6,7 +6,7 @@ ghost use Rattle.std.specs.Prelude.{◌≡◌, IfOk, IfErr, false};
 ghost use Rattle.clap.specs.Words.{FailsBy, HasMatchesOf, app_of, fault_of, new_rule, rule_of};
 ghost use Rattle.pst_ask.specs.Ask.{IsForMemory, order_of};
 ghost use Rattle.pst_ask.specs.declared.words.NoOrder.TheVariants.{Lacks};
-ghost use Rattle.pst_ask.specs.Words.{AddsAs, IsAlone, IsOwn, flag_rule, several_rule, word_rule, app_for, base, with_file as file_behind, with_flags, with_verb, with_words, show_app, texts, IsAsked, Declines};
+ghost use Rattle.pst_ask.specs.Words.{AddsAs, IsAlone, IsOwn, flag_rule, several_rule, word_rule, app_for, base, with_file as file_behind, with_file_flags, with_verb, with_words, show_app, texts, IsAsked, Declines};
 
 use crate::ask::{Lack, Order, order_in};
 use crate::verb::{Takes, Verb};
@@ -98,7 +98,7 @@ fn with_flags<'a>(
     takes: Takes,
 ) -> Result<Command<'a>, AllocError>
     requires { IsAlone command }
-    ensures { IfOk result (IsOwn (with_flags takes (app_of command.entry))) }
+    ensures { IfOk result (IsOwn (with_file_flags takes (app_of command.entry))) }
 {
     match takes {
         Takes::Report => command

@@ -11,8 +11,8 @@ abbrev pub table_of : Blocks → Table
 table_of b = record { image = bytes_of (file_in b.source); entries = entries_in b.source }
 
 -- where the mapped part ends, in which they lie
-abbrev pub mapped_end : Blocks → ℕ
-mapped_end b = b.end
+abbrev pub blocks_end : Blocks → ℕ
+blocks_end b = b.end
 
 -- the file
 abbrev pub image_of : Blocks → Image

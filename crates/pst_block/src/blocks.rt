@@ -31,7 +31,7 @@ impl<'a> Blocks<'a> {
     ghost use Rattle.pst_block.specs.Block.{body_span};
     ghost use Rattle.pst_block.specs.Good.{GoodBlock};
     ghost use Rattle.pst_block.specs.Table.{table_with, entry_of, body_of, IsWithin, AreWithin};
-    ghost use Rattle.pst_block.specs.Blocks.{table_of, image_of, mapped_end};
+    ghost use Rattle.pst_block.specs.Blocks.{table_of, image_of, blocks_end};
     ghost use Rattle.pst_block.specs.Walk.{blocks_fault};
 
     /// The blocks of entries that were gathered, in a mapped part that ends at `end`, an offset in the file. Each of them has
@@ -43,7 +43,7 @@ impl<'a> Blocks<'a> {
         ensures image { image_of result ≡ image.entry }
         ensures table { table_of result ≡
             table_with (bytes_of image.entry) (listed_blocks entries.entry) }
-        ensures end { mapped_end result ≡ end }
+        ensures end { blocks_end result ≡ end }
     {
         Blocks {
             source: Source::Gathered(image, entries),
@@ -63,7 +63,7 @@ impl<'a> Blocks<'a> {
     #[tactic(auto, unfolding(crate::specs::Table::entry_of), using(crate::proofs::TableLemmas::found_good, crate::proofs::TableLemmas::found_within, crate::proofs::TableLemmas::found_same))]
     pub fn entry(&self, bid: u64) -> Option<BlockEntry>
         ensures value { result ≡ entry_of (table_of self.now) bid }
-        ensures good { IfSome result (GoodBlock (table_of self.now).image (mapped_end self.now)) }
+        ensures good { IfSome result (GoodBlock (table_of self.now).image (blocks_end self.now)) }
         ensures within { IfSome result (IsWithin (table_of self.now).image) }
         ensures same { IfSome result (λ e. entry_of (table_of self.now) e.bid ≡ Some e) }
     {

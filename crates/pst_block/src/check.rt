@@ -9,7 +9,7 @@ ghost use Rattle.pst_space.specs.Claimed.{Claimed, IsUnits, claim_all, unit_tota
 ghost use Rattle.pst_space.specs.Step.{ClaimsSome, claim_step, EndsStep};
 ghost use Rattle.pst_block.specs.Block.{block_span};
 ghost use Rattle.pst_block.specs.Table.{table_with};
-ghost use Rattle.pst_block.specs.Blocks.{table_of, image_of, mapped_end};
+ghost use Rattle.pst_block.specs.Blocks.{table_of, image_of, blocks_end};
 ghost use Rattle.pst_block.specs.Walk.{block_step, blocks_walk, block_spans, AreGood};
 
 use crate::blocks::Blocks;
@@ -105,7 +105,7 @@ pub fn sum_blocks<'a>(
     ensures table { IfOk result (λ x.
         table_of x.0 ≡ table_with (bytes_of (file_of_blocks tree.entry))
         (block_entries tree.entry)) }
-    ensures end { IfOk result (λ x. mapped_end x.0 ≡ end_of header.now) }
+    ensures end { IfOk result (λ x. blocks_end x.0 ≡ end_of header.now) }
 {
     let image = tree.image();
     let sums = check_each(image, header, entries, claims)?;
@@ -156,7 +156,7 @@ pub fn check_blocks<'a>(
     ensures table { IfOk result (λ b.
         table_of b ≡ table_with (bytes_of (file_of_blocks tree.entry))
         (block_entries tree.entry)) }
-    ensures end { IfOk result (λ b. mapped_end b ≡ end_of header.now) }
+    ensures end { IfOk result (λ b. blocks_end b ≡ end_of header.now) }
 {
     let (blocks, _) = sum_blocks(tree, header, entries, claims)?;
     Ok(blocks)

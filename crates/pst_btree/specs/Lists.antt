@@ -8,5 +8,5 @@ use Rattle.pst_btree.specs.declared.lists.NodeList.{NodeList}
 abbrev pub listed_blocks : BlockList → List BlockEntry
 listed_blocks list = list.entries.now
 
-abbrev pub listed_nodes : NodeList → List NodeEntry
-listed_nodes list = list.entries.now
+abbrev pub nodes_in_list : NodeList → List NodeEntry
+nodes_in_list list = list.entries.now

@@ -65,19 +65,19 @@ impl<'a> NodeList<'a> {
     ghost use Rattle.std.specs.Prelude.{◌≡◌, map, None};
     ghost use Rattle.pst_btree.specs.Entries.{node_key, node_with};
     ghost use Rattle.pst_btree.specs.Order.{Rises};
-    ghost use Rattle.pst_btree.specs.Lists.{listed_nodes};
+    ghost use Rattle.pst_btree.specs.Lists.{nodes_in_list};
 
     /// The list of these entries.
     pub fn of(entries: &'a [NodeEntry]) -> NodeList<'a>
         requires { Rises 0 None (map node_key entries.now) }
-        ensures { listed_nodes result ≡ entries.entry.now }
+        ensures { nodes_in_list result ≡ entries.entry.now }
     {
         NodeList { entries }
     }
 
     /// The entry of a node, by its identifier: of n entries in about log n steps.
     pub fn find(&self, nid: u32) -> Option<NodeEntry>
-        ensures { result ≡ node_with nid (listed_nodes self.now) }
+        ensures { result ≡ node_with nid (nodes_in_list self.now) }
     {
         let place = self.entries.partition_point(|entry| entry.nid < nid);
         if place == self.entries.len() {
@@ -89,13 +89,13 @@ impl<'a> NodeList<'a> {
 
     /// All of them, in order.
     pub fn entries(&self) -> &'a [NodeEntry]
-        ensures { result.now ≡ listed_nodes self.now }
+        ensures { result.now ≡ nodes_in_list self.now }
     {
         self.entries
     }
 
     /// What is known of every such list: the identifiers rise.
     pub fn nids_rise(&self)
-        ensures { Rises 0 None (map node_key (listed_nodes self.now)) }
+        ensures { Rises 0 None (map node_key (nodes_in_list self.now)) }
     {}
 }

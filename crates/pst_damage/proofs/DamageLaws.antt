@@ -30,7 +30,7 @@ use Rattle.pst_plain.specs.Twin.{twin_of, with_method}
 use Rattle.pst_remains.specs.Decoded.{decoded_remains_of}
 use Rattle.pst_remains.specs.Header.{header_damage, has_maps, mended}
 use Rattle.pst_remains.specs.Laws.{first_in, first_told}
-use Rattle.pst_remains.specs.Pages.{entries_in, faults_of}
+use Rattle.pst_remains.specs.Pages.{leaf_entries, faults_of}
 use Rattle.pst_remains.specs.Remains.{RemainsParts, remains_of, block_tree_left, node_tree_left}
 use Rattle.pst_remains.proofs.HeaderLemmas.{mended_mapped}
 use Rattle.pst_remains.proofs.LawLemmas.{first_law, whole_law}
@@ -60,10 +60,10 @@ no_place : (page : Bref) → page_place_fault 17408 page ≡ Some (fault_in Page
 unfolding page_place_fault
 no_place page = rw (no_room (is_place 17408 (page_span page.ib)) (page_span page.ib) refl (omega arith)) refl
 
-left_rise : (I : List ℕ) (v : Bool) → has_maps I ≡ v → Rises 0 None (map node_key (map (node_entry_at I) (entries_in I (node_tree_left I).leaves)))
+left_rise : (I : List ℕ) (v : Bool) → has_maps I ≡ v → Rises 0 None (map node_key (map (node_entry_at I) (leaf_entries I (node_tree_left I).leaves)))
 unfolding node_tree_left
 left_rise I true maps =
-    nodes_rise I (entries_in I (node_tree_left I).leaves) _ refl (rw maps (tree_keys_rise Nbt I (end_of (mended I)) (block_tree_left I).claimed (fields I).nbt (mapped_end I (mended I) (mended_mapped I maps))))
+    nodes_rise I (leaf_entries I (node_tree_left I).leaves) _ refl (rw maps (tree_keys_rise Nbt I (end_of (mended I)) (block_tree_left I).claimed (fields I).nbt (mapped_end I (mended I) (mended_mapped I maps))))
 left_rise I false maps = rw (maps, tree_no_place Nbt I 17408 (block_tree_left I).claimed (fields I).nbt _ (no_place (fields I).nbt)) tt
 
 remains_rise : (I : List ℕ) → Rises 0 None (map node_key (remains_of I).nodes)

@@ -2,7 +2,7 @@
 
 ghost use Rattle.std.specs.Prelude.{◌≡◌, IfOk, IfErr, OnOk};
 ghost use Rattle.pst_fault.specs.Fault.{no_memory};
-ghost use Rattle.pst_btree.specs.Lists.{listed_nodes};
+ghost use Rattle.pst_btree.specs.Lists.{nodes_in_list};
 ghost use Rattle.pst_block.specs.Blocks.{table_of};
 ghost use Rattle.pst_damage.specs.Judged.{broken_by};
 ghost use Rattle.pst_damage.specs.Left.{left_table, left_nodes, left_pages};
@@ -89,9 +89,9 @@ pub fn judge_nodes(
     pages: &[Broken],
 ) -> Result<JudgedNodes, Fault>
     ensures broken { let t = table_of blocks.entry in
-        IfOk result (λ j. j.broken.items ≡ nodes_damage t (listed_nodes nodes.entry) pages.now) }
+        IfOk result (λ j. j.broken.items ≡ nodes_damage t (nodes_in_list nodes.entry) pages.now) }
     ensures whole { let t = table_of blocks.entry in
-        IfOk result (λ j. j.whole ≡ whole_left t (listed_nodes nodes.entry) pages.now) }
+        IfOk result (λ j. j.whole ≡ whole_left t (nodes_in_list nodes.entry) pages.now) }
     ensures err { IfErr result (λ f. f ≡ no_memory) }
 {
     let own = judge_trees(alloc, &blocks, nodes.entries())?;

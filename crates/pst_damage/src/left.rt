@@ -1,7 +1,7 @@
 //! What is left of a damaged file for its nodes.
 
 ghost use Rattle.std.specs.Prelude.{◌≡◌, ◌∷◌, [], None};
-ghost use Rattle.pst_btree.specs.Lists.{listed_nodes};
+ghost use Rattle.pst_btree.specs.Lists.{nodes_in_list};
 ghost use Rattle.pst_block.specs.Blocks.{table_of};
 ghost use Rattle.pst_ndb.specs.Fault.{node_fault};
 ghost use Rattle.pst_ndb.specs.Roots.{entry_roots};
@@ -22,7 +22,7 @@ pub(crate) struct Left<'a> {
     pub(crate) nodes: NodeList<'a>,
     pub(crate) own: &'a [BrokenNode],
     pub(crate) pages: &'a BrokenPages<'a>,
-    ghost own_are: { own.now ≡ broken_by (node_fault (table_of blocks)) (listed_nodes nodes) },
+    ghost own_are: { own.now ≡ broken_by (node_fault (table_of blocks)) (nodes_in_list nodes) },
 }
 
 impl<'a> Left<'a> {

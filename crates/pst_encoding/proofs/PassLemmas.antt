@@ -1,22 +1,22 @@
 -- The three passes of the cyclic algorithm, and that they are it.
 use Rattle.std.proofs.Common.{◌≡◌, ℕ, ◌+◌, ◌-◌, ◌*◌, ◌/◌, ◌%◌, ◌^◌, ◌<◌, ◌≤◌, ◌∙◌, List, [], ◌∷◌, ◌++◌, length, get_or, set, take, drop, map, refl, ap, sym, arith}
 use Rattle.std.proofs.lemmas.List.{append_assoc, append-nil, take_more_set, drop_more, drop-set-lt, drop_all, take_all, take-append-drop, drop-drop, length-take-le, length-drop}
-use Rattle.pst_encoding.specs.Cyclic.{turned, cycled_byte, cycled, raised, turned_each, lowered, turns_of}
+use Rattle.pst_encoding.specs.Cyclic.{turned, cycled_byte, cycled, with_low_added, turned_each, lowered, turns_of}
 use Rattle.pst_encoding.proofs.TurnLemmas.{turn_at}
 
 -- ---- the passes over single bytes: what is done, and what is left, are all of it
 
 pub raised_on : (low next i b : ℕ) (s done : List ℕ) → i < length s → b ≡ (get_or s i 0 + low) % 256 → next ≡ (low + 1) % 256
-    → take i s ++ raised low (drop i s) ≡ done → take (i + 1) (set s i b) ++ raised next (drop (i + 1) (set s i b)) ≡ done
-unfolding raised
+    → take i s ++ with_low_added low (drop i s) ≡ done → take (i + 1) (set s i b) ++ with_low_added next (drop (i + 1) (set s i b)) ≡ done
+unfolding with_low_added
 raised_on low next i b s done lt is more so_far =
     let front = take_more_set s i b lt in
     let rest : drop (i + 1) (set s i b) ≡ drop (i + 1) s = drop-set-lt (i + 1) s i b (omega arith) in
     let left : drop i s ≡ get_or s i 0 ∷ drop (i + 1) s = drop_more s i 0 lt in
-    rw (front, rest, more, is, append_assoc) (ap (λ l. take i s ++ raised low l) (sym left) ∙ so_far)
+    rw (front, rest, more, is, append_assoc) (ap (λ l. take i s ++ with_low_added low l) (sym left) ∙ so_far)
 
-pub raised_all : (low i : ℕ) (s done : List ℕ) → length s ≤ i → take i s ++ raised low (drop i s) ≡ done → s ≡ done
-unfolding raised
+pub raised_all : (low i : ℕ) (s done : List ℕ) → length s ≤ i → take i s ++ with_low_added low (drop i s) ≡ done → s ≡ done
+unfolding with_low_added
 raised_all low i s done past so_far =
     let all = take_all i s past in
     let none = drop_all i s past in
@@ -97,8 +97,8 @@ runs_done key at s done past so_far =
 
 -- ---- the passes are the algorithm
 
-pub three_passes : (key low : ℕ) (bytes : List ℕ) → low ≡ key % 256 → lowered low (turned_each key (raised low bytes)) ≡ cycled key bytes
-unfolding cycled cycled_byte raised turned_each lowered
+pub three_passes : (key low : ℕ) (bytes : List ℕ) → low ≡ key % 256 → lowered low (turned_each key (with_low_added low bytes)) ≡ cycled key bytes
+unfolding cycled cycled_byte with_low_added turned_each lowered
 three_passes key low [] is = refl
 three_passes key low (b ∷ rest) is =
     let next : (low + 1) % 256 ≡ (key + 1) % 2 ^ 16 % 256 = omega (arith, is) in

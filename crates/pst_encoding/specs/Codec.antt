@@ -4,6 +4,6 @@ use Rattle.pst_encoding.specs.declared.codec.Codec.TheVariants as codec
 use Rattle.pst_encoding.specs.declared.method.Method.{Method}
 use Rattle.pst_encoding.specs.declared.method.Method.TheVariants as method
 
-abbrev pub method_of : Codec → Method
-method_of codec.Permute = method.Permute
-method_of (codec.Cyclic turns) = method.Cyclic
+abbrev pub codec_method : Codec → Method
+codec_method codec.Permute = method.Permute
+codec_method (codec.Cyclic turns) = method.Cyclic

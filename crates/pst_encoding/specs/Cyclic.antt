@@ -38,9 +38,9 @@ cycled key (b ∷ rest) = cycled_byte key b ∷ cycled ((key + 1) % 2 ^ 16) rest
 -- ---- the same in three passes
 
 -- the low byte of each byte's key is added: that of the first is given, and the next is one more
-unfoldable pub raised : ℕ → List ℕ → List ℕ
-raised low [] = []
-raised low (b ∷ rest) = (b + low) % 256 ∷ raised ((low + 1) % 256) rest
+unfoldable pub with_low_added : ℕ → List ℕ → List ℕ
+with_low_added low [] = []
+with_low_added low (b ∷ rest) = (b + low) % 256 ∷ with_low_added ((low + 1) % 256) rest
 
 -- the inner steps are done, under the high byte of each byte's key
 unfoldable pub turned_each : ℕ → List ℕ → List ℕ

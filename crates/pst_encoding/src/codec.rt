@@ -27,12 +27,12 @@ pub enum Codec {
 impl Codec {
     ghost use Rattle.std.specs.Prelude.{◌≡◌, IfOk};
     ghost use Rattle.pst_encoding.specs.Method.{encoded, decoded};
-    ghost use Rattle.pst_encoding.specs.Codec.{method_of};
+    ghost use Rattle.pst_encoding.specs.Codec.{codec_method};
 
     /// Makes a method ready. For the cyclic algorithm 65,536 bytes of memory are taken, for permutation none. AllocError where
     /// memory is refused.
     pub fn new(alloc: Global, method: Method) -> Result<Codec, AllocError>
-        ensures { IfOk result (λ c. method_of c ≡ method) }
+        ensures { IfOk result (λ c. codec_method c ≡ method) }
     {
         match method {
             Method::Permute => Ok(Codec::Permute),
@@ -46,7 +46,7 @@ impl Codec {
     /// Encodes the body of the block with an identifier.
     #[tactic(auto, unfolding(crate::specs::Method::encoded))]
     pub fn encode(&self, bid: u64, body: &mut [u8])
-        ensures { body.new ≡ encoded (method_of self.now) bid body.old }
+        ensures { body.new ≡ encoded (codec_method self.now) bid body.old }
     {
         match self {
             Codec::Permute => permute(body),
@@ -57,7 +57,7 @@ impl Codec {
     /// Decodes the body of the block with an identifier.
     #[tactic(auto, unfolding(crate::specs::Method::decoded))]
     pub fn decode(&self, bid: u64, body: &mut [u8])
-        ensures { body.new ≡ decoded (method_of self.now) bid body.old }
+        ensures { body.new ≡ decoded (codec_method self.now) bid body.old }
     {
         match self {
             Codec::Permute => unpermute(body),

@@ -1,7 +1,7 @@
 //! The cyclic algorithm ([MS-PST] 5.2), which undoes itself.
 
 ghost use Rattle.std.specs.Prelude.{◌≡◌, map, IfOk};
-ghost use Rattle.pst_encoding.specs.Cyclic.{cyclic_key as key_of, cycled as cycled_under, turned as turned_by, raised, turned_each, lowered, turns_of};
+ghost use Rattle.pst_encoding.specs.Cyclic.{cyclic_key as key_of, cycled as cycled_under, turned as turned_by, with_low_added, turned_each, lowered, turns_of};
 
 use crate::tables::{i_of, r_of, s_of};
 use std::alloc::{AllocError, Global};
@@ -44,7 +44,7 @@ pub(crate) fn all_turns(alloc: Global) -> Result<Vec<u8>, AllocError>
 
 // Adds the low byte of each byte's key, which is one more with each byte.
 fn raise(low: u8, bytes: &mut [u8])
-    ensures { bytes.new ≡ raised low bytes.old }
+    ensures { bytes.new ≡ with_low_added low bytes.old }
 {
     let mut next = low;
     for byte in bytes.iter_mut() {

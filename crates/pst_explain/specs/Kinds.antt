@@ -11,8 +11,8 @@ kinds =
     Short ∷ Magic ∷ (Version 0) ∷ (Encoded 0) ∷ HeaderCheck ∷ Root ∷ MapsInvalid ∷ PagePlace ∷ PageTrailer ∷ PageShape ∷ KeyOrder ∷ Overlap ∷ BlockPlace ∷ BlockTrailer ∷ BlockMissing ∷ DataTree ∷ Subnode ∷ Nesting ∷ MapPage ∷ MapMissing ∷ Heap ∷ HeapId ∷ Bth ∷ Property ∷ Table ∷ NodeMissing ∷ NodeKind ∷ NoMemory ∷ []
 
 -- its name
-abbrev pub name_of : Kind → List ℕ
-name_of k = kind_name k
+abbrev pub word_of_name : Kind → List ℕ
+word_of_name k = kind_name k
 
 -- its number, in decimal
 abbrev pub word_of_number : Kind → List ℕ
@@ -46,8 +46,8 @@ word_of_number NodeKind = codes "27"
 word_of_number NoMemory = codes "28"
 
 -- both, as a line has them: `14 BlockTrailer`
-abbrev pub both_of : Kind → List ℕ
-both_of k = word_of_number k ++ codes " " ++ name_of k
+abbrev pub number_and_name : Kind → List ℕ
+number_and_name k = word_of_number k ++ codes " " ++ word_of_name k
 
 -- ---- the word that names a kind: its number, its name or both, of letters of either case, as they are typed or as they are printed
 
@@ -70,7 +70,7 @@ is_led_by letters word = begins letters word && is_end (drop (length letters) wo
 
 -- a word names it: by its number; or by its name, or both, with what is printed behind that
 abbrev pub is_named : List ℕ → Kind → Bool
-is_named word k = same word (word_of_number k) || is_led_by (name_of k) word || is_led_by (both_of k) word
+is_named word k = same word (word_of_number k) || is_led_by (word_of_name k) word || is_led_by (number_and_name k) word
 
 -- a word behind the `no: ` with which the line of a fault begins
 abbrev pub behind_no : List ℕ → List ℕ

@@ -3,7 +3,7 @@ use Rattle.std.specs.Prelude.{ℕ, List, ◌++◌, map, Option, Some, None, code
 use Rattle.std.specs.List.{concat}
 use Rattle.pst_fault.specs.declared.kind.Kind.{Kind}
 use Rattle.pst_fault.specs.declared.kind.Kind.TheVariants.{Short, Magic, Version, Encoded, HeaderCheck, Root, MapsInvalid, PagePlace, PageTrailer, PageShape, KeyOrder, Overlap, BlockPlace, BlockTrailer, BlockMissing, DataTree, Subnode, Nesting, MapPage, MapMissing, Heap, HeapId, Bth, Property, Table, NodeMissing, NodeKind, NoMemory}
-use Rattle.pst_explain.specs.Kinds.{kinds, name_of, word_of_number}
+use Rattle.pst_explain.specs.Kinds.{kinds, word_of_name, word_of_number}
 
 -- what it says, what `at`, `bid` and `nid` are, what to do next, and the section of [MS-PST]
 pub record Words : Type 0 where
@@ -77,7 +77,7 @@ words_of NoMemory = words (codes "memory was refused, and nothing is said of the
 
 -- its line
 abbrev pub line_of : Kind → List ℕ
-line_of k = word_of_number k ++ codes " " ++ name_of k ++ codes ": " ++ (words_of k).says ++ codes "\n"
+line_of k = word_of_number k ++ codes " " ++ word_of_name k ++ codes ": " ++ (words_of k).says ++ codes "\n"
 
 -- the lines of all kinds
 abbrev pub all_text : List ℕ

@@ -2,7 +2,7 @@
 
 ghost use Rattle.std.specs.Prelude.{◌≡◌};
 ghost use Rattle.pst_explain.specs.Text.{all_text, text_of as text_of_kind};
-ghost use Rattle.pst_explain.specs.Kinds.{both_of, name_of, word_of_number};
+ghost use Rattle.pst_explain.specs.Kinds.{number_and_name, word_of_name, word_of_number};
 
 use pst_fault::Kind;
 
@@ -266,8 +266,8 @@ pub fn text_of(kind: Kind) -> &'static str
 // The words that name a kind: its number, in decimal, its name, and both as a line has them.
 pub(crate) fn words_of(kind: Kind) -> (&'static str, &'static str, &'static str)
     ensures number { result.0.now ≡ word_of_number kind }
-    ensures name { result.1.now ≡ name_of kind }
-    ensures both { result.2.now ≡ both_of kind }
+    ensures name { result.1.now ≡ word_of_name kind }
+    ensures both { result.2.now ≡ number_and_name kind }
 {
     table!(words kind)
 }

@@ -33,7 +33,7 @@ use Rattle.pst_plain.specs.Written.{written}
 use Rattle.pst_plain.proofs.HeadLemmas.{four_bytes_fit, span_bytes, written_bytes}
 use Rattle.pst_remains.specs.Decoded.{decoded_remains_of}
 use Rattle.pst_remains.specs.Header.{has_maps, mended}
-use Rattle.pst_remains.specs.Pages.{entries_in as places_in}
+use Rattle.pst_remains.specs.Pages.{leaf_entries as places_in}
 use Rattle.pst_remains.specs.Remains.{all_blocks_left, block_tree_left, node_tree_left, remains_of}
 use Rattle.pst_remains.proofs.DecodedLemmas.{plain_bytes}
 use Rattle.pst_remains.proofs.HeaderLemmas.{mended_mapped}

@@ -6,6 +6,8 @@ use Rattle.std.proofs.lemmas.Bool.{false≢true}
 use Rattle.std.specs.Global.{Global}
 use Rattle.pst_block.specs.Table.{Table}
 use Rattle.pst_ndb.specs.declared.node.Node.{Node}
+use Rattle.pst_ndb.specs.declared.node_indexes.NodeIndexes.{NodeIndexes}
+use Rattle.pst_ndb.specs.NodeIndexes.{AreNodeIndexes}
 use Rattle.pst_ndb.specs.Views.{table_of_node, nid_of, top_of, roots_of}
 use Rattle.pst_json.specs.Path.{message, attachment}
 use Rattle.pst_verify.specs.pst_msg.pst_mail.declared.attachment_view.Attachment.{Attachment}
@@ -57,6 +59,10 @@ over_last t tasks items x is over = last tasks (subst (AreOver t) is over)
 pub one_over : (t : Table) (items : List Task) (x : Task) → items ≡ x ∷ [] → table_of_node (task_node x) ≡ t → AreOver t items
 unfolding AreOver
 one_over t items x are is = subst (AreOver t) (sym are) (tt, is)
+
+-- indexes are of the same table
+pub indexes_of : (t u : Table) (index : NodeIndexes) → u ≡ t → AreNodeIndexes t index → AreNodeIndexes u index
+indexes_of t u index same are = rw same are
 
 -- ---- the last task is taken
 

@@ -11,15 +11,14 @@ ghost use Rattle.pst_export.specs.Export.{CountsDown};
 ghost use Rattle.pst_export.specs.Held.{held_in_folder};
 ghost use Rattle.pst_export.specs.Store.{all_held, of_type};
 
-use crate::index::turn_to_attachments;
 use crate::walk::Walk;
-use pst_json::{Intact, lend_message, new_indexes};
+use pst_json::{Intact, new_indexes};
 use pst_msg::{Message, is_type};
 use pst_ndb::NodeIndexes;
 use std::alloc::{AllocError, Global};
 
 // Counts a message and what it holds down from so many: how many are left, or None where there are more. No more of them are gone
-// through. The index turns to its list.
+// through. The index turns to their lists.
 fn count_message(
     alloc: Global,
     name: &str,
@@ -35,9 +34,8 @@ fn count_message(
         IfOk result (CountsDown most (length held)) }
 {
     let mut left = most;
-    turn_to_attachments(alloc, message, index)?;
-    let mut walk = Walk::of(alloc, name, lend_message(index, message))?;
-    while let Some(_item) = walk.next()? {
+    let mut walk = Walk::of(alloc, name, message)?;
+    while let Some(_item) = walk.next(index)? {
         if left == 0 {
             return Ok(None);
         }

@@ -58,7 +58,8 @@ pub fn export_of<'a>(
     reached: Vec<Reach>,
     damage: Option<Vec<u8>>,
 ) -> Result<Export<'a>, DocFault>
-    requires reached { reached.items ≡ reaches_of (table_of_intact intact) (nodes_of_intact intact) }
+    requires reached { reached.items
+        ≡ reaches_of (table_of_intact intact) (nodes_of_intact intact) }
     requires rise { Rises 0 None (map reach_nid reached.items) }
     ensures { let i = intact.entry in let broken = option_map (λ t. t.items) damage in
         TellsDoc archive_in result
@@ -85,10 +86,12 @@ fn write_nodes<W: Write>(
     export: &Export,
     out: &mut W,
 ) -> Result<(), ExportFault>
-    ensures all { let e = export.now in let t = table_of_intact e.intact in let nodes = nodes_of_intact e.intact in
+    ensures all { let e = export.now in
+        let t = table_of_intact e.intact in let nodes = nodes_of_intact e.intact in
         let files = files_with (store_name t nodes) t nodes (lost_in e.lost) in
         OnOk result (AddsFiles (W.contents out.old) (W.contents out.new) number.old number.new files) }
-    ensures front { let e = export.now in let t = table_of_intact e.intact in let nodes = nodes_of_intact e.intact in
+    ensures front { let e = export.now in
+        let t = table_of_intact e.intact in let nodes = nodes_of_intact e.intact in
         let files = files_with (store_name t nodes) t nodes (lost_in e.lost) in
         AddsFront (W.contents out.old) (W.contents out.new) number.old files }
 {

@@ -45,11 +45,13 @@ fn write_folder<W: Write>(
 ) -> Result<(), ExportFault>
     requires { AreDocumentIndexes (table_of_nodes (intact_beside folder)) indexes.old }
     ensures known { AreDocumentIndexes (table_of_nodes (intact_beside folder.entry)) indexes.new }
-    ensures all { let told = names_told names.entry in let t = table_of_nodes (intact_beside folder.entry) in
+    ensures all { let told = names_told names.entry in
+        let t = table_of_nodes (intact_beside folder.entry) in
         let file = folder_file told t (intact_roots folder.entry) in
         OnOk result (AddsFiles (W.contents out.old) (W.contents out.new) number.old number.new
         (file ∷ [])) }
-    ensures front { let told = names_told names.entry in let t = table_of_nodes (intact_beside folder.entry) in
+    ensures front { let told = names_told names.entry in
+        let t = table_of_nodes (intact_beside folder.entry) in
         let file = folder_file told t (intact_roots folder.entry) in
         AddsFront (W.contents out.old) (W.contents out.new) number.old (file ∷ []) }
 {

@@ -197,7 +197,8 @@ fn write_attachment<W: Write>(
     out: &mut W,
 ) -> Result<(), ExportFault>
     requires { AreDocumentIndexes (table_of_node (node_of_attachment attachment)) indexes.old }
-    ensures known { AreDocumentIndexes (table_of_node (node_of_attachment attachment.entry)) indexes.new }
+    ensures known { AreDocumentIndexes (table_of_node
+        (node_of_attachment attachment.entry)) indexes.new }
     ensures all { let told = names_told names.entry in
         let t = table_of_node (node_of_attachment attachment.entry) in OnOk result (AddsFiles (W.contents out.old) (W.contents out.new)
         number.old number.new (place_files told t time folder.now (of_attachment attachment.entry))) }
@@ -223,7 +224,8 @@ pub(crate) fn write_item<W: Write>(
     out: &mut W,
 ) -> Result<(), ExportFault>
     requires { AreDocumentIndexes (table_of_node (node_of_holder item.now.holder)) indexes.old }
-    ensures known { AreDocumentIndexes (table_of_node (node_of_holder item.now.holder)) indexes.new }
+    ensures known { AreDocumentIndexes (table_of_node
+        (node_of_holder item.now.holder)) indexes.new }
     ensures all { let told = names_told names.entry in
         let t = table_of_node (node_of_holder item.now.holder) in OnOk result (AddsFiles (W.contents out.old) (W.contents out.new)
         number.old number.new (held_files told t time (item_held item.now))) }

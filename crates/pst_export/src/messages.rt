@@ -10,11 +10,11 @@ ghost use Rattle.pst_verify.specs.pst_msg.Nid.{is_type as is_of_type};
 ghost use Rattle.pst_verify.specs.pst_msg.Values.{is_message};
 ghost use Rattle.pst_verify.specs.pst_msg.View.{node_of_message, message_roots};
 ghost use Rattle.pst_export.specs.Store.{message_files, messages_files, of_type};
+ghost use Rattle.pst_export.specs.Time.{time_of};
 ghost use Rattle.pst_export.specs.Written.{AddsFiles, AddsFront};
 
 use crate::fault::ExportFault;
 use crate::held::write_item;
-use crate::index::turn_to_attachments;
 use crate::time::received;
 use crate::walk::Walk;
 use pst_json::{DocumentIndexes, Intact, lend_message, new_indexes};
@@ -23,37 +23,16 @@ use pst_ndb::NodeIndexes;
 use std::alloc::Global;
 use std::io::Write;
 
-// Writes the files of a message of a store, in a folder of this name, and of what it holds.
-fn write_lent<W: Write>(
-    alloc: Global,
-    number: &mut u64,
-    names: Option<NameMap>,
-    name: &str,
-    message: Message,
-    indexes: &mut DocumentIndexes,
-    out: &mut W,
-) -> Result<(), ExportFault>
-    requires top { nid_of (node_of_message message) ≡ top_of (node_of_message message) }
-    requires known { AreDocumentIndexes (table_of_node (node_of_message message)) indexes.old }
-    ensures known { AreDocumentIndexes (table_of_node (node_of_message message.entry)) indexes.new }
-    ensures all { let told = names_told names.entry in
-        let t = table_of_node (node_of_message message.entry) in
-        let files = message_files told t name.now (message_roots message.entry) in
-        OnOk result (AddsFiles (W.contents out.old) (W.contents out.new) number.old number.new files) }
-    ensures front { let told = names_told names.entry in
-        let t = table_of_node (node_of_message message.entry) in
-        let files = message_files told t name.now (message_roots message.entry) in
-        AddsFront (W.contents out.old) (W.contents out.new) number.old files }
+// When a message was received, which is found by the index of its list, where there is one.
+fn received_by(message: Message, index: &NodeIndexes) -> u64
+    requires { AreNodeIndexes (table_of_node (node_of_message message)) index.now }
+    ensures { let t = table_of_node (node_of_message message.entry) in
+        result ≡ time_of t (message_roots message.entry) }
 {
-    let time = received(&message.pc());
-    let mut walk = Walk::of(alloc, name, message)?;
-    while let Some(item) = walk.next()? {
-        write_item(alloc, number, names, time, &item, indexes, out)?;
-    }
-    Ok(())
+    received(&lend_message(index, message).pc())
 }
 
-// The same, of one that has been lent no index yet. The index turns to its list.
+// Writes the files of a message of a store, in a folder of this name, and of what it holds. The index turns to their lists.
 #[tactic(auto, using(crate::proofs::WriteLemmas::front_none))]
 fn write_message<W: Write>(
     alloc: Global,
@@ -79,9 +58,13 @@ fn write_message<W: Write>(
         let files = message_files told t name.now (message_roots message.entry) in
         AddsFront (W.contents out.old) (W.contents out.new) number.old files }
 {
-    turn_to_attachments(alloc, message, index)?;
-    let lent = lend_message(index, message);
-    write_lent(alloc, number, names, name, lent, indexes, out)
+    index.turn(alloc, message.node(), 1)?;
+    let time = received_by(message, index);
+    let mut walk = Walk::of(alloc, name, message)?;
+    while let Some(item) = walk.next(index)? {
+        write_item(alloc, number, names, time, &item, indexes, out)?;
+    }
+    Ok(())
 }
 
 /// Writes the files of the messages of a type, in a folder of this name, and of what they hold.

@@ -38,7 +38,8 @@ fn is_ascii(low: u8, high: u8) -> bool
 // How many units of ASCII stand at the front of some bytes.
 fn count_ascii(bytes: &[u8]) -> usize
     ensures within { 2 * result ≤ length bytes.now }
-    ensures counted { (behind : List ℕ) → result + length (utf8_of (drop (2 * result) bytes.now ++ behind))
+    ensures counted { (behind : List ℕ)
+        → result + length (utf8_of (drop (2 * result) bytes.now ++ behind))
         ≡ length (utf8_of (bytes.now ++ behind)) }
 {
     let mut count = 0;

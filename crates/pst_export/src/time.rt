@@ -34,7 +34,8 @@ fn unix_seconds(seconds: u64) -> u64
 /// told, or cannot be told so.
 #[tactic(auto, unfolding(crate::specs::Time::time_of))]
 pub(crate) fn received(pc: &Pc) -> u64
-    ensures { let node = node_of_pc pc.now in result ≡ time_of (table_of_node node) (roots_of node) }
+    ensures { let node = node_of_pc pc.now in result
+        ≡ time_of (table_of_node node) (roots_of node) }
 {
     match pc.get(RECEIVED) {
         Some(prop) if prop.kind == PropType(TIME) => match as_u64(&prop.value) {

@@ -3,7 +3,9 @@
 ghost use Rattle.std.specs.Prelude.{◌≡◌, IfOk, string_bytes};
 ghost use Rattle.pst_export.specs.Held.{folder_in as folder_called};
 
+use crate::index::turn_to_attachments;
 use pst_msg::{Attachment, Attachments, Message};
+use pst_ndb::NodeIndexes;
 use pst_value_json::nid_text;
 use std::alloc::{AllocError, Global};
 
@@ -37,7 +39,8 @@ enum Task<'a> {
     Rest(String, Attachments<'a>, u32),
 }
 
-/// A message that is gone through, in the order of its archive. What is to be gone through first stands last.
+/// A message that is gone through, in the order of its archive. What is to be gone through first stands last. What messages and
+/// attachments name is found by indexes that turn to the list of each.
 #[derive(Drop)]
 pub(crate) struct Walk<'a> {
     alloc: Global,
@@ -57,6 +60,7 @@ pub(crate) fn folder_in(alloc: Global, folder: &str, nid: u32) -> Result<String,
 impl<'a> Walk<'a> {
     ghost use Rattle.std.specs.Prelude.{◌≡◌, ◌++◌, ◌∷◌, IfOk, OnOk, option_map, string_bytes};
     ghost use Rattle.pst_block.specs.Table.{Table};
+    ghost use Rattle.pst_ndb.specs.NodeIndexes.{AreNodeIndexes};
     ghost use Rattle.pst_ndb.specs.Views.{table_of_node, roots_of, nid_of, top_of};
     ghost use Rattle.pst_verify.specs.pst_msg.Shown.{object_shown};
     ghost use Rattle.pst_verify.specs.pst_msg.Values.{embedded_of};
@@ -88,7 +92,9 @@ impl<'a> Walk<'a> {
         folder: &str,
         attachment: Attachment<'a>,
         levels: u32,
+        index: &NodeIndexes,
     ) -> Result<(), AllocError>
+        requires { AreNodeIndexes (table_of_node (node_of_attachment attachment)) index.now }
         ensures left { let node = node_of_attachment attachment.entry in
             let t = table_of_node node in let r = roots_of node in
             let named = option_map (object_shown t r) (embedded_of t r) in
@@ -101,7 +107,7 @@ impl<'a> Walk<'a> {
         if levels == 0 {
             return Ok(());
         }
-        if let Some(message) = attachment.embedded() {
+        if let Some(message) = attachment.embedded_by(index) {
             let inner = folder_in(self.alloc, folder, message.nid())?;
             self.tasks.push(Task::Message(inner, message, levels - 1))?;
         }
@@ -114,7 +120,10 @@ impl<'a> Walk<'a> {
         folder: String,
         message: Message<'a>,
         levels: u32,
+        index: &mut NodeIndexes,
     ) -> Result<Item<'a>, AllocError>
+        requires { AreNodeIndexes (table_of_node (node_of_message message)) index.old }
+        ensures index { AreNodeIndexes (table_of_node (node_of_message message.entry)) index.new }
         ensures left { let task = Whole folder message.entry levels in
             IfOk result (λ i. task_left task ++ walk_left self.old ≡ item_held i ∷ walk_left self.new) }
         ensures over { (t : Table) → IsWalkOver t self.old →
@@ -122,8 +131,9 @@ impl<'a> Walk<'a> {
             IfOk result (λ i. IsWalkOver t self.new × IsItemOver t i) }
     {
         let again = folder.clone()?;
+        turn_to_attachments(self.alloc, message, index)?;
         self.tasks
-            .push(Task::Rest(again, message.attachments(), levels))?;
+            .push(Task::Rest(again, message.attachments_by(index), levels))?;
         Ok(Item {
             folder,
             holder: Holder::Message(message),
@@ -136,19 +146,23 @@ impl<'a> Walk<'a> {
         folder: String,
         rest: Attachments<'a>,
         levels: u32,
+        index: &mut NodeIndexes,
     ) -> Result<Option<Item<'a>>, AllocError>
+        requires { AreNodeIndexes (table_of_node (holder_left rest)) index.old }
+        ensures index { AreNodeIndexes (table_of_node (holder_left rest.entry)) index.new }
         ensures left { let task = Behind folder rest.entry levels in
             IfOk result (λ i. Begins i task self.old self.new) }
         ensures over { (t : Table) → IsWalkOver t self.old →
             table_of_node (holder_left rest.entry) ≡ t → IfOk result (λ i. StaysOver i t self.new) }
     {
         let mut rest = rest;
-        let Some(attachment) = rest.next() else {
+        let Some(attachment) = rest.next_by(index) else {
             return Ok(None);
         };
         let inner = folder_in(self.alloc, &folder, attachment.nid())?;
         self.tasks.push(Task::Rest(folder, rest, levels))?;
-        self.put_embedded(&inner, attachment, levels)?;
+        index.turn(self.alloc, attachment.node(), 1)?;
+        self.put_embedded(&inner, attachment, levels, index)?;
         Ok(Some(Item {
             folder: inner,
             holder: Holder::Attachment(attachment),
@@ -156,28 +170,37 @@ impl<'a> Walk<'a> {
     }
 
     // What a task begins with, if it has something; what is behind that is to be gone through.
-    fn begin(&mut self, task: Task<'a>) -> Result<Option<Item<'a>>, AllocError>
+    fn begin(
+        &mut self,
+        task: Task<'a>,
+        index: &mut NodeIndexes,
+    ) -> Result<Option<Item<'a>>, AllocError>
+        requires { AreNodeIndexes (table_of_node (task_node task)) index.old }
+        ensures index { AreNodeIndexes (table_of_node (task_node task.entry)) index.new }
         ensures left { IfOk result (λ i. Begins i task.entry self.old self.new) }
         ensures over { (t : Table) → IsWalkOver t self.old →
             table_of_node (task_node task.entry) ≡ t → IfOk result (λ i. StaysOver i t self.new) }
     {
         match task {
             Task::Message(folder, message, levels) => {
-                Ok(Some(self.enter(folder, message, levels)?))
+                Ok(Some(self.enter(folder, message, levels, index)?))
             }
-            Task::Rest(folder, rest, levels) => self.go_on(folder, rest, levels),
+            Task::Rest(folder, rest, levels) => self.go_on(folder, rest, levels, index),
         }
     }
 
     /// The next message or attachment, if one is left.
     #[tactic(auto, using(crate::proofs::WalkLemmas::nothing_left))]
-    pub(crate) fn next(&mut self) -> Result<Option<Item<'a>>, AllocError>
+    pub(crate) fn next(&mut self, index: &mut NodeIndexes) -> Result<Option<Item<'a>>, AllocError>
+        requires { (t : Table) × IsWalkOver t self.old × AreNodeIndexes t index.old }
+        ensures index { (t : Table) → IsWalkOver t self.old → AreNodeIndexes t index.old →
+            AreNodeIndexes t index.new }
         ensures left { IfOk result (λ i. TakesHeld i (walk_left self.old) (walk_left self.new)) }
         ensures over { (t : Table) → IsWalkOver t self.old →
             IfOk result (λ i. StaysOver i t self.new) }
     {
         while let Some(task) = self.tasks.pop() {
-            let item = self.begin(task)?;
+            let item = self.begin(task, index)?;
             if item.is_some() {
                 return Ok(item);
             }

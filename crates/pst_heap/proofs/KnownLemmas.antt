@@ -20,13 +20,13 @@ use Rattle.pst_heap.specs.declared.check.TheConstants.{SPANS}
 use Rattle.pst_heap.specs.declared.maps.Maps.{Maps}
 use Rattle.pst_heap.specs.Values.{HeapData}
 use Rattle.pst_heap.specs.Fault.{extra_fault, front_fault, page_map_fault, heap_fault}
-use Rattle.pst_heap.specs.Maps.{page_maps_fault, broken_of, has_maps, AreMapsTrue, start_fault}
+use Rattle.pst_heap.specs.Maps.{page_maps_fault, broken_of, knows_maps, AreMapsTrue, start_fault}
 
 -- ---- what is remembered
 
 -- nothing is known
 pub nothing_true : (t : Table) (m : Maps) → HasNone m.trees → IsEmpty m.broken → AreMapsTrue t m
-unfolding has_maps broken_of
+unfolding knows_maps broken_of
 nothing_true t m trees broken = record {
   holds = λ bid known. let bad : false ≡ true = (rw trees at known) in cc;
   broken = λ bid f known. let bad : None ≡ Some f = (rw broken at known) in absurd cc;
@@ -34,7 +34,7 @@ nothing_true t m trees broken = record {
 
 -- one more is known
 pub put_true : (t : Table) (old new : Maps) (bid : ℕ) → ((q : ℕ) → contains nat_cmp new.trees q ≡ cond (is_at (nat_cmp bid) q) true (contains nat_cmp old.trees q)) → new.broken ≡ old.broken → page_maps_fault t bid ≡ None → AreMapsTrue t old → AreMapsTrue t new
-unfolding has_maps broken_of
+unfolding knows_maps broken_of
 put_true t old new bid more same none true_of = record { holds = each; broken = λ q f known. true_of.broken q f (rw same at known) }
   where
     each : (q : ℕ) → contains nat_cmp new.trees q ≡ true → page_maps_fault t q ≡ None
@@ -42,7 +42,7 @@ put_true t old new bid more same none true_of = record { holds = each; broken = 
 
 -- one fault more
 pub broken_put : (t : Table) (old new : Maps) (bid : ℕ) (f : Fault) → ((q : ℕ) → get nat_cmp new.broken q ≡ cond (eq_by_cmp nat_cmp bid q) (Some f) (get nat_cmp old.broken q)) → new.trees ≡ old.trees → page_maps_fault t bid ≡ Some f → AreMapsTrue t old → AreMapsTrue t new
-unfolding has_maps broken_of
+unfolding knows_maps broken_of
 broken_put t old new bid f put same is true_of = record {
   holds = λ q known. true_of.holds q (rw same at known);
   broken = λ q g known. by_test q g (eq_by_cmp nat_cmp bid q) refl (sym (put q) ∙ known);
@@ -57,7 +57,7 @@ broken_put t old new bid f put same is true_of = record {
 
 -- memory was refused, and the same is remembered
 pub broken_same : (t : Table) (old new : Maps) → IsUnchanged old.broken new.broken → new.trees ≡ old.trees → AreMapsTrue t old → AreMapsTrue t new
-unfolding has_maps broken_of
+unfolding knows_maps broken_of
 broken_same t old new broken same true_of = record {
   holds = λ q known. true_of.holds q (rw same at known);
   broken = λ q f known. true_of.broken q f (rw broken at known);

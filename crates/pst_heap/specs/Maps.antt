@@ -19,8 +19,8 @@ abbrev pub page_maps_fault : Table → ℕ → Option Fault
 page_maps_fault t bid = first_of (page_map_fault t.image) (data_spans t bid)
 
 -- a block identifier is known, as it is written
-unfoldable pub has_maps : Maps → ℕ → Bool
-has_maps m bid = contains nat_cmp m.trees bid
+unfoldable pub knows_maps : Maps → ℕ → Bool
+knows_maps m bid = contains nat_cmp m.trees bid
 
 -- the first fault of the page maps of a data tree, if it is remembered
 unfoldable pub broken_of : Maps → ℕ → Option Fault
@@ -28,7 +28,7 @@ broken_of m bid = get nat_cmp m.broken bid
 
 -- what is known is true
 pub record AreMapsTrue (t : Table) (m : Maps) : Type 0 where
-  pub holds : (bid : ℕ) → has_maps m bid ≡ true → page_maps_fault t bid ≡ None
+  pub holds : (bid : ℕ) → knows_maps m bid ≡ true → page_maps_fault t bid ≡ None
   pub broken : (bid : ℕ) (f : Fault) → broken_of m bid ≡ Some f → page_maps_fault t bid ≡ Some f
 
 -- of a heap, before its page maps: how many spans it has, and the first one

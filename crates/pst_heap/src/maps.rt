@@ -19,7 +19,7 @@ impl Maps {
     ghost use Rattle.std.specs.Prelude.{◌≡◌, Some, None, IfErr};
     ghost use Rattle.pst_fault.specs.Fault.{no_memory};
     ghost use Rattle.pst_ndb.specs.pst_block.Table.{Table};
-    ghost use Rattle.pst_heap.specs.Maps.{page_maps_fault, broken_of, has_maps, AreMapsTrue};
+    ghost use Rattle.pst_heap.specs.Maps.{page_maps_fault, broken_of, knows_maps, AreMapsTrue};
 
     /// Nothing is known. No memory is taken.
     #[tactic(auto, using(crate::proofs::KnownLemmas::nothing_true))]
@@ -33,9 +33,9 @@ impl Maps {
     }
 
     // Whether the page maps of a data tree are known to be good.
-    #[tactic(auto, unfolding(crate::specs::Maps::has_maps))]
+    #[tactic(auto, unfolding(crate::specs::Maps::knows_maps))]
     pub(crate) fn knows(&self, bid: u64) -> bool
-        ensures { result ≡ has_maps self.now bid }
+        ensures { result ≡ knows_maps self.now bid }
     {
         self.trees.contains(&bid)
     }

@@ -4,4 +4,5 @@ pub mod ListingLemmas
 pub mod MessageLemmas
 pub mod OutputLemmas
 pub mod RowCountLemmas
+pub mod RowIdsLemmas
 pub mod RowsLemmas

@@ -23,6 +23,7 @@ pub mod Contents
 pub mod Messages
 pub mod Listings
 pub mod RowCounts
+pub mod RowIds
 pub mod Output
 pub use Rattle.pst_verify.specs as pst_verify
 pub use Rattle.pst_verify.specs.pst_store as pst_store

@@ -1,8 +1,12 @@
 -- Which folders list each message, as it is kept while they are gone through.
-use Rattle.std.specs.Prelude.{ℕ, Bool, true, false, Option, Some, None, List, [], ◌∷◌}
+use Rattle.std.specs.Prelude.{◌≡◌, ℕ, Bool, true, false, Option, Some, None, is_some, List, [], ◌∷◌}
 use Rattle.std.specs.BTreeMap.{get}
 use Rattle.std.specs.Global.{Vec}
 use Rattle.std.specs.Ordering.{nat_cmp}
+use Rattle.pst_page.specs.declared.entry.NodeEntry.{NodeEntry}
+use Rattle.pst_ndb.specs.Roots.{Roots}
+use Rattle.pst_verify.specs.pst_msg.Values.{is_message}
+use Rattle.pst_verify.specs.pst_store.Kind.{node_of_kind}
 use Rattle.pst_json.specs.declared.listings.Listings.{Listings}
 
 -- the folders that are noted_folders
@@ -18,3 +22,12 @@ folders_listing l nid = noted_folders (get nat_cmp l.folders nid)
 abbrev pub if_listed : Bool → ℕ → List ℕ
 if_listed true folder = folder ∷ []
 if_listed false folder = []
+
+-- a message with this identifier is there
+abbrev pub is_there : List NodeEntry → ℕ → Bool
+is_there nodes nid = is_some (node_of_kind is_message nodes nid)
+
+-- those with these roots are
+abbrev pub AreThere : List NodeEntry → List Roots → Type 0
+AreThere nodes [] = Unit {0}
+AreThere nodes (r ∷ rs) = (is_there nodes r.top ≡ true) × AreThere nodes rs

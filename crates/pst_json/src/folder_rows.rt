@@ -12,10 +12,12 @@ ghost use Rattle.pst_verify.specs.pst_reach.Path.{reach_nid};
 ghost use Rattle.pst_json.specs.Folders.{is_shown};
 ghost use Rattle.pst_ndb.specs.NodeIndexes.{AreNodeIndexes, AreNodeIndexes-prop};
 ghost use Rattle.pst_json.specs.RowCounts.{AreCountsTrue, AreCountsTrue-prop};
+ghost use Rattle.pst_json.specs.RowIds.{AreRowIdsTrue, AreRowIdsTrue-prop, all_asked};
 
 use crate::folder_lines::put_folder;
 use crate::folders::folder_doc;
 use crate::row_counts::RowCounts;
+use crate::row_ids::RowIds;
 use pst_intact::{Intact, IntactFolder, IntactFolders};
 use pst_ndb::NodeIndexes;
 use pst_props::new_indexes;
@@ -75,12 +77,16 @@ pub(crate) struct FolderRows<'a> {
     lone: bool,
     // How many rows their tables have, as far as they were counted.
     counts: RowCounts,
+    // The rows of tables that several folders have.
+    rows: RowIds,
     // The index of the list that they ask.
     index: NodeIndexes,
     ghost table: { table_of_nodes (folders_beside rest) ≡ table_of_intact intact },
     ghost nodes: { entries_of_nodes (folders_beside rest) ≡ nodes_of_intact intact },
     ghost known: { AreCountsTrue (table_of_intact intact) counts } by { AreCountsTrue-prop
         (table_of_intact intact) counts },
+    ghost listed: { AreRowIdsTrue all_asked (table_of_intact intact) rows } by { AreRowIdsTrue-prop
+        all_asked (table_of_intact intact) rows },
     ghost indexed: { AreNodeIndexes (table_of_intact intact) index } by { AreNodeIndexes-prop
         (table_of_intact intact) index },
     ghost all: { reached.now ≡ reaches_of (table_of_intact intact) (nodes_of_intact intact) },
@@ -119,6 +125,7 @@ impl<'a> FolderRows<'a> {
             rest: intact.folders(),
             lone: false,
             counts: RowCounts::new(alloc),
+            rows: RowIds::new(alloc),
             index: new_indexes(alloc),
         }
     }
@@ -147,7 +154,7 @@ impl<'a> FolderRows<'a> {
     }
 }
 
-#[tactic(auto, using(crate::proofs::RowCountLemmas::counts_of, pst_ndb::proofs::NodeIndexesLemmas::last_of))]
+#[tactic(auto, using(crate::proofs::RowCountLemmas::counts_of, crate::proofs::RowIdsLemmas::ids_of_table, pst_ndb::proofs::NodeIndexesLemmas::last_of))]
 impl Rows for FolderRows<'_> {
     ghost use Rattle.pst_json.specs.FolderRows.{folder_rows};
 
@@ -190,6 +197,7 @@ impl Rows for FolderRows<'_> {
             &self.lost,
             self.reached,
             &mut self.counts,
+            &mut self.rows,
             &mut self.index,
             text,
         )?;

@@ -40,7 +40,8 @@ pub(crate) fn count_of(
 ) -> Result<u64, AllocError>
     requires { AreCountsTrue (table_of_nodes (intact_beside folder.now)) counts.old }
     ensures known { AreCountsTrue (table_of_nodes (intact_beside folder.now)) counts.new }
-    ensures count { let nodes = intact_beside folder.now in let nid = top_of (intact_node folder.now) in
+    ensures count { let nodes = intact_beside folder.now in
+        let nid = top_of (intact_node folder.now) in
         IfOk result (λ n. n ≡ row_total (table_of_nodes nodes)
         (folder_table (entries_of_nodes nodes) items nid)) }
 {
@@ -94,7 +95,8 @@ fn count_doc(
 ) -> Result<Doc, AllocError>
     requires { AreCountsTrue (table_of_nodes (intact_beside folder.now)) counts.old }
     ensures known { AreCountsTrue (table_of_nodes (intact_beside folder.now)) counts.new }
-    ensures shown { let nodes = intact_beside folder.now in let nid = top_of (intact_node folder.now) in
+    ensures shown { let nodes = intact_beside folder.now in
+        let nid = top_of (intact_node folder.now) in
         IfOk result (λ d. view d ≡ count_data (table_told (lost_in lost.now) items nid)
         (table_of_nodes nodes) (folder_table (entries_of_nodes nodes) items nid)) }
 {

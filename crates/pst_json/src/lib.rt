@@ -24,6 +24,7 @@ mod nid_lists;
 mod nodes;
 mod output;
 mod row_counts;
+mod row_ids;
 mod texts;
 
 pub use check::{check_doc, check_line};

@@ -139,9 +139,10 @@ fn put_summary(
 /// The lines of all messages of a store, of the nodes of type 04 in the order of their identifiers: of each an object with how
 /// many attachments and recipients it has, its class, the folders that list it, its identifier, when it was received and sent,
 /// who sent it, its size, and its subject. A message that no folder lists is there, too. Beside the text, memory is taken for
-/// one message at a time; some 100 bytes for each message that folders list, and up to 8 for each folder that lists it; some 60
-/// for each list of subnodes, and 40 for each table of more than 2,048 bytes, that messages name; and for the index of one list.
-#[tactic(auto, using(crate::proofs::MessageLemmas::lines_are, crate::proofs::MessageLemmas::line_put, crate::proofs::MessageLemmas::line_passed, crate::proofs::MessageLemmas::lines_end))]
+/// one message at a time; some 100 bytes for each message that folders list, and up to 8 for each folder that lists it; 20 for
+/// each table that folders have, and 4 for each message that is there in one that several have; some 60 for each list of
+/// subnodes, and 40 for each table of more than 2,048 bytes, that messages name; and for indexes of lists.
+#[tactic(auto, using(crate::proofs::MessageLemmas::all_there, crate::proofs::MessageLemmas::lines_are, crate::proofs::MessageLemmas::line_put, crate::proofs::MessageLemmas::line_passed, crate::proofs::MessageLemmas::lines_end))]
 pub fn messages_text(alloc: Global, intact: &Intact) -> Result<Vec<u8>, AllocError>
     ensures { let i = intact.now in
         IfOk result (λ t. t.items ≡ text_of_messages (table_of_intact i) (nodes_of_intact i)) }

@@ -1,16 +1,13 @@
 //! Lists of identifiers, put straight behind a text.
 
-ghost use Rattle.std.specs.Prelude.{◌≡◌, ◌++◌, OnErr, OnOk, IfSome, option_map};
+ghost use Rattle.std.specs.Prelude.{◌≡◌, ◌++◌, OnErr, OnOk};
 ghost use Rattle.serde_json.specs.Written.{compact_text};
-ghost use Rattle.pst_block.specs.Table.{Table};
 ghost use Rattle.pst_ndb.specs.Views.{table_of_node, roots_of};
 ghost use Rattle.pst_value_json.specs.pst_text.Kept.{BeginsWith};
 ghost use Rattle.pst_value_json.specs.pst_text.Names.{nid_data};
 ghost use Rattle.pst_value_json.specs.pst_text.Parts.{list_data};
 ghost use Rattle.pst_value_json.specs.pst_tc.Tc.{node_of_tc};
 ghost use Rattle.pst_value_json.specs.pst_tc.Values.{tc_rows};
-ghost use Rattle.pst_verify.specs.pst_msg.Shown.{rows_there};
-ghost use Rattle.pst_verify.specs.pst_msg.View.{tc_roots};
 ghost use Rattle.pst_json.specs.Folders.{row_nid};
 
 use pst_value_json::{Tc, put_comma, put_nid};
@@ -33,8 +30,8 @@ pub(crate) fn put_nid_list(nids: &[u32], text: &mut Vec<u8>) -> Result<(), Alloc
     Ok(())
 }
 
-// Puts the identifiers of the rows of a table behind a text, as a list.
-fn put_row_nids(tc: &Tc, text: &mut Vec<u8>) -> Result<(), AllocError>
+/// Puts the identifiers of the rows of a table behind a text, as a list.
+pub(crate) fn put_row_nids(tc: &Tc, text: &mut Vec<u8>) -> Result<(), AllocError>
     ensures put { let node = node_of_tc tc.now in
         let rows = tc_rows (table_of_node node) (roots_of node) in
         OnOk result (text.new.items ≡ text.old.items ++ compact_text (list_data row_nid rows)) }
@@ -49,17 +46,4 @@ fn put_row_nids(tc: &Tc, text: &mut Vec<u8>) -> Result<(), AllocError>
     }
     text.push(b']')?;
     Ok(())
-}
-
-/// Puts the identifiers of the rows of a table behind a text, of no rows where it is not there.
-pub(crate) fn put_nids_of(table: &Option<Tc>, text: &mut Vec<u8>) -> Result<(), AllocError>
-    ensures put { (t : Table) → IfSome table.now (λ x. table_of_node (node_of_tc x) ≡ t)
-        → OnOk result (text.new.items ≡ text.old.items
-        ++ compact_text (list_data row_nid (rows_there t (option_map tc_roots table.now)))) }
-    ensures kept { OnErr result (BeginsWith text.new.items text.old.items) }
-{
-    match table {
-        Some(tc) => put_row_nids(tc, text),
-        None => put_nid_list(&[], text),
-    }
 }

@@ -27,7 +27,8 @@ fn node_doc(alloc: Global, entry: &NodeEntry) -> Result<Doc, AllocError>
 // Puts a node behind a text, as an object.
 #[tactic(auto, unfolding(crate::specs::Nodes::node_data))]
 fn put_node(entry: &NodeEntry, text: &mut Vec<u8>) -> Result<(), AllocError>
-    ensures put { OnOk result (text.new.items ≡ text.old.items ++ compact_text (node_data entry.now)) }
+    ensures put { OnOk result (text.new.items
+        ≡ text.old.items ++ compact_text (node_data entry.now)) }
     ensures kept { OnErr result (BeginsWith text.new.items text.old.items) }
 {
     text.extend_from_slice(b"{\"data_bid\":")?;

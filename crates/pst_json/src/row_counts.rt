@@ -14,6 +14,7 @@ ghost use Rattle.pst_msg.specs.RowCounts.{IsCountOf};
 ghost use Rattle.pst_json.specs.RowCounts.{AreCountsTrue, IsHeld, IsHeldBy};
 
 use pst_datatree::is_internal;
+use pst_ndb::Node;
 use pst_page::PageKind;
 use pst_value_json::{Tc, tc_is_of_keys};
 use pst_verify::Message;
@@ -27,9 +28,13 @@ pub(crate) struct Held {
     pub(crate) recipients: u64,
 }
 
-// The rows of a table whose data has no more bytes, in one block, are counted again in less time than it takes to remember how many
-// they are.
+// The rows of a table whose data has no more bytes, in one block, are gone through again in less time than it takes to remember them.
 const SMALL: u64 = 2048;
+
+/// Whether what the table of a node has is not worth remembering.
+pub(crate) fn is_small(node: Node) -> bool {
+    !is_internal(node.bid_data()) && node.spans().size() <= SMALL
+}
 
 /// How many rows tables have, as far as they were counted. A number is that of each table with the same data, and what is known of
 /// a message is so of each that has the same list of subnodes.
@@ -80,7 +85,7 @@ impl RowCounts {
             IfOk result (λ n. n ≡ length (tc_rows (table_of_node node) (roots_of node))) }
     {
         let node = table.node();
-        if !is_internal(node.bid_data()) && node.spans().size() <= SMALL {
+        if is_small(node) {
             return Ok(table.row_count());
         }
         let block = PageKind::Bbt.key_of(node.bid_data());

@@ -14,9 +14,9 @@ use Rattle.pst_encoding.specs.Method.{method_number, encoded}
 use Rattle.pst_encoding.proofs.CyclicLemmas.{length-cycled}
 use Rattle.pst_make.specs.declared.layout.BlockPlace.{BlockPlace}
 use Rattle.pst_make.specs.declared.layout.PlacedBlock.{PlacedBlock}
-use Rattle.pst_make.specs.Elsewhere.{written, SameElsewhere, one_field}
-use Rattle.pst_make.specs.Encoded.{AreEncoded, IsEncodedBlock, IsEncodedHeader, body_of, has_data}
-use Rattle.pst_make.specs.Layout.{place_in}
+use Rattle.pst_make.specs.Elsewhere.{overwritten, SameElsewhere, one_field}
+use Rattle.pst_make.specs.Encoded.{AreEncoded, IsEncodedBlock, IsEncodedHeader, place_of_body, holds_data}
+use Rattle.pst_make.specs.Layout.{place_of_block}
 use Rattle.pst_make.specs.Sealed.{SealedBlock, SealedHeader, block_checks, header_checks, sealed_size}
 use Rattle.pst_make.proofs.WriteLemmas.{from_place, length_written, bytes_written}
 
@@ -33,19 +33,19 @@ same_then I J K one fields first second = record {
   others = λ s apart. second.others s apart.1 ∙ first.others s (apart.0, tt);
 }
 
-written_elsewhere : (I : List ℕ) (at len : ℕ) (bytes : List ℕ) → length bytes ≡ len → at + len ≤ length I → SameElsewhere I (written I at bytes) (one_field at len)
+written_elsewhere : (I : List ℕ) (at len : ℕ) (bytes : List ℕ) → length bytes ≡ len → at + len ≤ length I → SameElsewhere I (overwritten I at bytes) (one_field at len)
 written_elsewhere I at len bytes size inside = record {
   length_same = length_written I at bytes (rw size inside);
   others = λ s apart. bytes_written I at bytes s (rw size inside) (rw size apart.0);
 }
 
-written_here : (I : List ℕ) (at len : ℕ) (bytes : List ℕ) → length bytes ≡ len → at + len ≤ length I → bytes_at (written I at bytes) (record { at = at; len = len }) ≡ bytes
+written_here : (I : List ℕ) (at len : ℕ) (bytes : List ℕ) → length bytes ≡ len → at + len ≤ length I → bytes_at (overwritten I at bytes) (record { at = at; len = len }) ≡ bytes
 written_here I at len bytes size inside =
     ap (take len) (from_place I at bytes (omega (arith, inside))) ∙ take_at bytes (drop (at + length bytes) I) len size
 
 -- ---- a block
 
-pub block_encoded : (I J K : List ℕ) (method : Method) (block : BlockPlace) → block.ib + sealed_size block.cb ≤ length I → J ≡ written I block.ib (encoded method block.bid (bytes_at I (body_of block)))
+pub block_encoded : (I J K : List ℕ) (method : Method) (block : BlockPlace) → block.ib + sealed_size block.cb ≤ length I → J ≡ overwritten I block.ib (encoded method block.bid (bytes_at I (place_of_body block)))
     → SealedBlock K block.ib block.cb → SameElsewhere J K (block_checks block.ib block.cb) → IsEncodedBlock method block I K
 block_encoded I J K method block inside put sealed same =
     let ib = block.ib in
@@ -53,16 +53,16 @@ block_encoded I J K method block inside put sealed same =
     let size = sealed_size cb in
     let large : ib + cb ≤ ib + (size - 16) = omega arith in
     let room : ib + cb ≤ length I = omega (arith, large, inside) in
-    let body = bytes_at I (body_of block) in
+    let body = bytes_at I (place_of_body block) in
     let left = length-drop ib I in
     let short : length body ≡ cb = length-take-le cb (drop ib I) (omega (arith, left, room)) in
     let long : length (encoded method block.bid body) ≡ cb = length_encoded method block.bid body ∙ short in
-    let first : SameElsewhere I J (body_of block ∷ []) =
-    subst (λ (L : List ℕ). SameElsewhere I L (body_of block ∷ [])) (sym put) (written_elsewhere I ib cb (encoded method block.bid body) long room) in
+    let first : SameElsewhere I J (place_of_body block ∷ []) =
+    subst (λ (L : List ℕ). SameElsewhere I L (place_of_body block ∷ [])) (sym put) (written_elsewhere I ib cb (encoded method block.bid body) long room) in
     record {
-      body = same.others (body_of block) (inl (omega (arith, large)), tt) ∙ ap (λ L. bytes_at L (body_of block)) put ∙ written_here I ib cb (encoded method block.bid body) long room;
+      body = same.others (place_of_body block) (inl (omega (arith, large)), tt) ∙ ap (λ L. bytes_at L (place_of_body block)) put ∙ written_here I ib cb (encoded method block.bid body) long room;
       sealed = sealed;
-      others = same_then I J K (body_of block) (block_checks ib cb) first same;
+      others = same_then I J K (place_of_body block) (block_checks ib cb) first same;
     }
 
 -- ---- the header
@@ -89,20 +89,20 @@ encoded_append method [] second I J K same later = subst (λ (L : List ℕ). Are
 encoded_append method (block ∷ first) second I J K (between, here, rest) later = (between, here, encoded_append method first second between J K rest later)
 
 -- the data blocks from one on: that one, if it is one, and those behind it
-pub data_next : (method : Method) (blocks : List PlacedBlock) (i : ℕ) (d : PlacedBlock) (block : BlockPlace) (I J K : List ℕ) → i < length blocks → block ≡ place_in (get_or blocks i d)
-    → AreEncoded method (filter has_data (block ∷ [])) I J → AreEncoded method (filter has_data (drop (i + 1) (map place_in blocks))) J K
-    → AreEncoded method (filter has_data (drop i (map place_in blocks))) I K
+pub data_next : (method : Method) (blocks : List PlacedBlock) (i : ℕ) (d : PlacedBlock) (block : BlockPlace) (I J K : List ℕ) → i < length blocks → block ≡ place_of_block (get_or blocks i d)
+    → AreEncoded method (filter holds_data (block ∷ [])) I J → AreEncoded method (filter holds_data (drop (i + 1) (map place_of_block blocks))) J K
+    → AreEncoded method (filter holds_data (drop i (map place_of_block blocks))) I K
 data_next method blocks i d block I J K lt is here later =
-    let places = map place_in blocks in
-    let long : i < length places = rw (length-map blocks place_in) lt in
-    let at_i : get_or places i block ≡ block = get_or-map place_in blocks i d block lt ∙ sym is in
+    let places = map place_of_block blocks in
+    let long : i < length places = rw (length-map blocks place_of_block) lt in
+    let at_i : get_or places i block ≡ block = get_or-map place_of_block blocks i d block lt ∙ sym is in
     let split : drop i places ≡ (block ∷ []) ++ drop (i + 1) places = drop_more places i block long ∙ ap (λ (b : BlockPlace). b ∷ drop (i + 1) places) at_i in
-    let kept : filter has_data (drop i places) ≡ filter has_data (block ∷ []) ++ filter has_data (drop (i + 1) places) =
-    ap (filter has_data) split ∙ filter-append has_data (block ∷ []) (drop (i + 1) places) in
-    subst (λ l. AreEncoded method l I K) (sym kept) (encoded_append method (filter has_data (block ∷ [])) (filter has_data (drop (i + 1) places)) I J K here later)
+    let kept : filter holds_data (drop i places) ≡ filter holds_data (block ∷ []) ++ filter holds_data (drop (i + 1) places) =
+    ap (filter holds_data) split ∙ filter-append holds_data (block ∷ []) (drop (i + 1) places) in
+    subst (λ l. AreEncoded method l I K) (sym kept) (encoded_append method (filter holds_data (block ∷ [])) (filter holds_data (drop (i + 1) places)) I J K here later)
 
-pub data_done : (method : Method) (blocks : List PlacedBlock) (i : ℕ) (I : List ℕ) → length blocks ≤ i → AreEncoded method (filter has_data (drop i (map place_in blocks))) I I
+pub data_done : (method : Method) (blocks : List PlacedBlock) (i : ℕ) (I : List ℕ) → length blocks ≤ i → AreEncoded method (filter holds_data (drop i (map place_of_block blocks))) I I
 unfolding AreEncoded
 data_done method blocks i I past =
-    let none : drop i (map place_in blocks) ≡ [] = drop_all i (map place_in blocks) (rw (length-map blocks place_in) past) in
-    subst (λ (l : List BlockPlace). AreEncoded method (filter has_data l) I I) (sym none) refl
+    let none : drop i (map place_of_block blocks) ≡ [] = drop_all i (map place_of_block blocks) (rw (length-map blocks place_of_block) past) in
+    subst (λ (l : List BlockPlace). AreEncoded method (filter holds_data l) I I) (sym none) refl

@@ -15,7 +15,7 @@ use Rattle.pst_make.specs.Plan.{body_length, body_lengths}
 use Rattle.pst_make.specs.declared.plan.MakeFault.{MakeFault}
 use Rattle.pst_make.specs.declared.plan.MakeFault.TheVariants.{TooLarge, Body, Memory}
 use Rattle.pst_make.specs.declared.layout.TheConstants.{FIRST_MAP}
-use Rattle.pst_make.specs.Layout.{map_place, region_of, free_from, place_of, after, after_pages, after_blocks, pages_for, pages_above, branch_pages, tree_pages, layout_end, place_in, places_from, block_places, IsPlaceFault, IsPageBelow, IsBlockBelow}
+use Rattle.pst_make.specs.Layout.{map_place, region_of, free_from, place_of, after, after_pages, after_blocks, pages_for, pages_above, branch_pages, tree_pages, layout_end, place_of_block, places_from, block_places, IsPlaceFault, IsPageBelow, IsBlockBelow}
 use Rattle.pst_make.specs.Sealed.{sealed_size}
 
 free_above : (j : ℕ) (b : Bool) → map_place j + 512 ≤ map_place j + cond b 1024 512
@@ -146,16 +146,16 @@ blocks_below placed block next behind all le here =
 -- where they lie: what is placed, and what is left, are all of it
 pub places_next : (blocks : List BlockPlan) (i : ℕ) (block : BlockPlan) (placed : List PlacedBlock) (one : PlacedBlock) (next behind : ℕ) (total : List BlockPlace) → i < length blocks
     → block ≡ get_or blocks i block → one.bid ≡ block.bid → one.ib ≡ place_of next (sealed_size (body_length block)) → length one.body.now ≡ body_length block
-    → behind ≡ after next (sealed_size (body_length block)) → map place_in placed ++ places_from next (drop i blocks) ≡ total
-    → map place_in (placed ++ one ∷ []) ++ places_from behind (drop (i + 1) blocks) ≡ total
+    → behind ≡ after next (sealed_size (body_length block)) → map place_of_block placed ++ places_from next (drop i blocks) ≡ total
+    → map place_of_block (placed ++ one ∷ []) ++ places_from behind (drop (i + 1) blocks) ≡ total
 places_next blocks i block placed one next behind total lt at bid ib cb is so_far =
     let split : drop i blocks ≡ block ∷ drop (i + 1) blocks = drop_more blocks i block lt ∙ ap (λ (b : BlockPlan). b ∷ drop (i + 1) blocks) (sym at) in
-    rw (map-append place_in placed (one ∷ []), append_assoc, bid, ib, cb, is) (ap (λ (l : List BlockPlan). map place_in placed ++ places_from next l) (sym split) ∙ so_far)
+    rw (map-append place_of_block placed (one ∷ []), append_assoc, bid, ib, cb, is) (ap (λ (l : List BlockPlan). map place_of_block placed ++ places_from next l) (sym split) ∙ so_far)
 
 pub places_done : (blocks : List BlockPlan) (i : ℕ) (placed : List PlacedBlock) (next : ℕ) (total : List BlockPlace) → length blocks ≤ i
-    → map place_in placed ++ places_from next (drop i blocks) ≡ total → map place_in placed ≡ total
+    → map place_of_block placed ++ places_from next (drop i blocks) ≡ total → map place_of_block placed ≡ total
 places_done blocks i placed next total past so_far =
-    sym (append-nil (map place_in placed)) ∙ ap (λ (l : List BlockPlan). map place_in placed ++ places_from next l) (sym (drop_all i blocks past)) ∙ so_far
+    sym (append-nil (map place_of_block placed)) ∙ ap (λ (l : List BlockPlan). map place_of_block placed ++ places_from next l) (sym (drop_all i blocks past)) ∙ so_far
 
 -- ---- the whole
 

@@ -4,7 +4,7 @@ use Rattle.pst_make.specs.declared.change.Change.{Change}
 use Rattle.pst_make.specs.declared.change.Change.TheVariants.{Set, Flip, Cut, Grow, Header, Page, Block}
 use Rattle.pst_make.specs.declared.change.ChangeFault.{ChangeFault}
 use Rattle.pst_make.specs.declared.change.ChangeFault.TheVariants.{PastEnd, Memory}
-use Rattle.pst_make.specs.Elsewhere.{written, SameElsewhere}
+use Rattle.pst_make.specs.Elsewhere.{overwritten, SameElsewhere}
 use Rattle.pst_make.specs.Sealed.{SealedHeader, SealedPage, SealedBlock, header_checks, page_checks, block_checks, sealed_size}
 
 -- the lowest bit of a byte is the other one
@@ -23,7 +23,7 @@ reach_of (Block at cb) = at + sealed_size cb
 
 -- the new bytes are what the change makes of the old
 abbrev pub IsChanged : Change → List ℕ → List ℕ → Type 0
-IsChanged (Set at bytes) old new = new ≡ written old at bytes.now
+IsChanged (Set at bytes) old new = new ≡ overwritten old at bytes.now
 IsChanged (Flip at) old new = new ≡ flipped old at
 IsChanged (Cut len) old new = new ≡ take len old
 IsChanged (Grow more) old new = new ≡ old ++ replicate more 0

@@ -5,8 +5,8 @@ use Rattle.pst_bytes.specs.Span.{IsApartFromAll}
 use Rattle.pst_bytes.specs.declared.span.Span.{Span}
 
 -- the bytes after others were written at a place
-unfoldable pub written : List ℕ → ℕ → List ℕ → List ℕ
-written I at bytes = take at I ++ (bytes ++ drop (at + length bytes) I)
+unfoldable pub overwritten : List ℕ → ℕ → List ℕ → List ℕ
+overwritten I at bytes = take at I ++ (bytes ++ drop (at + length bytes) I)
 
 abbrev pub one_field : ℕ → ℕ → List Span
 one_field at len = record { at = at; len = len } ∷ []

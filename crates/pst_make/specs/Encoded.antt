@@ -12,20 +12,20 @@ use Rattle.pst_make.specs.Layout.{block_places}
 use Rattle.pst_make.specs.Sealed.{SealedBlock, SealedHeader, block_checks, header_checks}
 
 -- the identifier of a data block, whose bit 1 is clear ([MS-PST] 2.2.2.2)
-abbrev pub is_data : ℕ → Bool
-is_data bid = nat_eq (bid / 2 % 2) 0
+abbrev pub names_data : ℕ → Bool
+names_data bid = nat_eq (bid / 2 % 2) 0
 
-abbrev pub has_data : BlockPlace → Bool
-has_data block = is_data block.bid
+abbrev pub holds_data : BlockPlace → Bool
+holds_data block = names_data block.bid
 
-abbrev pub body_of : BlockPlace → Span
-body_of block = record { at = block.ib; len = block.cb }
+abbrev pub place_of_body : BlockPlace → Span
+place_of_body block = record { at = block.ib; len = block.cb }
 
 -- The body of a block is encoded for its identifier, and the block is sealed; all else is as it was.
 pub record IsEncodedBlock (method : Method) (block : BlockPlace) (old new : List ℕ) : Type 0 where
-  pub body : bytes_at new (body_of block) ≡ encoded method block.bid (bytes_at old (body_of block))
+  pub body : bytes_at new (place_of_body block) ≡ encoded method block.bid (bytes_at old (place_of_body block))
   pub sealed : SealedBlock new block.ib block.cb
-  pub others : SameElsewhere old new (body_of block ∷ block_checks block.ib block.cb)
+  pub others : SameElsewhere old new (place_of_body block ∷ block_checks block.ib block.cb)
 
 -- blocks, one after another
 unfoldable pub AreEncoded : Method → List BlockPlace → List ℕ → List ℕ → Type 0
@@ -40,7 +40,7 @@ pub record IsEncodedHeader (method : Method) (old new : List ℕ) : Type 0 where
 
 -- the data blocks of a plan
 abbrev pub data_places : Plan → List BlockPlace
-data_places plan = filter has_data (block_places plan)
+data_places plan = filter holds_data (block_places plan)
 
 -- A store of this plan, encoded: each of its data blocks once, and then the header.
 abbrev pub IsEncoded : Method → Plan → List ℕ → List ℕ → Type 0

@@ -102,8 +102,8 @@ store_length end = FIRST_MAP + REGION * div_ceil (end - FIRST_MAP) REGION
 -- ---- what was placed
 
 -- where a block lies, without its body
-abbrev pub place_in : PlacedBlock → BlockPlace
-place_in block = record { bid = block.bid; ib = block.ib; cb = length block.body.now }
+abbrev pub place_of_block : PlacedBlock → BlockPlace
+place_of_block block = record { bid = block.bid; ib = block.ib; cb = length block.body.now }
 
 -- a page, or a block, ends at or before this place
 abbrev pub IsPageBelow : ℕ → Bref → Type 0

@@ -2,7 +2,7 @@
 
 ghost use Rattle.std.specs.Prelude.{◌≡◌, ◌+◌, ◌≤◌, ◌<◌, ◌↔◌, true, length, OnOk, OnErr, IfErr, IsOk};
 ghost use Rattle.pst_make.specs.Change.{AreChanged, StopsAt, flipped};
-ghost use Rattle.pst_make.specs.Elsewhere.{written};
+ghost use Rattle.pst_make.specs.Elsewhere.{overwritten};
 ghost use Rattle.pst_make.specs.Sealed.{sealed_size};
 
 use crate::number::put_bytes;
@@ -49,7 +49,7 @@ fn has_bytes(image: &[u8], at: u64, len: u64) -> bool
 
 /// Sets bytes of an image from an offset on. PastEnd, and nothing is set, exactly where some of them lie past its end.
 pub fn set(image: &mut [u8], at: usize, bytes: &[u8]) -> Result<(), ChangeFault>
-    ensures done { OnOk result (image.new ≡ written image.old at bytes.now) }
+    ensures done { OnOk result (image.new ≡ overwritten image.old at bytes.now) }
     ensures fits { IsOk result ↔ at + length bytes.now ≤ length image.old }
     ensures past { IfErr result (λ f. f ≡ ChangeFault.PastEnd) }
     ensures same { OnErr result (image.new ≡ image.old) }

@@ -3,11 +3,11 @@
 ghost use Rattle.std.specs.Prelude.{◌≡◌, ◌+◌, ◌≤◌, [], ◌∷◌, length, map, IfErr, OnOk, OnErr};
 ghost use Rattle.std.specs.List.{All, filter};
 ghost use Rattle.pst_bytes.specs.Image.{bytes_at};
-ghost use Rattle.pst_encoding.specs.Codec.{method_of};
+ghost use Rattle.pst_encoding.specs.Codec.{codec_method};
 ghost use Rattle.pst_encoding.specs.Method.{encoded};
-ghost use Rattle.pst_make.specs.Elsewhere.{written};
-ghost use Rattle.pst_make.specs.Encoded.{AreEncoded, IsEncoded, IsEncodedBlock, IsEncodedHeader, body_of, has_data, is_data as has_data_bid};
-ghost use Rattle.pst_make.specs.Layout.{IsBlockBelow, place_in, plan_end, store_length};
+ghost use Rattle.pst_make.specs.Elsewhere.{overwritten};
+ghost use Rattle.pst_make.specs.Encoded.{AreEncoded, IsEncoded, IsEncodedBlock, IsEncodedHeader, place_of_body, holds_data, names_data as has_data_bid};
+ghost use Rattle.pst_make.specs.Layout.{IsBlockBelow, place_of_block, plan_end, store_length};
 ghost use Rattle.pst_make.specs.Made.{IsMakeFault};
 ghost use Rattle.pst_make.specs.Sealed.{sealed_size};
 
@@ -27,11 +27,11 @@ fn is_data(bid: u64) -> bool
 }
 
 // Encodes the body of a block, and leaves the block unsealed.
-#[tactic(auto, unfolding(crate::specs::Elsewhere::written), using(crate::proofs::EncodeLemmas::length_encoded))]
+#[tactic(auto, unfolding(crate::specs::Elsewhere::overwritten), using(crate::proofs::EncodeLemmas::length_encoded))]
 fn encode_body(image: &mut [u8], codec: &Codec, block: BlockPlace)
     requires { block.ib + block.cb ≤ length image.old }
-    ensures { image.new ≡ written image.old block.ib
-        (encoded (method_of codec.now) block.bid (bytes_at image.old (body_of block))) }
+    ensures { image.new ≡ overwritten image.old block.ib
+        (encoded (codec_method codec.now) block.bid (bytes_at image.old (place_of_body block))) }
 {
     let at = block.ib as usize;
     let end = at + usize::from(block.cb);
@@ -41,7 +41,7 @@ fn encode_body(image: &mut [u8], codec: &Codec, block: BlockPlace)
 /// Encodes the body of a block for its identifier, whatever that is, and seals the block.
 pub fn encode_block(image: &mut [u8], codec: &Codec, block: BlockPlace)
     requires { block.ib + sealed_size block.cb ≤ length image.old }
-    ensures { IsEncodedBlock (method_of codec.now) block image.old image.new }
+    ensures { IsEncodedBlock (codec_method codec.now) block image.old image.new }
 {
     encode_body(image, codec, block);
     seal_block(image, block.ib, block.cb);
@@ -51,7 +51,7 @@ pub fn encode_block(image: &mut [u8], codec: &Codec, block: BlockPlace)
 #[tactic(auto, unfolding(crate::specs::Encoded::AreEncoded))]
 fn encode_data(image: &mut [u8], codec: &Codec, block: BlockPlace)
     requires { block.ib + sealed_size block.cb ≤ length image.old }
-    ensures { AreEncoded (method_of codec.now) (filter has_data (block ∷ []))
+    ensures { AreEncoded (codec_method codec.now) (filter holds_data (block ∷ []))
         image.old image.new }
 {
     if is_data(block.bid) {
@@ -63,7 +63,7 @@ fn encode_data(image: &mut [u8], codec: &Codec, block: BlockPlace)
 fn encode_blocks(image: &mut [u8], codec: &Codec, blocks: &[PlacedBlock])
     requires { All (IsBlockBelow (length image.old)) blocks.now }
     ensures same { length image.new ≡ length image.old }
-    ensures done { AreEncoded (method_of codec.now) (filter has_data (map place_in blocks.now))
+    ensures done { AreEncoded (codec_method codec.now) (filter holds_data (map place_of_block blocks.now))
         image.old image.new }
 {
     for block in blocks {

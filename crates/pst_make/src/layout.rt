@@ -3,7 +3,7 @@
 ghost use Rattle.std.specs.Prelude.{◌≡◌, ◌+◌, ◌%◌, ◌≤◌, ◌<◌, length, map, nat_eq, IfOk, IfErr};
 ghost use Rattle.std.specs.List.{All};
 ghost use Rattle.pst_make.specs.declared.layout.TheConstants.{FIRST_MAP};
-ghost use Rattle.pst_make.specs.Layout.{IsBlockBelow, IsPageBelow, IsPlaceFault, after, after_blocks, after_pages, block_places, map_place, place_in, places_from, plan_end, free_from, pages_above, pages_for, place_of, store_limit, tree_pages};
+ghost use Rattle.pst_make.specs.Layout.{IsBlockBelow, IsPageBelow, IsPlaceFault, after, after_blocks, after_pages, block_places, map_place, place_of_block, places_from, plan_end, free_from, pages_above, pages_for, place_of, store_limit, tree_pages};
 ghost use Rattle.pst_make.specs.Plan.{HasShortBody, body_lengths};
 
 use crate::plan::{BlockPlan, MakeFault, Plan};
@@ -53,12 +53,12 @@ pub struct BlockPlace {
 
 impl PlacedBlock<'_> {
     ghost use Rattle.std.specs.Prelude.{◌≡◌, ◌≤◌, length};
-    ghost use Rattle.pst_make.specs.Layout.{place_in};
+    ghost use Rattle.pst_make.specs.Layout.{place_of_block};
 
     /// Where the block lies, without its body.
     pub fn place(&self) -> BlockPlace
         requires { length self.now.body.now ≤ 8176 }
-        ensures { result ≡ place_in self.now }
+        ensures { result ≡ place_of_block self.now }
     {
         BlockPlace {
             bid: self.bid,
@@ -207,7 +207,7 @@ fn place_blocks<'a>(
     requires { All HasShortBody blocks.now }
     ensures placed { IfOk result (λ placed. All (IsBlockBelow cursor.new.next) placed.items) }
     ensures places { IfOk result (λ placed.
-        map place_in placed.items ≡ places_from cursor.old.next blocks.now) }
+        map place_of_block placed.items ≡ places_from cursor.old.next blocks.now) }
     ensures next { IfOk result (λ _.
         cursor.new.next ≡ after_blocks cursor.old.next (body_lengths blocks.now)) }
     ensures fault { IfErr result
@@ -254,7 +254,7 @@ impl<'a> Layout<'a> {
         requires { All HasShortBody plan.now.blocks.items }
         ensures placed { IfOk result (λ layout. layout.end ≡ plan_end plan.entry.now) }
         ensures places { IfOk result (λ layout.
-            map place_in layout.blocks.items ≡ block_places plan.entry.now) }
+            map place_of_block layout.blocks.items ≡ block_places plan.entry.now) }
         ensures fault { IfErr result (IsPlaceFault (plan_end plan.entry.now)) }
     {
         let nodes = plan.nodes.as_slice();

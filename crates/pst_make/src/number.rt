@@ -2,13 +2,13 @@
 
 ghost use Rattle.std.specs.Prelude.{◌≡◌, ◌+◌, ◌≤◌, length};
 ghost use Rattle.pst_bytes.specs.Image.{num};
-ghost use Rattle.pst_make.specs.Elsewhere.{SameElsewhere, one_field, written};
+ghost use Rattle.pst_make.specs.Elsewhere.{SameElsewhere, one_field, overwritten};
 
 /// Writes bytes at a place, and nothing else.
-#[tactic(auto, unfolding(crate::specs::Elsewhere::written))]
+#[tactic(auto, unfolding(crate::specs::Elsewhere::overwritten))]
 pub(crate) fn put_bytes(image: &mut [u8], at: u64, bytes: &[u8])
     requires { at + length bytes.now ≤ length image.old }
-    ensures { image.new ≡ written image.old at bytes.now }
+    ensures { image.new ≡ overwritten image.old at bytes.now }
 {
     let at = at as usize;
     image[at..at + bytes.len()].copy_from_slice(bytes);

@@ -7,8 +7,8 @@ use Rattle.pst_bytes.specs.Image.{num}
 use Rattle.pst_fault.specs.declared.kind.Kind.TheVariants.{Property as BadProperty}
 use Rattle.pst_fault.specs.Fault.{fault_at}
 use Rattle.pst_fault.proofs.FirstLemmas.{holds_or_none, holds_or_true}
-use Rattle.pst_names.specs.Entry.{Entry, is_text, guid_index}
-use Rattle.pst_names.specs.Fault.{has_text, is_entry, entry_fault}
+use Rattle.pst_names.specs.Entry.{NameEntry, is_text, guid_index}
+use Rattle.pst_names.specs.Fault.{has_text, is_entry, name_entry_fault}
 use Rattle.pst_names.specs.Grammar.{HasText, IsEntry}
 
 -- so many parts of a width, where nothing is left over
@@ -36,8 +36,8 @@ if_law : (asked here : Bool) (Is : Type 0) → Is ↔ (here ≡ true) → (asked
 if_law true here Is law = ((λ f. law.0 (f refl)), (λ e t. law.1 e))
 if_law false here Is law = ((λ f. refl), (λ e t. absurd cc))
 
-pub entry_law : (guids : ℕ) (strings : List ℕ) (e : Entry) → IsEntry guids strings e ↔ (entry_fault guids strings e ≡ None)
-unfolding entry_fault is_entry
+pub entry_law : (guids : ℕ) (strings : List ℕ) (e : NameEntry) → IsEntry guids strings e ↔ (name_entry_fault guids strings e ≡ None)
+unfolding name_entry_fault is_entry
 entry_law guids strings e =
     let there = nat_lt (guid_index e) (3 + guids) in
     let text = cond (is_text e) (has_text strings e.id) true in

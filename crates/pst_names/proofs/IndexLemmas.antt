@@ -14,7 +14,7 @@ use Rattle.pst_datatree.specs.Spans.{joined_bytes}
 use Rattle.pst_names.specs.declared.fields.Fields.{Fields}
 use Rattle.pst_names.specs.declared.index.NameIndex.{NameIndex}
 use Rattle.pst_names.specs.declared.runs.Runs.{Runs}
-use Rattle.pst_names.specs.Entry.{Entry, entry_in, entry_bytes, entry_with, entries_from, prop_id}
+use Rattle.pst_names.specs.Entry.{NameEntry, entry_in, name_entry_bytes, entry_with, name_entries, prop_id}
 use Rattle.pst_names.specs.Index.{fields_in, noted, if_names, known_of, is_noted, HasNoted}
 use Rattle.pst_names.specs.Known.{AreRunsTrue}
 use Rattle.pst_names.specs.Behind.{IsBehind}
@@ -65,7 +65,7 @@ put_new old new f n same unmet puts id =
         let bad : true ≡ false = (rw at at here) in cc
 
 -- what is known of a property stays as the entry is noted
-pub put_known : (old new : NameIndex) (e : Entry) (rest : List Entry) (id : ℕ) → noted new id ≡ option_or (noted old id) (if_names (fields_in e) id) → known_of new id rest ≡ known_of old id (e ∷ rest)
+pub put_known : (old new : NameIndex) (e : NameEntry) (rest : List NameEntry) (id : ℕ) → noted new id ≡ option_or (noted old id) (if_names (fields_in e) id) → known_of new id rest ≡ known_of old id (e ∷ rest)
 unfolding known_of first_with
 put_known old new e rest id put =
     ap (λ o. option_or o (option_map fields_in (first_with prop_id id rest))) put ∙ by_test (noted old id) (nat_eq (prop_id e) id)
@@ -102,8 +102,8 @@ put_there old new at bytes put =
 -- ---- several entries
 
 -- the first of those that are left
-next_left : (entry : ℕ → Entry) (k count : ℕ) → k < count → entries_from entry k (count - k) ≡ entry k ∷ entries_from entry (k + 1) (count - (k + 1))
-unfolding entries_from
+next_left : (entry : ℕ → NameEntry) (k count : ℕ) → k < count → name_entries entry k (count - k) ≡ entry k ∷ name_entries entry (k + 1) (count - (k + 1))
+unfolding name_entries
 next_left entry k count lt = let n : count - k ≡ suc (count - (k + 1)) = omega (arith, lt) in rw n refl
 
 pub none_noted : (i : NameIndex) (bytes : List ℕ) → HasNoted i i bytes 0
@@ -114,36 +114,36 @@ none_noted i bytes = record {
 }
 
 -- one more
-pub more_noted : (old mid new : NameIndex) (bytes : List ℕ) (n : ℕ) → HasNoted old mid bytes n → ((id : ℕ) → noted new id ≡ option_or (noted mid id) (if_names (fields_in (entry_in 0 (entry_bytes bytes n))) id)) → HasNoted old new bytes (n + 1)
+pub more_noted : (old mid new : NameIndex) (bytes : List ℕ) (n : ℕ) → HasNoted old mid bytes n → ((id : ℕ) → noted new id ≡ option_or (noted mid id) (if_names (fields_in (entry_in 0 (name_entry_bytes bytes n))) id)) → HasNoted old new bytes (n + 1)
 more_noted old mid new bytes n so_far put = record {
   known = λ entry i count id are le.
       let last = entry (i + n) in
-      let is : fields_in last ≡ fields_in (entry_in 0 (entry_bytes bytes n)) = are n (omega arith) in
+      let is : fields_in last ≡ fields_in (entry_in 0 (name_entry_bytes bytes n)) = are n (omega arith) in
       let next : i + (n + 1) ≡ i + n + 1 = omega arith in
-      let left = entries_from entry (i + n + 1) (count - (i + n + 1)) in
+      let left = name_entries entry (i + n + 1) (count - (i + n + 1)) in
       let own : noted new id ≡ option_or (noted mid id) (if_names (fields_in last) id) = put id ∙ ap (λ f. option_or (noted mid id) (if_names f id)) (sym is) in
-      ap (λ k. known_of new id (entries_from entry k (count - k))) next
+      ap (λ k. known_of new id (name_entries entry k (count - k))) next
       ∙ put_known mid new last left id own
       ∙ ap (known_of mid id) (sym (next_left entry (i + n) count (omega (arith, le))))
       ∙ so_far.known entry i count id (λ j lt. are j (omega (arith, lt))) (omega (arith, le));
-  keeps = λ e there. put_keeps mid new (fields_in (entry_in 0 (entry_bytes bytes n))) put e (so_far.keeps e there);
+  keeps = λ e there. put_keeps mid new (fields_in (entry_in 0 (name_entry_bytes bytes n))) put e (so_far.keeps e there);
   there = λ j lt. by_test j (nat_eq j n) refl lt;
 }
   where
-    by_test : (j : ℕ) (v : Bool) → nat_eq j n ≡ v → j < n + 1 → is_noted new (entry_bytes bytes j) ≡ true
-    by_test j true e lt = rw (number_of_test j n e) (put_there mid new 0 (entry_bytes bytes n) put)
+    by_test : (j : ℕ) (v : Bool) → nat_eq j n ≡ v → j < n + 1 → is_noted new (name_entry_bytes bytes j) ≡ true
+    by_test j true e lt = rw (number_of_test j n e) (put_there mid new 0 (name_entry_bytes bytes n) put)
     by_test j false e lt =
         let other : j ≢ n = λ same. absurd (let yes : nat_eq j n ≡ true = eq-eqb j n same in cc) in
         let before : j < n = omega (arith, lt, other) in
-        put_keeps mid new (fields_in (entry_in 0 (entry_bytes bytes n))) put (entry_bytes bytes j) (so_far.there j before)
+        put_keeps mid new (fields_in (entry_in 0 (name_entry_bytes bytes n))) put (name_entry_bytes bytes j) (so_far.there j before)
 
 -- those of which something is noted already
-pub noted_again : (i : NameIndex) (bytes : List ℕ) (n : ℕ) → ((j : ℕ) → j < n → is_noted i (entry_bytes bytes j) ≡ true) → HasNoted i i bytes n
+pub noted_again : (i : NameIndex) (bytes : List ℕ) (n : ℕ) → ((j : ℕ) → j < n → is_noted i (name_entry_bytes bytes j) ≡ true) → HasNoted i i bytes n
 unfolding is_noted
 noted_again i bytes zero there = none_noted i bytes
 noted_again i bytes (suc n) there =
     let same : n + 1 ≡ suc n = omega arith in
-    let f = fields_in (entry_in 0 (entry_bytes bytes n)) in
+    let f = fields_in (entry_in 0 (name_entry_bytes bytes n)) in
     let before : HasNoted i i bytes n = noted_again i bytes n (λ j lt. there j (omega (arith, lt))) in
     rw same at (more_noted i i i bytes n before (noted_already i f (there n (omega arith))))
 
@@ -156,28 +156,28 @@ runs_stay old new I r keeps are = record { holds = λ at n known j lt. keeps (by
 -- those that lie side by side in a piece
 pub front_known : (I : List ℕ) (all : List Span) (old new : NameIndex) (front : List ℕ) (i m count id : ℕ) (s : Span) (rest : List Span) → IsBehind I all (8 * i) (s ∷ rest) → front ≡ bytes_at I s → length front ≡ s.len
     → m ≡ length front / 8 → i + m ≤ count → HasNoted old new front (length front / 8)
-    → known_of new id (entries_from (entry_with all (joined_bytes I all)) (i + m) (count - (i + m))) ≡ known_of old id (entries_from (entry_with all (joined_bytes I all)) i (count - i))
+    → known_of new id (name_entries (entry_with all (joined_bytes I all)) (i + m) (count - (i + m))) ≡ known_of old id (name_entries (entry_with all (joined_bytes I all)) i (count - i))
 front_known I all old new front i m count id s rest b is len whole le noted_all =
     rw whole (noted_all.known (entry_with all (joined_bytes I all)) i count id are (omega (arith, whole, le)))
   where
-    are : (j : ℕ) → j < length front / 8 → fields_in (entry_with all (joined_bytes I all) (i + j)) ≡ fields_in (entry_in 0 (entry_bytes front j))
+    are : (j : ℕ) → j < length front / 8 → fields_in (entry_with all (joined_bytes I all) (i + j)) ≡ fields_in (entry_in 0 (name_entry_bytes front j))
     are j lt = rw (entry_here I all i j s rest front b is len (omega (arith, lt))) refl
 
 -- one that lies in several pieces
-pub one_known : (old new : NameIndex) (entry : ℕ → Entry) (f : Fields) (i count id : ℕ) → i < count → f ≡ fields_in (entry i) → noted new id ≡ option_or (noted old id) (if_names f id)
-    → known_of new id (entries_from entry (i + 1) (count - (i + 1))) ≡ known_of old id (entries_from entry i (count - i))
+pub one_known : (old new : NameIndex) (entry : ℕ → NameEntry) (f : Fields) (i count id : ℕ) → i < count → f ≡ fields_in (entry i) → noted new id ≡ option_or (noted old id) (if_names f id)
+    → known_of new id (name_entries entry (i + 1) (count - (i + 1))) ≡ known_of old id (name_entries entry i (count - i))
 one_known old new entry f i count id lt is put =
-    put_known old new (entry i) (entries_from entry (i + 1) (count - (i + 1))) id (put ∙ ap (λ x. option_or (noted old id) (if_names x id)) is)
+    put_known old new (entry i) (name_entries entry (i + 1) (count - (i + 1))) id (put ∙ ap (λ x. option_or (noted old id) (if_names x id)) is)
     ∙ ap (known_of old id) (sym (next_left entry i count lt))
 
 -- none is noted yet
-pub all_left : (i : NameIndex) (id : ℕ) (left : List Entry) → noted i id ≡ None → known_of i id left ≡ option_map fields_in (first_with prop_id id left)
+pub all_left : (i : NameIndex) (id : ℕ) (left : List NameEntry) → noted i id ≡ None → known_of i id left ≡ option_map fields_in (first_with prop_id id left)
 unfolding known_of
 all_left i id left none = rw none refl
 
 -- none is left
-pub all_known : (i : NameIndex) (entry : ℕ → Entry) (number count id : ℕ) (total : Option Fields) → count - number ≡ 0 → known_of i id (entries_from entry number (count - number)) ≡ total → noted i id ≡ total
-unfolding known_of entries_from first_with
+pub all_known : (i : NameIndex) (entry : ℕ → NameEntry) (number count id : ℕ) (total : Option Fields) → count - number ≡ 0 → known_of i id (name_entries entry number (count - number)) ≡ total → noted i id ≡ total
+unfolding known_of name_entries first_with
 all_known i entry number count id total none so_far =
-    let here : known_of i id (entries_from entry number (count - number)) ≡ option_or (noted i id) None = rw none refl in
+    let here : known_of i id (name_entries entry number (count - number)) ≡ option_or (noted i id) None = rw none refl in
     sym (or_none (noted i id)) ∙ sym here ∙ so_far

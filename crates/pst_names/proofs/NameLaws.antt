@@ -17,11 +17,11 @@ use Rattle.pst_heap.specs.Fault.{told_under}
 use Rattle.pst_pc.specs.Values.{Property}
 use Rattle.pst_names.specs.declared.streams.TheConstants.{GUIDS, ENTRIES, STRINGS}
 use Rattle.pst_names.specs.Streams.{stream_of, stream_bytes, stream_place}
-use Rattle.pst_names.specs.Fault.{type_fault, width_fault, entry_fault, guids_count, strings_of, all_entries, entries_fault, streams_fault, names_fault}
-use Rattle.pst_names.specs.Grammar.{IsBinary, HasParts, IsEntry, IsNameMap}
+use Rattle.pst_names.specs.Fault.{type_fault, width_fault, name_entry_fault, guids_count, strings_of, all_entries, entries_fault, streams_fault, names_fault}
+use Rattle.pst_names.specs.Grammar.{IsBinary, HasWholeParts, IsEntry, IsNameMap}
 use Rattle.pst_names.specs.Laws.{NameMapLaw}
 use Rattle.pst_names.specs.LookUps.{NameMapLookUpsLaw}
-use Rattle.pst_names.specs.Entry.{Entry, prop_id}
+use Rattle.pst_names.specs.Entry.{NameEntry, prop_id}
 use Rattle.pst_names.specs.Name.{naming_entry}
 use Rattle.pst_names.specs.View.{node_of_names, names_roots}
 use Rattle.pst_btree.proofs.EntryLemmas.{with_contains}
@@ -36,7 +36,7 @@ type_law (Some p) = (
   (λ e. eqb-true p.kind 0x0102 (holds_or_none (nat_eq p.kind 0x0102) (fault_at BadProperty p.at) e)),
 )
 
-parts_law : (width : ℕ) (o : Option Property) → 0 < width → HasParts width o ↔ (width_fault width o ≡ None)
+parts_law : (width : ℕ) (o : Option Property) → 0 < width → HasWholeParts width o ↔ (width_fault width o ≡ None)
 parts_law width o some =
     let n = length (stream_bytes o) in
     let law = whole_law width n some in (
@@ -50,7 +50,7 @@ pub name_map_law : NameMapLaw
 unfolding names_fault streams_fault entries_fault
 name_map_law t r = (
   (λ m.
-      let entries : first_of (entry_fault (guids_count t r) (strings_of t r)) (all_entries t r) ≡ None = of_none (entry_fault (guids_count t r) (strings_of t r)) (all_entries t r) (λ e c. (entry_law (guids_count t r) (strings_of t r) e).0 (m.each e c)) in
+      let entries : first_of (name_entry_fault (guids_count t r) (strings_of t r)) (all_entries t r) ≡ None = of_none (name_entry_fault (guids_count t r) (strings_of t r)) (all_entries t r) (λ e c. (entry_law (guids_count t r) (strings_of t r) e).0 (m.each e c)) in
       let streams =
       both_none _ _ ((type_law (stream_of t r GUIDS)).0 m.guids)
       (both_none _ _ ((type_law (stream_of t r ENTRIES)).0 m.entries)
@@ -69,7 +69,7 @@ name_map_law t r = (
         strings = (type_law (stream_of t r STRINGS)).1 c.0;
         whole_guids = (parts_law 16 (stream_of t r GUIDS) (omega arith)).1 d.0;
         whole_entries = (parts_law 8 (stream_of t r ENTRIES) (omega arith)).1 d.1;
-        each = λ e c. (entry_law (guids_count t r) (strings_of t r) e).1 (none_of (entry_fault (guids_count t r) (strings_of t r)) (all_entries t r) e both.1 c);
+        each = λ e c. (entry_law (guids_count t r) (strings_of t r) e).1 (none_of (name_entry_fault (guids_count t r) (strings_of t r)) (all_entries t r) e both.1 c);
       }),
 )
 
@@ -85,7 +85,7 @@ refused_for_memory t r (Ok x) told is = tt
 refused_for_memory t r (Err f) told is = only_memory (names_fault t r) f (names_none t r is) told
 
 -- the entry that names a property is one
-pub named_entry : (t : Table) (r : Roots) (id : ℕ) (e : Entry) → names_fault t r ≡ None → naming_entry t r id ≡ Some e → IsEntry (guids_count t r) (strings_of t r) e
+pub named_entry : (t : Table) (r : Roots) (id : ℕ) (e : NameEntry) → names_fault t r ≡ None → naming_entry t r id ≡ Some e → IsEntry (guids_count t r) (strings_of t r) e
 named_entry t r id e none found = IsNameMap.each (none_names t r none) e (with_contains prop_id (all_entries t r) id e found).0
 
 -- ---- what a name map is asked

@@ -8,13 +8,13 @@ use Rattle.std.proofs.lemmas.Map.Views.{tells_apart}
 use Rattle.std.proofs.lemmas.List.{drop-take}
 use Rattle.pst_bytes.specs.Image.{bytes_at}
 use Rattle.pst_names.specs.declared.runs.Runs.{Runs}
-use Rattle.pst_names.specs.Entry.{entry_bytes}
-use Rattle.pst_names.specs.Known.{run_at, AreAll, IsRun, AreRunsTrue}
+use Rattle.pst_names.specs.Entry.{name_entry_bytes}
+use Rattle.pst_names.specs.Known.{run_at, AreAll, IsGoodRun, AreRunsTrue}
 use Rattle.pst_names.proofs.NumLemmas.{range_is}
 
 -- ---- an entry, as bytes of the file
 
-pub cell_is : (I front : List ℕ) (at j : ℕ) → front ≡ bytes_at I (record { at = at; len = length front }) → 8 * j + 8 ≤ length front → entry_bytes front j ≡ bytes_at I (record { at = at + 8 * j; len = 8 })
+pub cell_is : (I front : List ℕ) (at j : ℕ) → front ≡ bytes_at I (record { at = at; len = length front }) → 8 * j + 8 ≤ length front → name_entry_bytes front j ≡ bytes_at I (record { at = at + 8 * j; len = 8 })
 cell_is I front at j is le =
     let n : length front ≡ 8 * j + (length front - 8 * j) = omega (arith, le) in
     let few : 8 ≤ length front - 8 * j = omega (arith, le) in
@@ -25,7 +25,7 @@ cell_is I front at j is le =
     ∙ take-take 8 (length front - 8 * j) (drop (8 * j) (drop at I)) few
     ∙ ap (take 8) (drop-drop (8 * j) at I)
 
-pub run_of : (good : List ℕ → Bool) (I front : List ℕ) (at count : ℕ) → front ≡ bytes_at I (record { at = at; len = length front }) → count ≡ length front / 8 → AreAll good front → IsRun good I at count
+pub run_of : (good : List ℕ → Bool) (I front : List ℕ) (at count : ℕ) → front ≡ bytes_at I (record { at = at; len = length front }) → count ≡ length front / 8 → AreAll good front → IsGoodRun good I at count
 run_of good I front at count is whole all =
     λ j lt. let le : 8 * j + 8 ≤ length front = omega (arith, lt, whole) in rw (← cell_is I front at j is le) (all j le)
 
@@ -46,12 +46,12 @@ unfolding run_at
 kept_true good I old new same are = record { holds = λ at n known. are.holds at n (rw same at known) }
 
 -- a run is put in
-pub put_true : (good : List ℕ → Bool) (I : List ℕ) (old new : Runs) (at count : ℕ) → ((key : ℕ) → get nat_cmp new.runs key ≡ cond (eq_by_cmp nat_cmp at key) (Some count) (get nat_cmp old.runs key)) → IsRun good I at count
+pub put_true : (good : List ℕ → Bool) (I : List ℕ) (old new : Runs) (at count : ℕ) → ((key : ℕ) → get nat_cmp new.runs key ≡ cond (eq_by_cmp nat_cmp at key) (Some count) (get nat_cmp old.runs key)) → IsGoodRun good I at count
     → AreRunsTrue good I old → AreRunsTrue good I new
 unfolding run_at
 put_true good I old new at count put is are = record { holds = λ q n known. by_test q n (eq_by_cmp nat_cmp at q) refl (sym (put q) ∙ known) }
   where
-    by_test : (q n : ℕ) (v : Bool) → eq_by_cmp nat_cmp at q ≡ v → cond v (Some count) (get nat_cmp old.runs q) ≡ Some n → IsRun good I q n
+    by_test : (q n : ℕ) (v : Bool) → eq_by_cmp nat_cmp at q ≡ v → cond v (Some count) (get nat_cmp old.runs q) ≡ Some n → IsGoodRun good I q n
     by_test q n true here known =
         let same : count ≡ n = cc in
         let place : at ≡ q = tells_apart exact_unsigned at q here in

@@ -21,7 +21,7 @@ use Rattle.pst_datatree.proofs.ValueLemmas.{bytes_of_pieces, bytes_of_only, with
 use Rattle.pst_names.specs.declared.streams.TheConstants.{ENTRIES}
 use Rattle.pst_names.specs.Streams.{stream_of, stream_bytes, record_spans, stream_spans, byte_place}
 use Rattle.pst_names.specs.Entry.{entry_with}
-use Rattle.pst_names.specs.Fault.{entry_fault, guids_count, strings_of, entries_fault}
+use Rattle.pst_names.specs.Fault.{name_entry_fault, guids_count, strings_of, entries_fault}
 use Rattle.pst_names.specs.Behind.{IsBehind}
 use Rattle.pst_names.proofs.RestLemmas.{front_at, place_front, place_behind, no_bytes}
 use Rattle.pst_names.proofs.WalkLemmas.{left_from}
@@ -100,6 +100,6 @@ shown_bytes file spans (InPieces p) shows = rw (shows.1, shows.2) (bytes_of_piec
 
 pub all_left : (t : Table) (r : Roots) (I : List ℕ) (guids : ℕ) (strings : List ℕ) (count : ℕ) → guids ≡ guids_count t r → strings ≡ strings_of t r → joined_bytes I (stream_spans t r ENTRIES) ≡ stream_bytes (stream_of t r ENTRIES)
     → count ≡ length (stream_bytes (stream_of t r ENTRIES)) / 8
-    → left_from (entry_fault guids strings) (entry_with (stream_spans t r ENTRIES) (joined_bytes I (stream_spans t r ENTRIES))) 0 count ≡ entries_fault t r
+    → left_from (name_entry_fault guids strings) (entry_with (stream_spans t r ENTRIES) (joined_bytes I (stream_spans t r ENTRIES))) 0 count ≡ entries_fault t r
 unfolding entries_fault
 all_left t r I guids strings count g s bytes is = let whole : count - 0 ≡ count = omega arith in rw (whole, g, s, bytes, is) refl

@@ -12,9 +12,9 @@ behind_spans None = []
 behind_spans (Some p) = spans_left p
 
 -- the pieces are of the file with these bytes
-abbrev pub behind_file : List ℕ → Option Pieces → List ℕ
-behind_file I None = I
-behind_file I (Some p) = bytes_of (file_of p)
+abbrev pub file_behind : List ℕ → Option Pieces → List ℕ
+file_behind I None = I
+file_behind I (Some p) = bytes_of (file_of p)
 
 -- what is left behind so many bytes of spans: the other bytes, each at its place
 pub record IsBehind (I : List ℕ) (all : List Span) (n : ℕ) (rest : List Span) : Type 0 where

@@ -13,7 +13,7 @@ use Rattle.pst_heap.specs.Fault.{told_under}
 use Rattle.pst_pc.specs.Values.{Property}
 use Rattle.pst_names.specs.declared.streams.TheConstants.{GUIDS, ENTRIES, STRINGS}
 use Rattle.pst_names.specs.Streams.{stream_of, stream_bytes, stream_place, stream_spans}
-use Rattle.pst_names.specs.Entry.{Entry, is_text, guid_index, entries_of}
+use Rattle.pst_names.specs.Entry.{NameEntry, is_text, guid_index, entries_of}
 
 -- ---- a stream
 
@@ -33,12 +33,12 @@ unfoldable pub has_text : List ℕ → ℕ → Bool
 has_text strings at = nat_le (at + 4) (length strings) && nat_le (at + 4 + num strings at 4) (length strings)
 
 -- of a map with so many GUIDs and with these strings: its set is there, and the string that is its name
-unfoldable pub is_entry : ℕ → List ℕ → Entry → Bool
+unfoldable pub is_entry : ℕ → List ℕ → NameEntry → Bool
 is_entry guids strings e = nat_lt (guid_index e) (3 + guids) && (if is_text e then has_text strings e.id else true)
 
 -- told at its first byte
-unfoldable pub entry_fault : ℕ → List ℕ → Entry → Option Fault
-entry_fault guids strings e = holds_or (is_entry guids strings e) (fault_at BadProperty e.at)
+unfoldable pub name_entry_fault : ℕ → List ℕ → NameEntry → Option Fault
+name_entry_fault guids strings e = holds_or (is_entry guids strings e) (fault_at BadProperty e.at)
 
 -- ---- all entries, and the map
 
@@ -48,11 +48,11 @@ guids_count t r = length (stream_bytes (stream_of t r GUIDS)) / 16
 abbrev pub strings_of : Table → Roots → List ℕ
 strings_of t r = stream_bytes (stream_of t r STRINGS)
 
-abbrev pub all_entries : Table → Roots → List Entry
+abbrev pub all_entries : Table → Roots → List NameEntry
 all_entries t r = entries_of (stream_spans t r ENTRIES) (stream_bytes (stream_of t r ENTRIES))
 
 unfoldable pub entries_fault : Table → Roots → Option Fault
-entries_fault t r = first_of (entry_fault (guids_count t r) (strings_of t r)) (all_entries t r)
+entries_fault t r = first_of (name_entry_fault (guids_count t r) (strings_of t r)) (all_entries t r)
 
 -- of the streams: their types in order, then the lengths of the first two
 unfoldable pub streams_fault : Table → Roots → Option Fault

@@ -9,7 +9,7 @@ use Rattle.pst_ndb.specs.Roots.{Roots, node_in}
 use Rattle.pst_names.specs.declared.name_map.TheConstants.{NAME_MAP}
 use Rattle.pst_names.specs.declared.streams.TheConstants.{GUIDS}
 use Rattle.pst_names.specs.Streams.{stream_of, stream_bytes}
-use Rattle.pst_names.specs.Entry.{Entry, is_text, guid_index, prop_id}
+use Rattle.pst_names.specs.Entry.{NameEntry, is_text, guid_index, prop_id}
 use Rattle.pst_names.specs.Fault.{strings_of, all_entries}
 
 -- a name within its set: a number, or the bytes of a string, UTF-16
@@ -46,25 +46,25 @@ set_with guids index =
 abbrev pub text_at : List ℕ → ℕ → List ℕ
 text_at strings at = slice_range strings (at + 4) (at + 4 + num strings at 4)
 
-unfoldable pub name_kind : List ℕ → Entry → KindParts
+unfoldable pub name_kind : List ℕ → NameEntry → KindParts
 name_kind strings e = if is_text e then by_text (text_at strings e.id) else by_number e.id
 
 -- the name that an entry gives
-abbrev pub name_in : List ℕ → List ℕ → Entry → NameParts
+abbrev pub name_in : List ℕ → List ℕ → NameEntry → NameParts
 name_in guids strings e = record { set = set_with guids (guid_index e); kind = name_kind strings e }
 
 -- the entry that names the property with an identifier: the first one, where several do
-abbrev pub naming_entry : Table → Roots → ℕ → Option Entry
+abbrev pub naming_entry : Table → Roots → ℕ → Option NameEntry
 naming_entry t r id = first_with prop_id id (all_entries t r)
 
 -- what it is called; none exactly where no entry names it
-unfoldable pub name_of : Table → Roots → ℕ → Option NameParts
-name_of t r id = option_map (name_in (stream_bytes (stream_of t r GUIDS)) (strings_of t r)) (naming_entry t r id)
+unfoldable pub name_of_property : Table → Roots → ℕ → Option NameParts
+name_of_property t r id = option_map (name_in (stream_bytes (stream_of t r GUIDS)) (strings_of t r)) (naming_entry t r id)
 
 -- the same by a name map that may not be there
 abbrev pub name_there : Table → Option Roots → ℕ → Option NameParts
 name_there t None id = None
-name_there t (Some r) id = name_of t r id
+name_there t (Some r) id = name_of_property t r id
 
 -- what it is called in a store with these blocks and nodes
 unfoldable pub store_name : Table → List NodeEntry → ℕ → Option NameParts

@@ -3,5 +3,5 @@ use Rattle.std.specs.Prelude.{◌≡◌, List, ℕ, length, take, drop}
 use Rattle.pst_names.specs.declared.stretch.Stretch.{Stretch}
 
 -- they are those of the stream behind so many of its bytes
-abbrev pub IsStretch : List ℕ → Stretch → Type 0
-IsStretch bytes s = s.bytes.now ≡ take (length s.bytes.now) (drop s.start bytes)
+abbrev pub IsStretchOf : List ℕ → Stretch → Type 0
+IsStretchOf bytes s = s.bytes.now ≡ take (length s.bytes.now) (drop s.start bytes)

@@ -17,7 +17,7 @@ use Rattle.pst_names.specs.declared.name_map.NameMap.{NameMap}
 use Rattle.pst_names.specs.declared.name_map.TheConstants.{NAME_MAP}
 use Rattle.pst_names.specs.declared.streams.TheConstants.{STRINGS}
 use Rattle.pst_names.specs.Streams.{stream_spans}
-use Rattle.pst_names.specs.Entry.{Entry}
+use Rattle.pst_names.specs.Entry.{NameEntry}
 use Rattle.pst_names.specs.Fault.{strings_of}
 use Rattle.pst_names.specs.Name.{KindParts, by_number, by_text, NameParts, naming_entry}
 
@@ -49,7 +49,7 @@ IsKindLent file t r at (Text v) = IsTextOf file t r at v
 
 -- the name of the property with an identifier: by the very entry that names it
 abbrev pub IsLent : Image → Table → Roots → ℕ → Name → Type 0
-IsLent file t r id n = (e : Entry) × (naming_entry t r id ≡ Some e) × IsKindLent file t r e.id n.kind
+IsLent file t r id n = (e : NameEntry) × (naming_entry t r id ≡ Some e) × IsKindLent file t r e.id n.kind
 
 -- of the map of a store with these blocks and nodes
 abbrev pub IsLentIn : Image → Table → List NodeEntry → ℕ → Name → Type 0

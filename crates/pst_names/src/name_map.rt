@@ -49,9 +49,9 @@ impl<'a> NameMap<'a> {
     ghost use Rattle.pst_names.specs.Streams.{stream_of, stream_bytes};
     ghost use Rattle.pst_names.specs.Fault.{names_fault, guids_count, strings_of};
     ghost use Rattle.pst_names.specs.Grammar.{HasText, IsNameMap};
-    ghost use Rattle.pst_names.specs.Name.{set_with, name_kind, name_of};
+    ghost use Rattle.pst_names.specs.Name.{set_with, name_kind, name_of_property};
     ghost use Rattle.pst_names.specs.Index.{naming_fields, NamesBy};
-    ghost use Rattle.pst_names.specs.Entry.{Entry};
+    ghost use Rattle.pst_names.specs.Entry.{NameEntry};
     ghost use Rattle.pst_names.specs.View.{node_of_names, kind_parts, name_parts, IsKindLent, IsLent};
 
     // That of a property context which has one.
@@ -162,7 +162,7 @@ impl<'a> NameMap<'a> {
         requires { let node = node_of_names self.now in
             fields.word % 2 ≡ 1 →
             HasText (strings_of (table_of_node node) (roots_of node)) fields.id }
-        ensures value { (e : Entry) → e.id ≡ fields.id → e.word ≡ fields.word →
+        ensures value { (e : NameEntry) → e.id ≡ fields.id → e.word ≡ fields.word →
             let node = node_of_names self.now in
             kind_parts result ≡ name_kind (strings_of (table_of_node node) (roots_of node)) e }
         ensures lent { let node = node_of_names self.now in
@@ -180,7 +180,7 @@ impl<'a> NameMap<'a> {
     /// goes through the entries up to the one that names it.
     pub fn name(&self, id: u16) -> Option<Name<'a>>
         ensures value { let node = node_of_names self.now in
-            option_map name_parts result ≡ name_of (table_of_node node) (roots_of node) id }
+            option_map name_parts result ≡ name_of_property (table_of_node node) (roots_of node) id }
         ensures lent { let node = node_of_names self.now in
             IfSome result (IsLent (image_of_node node) (table_of_node node) (roots_of node) id) }
     {

@@ -2,7 +2,7 @@
 
 ghost use Rattle.std.specs.Prelude.{◌≡◌, length};
 ghost use Rattle.pst_bytes.specs.Image.{bytes_of, bytes_at};
-ghost use Rattle.pst_names.specs.Behind.{behind_file};
+ghost use Rattle.pst_names.specs.Behind.{file_behind};
 
 use crate::streams::stream;
 use pst_bytes::Image;
@@ -20,7 +20,7 @@ pub(crate) struct Rest<'a> {
     behind: Option<Pieces<'a>>,
     ghost own: { front.now
         ≡ bytes_at (bytes_of image) (record { at = at; len = length front.now }) },
-    ghost file: { behind_file (bytes_of image) behind ≡ bytes_of image },
+    ghost file: { file_behind (bytes_of image) behind ≡ bytes_of image },
 }
 
 impl<'a> Rest<'a> {

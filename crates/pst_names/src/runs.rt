@@ -13,7 +13,7 @@ pub(crate) struct Runs {
 
 impl Runs {
     ghost use Rattle.std.specs.Prelude.{◌≡◌, ◌≤◌, ℕ, Bool, Some, IsTrue, List};
-    ghost use Rattle.pst_names.specs.Known.{run_at, IsRun, AreRunsTrue};
+    ghost use Rattle.pst_names.specs.Known.{run_at, IsGoodRun, AreRunsTrue};
 
     /// Nothing is known. No memory is taken.
     #[tactic(auto, using(crate::proofs::RunLemmas::nothing_true))]
@@ -38,7 +38,7 @@ impl Runs {
 
     /// They are known from now on; or memory is refused.
     pub(crate) fn put(&mut self, at: u64, count: u64) -> Result<(), AllocError>
-        ensures { (good : List ℕ → Bool) (I : List ℕ) → IsRun good I at count →
+        ensures { (good : List ℕ → Bool) (I : List ℕ) → IsGoodRun good I at count →
             AreRunsTrue good I self.old → AreRunsTrue good I self.new }
     {
         let _before = self.runs.insert(at, count)?;

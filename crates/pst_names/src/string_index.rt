@@ -2,7 +2,7 @@
 
 ghost use Rattle.std.specs.List.{All};
 ghost use Rattle.pst_datatree.specs.Shown.{bytes_in};
-ghost use Rattle.pst_names.specs.Stretch.{IsStretch};
+ghost use Rattle.pst_names.specs.Stretch.{IsStretchOf};
 
 use crate::rest::Rest;
 use crate::streams::{STRINGS, stream};
@@ -20,7 +20,7 @@ pub(crate) struct StringIndex<'a> {
     value: Value<'a>,
     // The pieces that have bytes, in order.
     stretches: Vec<Stretch<'a>>,
-    ghost are: { All (λ s. IsStretch (bytes_in value) s) stretches.items },
+    ghost are: { All (λ s. IsStretchOf (bytes_in value) s) stretches.items },
 }
 
 impl<'a> StringIndex<'a> {
@@ -30,7 +30,7 @@ impl<'a> StringIndex<'a> {
     ghost use Rattle.pst_ndb.specs.Views.{table_of_node, roots_of};
     ghost use Rattle.pst_pc.specs.View.{node_of_pc};
     ghost use Rattle.pst_names.specs.Fault.{has_text, strings_of};
-    ghost use Rattle.pst_names.specs.Stretch.{IsStretch};
+    ghost use Rattle.pst_names.specs.Stretch.{IsStretchOf};
     ghost use Rattle.pst_names.specs.Strings.{strings_in};
 
     /// That of a map; or memory is refused.
@@ -57,7 +57,7 @@ impl<'a> StringIndex<'a> {
     // The last stretch that begins at a byte or before it.
     fn stretch_at(&self, at: u64) -> Option<Stretch<'a>>
         ensures begun { IfSome result (λ s. s.start ≤ at) }
-        ensures own { IfSome result (IsStretch (strings_in self.now)) }
+        ensures own { IfSome result (IsStretchOf (strings_in self.now)) }
     {
         let mut low = 0;
         let mut high = self.stretches.len();

@@ -3,7 +3,7 @@
 ghost use Rattle.std.specs.Prelude.{◌≡◌, None};
 ghost use Rattle.pst_block.specs.Blocks.{table_of};
 ghost use Rattle.pst_ndb.specs.Fault.{nodes_fault};
-ghost use Rattle.pst_ndb.specs.Source.{entries_in};
+ghost use Rattle.pst_ndb.specs.Source.{source_entries};
 
 use crate::node::Node;
 use crate::nodes::Nodes;
@@ -18,14 +18,14 @@ use pst_bytes::Image;
 pub struct NodeTable<'a> {
     pub(crate) blocks: Blocks<'a>,
     pub(crate) source: Source<'a>,
-    ghost sound: { nodes_fault (table_of blocks) (entries_in source) ≡ None },
+    ghost sound: { nodes_fault (table_of blocks) (source_entries source) ≡ None },
 }
 
 impl<'a> NodeTable<'a> {
     ghost use Rattle.std.specs.Prelude.{◌≡◌, None, IfSome, map, option_map};
     ghost use Rattle.pst_bytes.specs.Image.{bytes_of};
     ghost use Rattle.pst_btree.specs.Entries.{node_key, node_with};
-    ghost use Rattle.pst_btree.specs.Lists.{listed_nodes};
+    ghost use Rattle.pst_btree.specs.Lists.{nodes_in_list};
     ghost use Rattle.pst_btree.specs.Order.{Rises};
     ghost use Rattle.pst_btree.specs.Trees.{node_entries};
     ghost use Rattle.pst_block.specs.Blocks.{table_of, image_of};
@@ -36,7 +36,7 @@ impl<'a> NodeTable<'a> {
     ghost use Rattle.pst_ndb.specs.Views.{image_of_node, table_of_node, top_of, nid_of, parts_of, roots_of, parts_left, roots_left, table_left, image_left};
 
     // All nodes of a tree, none of which has a fault.
-    #[tactic(auto, unfolding(crate::specs::Source::entries_in))]
+    #[tactic(auto, unfolding(crate::specs::Source::source_entries))]
     pub(crate) fn of_tree(blocks: Blocks<'a>, tree: NodeTree<'a>) -> NodeTable<'a>
         requires { nodes_fault (table_of blocks) (node_entries tree) ≡ None }
         ensures image { image_of_nodes result ≡ image_of blocks.entry }
@@ -51,12 +51,12 @@ impl<'a> NodeTable<'a> {
 
     /// Nodes of entries that were gathered, over these blocks. Each of them has to be known to have no fault. Nothing is
     /// checked.
-    #[tactic(auto, unfolding(crate::specs::Source::entries_in))]
+    #[tactic(auto, unfolding(crate::specs::Source::source_entries))]
     pub fn known(blocks: Blocks<'a>, entries: NodeList<'a>) -> NodeTable<'a>
-        requires { nodes_fault (table_of blocks) (listed_nodes entries) ≡ None }
+        requires { nodes_fault (table_of blocks) (nodes_in_list entries) ≡ None }
         ensures image { image_of_nodes result ≡ image_of blocks.entry }
         ensures table { table_of_nodes result ≡ table_of blocks.entry }
-        ensures entries { entries_of_nodes result ≡ listed_nodes entries.entry }
+        ensures entries { entries_of_nodes result ≡ nodes_in_list entries.entry }
     {
         NodeTable {
             blocks,

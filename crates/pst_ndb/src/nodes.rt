@@ -43,15 +43,15 @@ impl<'a> Nodes<'a> {
     ghost use Rattle.pst_ndb.specs.Fault.{nodes_fault};
     ghost use Rattle.pst_ndb.specs.Node.{entry_parts};
     ghost use Rattle.pst_ndb.specs.Roots.{all_roots};
-    ghost use Rattle.pst_ndb.specs.Source.{entries_in};
+    ghost use Rattle.pst_ndb.specs.Source.{source_entries};
     ghost use Rattle.pst_ndb.specs.Views.{parts_left, roots_left, table_left, image_left};
 
     // All nodes of a source.
     pub(crate) fn all(blocks: Blocks<'a>, source: &Source<'a>) -> Nodes<'a>
-        requires { nodes_fault (table_of blocks) (entries_in source.now) ≡ None }
+        requires { nodes_fault (table_of blocks) (source_entries source.now) ≡ None }
         ensures parts { parts_left result ≡ map (entry_parts (image_of blocks.entry)
-            (table_of blocks.entry)) (entries_in source.now) }
-        ensures roots { roots_left result ≡ all_roots (entries_in source.now) }
+            (table_of blocks.entry)) (source_entries source.now) }
+        ensures roots { roots_left result ≡ all_roots (source_entries source.now) }
         ensures table { table_left result ≡ table_of blocks.entry }
         ensures image { image_left result ≡ image_of blocks.entry }
     {

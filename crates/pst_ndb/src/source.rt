@@ -24,12 +24,12 @@ impl<'a> Source<'a> {
     ghost use Rattle.std.specs.Prelude.{◌≡◌, None, map};
     ghost use Rattle.pst_btree.specs.Entries.{node_key, node_with};
     ghost use Rattle.pst_btree.specs.Order.{Rises};
-    ghost use Rattle.pst_ndb.specs.Source.{entries_in, entries_left};
+    ghost use Rattle.pst_ndb.specs.Source.{source_entries, entries_left};
 
     /// The entry of a node, by its identifier.
-    #[tactic(auto, unfolding(crate::specs::Source::entries_in))]
+    #[tactic(auto, unfolding(crate::specs::Source::source_entries))]
     pub(crate) fn find(&self, nid: u32) -> Option<NodeEntry>
-        ensures { result ≡ node_with nid (entries_in self.now) }
+        ensures { result ≡ node_with nid (source_entries self.now) }
     {
         match self {
             Source::Tree(tree) => tree.find(nid),
@@ -38,9 +38,9 @@ impl<'a> Source<'a> {
     }
 
     /// All entries.
-    #[tactic(auto, unfolding(crate::specs::Source::entries_in, crate::specs::Source::entries_left))]
+    #[tactic(auto, unfolding(crate::specs::Source::source_entries, crate::specs::Source::entries_left))]
     pub(crate) fn entries(&self) -> Rest<'a>
-        ensures { entries_left result ≡ entries_in self.now }
+        ensures { entries_left result ≡ source_entries self.now }
     {
         match self {
             Source::Tree(tree) => Rest::Tree(tree.nodes()),
@@ -49,9 +49,9 @@ impl<'a> Source<'a> {
     }
 
     /// A law of both: the identifiers rise.
-    #[tactic(auto, unfolding(crate::specs::Source::entries_in))]
+    #[tactic(auto, unfolding(crate::specs::Source::source_entries))]
     pub(crate) fn nids_rise(&self)
-        ensures { Rises 0 None (map node_key (entries_in self.now)) }
+        ensures { Rises 0 None (map node_key (source_entries self.now)) }
     {
         match self {
             Source::Tree(tree) => node_keys_rise(tree),

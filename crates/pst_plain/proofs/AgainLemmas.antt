@@ -29,7 +29,7 @@ use Rattle.pst_encoding.specs.Method.{method_number, decoded, encoded}
 use Rattle.pst_encoding.specs.Tables.{IsByte}
 use Rattle.pst_plain.specs.Blocks.{has_data, placed, placed_data, Listed, trees_listed, data_after, data_under, data_if, data_blocks, EndsBy}
 use Rattle.pst_plain.specs.Twin.{with_method, all_encoded, decoded_file, twin_of, encoded_of}
-use Rattle.pst_plain.specs.Laws.{SameElsewhere, fields_of, AgainLaw}
+use Rattle.pst_plain.specs.Laws.{SameBesides, fields_of, AgainLaw}
 use Rattle.pst_plain.proofs.CodingLemmas.{Coding, IsCoding, IsUndoneBy, decoding, encoding, decoding_undone, all_changed, decoded_is, encoded_is}
 use Rattle.pst_plain.proofs.HeadLemmas.{method_again}
 use Rattle.pst_plain.proofs.TwinLemmas.{method_long, number_in, number_byte}
@@ -140,7 +140,7 @@ laid J h found head e =
     }
 
 -- the pages are the same where nothing but data blocks changed
-pub pages_again : (J T : List ℕ) (h : Header) (found : Listed) (l : Laid J h found) → SameElsewhere J T (fields_of (placed_data (end_of h) found.claimed found.entries)) → AreSamePages J T (pages_of l.block_tree) × AreSamePages J T (pages_of l.node_tree)
+pub pages_again : (J T : List ℕ) (h : Header) (found : Listed) (l : Laid J h found) → SameBesides J T (fields_of (placed_data (end_of h) found.claimed found.entries)) → AreSamePages J T (pages_of l.block_tree) × AreSamePages J T (pages_of l.node_tree)
 pages_again J T h found l same =
     let entries = placed (end_of h) found.claimed found.entries in
     let spans = page_spans l.block_tree ++ page_spans l.node_tree in
@@ -152,7 +152,7 @@ pages_again J T h found l same =
     )
 
 -- the same trees are walked then
-pub trees_again : (J T : List ℕ) (h : Header) (found : Listed) → Laid J h found → SameElsewhere J T (fields_of (placed_data (end_of h) found.claimed found.entries)) → trees_listed T h (maps_claimed h) ≡ Ok found
+pub trees_again : (J T : List ℕ) (h : Header) (found : Listed) → Laid J h found → SameBesides J T (fields_of (placed_data (end_of h) found.claimed found.entries)) → trees_listed T h (maps_claimed h) ≡ Ok found
 unfolding trees_listed
 trees_again J T h found l same =
     let end = end_of h in
@@ -222,7 +222,7 @@ module _ (J : List ℕ) (has : HasTrees J) where
       apart_back spans (block_spans entries) (apart_back (map_pages the_header) (spans ++ block_spans entries) the_laid.apart)
 
 -- a file that differs from it in its data blocks alone
-module _ (J T : List ℕ) (has : HasTrees J) (same : SameElsewhere J T (fields_of (the_data J has))) where
+module _ (J T : List ℕ) (has : HasTrees J) (same : SameBesides J T (fields_of (the_data J has))) where
   the_head : bytes_at T header_span ≡ bytes_at J header_span
   the_head = same.others header_span (fields_apart header_span (the_data J has) (header_apart (end_of (fields J)) (the_data J has) (the_lie J has)))
 
@@ -251,8 +251,8 @@ module _ (J : List ℕ) (coding : Coding) (is : IsCoding coding) (all : All IsBy
   pub file_kept : Kept J (file_changed coding J) (data_blocks J)
   file_kept = all_kept (data_blocks J) J coding is all (data_inside J)
 
-  pub same_beside : (has : HasTrees J) → SameElsewhere J (file_changed coding J) (fields_of (the_data J has))
-  same_beside has = subst (λ (l : List BlockEntry). SameElsewhere J (file_changed coding J) (fields_of l)) (the_blocks J has) file_kept.same
+  pub same_beside : (has : HasTrees J) → SameBesides J (file_changed coding J) (fields_of (the_data J has))
+  same_beside has = subst (λ (l : List BlockEntry). SameBesides J (file_changed coding J) (fields_of l)) (the_blocks J has) file_kept.same
 
   pub nothing_changed : data_blocks J ≡ [] → file_changed coding J ≡ J
   unfolding all_changed

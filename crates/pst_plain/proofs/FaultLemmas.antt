@@ -25,7 +25,7 @@ use Rattle.pst_ndb.specs.Space.{space_walk, space_fault, fault_after}
 use Rattle.pst_ndb.specs.Trees.{trees_walk}
 use Rattle.pst_plain.specs.Blocks.{has_data, placed, placed_data, Listed}
 use Rattle.pst_plain.specs.Twin.{with_method, decoded_file}
-use Rattle.pst_plain.specs.Faults.{front_fault, FrontLaw}
+use Rattle.pst_plain.specs.Faults.{fault_before_nodes, FrontLaw}
 use Rattle.pst_plain.proofs.LawLemmas.{head_told}
 use Rattle.pst_plain.proofs.TwinLemmas.{method_long, twin_is}
 use Rattle.pst_plain.proofs.HeaderLemmas as headers
@@ -35,7 +35,7 @@ use Rattle.pst_space.proofs.ApartLemmas.{claimed_is}
 use Rattle.pst_space.proofs.MapLemmas.{length_with_spans}
 use Rattle.pst_block.proofs.WalkLaws.{walked_good}
 use Rattle.pst_header.proofs.Head.{head_end}
-use Rattle.pst_plain.specs.Laws.{SameElsewhere, fields_of}
+use Rattle.pst_plain.specs.Laws.{SameBesides, fields_of}
 use Rattle.pst_plain.proofs.BlockLemmas.{end_later}
 use Rattle.pst_plain.proofs.LawLemmas.{placed_inside}
 use Rattle.pst_plain.proofs.SameLemmas.{tree_same}
@@ -62,13 +62,13 @@ from_back : (ss xs ys : List Span) → AreApartFrom ss (xs ++ ys) → AreApartFr
 from_back [] xs ys all = tt
 from_back (s ∷ ss) xs ys all = (from_second s xs ys all.0, from_back ss xs ys all.1)
 
-spans_kept : (J T : List ℕ) (ss : List Span) (entries : List BlockEntry) → SameElsewhere J T (fields_of entries) → AreApartFrom ss (block_spans entries) → AllAreSame J T ss
+spans_kept : (J T : List ℕ) (ss : List Span) (entries : List BlockEntry) → SameBesides J T (fields_of entries) → AreApartFrom ss (block_spans entries) → AllAreSame J T ss
 spans_kept J T [] entries same all = tt
 spans_kept J T (s ∷ ss) entries same all = (same.others s (fields_apart s entries all.0), spans_kept J T ss entries same all.1)
 
 -- ---- the walks, and the maps behind them
 
-module _ (J T : List ℕ) (h : Header) (found : Listed) (head : Head J h) (l : Laid J h found) (same : SameElsewhere J T (fields_of (placed_data (end_of h) found.claimed found.entries)))
+module _ (J T : List ℕ) (h : Header) (found : Listed) (head : Head J h) (l : Laid J h found) (same : SameBesides J T (fields_of (placed_data (end_of h) found.claimed found.entries)))
     (trailers : HaveSameTrailers J T (placed (end_of h) found.claimed found.entries)) where
   block_tree_again : IsTree Bbt T (end_of h) h.bbt l.block_level l.block_tree
   block_tree_again = tree_same Bbt J T (end_of h) h.bbt l.block_level l.block_tree (pages_again J T h found l same).0 l.is_block_tree
@@ -132,7 +132,7 @@ module _ (J T : List ℕ) (h : Header) (found : Listed) (head : Head J h) (l : L
 
 -- ---- the file
 
-pub front_kept : (J : List ℕ) (coding : Coding) (is : IsCoding coding) (all : All IsByte J) (has : HasTrees J) → front_fault (file_changed coding J) ≡ front_fault J
+pub front_kept : (J : List ℕ) (coding : Coding) (is : IsCoding coding) (all : All IsByte J) (has : HasTrees J) → fault_before_nodes (file_changed coding J) ≡ fault_before_nodes J
 front_kept J coding is all has =
     let T = file_changed coding J in
     let h = fields J in
@@ -148,11 +148,11 @@ front_kept J coding is all has =
     let second : space_fault T (fields T) ≡ space_fault J h = ap (space_fault T) (fields_again J T has beside) ∙ same in
     rw (first, second) refl
 
-pub front_same : (J : List ℕ) (method : Method) → All IsByte J → front_fault (decoded_file method J) ≡ front_fault J
+pub front_same : (J : List ℕ) (method : Method) → All IsByte J → fault_before_nodes (decoded_file method J) ≡ fault_before_nodes J
 front_same J method all =
-    ap front_fault (decoded_file_is method J)
+    ap fault_before_nodes (decoded_file_is method J)
     ∙ elim (data_cases J) [
-      | inl none ↦ ap front_fault (nothing_changed J (decoded method) (decoding method) all none)
+      | inl none ↦ ap fault_before_nodes (nothing_changed J (decoded method) (decoding method) all none)
       | inr has ↦ front_kept J (decoded method) (decoding method) all has
     ]
 
@@ -161,7 +161,7 @@ front_law I method all is =
     let J = with_method 0 I in
     let told = head_told I 0 all (omega arith) (method_long I method is) in
     let (head, same, space) = headers.header_law I method all is in
-    ap front_fault (twin_is I method is)
+    ap fault_before_nodes (twin_is I method is)
     ∙ front_same J method told.bytes
     ∙ ap (λ o. o then space_fault J (fields J)) head
     ∙ ap (λ o. (check_fault I then root_fault I) then o) space

@@ -18,7 +18,7 @@ use Rattle.pst_plain.specs.Written.{written}
 use Rattle.pst_plain.specs.Carried.{carried, with_carried}
 use Rattle.pst_plain.specs.Twin.{is_unicode, method_of, with_method, full_span}
 use Rattle.pst_plain.specs.Laws.{head_fields}
-use Rattle.pst_plain.specs.Faults.{HeaderLaw}
+use Rattle.pst_plain.specs.Faults.{EncodedHeaderLaw}
 use Rattle.pst_plain.proofs.LawLemmas.{HeadTold, head_told, carried_law, same_test}
 use Rattle.pst_plain.proofs.TwinLemmas.{method_long}
 use Rattle.pst_plain.proofs.WriteLemmas.{length_written, behind}
@@ -123,7 +123,7 @@ plain_header I method all is =
       says.number_is,
     ) (rw (says.len, fits) refl)
 
-pub header_law : HeaderLaw
+pub header_law : EncodedHeaderLaw
 header_law I method all is =
     let J = with_method 0 I in
     let (head, same) = says_same I method all is in

@@ -36,7 +36,7 @@ use Rattle.pst_ndb.specs.Space.{space_walk, space_fault, fault_after}
 use Rattle.pst_ndb.specs.Trees.{trees_walk}
 use Rattle.pst_plain.specs.Blocks.{has_data, block_place, claimed_with, placed, trees_listed, data_blocks, EndsBy}
 use Rattle.pst_plain.specs.Twin.{with_method, with_body, decoded_file}
-use Rattle.pst_plain.specs.Faults.{front_fault, IsDecoded, LaterLaw}
+use Rattle.pst_plain.specs.Faults.{fault_before_nodes, IsDecoded, LaterLaw}
 use Rattle.pst_plain.proofs.CodingLemmas.{Coding, IsCoding, decoding, all_changed}
 use Rattle.pst_plain.proofs.BlockLemmas.{placed_more, end_later}
 use Rattle.pst_plain.proofs.BackLemmas.{body_elsewhere}
@@ -94,7 +94,7 @@ walked_sound J blocks nodes new none first second last =
       listed_all = list;
     }
 
-sound : (J : List ℕ) → front_fault J ≡ None → IsSound J
+sound : (J : List ℕ) → fault_before_nodes J ≡ None → IsSound J
 unfolding space_fault space_walk trees_walk
 sound J e =
     let h = fields J in
@@ -205,11 +205,11 @@ decoded_all I J method all same kept s =
     }
 
 -- the same of the file itself
-pub decoded_whole : (J : List ℕ) (method : Method) → All IsByte J → front_fault J ≡ None → IsDecoded method J (decoded_file method J)
+pub decoded_whole : (J : List ℕ) (method : Method) → All IsByte J → fault_before_nodes J ≡ None → IsDecoded method J (decoded_file method J)
 decoded_whole J method all fine = subst (IsDecoded method J) (sym (decoded_file_is method J)) (decoded_all J J method all refl refl (sound J fine))
 
 -- all data blocks of the file are decoded then
-pub all_placed : (J : List ℕ) → front_fault J ≡ None → data_blocks J ≡ filter has_data (block_list J (fields J))
+pub all_placed : (J : List ℕ) → fault_before_nodes J ≡ None → data_blocks J ≡ filter has_data (block_list J (fields J))
 all_placed J fine = let s = sound J fine in the_blocks J s.has ∙ ap (filter has_data) (s.placed_all ∙ sym s.listed_all)
 
 pub later_law : LaterLaw
@@ -218,5 +218,5 @@ later_law I method all is none =
     let J = with_method 0 I in
     let told = head_told I 0 all (omega arith) long in
     let twin = twin_is I method is in
-    let fine : front_fault J ≡ None = sym (front_same J method told.bytes) ∙ ap front_fault (sym twin) ∙ none in
+    let fine : fault_before_nodes J ≡ None = sym (front_same J method told.bytes) ∙ ap fault_before_nodes (sym twin) ∙ none in
     subst (IsDecoded method I) (sym (twin ∙ decoded_file_is method J)) (decoded_all I J method told.bytes (method_behind I 0 long) (header_law I method all is).1 (sound J fine))

@@ -35,7 +35,7 @@ use Rattle.pst_plain.specs.Blocks.{has_data, block_place, claimed_with, then_pla
 use Rattle.pst_plain.proofs.BlockLemmas.{end_later}
 use Rattle.pst_plain.proofs.TwinLemmas.{method_long}
 use Rattle.pst_plain.specs.Twin.{method_of, with_method, full_span, with_body, twin_of, twin_by}
-use Rattle.pst_plain.specs.Laws.{xor_each, LinearLaw, CarriedLaw, TrailerLaw, IsFullCheck, FullCheckLaw, SameElsewhere, head_fields, block_fields, fields_of, changed_by, PlacesLaw}
+use Rattle.pst_plain.specs.Laws.{xor_each, LinearLaw, CarriedLaw, TrailerLaw, IsFullCheck, FullCheckLaw, SameBesides, head_fields, block_fields, fields_of, changed_by, PlacesLaw}
 use Rattle.pst_plain.proofs.CodingLemmas.{Coding, IsCoding, decoding, all_changed, decoded_is}
 use Rattle.pst_plain.proofs.WriteLemmas.{length_written, bytes_here, bytes_elsewhere}
 use Rattle.pst_plain.proofs.HeadLemmas.{carried_fits, num_fits, num_written, num_elsewhere, span_bytes, written_bytes, one_byte, four_bytes_fit}
@@ -214,7 +214,7 @@ apart_second : (s : Span) (xs ys : List Span) → IsApartFromAll s (xs ++ ys) �
 apart_second s [] ys all = all
 apart_second s (x ∷ xs) ys all = apart_second s xs ys all.1
 
-same_then : (I J K : List ℕ) (xs ys : List Span) → SameElsewhere I J xs → SameElsewhere J K ys → SameElsewhere I K (xs ++ ys)
+same_then : (I J K : List ℕ) (xs ys : List Span) → SameBesides I J xs → SameBesides J K ys → SameBesides I K (xs ++ ys)
 same_then I J K xs ys first second = record {
   length_same = second.length_same ∙ first.length_same;
   others = λ s all. second.others s (apart_second s xs ys all) ∙ first.others s (apart_first s xs ys all);
@@ -222,7 +222,7 @@ same_then I J K xs ys first second = record {
 
 -- what changing blocks one after another keeps
 pub record Kept (I T : List ℕ) (entries : List BlockEntry) : Type 0 where
-  pub same : SameElsewhere I T (fields_of entries)
+  pub same : SameBesides I T (fields_of entries)
   pub bytes : All IsByte T
 
 pub all_kept : (entries : List BlockEntry) (I : List ℕ) (coding : Coding) → IsCoding coding → All IsByte I → All (EndsBy (length I)) entries → Kept I (all_changed coding entries I) entries
@@ -233,7 +233,7 @@ all_kept (e ∷ rest) I coding is all by_end =
     let says = told I coding e is all (All-head (EndsBy (length I)) e rest by_end) in
     let tail = All-tail (EndsBy (length I)) e rest by_end in
     let later = all_kept rest J coding is says.bytes (subst (λ (n : ℕ). All (EndsBy n) rest) (sym says.len) tail) in
-    let here : SameElsewhere I J (block_fields e) = record { length_same = says.len; others = says.others } in
+    let here : SameBesides I J (block_fields e) = record { length_same = says.len; others = says.others } in
     record { same = same_then I J (all_changed coding rest J) (block_fields e) (fields_of rest) here later.same; bytes = later.bytes }
 
 -- where the blocks of a file end
@@ -277,12 +277,12 @@ data_inside J =
 pub places_law : PlacesLaw
 unfolding twin_of
 places_law I all =
-    elim (method_of I) as (λ o. method_of I ≡ o → SameElsewhere I (twin_by o I) (changed_by o I)) [
+    elim (method_of I) as (λ o. method_of I ≡ o → SameBesides I (twin_by o I) (changed_by o I)) [
       | None ↦ λ h. record { length_same = refl; others = λ s apart. refl }
       | Some method ↦ λ h.
           let J = with_method 0 I in
           let head = head_told I 0 all (omega arith) (method_long I method h) in
-          let same : SameElsewhere I J head_fields = record { length_same = head.len; others = head.others } in
+          let same : SameBesides I J head_fields = record { length_same = head.len; others = head.others } in
           let kept = all_kept (data_blocks J) J (decoded method) (decoding method) head.bytes (data_inside J) in
           rw (decoded_is method (data_blocks J) J)
           (same_then I J (all_changed (decoded method) (data_blocks J) J) head_fields (fields_of (data_blocks J)) same kept.same)

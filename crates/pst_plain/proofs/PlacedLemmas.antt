@@ -20,7 +20,7 @@ use Rattle.pst_block.specs.Block.{block_span, body_span, trailer_at}
 use Rattle.pst_block.specs.Walk.{block_spans}
 use Rattle.pst_block.proofs.BlockLemmas.{size_large, size_whole, is_place_good}
 use Rattle.pst_plain.specs.Blocks.{has_data, block_place, claimed_with, then_placed, placed}
-use Rattle.pst_plain.specs.Laws.{SameElsewhere, fields_of}
+use Rattle.pst_plain.specs.Laws.{SameBesides, fields_of}
 use Rattle.pst_plain.proofs.SameLemmas.{AreSamePages}
 
 -- ---- one block
@@ -163,7 +163,7 @@ header_apart end (e ∷ rest) lie =
     let here : IsPlace end (block_span e) = All-head (LiesIn end) e rest lie in
     (inl (omega (arith, here.mapped)), header_apart end rest (All-tail (LiesIn end) e rest lie))
 
-pub pages_kept : (J T : List ℕ) (pages : List Bref) (entries : List BlockEntry) → SameElsewhere J T (fields_of entries) → AreApartFrom (map span_of pages) (block_spans entries) → AreSamePages J T pages
+pub pages_kept : (J T : List ℕ) (pages : List Bref) (entries : List BlockEntry) → SameBesides J T (fields_of entries) → AreApartFrom (map span_of pages) (block_spans entries) → AreSamePages J T pages
 pages_kept J T [] entries same apart = tt
 pages_kept J T (page ∷ rest) entries same apart = (same.others (page_span page.ib) (fields_apart (page_span page.ib) entries apart.0), pages_kept J T rest entries same apart.1)
 

@@ -16,14 +16,14 @@ use Rattle.pst_plain.specs.Blocks.{has_data}
 use Rattle.pst_plain.specs.Twin.{method_of, with_method, twin_of}
 
 -- the first fault of a file up to its allocation maps: of its header; of the pages of both B-trees and of the blocks; of the maps
-abbrev pub front_fault : List ℕ → Option Fault
-front_fault I = header_fault I then space_fault I (fields I)
+abbrev pub fault_before_nodes : List ℕ → Option Fault
+fault_before_nodes I = header_fault I then space_fault I (fields I)
 
 -- An encoded file with bCryptMethod 0 has the fields of the file. Of its header it has the first fault that the file's own check
 -- values and ROOT structure have: what comes before these in the order of the rules is right, but for Encoded. Of its pages, blocks
 -- and allocation maps it has the file's own first fault.
-abbrev pub HeaderLaw : Type 0
-HeaderLaw = (I : List ℕ) (method : Method) → All IsByte I → method_of I ≡ Some method →
+abbrev pub EncodedHeaderLaw : Type 0
+EncodedHeaderLaw = (I : List ℕ) (method : Method) → All IsByte I → method_of I ≡ Some method →
     let J = with_method 0 I in
     (header_fault J ≡ (check_fault I then root_fault I)) × (fields J ≡ fields I) × (space_fault J (fields J) ≡ space_fault I (fields I))
 
@@ -31,7 +31,7 @@ HeaderLaw = (I : List ℕ) (method : Method) → All IsByte I → method_of I �
 -- check values and ROOT structure, then that of its pages, blocks and maps; and none where the file has none.
 abbrev pub FrontLaw : Type 0
 FrontLaw = (I : List ℕ) (method : Method) → All IsByte I → method_of I ≡ Some method →
-    front_fault (twin_of I) ≡ (check_fault I then root_fault I then space_fault I (fields I))
+    fault_before_nodes (twin_of I) ≡ (check_fault I then root_fault I then space_fault I (fields I))
 
 -- the body of a block of an encoded file, decoded if the block is a data block
 abbrev pub plain_body : Method → BlockEntry → List ℕ → List ℕ
@@ -46,4 +46,4 @@ pub record IsDecoded (method : Method) (I T : List ℕ) : Type 0 where
 -- What comes later, the nodes, is read from these entries and these bodies: where the twin has no fault up to its maps, no data
 -- block is left encoded, and no other block is decoded.
 abbrev pub LaterLaw : Type 0
-LaterLaw = (I : List ℕ) (method : Method) → All IsByte I → method_of I ≡ Some method → front_fault (twin_of I) ≡ None → IsDecoded method I (twin_of I)
+LaterLaw = (I : List ℕ) (method : Method) → All IsByte I → method_of I ≡ Some method → fault_before_nodes (twin_of I) ≡ None → IsDecoded method I (twin_of I)

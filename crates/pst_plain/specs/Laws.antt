@@ -47,7 +47,7 @@ FullCheckLaw = (I : List ℕ) (number : ℕ) → All IsByte I → IsByte number 
 -- ---- places
 
 -- there are as many bytes as there were, and each span apart from these fields has the bytes that it had
-pub record SameElsewhere (old new : List ℕ) (fields : List Span) : Type 0 where
+pub record SameBesides (old new : List ℕ) (fields : List Span) : Type 0 where
   pub length_same : length new ≡ length old
   pub others : (s : Span) → IsApartFromAll s fields → bytes_at new s ≡ bytes_at old s
 
@@ -72,7 +72,7 @@ changed_by (Some method) I = head_fields ++ fields_of (data_blocks (with_method 
 -- No place moves: the twin has as many bytes as the file, and the same ones, but in bCryptMethod and dwCRCFull of the header, and
 -- in the bodies and dwCRC of the blocks that are decoded.
 abbrev pub PlacesLaw : Type 0
-PlacesLaw = (I : List ℕ) → All IsByte I → SameElsewhere I (twin_of I) (changed_by (method_of I) I)
+PlacesLaw = (I : List ℕ) → All IsByte I → SameBesides I (twin_of I) (changed_by (method_of I) I)
 
 -- ---- the other way round
 

@@ -1,6 +1,6 @@
 //! Laws of twins, each the contract of a function that does nothing.
 
-ghost use Rattle.pst_plain.specs.Faults.{HeaderLaw, FrontLaw, LaterLaw};
+ghost use Rattle.pst_plain.specs.Faults.{EncodedHeaderLaw, FrontLaw, LaterLaw};
 ghost use Rattle.pst_plain.specs.Laws.{LinearLaw, CarriedLaw, TrailerLaw, FullCheckLaw, PlacesLaw, AgainLaw, EncodedLaw};
 
 /// The check value ([MS-PST] 5.3) is linear: of bytes exclusive or as many others it is the check value of the ones exclusive
@@ -39,7 +39,7 @@ pub fn plain_is_the_twin()
 /// maps. Where there is none, what comes later is read from the entries of the file's own B-trees and from the bodies of its blocks,
 /// those of all data blocks decoded.
 pub fn faults_stay()
-    ensures header { HeaderLaw }
+    ensures header { EncodedHeaderLaw }
     ensures front { FrontLaw }
     ensures later { LaterLaw }
 {}

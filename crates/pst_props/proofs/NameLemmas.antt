@@ -8,7 +8,7 @@ use Rattle.pst_value_json.specs.pst_names.declared.index.NameIndex.{NameIndex}
 use Rattle.pst_value_json.specs.pst_names.declared.name_map.NameMap.{NameMap}
 use Rattle.pst_value_json.specs.pst_names.declared.name_map.TheConstants.{NAME_MAP}
 use Rattle.pst_value_json.specs.pst_names.Index.{NamesBy}
-use Rattle.pst_value_json.specs.pst_names.Name.{name_of, name_there, store_name}
+use Rattle.pst_value_json.specs.pst_names.Name.{name_of_property, name_there, store_name}
 use Rattle.pst_value_json.specs.pst_names.View.{node_of_names, names_roots}
 use Rattle.pst_value_json.specs.Props.{names_told}
 use Rattle.pst_props.specs.NamesIndex.{IsEntriesIndex}
@@ -22,7 +22,7 @@ told_none t nodes none = ap (λ (o : Option Roots). λ (id : ℕ). name_there t 
 pub told_some : (m : NameMap) (t : Table) (nodes : List NodeEntry) → table_of_node (node_of_names m) ≡ t → Some (names_roots m) ≡ node_in nodes NAME_MAP → names_told (Some m) ≡ store_name t nodes
 unfolding store_name
 told_some m t nodes table roots =
-    ap (λ (x : Table). λ (id : ℕ). name_of x (names_roots m) id) table ∙ ap (λ (o : Option Roots). λ (id : ℕ). name_there t o id) roots
+    ap (λ (x : Table). λ (id : ℕ). name_of_property x (names_roots m) id) table ∙ ap (λ (o : Option Roots). λ (id : ℕ). name_there t o id) roots
 
 -- ---- an index
 

@@ -8,8 +8,9 @@ ghost use Rattle.pst_tc.specs.Tc.{node_of_tc};
 ghost use Rattle.pst_value_json.specs.pst_pc.View.{node_of_pc};
 ghost use Rattle.pst_verify.specs.pst_msg.View.{message_roots, node_of_message};
 
+use pst_datatree::is_internal;
 use pst_mail::{known_message, known_pc};
-use pst_ndb::NodeIndexes;
+use pst_ndb::{Node, NodeIndexes};
 use pst_tc::known_tc;
 use pst_value_json::{Pc, Tc};
 use pst_verify::Message;
@@ -25,6 +26,11 @@ pub fn new_indexes(alloc: Global) -> NodeIndexes
     NodeIndexes::new(alloc, OFTEN)
 }
 
+// Whether a node has no list, and no data but one block: there is nothing to lend it, so what is of it stays as it is.
+fn is_bare(node: Node) -> bool {
+    node.bid_sub() == 0 && !is_internal(node.bid_data())
+}
+
 /// A property context, whose node is lent what `NodeIndexes::lend` lends it.
 pub fn lend_pc<'a>(indexes: &'a NodeIndexes, pc: Pc<'a>) -> Pc<'a>
     requires { AreNodeIndexes (table_of_node (node_of_pc pc)) indexes.now }
@@ -32,6 +38,9 @@ pub fn lend_pc<'a>(indexes: &'a NodeIndexes, pc: Pc<'a>) -> Pc<'a>
     ensures table { table_of_node (node_of_pc result) ≡ table_of_node (node_of_pc pc.entry) }
     ensures nid { nid_of (node_of_pc result) ≡ nid_of (node_of_pc pc.entry) }
 {
+    if is_bare(pc.node()) {
+        return pc;
+    }
     pc.is_sound();
     known_pc(indexes.lend(pc.node()))
 }
@@ -42,6 +51,9 @@ pub fn lend_tc<'a>(indexes: &'a NodeIndexes, table: Tc<'a>) -> Tc<'a>
     ensures roots { roots_of (node_of_tc result) ≡ roots_of (node_of_tc table.entry) }
     ensures table { table_of_node (node_of_tc result) ≡ table_of_node (node_of_tc table.entry) }
 {
+    if is_bare(table.node()) {
+        return table;
+    }
     table.is_sound();
     known_tc(indexes.lend(table.node()))
 }

@@ -27,7 +27,7 @@ use Rattle.pst_block.proofs.UnitLemmas.{blocks_units}
 use Rattle.pst_plain.proofs.PlacedLemmas.{claim_join}
 use Rattle.pst_remains.specs.Blocks.{block_damage, BlocksLeft, blocks_left, blocks_so_far, told_block, with_block, with_blocks}
 use Rattle.pst_remains.specs.Header.{has_maps, mended}
-use Rattle.pst_remains.specs.Pages.{Left, Look, entries_in, is_open, keys_end, left_so_far, look_at, look_each, look_on, page_damage, told_page, tree_left, with_leaf, with_page}
+use Rattle.pst_remains.specs.Pages.{Left, Look, leaf_entries, is_open, keys_end, left_so_far, look_at, look_each, look_on, page_damage, told_page, tree_left, with_leaf, with_page}
 use Rattle.pst_remains.specs.Remains.{all_blocks_left, block_tree_left, first_claimed, mapped_end, node_tree_left}
 use Rattle.pst_remains.proofs.BlockLemmas.{good_clear, left_sound}
 
@@ -119,8 +119,8 @@ pages_long I =
 
 pub good_apart : (I : List ℕ) → AreApart (block_spans (all_blocks_left I).good)
 unfolding all_blocks_left
-good_apart I = left_apart (mapped_end I) I (node_tree_left I).claimed (map (block_entry_at I) (entries_in I (block_tree_left I).leaves)) (pages_long I)
+good_apart I = left_apart (mapped_end I) I (node_tree_left I).claimed (map (block_entry_at I) (leaf_entries I (block_tree_left I).leaves)) (pages_long I)
 
 pub good_sound : (I : List ℕ) → blocks_fault (mapped_end I) I (all_blocks_left I).good ≡ None
 unfolding all_blocks_left
-good_sound I = left_sound (mapped_end I) I (node_tree_left I).claimed (map (block_entry_at I) (entries_in I (block_tree_left I).leaves))
+good_sound I = left_sound (mapped_end I) I (node_tree_left I).claimed (map (block_entry_at I) (leaf_entries I (block_tree_left I).leaves))

@@ -21,8 +21,8 @@ use Rattle.pst_block.specs.Block.{block_span}
 use Rattle.pst_block.specs.Fault.{block_place_fault, block_trailer_fault, has_block_trailer, block_fault}
 use Rattle.pst_block.specs.Walk.{blocks_fault}
 use Rattle.pst_remains.specs.Judged.{overlap_fault}
-use Rattle.pst_remains.specs.Blocks.{block_damage, is_named, BlocksLeft, blocks_left, blocks_so_far, told_block, with_block, with_blocks}
-use Rattle.pst_remains.specs.Pages.{entries_in}
+use Rattle.pst_remains.specs.Blocks.{block_damage, is_named_by_trailer, BlocksLeft, blocks_left, blocks_so_far, told_block, with_block, with_blocks}
+use Rattle.pst_remains.specs.Pages.{leaf_entries}
 use Rattle.pst_remains.proofs.JudgedLemmas.{span_clear}
 
 -- ---- one block
@@ -32,7 +32,7 @@ shut true true c d e = absurd cc
 shut true false c d e = refl
 shut false b c d e = refl
 
-pub not_named : (I : List ℕ) (e : BlockEntry) → is_named I e ≡ false → block_trailer_fault I e ≡ Some (fault_in BlockTrailer e.ib e.bid)
+pub not_named : (I : List ℕ) (e : BlockEntry) → is_named_by_trailer I e ≡ false → block_trailer_fault I e ≡ Some (fault_in BlockTrailer e.ib e.bid)
 unfolding block_trailer_fault has_block_trailer
 not_named I e n = rw (shut _ _ _ _ n) refl
 
@@ -76,17 +76,17 @@ drop_past (e ∷ rest) (suc i) le = drop_past rest i (omega arith)
 
 -- the leaves, from one on
 pub leaves_next : (end : ℕ) (I : List ℕ) (b next total : BlocksLeft) (leaves : List ℕ) (i d : ℕ) → i < length leaves → with_blocks end I b (map (block_entry_at I) (entries_at I (get_or leaves i d))) ≡ next
-    → with_blocks end I b (map (block_entry_at I) (entries_in I (drop i leaves))) ≡ total → with_blocks end I next (map (block_entry_at I) (entries_in I (drop (i + 1) leaves))) ≡ total
+    → with_blocks end I b (map (block_entry_at I) (leaf_entries I (drop i leaves))) ≡ total → with_blocks end I next (map (block_entry_at I) (leaf_entries I (drop (i + 1) leaves))) ≡ total
 leaves_next end I b next total leaves i d lt h so_far =
     let ib = get_or leaves i d in
-    let rest = map (block_entry_at I) (entries_in I (drop (i + 1) leaves)) in
-    let spread : map (block_entry_at I) (entries_in I (drop i leaves)) ≡ map (block_entry_at I) (entries_at I ib) ++ rest =
-    ap (λ (xs : List ℕ). map (block_entry_at I) (entries_in I xs)) (drop_more leaves i d lt) ∙ map-append (block_entry_at I) (entries_at I ib) (entries_in I (drop (i + 1) leaves)) in
+    let rest = map (block_entry_at I) (leaf_entries I (drop (i + 1) leaves)) in
+    let spread : map (block_entry_at I) (leaf_entries I (drop i leaves)) ≡ map (block_entry_at I) (entries_at I ib) ++ rest =
+    ap (λ (xs : List ℕ). map (block_entry_at I) (leaf_entries I xs)) (drop_more leaves i d lt) ∙ map-append (block_entry_at I) (entries_at I ib) (leaf_entries I (drop (i + 1) leaves)) in
     sym (ap (λ (x : BlocksLeft). with_blocks end I x rest) h) ∙ sym (with_blocks-append end I b (map (block_entry_at I) (entries_at I ib)) rest) ∙ sym (ap (with_blocks end I b) spread) ∙ so_far
 
-pub leaves_done : (end : ℕ) (I : List ℕ) (b total : BlocksLeft) (leaves : List ℕ) (i : ℕ) → length leaves ≤ i → with_blocks end I b (map (block_entry_at I) (entries_in I (drop i leaves))) ≡ total → total ≡ b
+pub leaves_done : (end : ℕ) (I : List ℕ) (b total : BlocksLeft) (leaves : List ℕ) (i : ℕ) → length leaves ≤ i → with_blocks end I b (map (block_entry_at I) (leaf_entries I (drop i leaves))) ≡ total → total ≡ b
 leaves_done end I b total leaves i le so_far =
-    sym so_far ∙ ap (λ (xs : List ℕ). with_blocks end I b (map (block_entry_at I) (entries_in I xs))) (drop_past leaves i le) ∙ blocks_done end I b
+    sym so_far ∙ ap (λ (xs : List ℕ). with_blocks end I b (map (block_entry_at I) (leaf_entries I xs))) (drop_past leaves i le) ∙ blocks_done end I b
 
 -- ---- what is known of the blocks without fault
 

@@ -19,7 +19,7 @@ use Rattle.pst_plain.proofs.TwinLemmas.{method_long}
 use Rattle.pst_remains.specs.declared.found.Found.{Found}
 use Rattle.pst_remains.specs.Decoded.{decoded_remains_of, parts_decoded}
 use Rattle.pst_remains.specs.Remains.{RemainsParts, all_blocks_left, remains_of}
-use Rattle.pst_remains.specs.View.{IsFound, IsOver, parts_over}
+use Rattle.pst_remains.specs.View.{IsAllFound, IsOver, parts_over}
 use Rattle.pst_remains.proofs.ApartLemmas.{are_good, good_apart}
 
 -- ---- they end in the file
@@ -58,15 +58,15 @@ decoded_kept end J method entries all ends apart =
 
 -- ---- what was found
 
-found_good : (J : List ℕ) (f : Found) → IsFound J f → f.good.items ≡ (all_blocks_left J).good
+found_good : (J : List ℕ) (f : Found) → IsAllFound J f → f.good.items ≡ (all_blocks_left J).good
 unfolding remains_of
 found_good J f is = ap (λ (p : RemainsParts). p.table.entries) is.parts
 
-pub found_ends : (J : List ℕ) (f : Found) → IsFound J f → All (EndsBy (length J)) f.good.items
+pub found_ends : (J : List ℕ) (f : Found) → IsAllFound J f → All (EndsBy (length J)) f.good.items
 found_ends J f is = sound_ends f.end J f.good.items is.over.inside is.over.sound
 
 -- once they are decoded its blocks have no fault
-pub found_over : (J T : List ℕ) (f : Found) (method : Method) → All IsByte J → IsFound J f → T ≡ data_decoded method f.good.items J → IsOver T f
+pub found_over : (J T : List ℕ) (f : Found) (method : Method) → All IsByte J → IsAllFound J f → T ≡ data_decoded method f.good.items J → IsOver T f
 found_over J T f method all is made =
     let apart : AreApart (block_spans f.good.items) = subst (λ (l : List BlockEntry). AreApart (block_spans l)) (sym (found_good J f is)) (good_apart J) in
     let kept = decoded_kept f.end J method f.good.items all (found_ends J f is) apart in
@@ -75,7 +75,7 @@ found_over J T f method all is made =
       sound = kept.faults ∙ is.over.sound;
     })
 
-pub found_decoded : (I J T : List ℕ) (f : Found) (method : Method) → J ≡ with_method 0 I → IsFound J f → T ≡ data_decoded method f.good.items J → parts_over T f ≡ decoded_remains_of method I
+pub found_decoded : (I J T : List ℕ) (f : Found) (method : Method) → J ≡ with_method 0 I → IsAllFound J f → T ≡ data_decoded method f.good.items J → parts_over T f ≡ decoded_remains_of method I
 unfolding decoded_remains_of
 found_decoded I J T f method head is made =
     ap (λ (X : List ℕ). parts_over X f) made ∙ ap (parts_decoded method J) is.parts ∙ ap (λ (X : List ℕ). parts_decoded method X (remains_of X)) head

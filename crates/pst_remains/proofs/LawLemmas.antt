@@ -26,7 +26,7 @@ use Rattle.pst_ndb.specs.Entries.{block_list, node_list, tree_under}
 use Rattle.pst_ndb.specs.Space.{fault_after, space_fault, space_walk}
 use Rattle.pst_ndb.specs.Trees.{trees_walk}
 use Rattle.pst_remains.specs.Laws.{FirstLaw, WholeLaw, first_in, first_told}
-use Rattle.pst_remains.specs.Pages.{Left, entries_in, faults_of, left_so_far, tree_left}
+use Rattle.pst_remains.specs.Pages.{Left, leaf_entries, faults_of, left_so_far, tree_left}
 use Rattle.pst_remains.specs.Remains.{all_blocks_left, block_tree_left, maps_damage, node_tree_left, remains_of}
 use Rattle.pst_remains.proofs.HeaderLemmas.{is_last}
 use Rattle.pst_remains.proofs.SameLemmas.{BlocksFollow, PagesFollow, blocks_follow, look_follows}
@@ -68,41 +68,41 @@ same_maps I e = rw (end_is I e) (le-leb _ _ (enough (num I 192 8) (num I 184 8) 
 -- of the parts behind the header, and what is left
 record Agrees (I : List ℕ) (first second : Left) (blocks : BlocksLeft) (checked : Option Fault) : Type 0 where
   told : (first_in (faults_of first.broken ++ faults_of second.broken) then first_in blocks.faults then maps_fault I (fields I) blocks.claimed) ≡ checked
-  left : checked ≡ None → (blocks.good ≡ block_list I (fields I)) × (map (node_entry_at I) (entries_in I second.leaves) ≡ node_list I (fields I))
+  left : checked ≡ None → (blocks.good ≡ block_list I (fields I)) × (map (node_entry_at I) (leaf_entries I second.leaves) ≡ node_list I (fields I))
 
-blocks_agree : (I : List ℕ) (first second : Left) (blocks : BlocksLeft) (c : Claimed) (step : Step Claimed) → first.broken ≡ [] → second.broken ≡ [] → map (node_entry_at I) (entries_in I second.leaves) ≡ node_list I (fields I)
+blocks_agree : (I : List ℕ) (first second : Left) (blocks : BlocksLeft) (c : Claimed) (step : Step Claimed) → first.broken ≡ [] → second.broken ≡ [] → map (node_entry_at I) (leaf_entries I second.leaves) ≡ node_list I (fields I)
     → BlocksFollow (blocks_so_far c [] []) (block_list I (fields I)) step blocks → Agrees I first second blocks (fault_after (maps_fault I (fields I)) step)
 blocks_agree I first second blocks c (Ok new) x y nodes f = record { told = rw (x, y, f.1, f.0) refl; left = λ _. (f.2, nodes) }
 blocks_agree I first second blocks c (Err stop) x y nodes f = record { told = rw (x, y, f.1) refl; left = λ e. absurd cc }
 
 -- the entries that a walk without fault finds are those of the tree that lies there
-found_entries : (kind : PageKind) (I : List ℕ) (end level : ℕ) (c : Claimed) (new : Found) (root : Bref) (more : List ℕ) → walk_of kind I end level (nothing_found c) root 0 None ≡ Ok new → new.entries ≡ entries_in I more
-    → entries_in I more ≡ entries_of (tree_at kind I level root)
+found_entries : (kind : PageKind) (I : List ℕ) (end level : ℕ) (c : Claimed) (new : Found) (root : Bref) (more : List ℕ) → walk_of kind I end level (nothing_found c) root 0 None ≡ Ok new → new.entries ≡ leaf_entries I more
+    → leaf_entries I more ≡ entries_of (tree_at kind I level root)
 found_entries kind I end level c new root more e is = sym is ∙ (has_walked kind I end level (nothing_found c) new root 0 None e).entries
 
-all_nodes : (I leaves more : List ℕ) → leaves ≡ more → entries_in I more ≡ entries_of (tree_under Nbt I (fields I).nbt) → map (node_entry_at I) (entries_in I leaves) ≡ node_list I (fields I)
+all_nodes : (I leaves more : List ℕ) → leaves ≡ more → leaf_entries I more ≡ entries_of (tree_under Nbt I (fields I).nbt) → map (node_entry_at I) (leaf_entries I leaves) ≡ node_list I (fields I)
 unfolding node_list
 all_nodes I leaves more a b = rw (a, b) refl
 
-all_blocks : (I leaves more : List ℕ) → leaves ≡ more → entries_in I more ≡ entries_of (tree_under Bbt I (fields I).bbt) → map (block_entry_at I) (entries_in I leaves) ≡ block_list I (fields I)
+all_blocks : (I leaves more : List ℕ) → leaves ≡ more → leaf_entries I more ≡ entries_of (tree_under Bbt I (fields I).bbt) → map (block_entry_at I) (leaf_entries I leaves) ≡ block_list I (fields I)
 unfolding block_list
 all_blocks I leaves more a b = rw (a, b) refl
 
-nodes_agree : (I : List ℕ) (first second : Left) (c : Claimed) (step : Step Found) → first.broken ≡ [] → map (block_entry_at I) (entries_in I first.leaves) ≡ block_list I (fields I)
+nodes_agree : (I : List ℕ) (first second : Left) (c : Claimed) (step : Step Found) → first.broken ≡ [] → map (block_entry_at I) (leaf_entries I first.leaves) ≡ block_list I (fields I)
     → tree_walk Nbt I (end_of (fields I)) c (fields I).nbt ≡ step → PagesFollow I [] (left_so_far c [] []) step second
-    → Agrees I first second (blocks_left (end_of (fields I)) I second.claimed (map (block_entry_at I) (entries_in I first.leaves)))
+    → Agrees I first second (blocks_left (end_of (fields I)) I second.claimed (map (block_entry_at I) (leaf_entries I first.leaves)))
     (fault_after (maps_fault I (fields I)) (step >>= λ trees. blocks_walk (end_of (fields I)) I trees.claimed (block_list I (fields I))))
 nodes_agree I first second c (Err stop) x entries e p = record { told = rw (x, p.3) (ap (λ (f : Fault). Some f) p.2); left = λ e. absurd cc }
 nodes_agree I first second c (Ok new) x entries e p =
-    let nodes : map (node_entry_at I) (entries_in I second.leaves) ≡ node_list I (fields I) = all_nodes I second.leaves p.0 p.3 (found_entries Nbt I (end_of (fields I)) (level_at I (fields I).nbt.ib) c new (fields I).nbt p.0 e p.4) in
-    let follow = blocks_follow (end_of (fields I)) I (blocks_so_far second.claimed [] []) (map (block_entry_at I) (entries_in I first.leaves)) in
+    let nodes : map (node_entry_at I) (leaf_entries I second.leaves) ≡ node_list I (fields I) = all_nodes I second.leaves p.0 p.3 (found_entries Nbt I (end_of (fields I)) (level_at I (fields I).nbt.ib) c new (fields I).nbt p.0 e p.4) in
+    let follow = blocks_follow (end_of (fields I)) I (blocks_so_far second.claimed [] []) (map (block_entry_at I) (leaf_entries I first.leaves)) in
     blocks_agree I first second _ second.claimed (blocks_walk (end_of (fields I)) I new.claimed (block_list I (fields I))) x p.2 nodes
-    (subst (λ (c : Claimed). BlocksFollow (blocks_so_far second.claimed [] []) (block_list I (fields I)) (blocks_walk (end_of (fields I)) I c (block_list I (fields I))) (blocks_left (end_of (fields I)) I second.claimed (map (block_entry_at I) (entries_in I first.leaves)))) p.1
-    (subst (λ (es : List BlockEntry). BlocksFollow (blocks_so_far second.claimed [] []) es (blocks_walk (end_of (fields I)) I second.claimed es) (blocks_left (end_of (fields I)) I second.claimed (map (block_entry_at I) (entries_in I first.leaves)))) entries follow))
+    (subst (λ (c : Claimed). BlocksFollow (blocks_so_far second.claimed [] []) (block_list I (fields I)) (blocks_walk (end_of (fields I)) I c (block_list I (fields I))) (blocks_left (end_of (fields I)) I second.claimed (map (block_entry_at I) (leaf_entries I first.leaves)))) p.1
+    (subst (λ (es : List BlockEntry). BlocksFollow (blocks_so_far second.claimed [] []) es (blocks_walk (end_of (fields I)) I second.claimed es) (blocks_left (end_of (fields I)) I second.claimed (map (block_entry_at I) (leaf_entries I first.leaves)))) entries follow))
 
 trees_agree : (I : List ℕ) (left : Left) (step : Step Found) → tree_walk Bbt I (end_of (fields I)) (maps_claimed (fields I)) (fields I).bbt ≡ step → PagesFollow I [] (left_so_far (maps_claimed (fields I)) [] []) step left
     → Agrees I left (tree_left Nbt I (end_of (fields I)) left.claimed (fields I).nbt)
-    (blocks_left (end_of (fields I)) I (tree_left Nbt I (end_of (fields I)) left.claimed (fields I).nbt).claimed (map (block_entry_at I) (entries_in I left.leaves)))
+    (blocks_left (end_of (fields I)) I (tree_left Nbt I (end_of (fields I)) left.claimed (fields I).nbt).claimed (map (block_entry_at I) (leaf_entries I left.leaves)))
     (fault_after (maps_fault I (fields I)) ((step >>= λ blocks. tree_walk Nbt I (end_of (fields I)) blocks.claimed (fields I).nbt) >>= λ trees. blocks_walk (end_of (fields I)) I trees.claimed (block_list I (fields I))))
 trees_agree I left (Err stop) e p = record { told = rw p.3 (ap (λ (f : Fault). Some f) p.2); left = λ e. absurd cc }
 trees_agree I left (Ok new) e p =

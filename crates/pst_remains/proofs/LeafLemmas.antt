@@ -20,7 +20,7 @@ use Rattle.pst_btree.proofs.RiseLemmas.{lower, rises_join}
 use Rattle.pst_remains.specs.declared.pages.Broken.{Broken}
 use Rattle.pst_remains.specs.Judged.{overlap_fault}
 use Rattle.pst_remains.specs.Leaf.{IsLeaf, AreLeaves}
-use Rattle.pst_remains.specs.Pages.{Left, Look, claim_fault, page_damage, inner_fault, leads_on, is_followed, is_open, entries_in, look_at, look_each, told_page, with_page, tree_left, left_so_far}
+use Rattle.pst_remains.specs.Pages.{Left, Look, claim_fault, page_damage, inner_fault, leads_on, is_followed, is_open, leaf_entries, look_at, look_each, told_page, with_page, tree_left, left_so_far}
 use Rattle.pst_remains.proofs.WalkLemmas.{look_shut, look_leaf, look_branch}
 
 -- ---- what is known of a page that is open
@@ -88,9 +88,9 @@ module _ (kind : PageKind) (I : List ℕ) (end level : ℕ) (claimed : Claimed) 
 
 -- ---- the leaves that are added
 
-pub entries_in-append : (I xs ys : List ℕ) → entries_in I (xs ++ ys) ≡ entries_in I xs ++ entries_in I ys
-entries_in-append I [] ys = refl
-entries_in-append I (ib ∷ rest) ys = ap (λ (es : List ℕ). entries_at I ib ++ es) (entries_in-append I rest ys) ∙ sym (append_assoc (entries_at I ib) (entries_in I rest) (entries_in I ys))
+pub leaf_entries-append : (I xs ys : List ℕ) → leaf_entries I (xs ++ ys) ≡ leaf_entries I xs ++ leaf_entries I ys
+leaf_entries-append I [] ys = refl
+leaf_entries-append I (ib ∷ rest) ys = ap (λ (es : List ℕ). entries_at I ib ++ es) (leaf_entries-append I rest ys) ∙ sym (append_assoc (entries_at I ib) (leaf_entries I rest) (leaf_entries I ys))
 
 -- each of them is a leaf
 abbrev pub EachLeaf : PageKind → List ℕ → List ℕ → Type 0
@@ -111,7 +111,7 @@ pub record Adds (kind : PageKind) (I : List ℕ) (old new : List ℕ) (low : ℕ
   pub more : List ℕ
   pub is : new ≡ old ++ more
   pub leaves : EachLeaf kind I more
-  pub rises : Rises low high (map (key_at kind I) (entries_in I more))
+  pub rises : Rises low high (map (key_at kind I) (leaf_entries I more))
 
 module _ (kind : PageKind) (I : List ℕ) where
   adds_none : (old : List ℕ) (low : ℕ) (high : Option ℕ) → Adds kind I old old low high
@@ -122,9 +122,9 @@ module _ (kind : PageKind) (I : List ℕ) where
 
   adds_both : (old mid new : List ℕ) (low m : ℕ) (high : Option ℕ) → low ≤ m → IsBelow m high → Adds kind I old mid low (Some m) → Adds kind I mid new m high → Adds kind I old new low high
   adds_both old mid new low m high le below a b =
-      let joined : Rises low high (map (key_at kind I) (entries_in I a.more) ++ map (key_at kind I) (entries_in I b.more)) = rises_join low m high _ _ le below a.rises b.rises in
-      let spread : map (key_at kind I) (entries_in I (a.more ++ b.more)) ≡ map (key_at kind I) (entries_in I a.more) ++ map (key_at kind I) (entries_in I b.more) =
-      ap (map (key_at kind I)) (entries_in-append I a.more b.more) ∙ map-append (key_at kind I) (entries_in I a.more) (entries_in I b.more) in
+      let joined : Rises low high (map (key_at kind I) (leaf_entries I a.more) ++ map (key_at kind I) (leaf_entries I b.more)) = rises_join low m high _ _ le below a.rises b.rises in
+      let spread : map (key_at kind I) (leaf_entries I (a.more ++ b.more)) ≡ map (key_at kind I) (leaf_entries I a.more) ++ map (key_at kind I) (leaf_entries I b.more) =
+      ap (map (key_at kind I)) (leaf_entries-append I a.more b.more) ∙ map-append (key_at kind I) (leaf_entries I a.more) (leaf_entries I b.more) in
       record {
         more = a.more ++ b.more;
         is = b.is ∙ ap (λ (xs : List ℕ). xs ++ b.more) a.is ∙ append_assoc old a.more b.more;
@@ -199,15 +199,15 @@ tree_leaves kind I end claimed root short =
     let a = tree_adds kind I end claimed root short in
     subst (λ (xs : List ℕ). AreLeaves kind I xs) (sym a.is) (each_at kind I a.more a.leaves)
 
-pub tree_keys_rise : (kind : PageKind) (I : List ℕ) (end : ℕ) (claimed : Claimed) (root : Bref) → end ≤ length I → Rises 0 None (map (key_at kind I) (entries_in I (tree_left kind I end claimed root).leaves))
+pub tree_keys_rise : (kind : PageKind) (I : List ℕ) (end : ℕ) (claimed : Claimed) (root : Bref) → end ≤ length I → Rises 0 None (map (key_at kind I) (leaf_entries I (tree_left kind I end claimed root).leaves))
 tree_keys_rise kind I end claimed root short =
     let a = tree_adds kind I end claimed root short in
-    subst (λ (xs : List ℕ). Rises 0 None (map (key_at kind I) (entries_in I xs))) (sym a.is) a.rises
+    subst (λ (xs : List ℕ). Rises 0 None (map (key_at kind I) (leaf_entries I xs))) (sym a.is) a.rises
 
 -- the same, of what a walk has found
 pub left_leaves : (kind : PageKind) (I : List ℕ) (end : ℕ) (claimed new : Claimed) (root : Bref) (broken : List Broken) (leaves : List ℕ) → tree_left kind I end claimed root ≡ left_so_far new broken leaves → end ≤ length I → AreLeaves kind I leaves
 left_leaves kind I end claimed new root broken leaves e short = subst (λ (x : Left). AreLeaves kind I x.leaves) e (tree_leaves kind I end claimed root short)
 
 pub left_keys_rise : (kind : PageKind) (I : List ℕ) (end : ℕ) (claimed new : Claimed) (root : Bref) (broken : List Broken) (leaves : List ℕ) → tree_left kind I end claimed root ≡ left_so_far new broken leaves → end ≤ length I
-    → Rises 0 None (map (key_at kind I) (entries_in I leaves))
-left_keys_rise kind I end claimed new root broken leaves e short = subst (λ (x : Left). Rises 0 None (map (key_at kind I) (entries_in I x.leaves))) e (tree_keys_rise kind I end claimed root short)
+    → Rises 0 None (map (key_at kind I) (leaf_entries I leaves))
+left_keys_rise kind I end claimed new root broken leaves e short = subst (λ (x : Left). Rises 0 None (map (key_at kind I) (leaf_entries I x.leaves))) e (tree_keys_rise kind I end claimed root short)

@@ -9,7 +9,7 @@ use Rattle.pst_page.specs.Page.{entries_at}
 use Rattle.pst_btree.specs.Entries.{node_key}
 use Rattle.pst_btree.specs.Order.{Rises}
 use Rattle.pst_remains.specs.declared.pages.Broken.{Broken}
-use Rattle.pst_remains.specs.Pages.{entries_in, faults_of}
+use Rattle.pst_remains.specs.Pages.{leaf_entries, faults_of}
 
 pub appended : (xs : List NodeEntry) (x : NodeEntry) (ys : List NodeEntry) → (xs ++ x ∷ []) ++ ys ≡ xs ++ x ∷ ys
 appended xs x ys = append_assoc xs (x ∷ []) ys
@@ -25,17 +25,17 @@ drop_past (x ∷ rest) (suc i) le = drop_past rest i (omega arith)
 
 -- the leaves, from one on
 pub nodes_next : (I : List ℕ) (now next total : List NodeEntry) (leaves : List ℕ) (i d : ℕ) → i < length leaves → next ≡ now ++ map (node_entry_at I) (entries_at I (get_or leaves i d))
-    → now ++ map (node_entry_at I) (entries_in I (drop i leaves)) ≡ total → next ++ map (node_entry_at I) (entries_in I (drop (i + 1) leaves)) ≡ total
+    → now ++ map (node_entry_at I) (leaf_entries I (drop i leaves)) ≡ total → next ++ map (node_entry_at I) (leaf_entries I (drop (i + 1) leaves)) ≡ total
 nodes_next I now next total leaves i d lt h so_far =
     let one = map (node_entry_at I) (entries_at I (get_or leaves i d)) in
-    let rest = map (node_entry_at I) (entries_in I (drop (i + 1) leaves)) in
-    let spread : map (node_entry_at I) (entries_in I (drop i leaves)) ≡ one ++ rest =
-    ap (λ (xs : List ℕ). map (node_entry_at I) (entries_in I xs)) (drop_more leaves i d lt) ∙ map-append (node_entry_at I) (entries_at I (get_or leaves i d)) (entries_in I (drop (i + 1) leaves)) in
+    let rest = map (node_entry_at I) (leaf_entries I (drop (i + 1) leaves)) in
+    let spread : map (node_entry_at I) (leaf_entries I (drop i leaves)) ≡ one ++ rest =
+    ap (λ (xs : List ℕ). map (node_entry_at I) (leaf_entries I xs)) (drop_more leaves i d lt) ∙ map-append (node_entry_at I) (entries_at I (get_or leaves i d)) (leaf_entries I (drop (i + 1) leaves)) in
     ap (λ (xs : List NodeEntry). xs ++ rest) h ∙ append_assoc now one rest ∙ sym (ap (λ (xs : List NodeEntry). now ++ xs) spread) ∙ so_far
 
-pub nodes_done : (I : List ℕ) (now total : List NodeEntry) (leaves : List ℕ) (i : ℕ) → length leaves ≤ i → now ++ map (node_entry_at I) (entries_in I (drop i leaves)) ≡ total → now ≡ total
+pub nodes_done : (I : List ℕ) (now total : List NodeEntry) (leaves : List ℕ) (i : ℕ) → length leaves ≤ i → now ++ map (node_entry_at I) (leaf_entries I (drop i leaves)) ≡ total → now ≡ total
 nodes_done I now total leaves i le so_far =
-    sym (append-nil now) ∙ sym (ap (λ (xs : List ℕ). now ++ map (node_entry_at I) (entries_in I xs)) (drop_past leaves i le)) ∙ so_far
+    sym (append-nil now) ∙ sym (ap (λ (xs : List ℕ). now ++ map (node_entry_at I) (leaf_entries I xs)) (drop_past leaves i le)) ∙ so_far
 
 -- the pages, from one on
 pub faults_next : (now next total : List Fault) (broken : List Broken) (i : ℕ) (d : Broken) → i < length broken → next ≡ now ++ (get_or broken i d).fault ∷ []

@@ -22,7 +22,7 @@ use Rattle.pst_amap.specs.Report.{maps_fault}
 use Rattle.pst_remains.specs.declared.pages.Broken.{Broken}
 use Rattle.pst_remains.specs.Blocks.{BlocksLeft, blocks_left, blocks_so_far}
 use Rattle.pst_remains.specs.Header.{header_damage, has_maps, mended}
-use Rattle.pst_remains.specs.Pages.{Left, entries_in, faults_of, left_so_far, tree_left}
+use Rattle.pst_remains.specs.Pages.{Left, leaf_entries, faults_of, left_so_far, tree_left}
 use Rattle.pst_remains.specs.Remains.{RemainsParts, all_blocks_left, block_tree_left, maps_damage, node_tree_left, remains_of}
 use Rattle.pst_remains.proofs.BlockLemmas.{blocks_done}
 use Rattle.pst_remains.proofs.WalkLemmas.{tree_no_place}
@@ -41,7 +41,7 @@ parts_with I header maps pages faults good nodes broken = record {
 
 remains_from : (I : List ℕ) (o m : Option Fault) (ps fs : List Fault) (gs : List BlockEntry) (ns : List NodeEntry) (bs : List Broken) (first second : Left) (blocks : BlocksLeft)
     → block_tree_left I ≡ first → node_tree_left I ≡ second → all_blocks_left I ≡ blocks → o ≡ header_damage I → m ≡ maps_damage I → ps ≡ faults_of first.broken ++ faults_of second.broken → fs ≡ blocks.faults
-    → gs ≡ blocks.good → ns ≡ map (node_entry_at I) (entries_in I second.leaves) → bs ≡ second.broken → parts_with I o m ps fs gs ns bs ≡ remains_of I
+    → gs ≡ blocks.good → ns ≡ map (node_entry_at I) (leaf_entries I second.leaves) → bs ≡ second.broken → parts_with I o m ps fs gs ns bs ≡ remains_of I
 unfolding remains_of
 remains_from I o m ps fs gs ns bs first second blocks a b c header maps pages faults good nodes broken = rw (a, b, c, header, maps, pages, faults, good, nodes, broken) refl
 
@@ -56,7 +56,7 @@ unfolding node_tree_left mended
 second_left I first second maps a e = rw (maps, a) e
 
 third_left : (I : List ℕ) (first second : Left) (blocks : BlocksLeft) → has_maps I ≡ true → block_tree_left I ≡ first → node_tree_left I ≡ second
-    → blocks_left (end_of (mended I)) I second.claimed (map (block_entry_at I) (entries_in I first.leaves)) ≡ blocks → all_blocks_left I ≡ blocks
+    → blocks_left (end_of (mended I)) I second.claimed (map (block_entry_at I) (leaf_entries I first.leaves)) ≡ blocks → all_blocks_left I ≡ blocks
 unfolding all_blocks_left
 third_left I first second blocks maps a b e = rw (maps, a, b) e
 
@@ -66,8 +66,8 @@ maps_left I blocks o maps c e = rw (maps, c) e
 
 pub gathered : (I : List ℕ) (o m : Option Fault) (ps fs : List Fault) (gs : List BlockEntry) (ns : List NodeEntry) (bs : List Broken) (h : Header) (c0 c1 c2 c3 : Claimed) (b1 b2 : List Broken) (l1 l2 : List ℕ) → has_maps I ≡ true → h ≡ mended I → c0 ≡ maps_claimed h
     → tree_left Bbt I (end_of h) c0 h.bbt ≡ left_so_far c1 b1 l1 → tree_left Nbt I (end_of h) c1 h.nbt ≡ left_so_far c2 b2 l2
-    → blocks_left (end_of h) I c2 (map (block_entry_at I) (entries_in I l1)) ≡ blocks_so_far c3 fs gs
-    → o ≡ header_damage I → m ≡ maps_fault I h c3 → ps ≡ faults_of b1 ++ faults_of b2 → ns ≡ map (node_entry_at I) (entries_in I l2) → bs ≡ b2 → parts_with I o m ps fs gs ns bs ≡ remains_of I
+    → blocks_left (end_of h) I c2 (map (block_entry_at I) (leaf_entries I l1)) ≡ blocks_so_far c3 fs gs
+    → o ≡ header_damage I → m ≡ maps_fault I h c3 → ps ≡ faults_of b1 ++ faults_of b2 → ns ≡ map (node_entry_at I) (leaf_entries I l2) → bs ≡ b2 → parts_with I o m ps fs gs ns bs ≡ remains_of I
 gathered I o m ps fs gs ns bs h c0 c1 c2 c3 b1 b2 l1 l2 there same start x y z header maps pages nodes broken =
     let first = left_so_far c1 b1 l1 in
     let second = left_so_far c2 b2 l2 in

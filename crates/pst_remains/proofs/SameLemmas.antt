@@ -24,8 +24,8 @@ use Rattle.pst_block.specs.Walk.{block_step, blocks_walk}
 use Rattle.pst_remains.specs.declared.pages.Broken.{Broken}
 use Rattle.pst_remains.specs.Judged.{overlap_fault}
 use Rattle.pst_remains.specs.Blocks.{BlocksLeft, block_damage, told_block, with_block, with_blocks}
-use Rattle.pst_remains.specs.Pages.{Left, Look, claim_fault, page_damage, is_followed, is_open, entries_in, keys_end, look_at, look_each, look_on, told_page, with_leaf, with_page}
-use Rattle.pst_remains.proofs.LeafLemmas.{entries_in-append}
+use Rattle.pst_remains.specs.Pages.{Left, Look, claim_fault, page_damage, is_followed, is_open, leaf_entries, keys_end, look_at, look_each, look_on, told_page, with_leaf, with_page}
+use Rattle.pst_remains.proofs.LeafLemmas.{leaf_entries-append}
 
 -- ---- one that claims: its place, its claim, and then the rest
 
@@ -99,7 +99,7 @@ blocks_follow end I b (e ∷ entries) =
 -- ---- pages
 
 abbrev pub PagesFollow : List ℕ → List ℕ → Left → Step Found → Left → Type 0
-PagesFollow I entries left (Ok new) now = (more : List ℕ) × (now.claimed ≡ new.claimed) × (now.broken ≡ left.broken) × (now.leaves ≡ left.leaves ++ more) × (new.entries ≡ entries ++ entries_in I more)
+PagesFollow I entries left (Ok new) now = (more : List ℕ) × (now.claimed ≡ new.claimed) × (now.broken ≡ left.broken) × (now.leaves ≡ left.leaves ++ more) × (new.entries ≡ entries ++ leaf_entries I more)
 PagesFollow I entries left (Err stop) now = (b : Broken) × (rest : List Broken) × (b.fault ≡ stop.1) × (now.broken ≡ left.broken ++ b ∷ rest)
 
 -- pages with a fault are added to those before
@@ -146,7 +146,7 @@ module _ (kind : PageKind) (I : List ℕ) (end : ℕ) where
     b.1,
     b.2 ∙ a.2,
     b.3 ∙ ap (λ (xs : List ℕ). xs ++ b.0) a.3 ∙ append_assoc left.leaves a.0 b.0,
-    b.4 ∙ ap (λ (xs : List ℕ). xs ++ entries_in I b.0) a.4 ∙ append_assoc entries (entries_in I a.0) (entries_in I b.0) ∙ sym (ap (λ (xs : List ℕ). entries ++ xs) (entries_in-append I a.0 b.0)),
+    b.4 ∙ ap (λ (xs : List ℕ). xs ++ leaf_entries I b.0) a.4 ∙ append_assoc entries (leaf_entries I a.0) (leaf_entries I b.0) ∙ sym (ap (λ (xs : List ℕ). entries ++ xs) (leaf_entries-append I a.0 b.0)),
   )
   follows_on entries left mid now new (Err stop) a b = (b.0, b.1, b.2, b.3 ∙ ap (λ (xs : List Broken). xs ++ b.0 ∷ b.1) a.2)
 

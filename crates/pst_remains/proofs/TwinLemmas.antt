@@ -10,7 +10,7 @@ use Rattle.pst_encoding.specs.Tables.{IsByte}
 use Rattle.pst_ndb.specs.Entries.{block_list, block_table, node_list}
 use Rattle.pst_ndb.specs.Space.{space_fault}
 use Rattle.pst_plain.specs.Blocks.{has_data}
-use Rattle.pst_plain.specs.Faults.{front_fault}
+use Rattle.pst_plain.specs.Faults.{fault_before_nodes}
 use Rattle.pst_plain.specs.Twin.{method_of, with_method, all_decoded, data_decoded, decoded_file}
 use Rattle.pst_plain.proofs.FaultLemmas.{front_same}
 use Rattle.pst_plain.proofs.HeaderLemmas.{plain_header}
@@ -25,7 +25,7 @@ use Rattle.pst_remains.proofs.LawLemmas.{first_law, whole_law}
 
 -- what is told of the file with bCryptMethod 0
 plain_first : (I : List ℕ) (method : Method) → All IsByte I → method_of I ≡ Some method →
-    let J = with_method 0 I in first_told (remains_of J) ≡ front_fault J
+    let J = with_method 0 I in first_told (remains_of J) ≡ fault_before_nodes J
 unfolding header_damage
 plain_first I method all is =
     let J = with_method 0 I in
@@ -35,10 +35,10 @@ pub decoded_first : DecodedFirstLaw
 unfolding decoded_remains_of
 decoded_first I method all is =
     let J = with_method 0 I in
-    plain_first I method all is ∙ sym (front_same J method (plain_bytes I method all is)) ∙ ap front_fault (sym (twin_is I method is))
+    plain_first I method all is ∙ sym (front_same J method (plain_bytes I method all is)) ∙ ap fault_before_nodes (sym (twin_is I method is))
 
 -- the bytes, where there is no fault
-bytes_are : (J : List ℕ) (method : Method) (entries : List BlockEntry) → front_fault J ≡ None → entries ≡ block_list J (fields J) → data_decoded method entries J ≡ decoded_file method J
+bytes_are : (J : List ℕ) (method : Method) (entries : List BlockEntry) → fault_before_nodes J ≡ None → entries ≡ block_list J (fields J) → data_decoded method entries J ≡ decoded_file method J
 bytes_are J method entries fine same = ap (λ (l : List BlockEntry). all_decoded method l J) (ap (filter has_data) same ∙ sym (all_placed J fine))
 
 pub decoded_whole_law : DecodedWholeLaw
@@ -47,7 +47,7 @@ decoded_whole_law I method all is none =
     let J = with_method 0 I in
     let T = decoded_file method J in
     let twin = twin_is I method is in
-    let fine : front_fault J ≡ None = sym (plain_first I method all is) ∙ none in
+    let fine : fault_before_nodes J ≡ None = sym (plain_first I method all is) ∙ none in
     let whole = whole_law J none in
     let same = decoded_whole J method (plain_bytes I method all is) fine in
     let entries : (remains_of J).table.entries ≡ block_list J (fields J) = ap (λ (t : Table). t.entries) whole.0 in

@@ -15,8 +15,8 @@ block_damage end I claimed e =
     block_place_fault end e then overlap_fault claimed (block_span e) e.bid then block_trailer_fault I e
 
 -- Its trailer names it ([MS-PST] 2.2.2.8.1): its length and its identifier, apart from bit 0, are right.
-abbrev pub is_named : List ℕ → BlockEntry → Bool
-is_named I e = nat_eq (num I (trailer_at e) 2) e.cb && nat_eq (bid_key (num I (trailer_at e + 8) 8)) (bid_key e.bid)
+abbrev pub is_named_by_trailer : List ℕ → BlockEntry → Bool
+is_named_by_trailer I e = nat_eq (num I (trailer_at e) 2) e.cb && nat_eq (bid_key (num I (trailer_at e + 8) 8)) (bid_key e.bid)
 
 -- what is found of blocks: what is claimed, the faults, and the entries of blocks without fault
 pub record BlocksLeft : Type 0 where

@@ -10,7 +10,7 @@ use Rattle.pst_encoding.specs.declared.method.Method.{Method}
 use Rattle.pst_encoding.specs.Tables.{IsByte}
 use Rattle.pst_ndb.specs.Entries.{block_table, node_list}
 use Rattle.pst_ndb.specs.Space.{space_fault}
-use Rattle.pst_plain.specs.Faults.{front_fault, plain_body}
+use Rattle.pst_plain.specs.Faults.{fault_before_nodes, plain_body}
 use Rattle.pst_plain.specs.Twin.{method_of, twin_of}
 use Rattle.pst_remains.specs.Decoded.{decoded_remains_of}
 use Rattle.pst_remains.specs.Header.{header_damage}
@@ -37,7 +37,7 @@ WholeLaw = (I : List ℕ) → first_told (remains_of I) ≡ None → ((remains_o
 
 -- What a check of the plain twin answers up to the maps is the first of what is told of the file.
 abbrev pub DecodedFirstLaw : Type 0
-DecodedFirstLaw = (I : List ℕ) (method : Method) → All IsByte I → method_of I ≡ Some method → first_told (decoded_remains_of method I) ≡ front_fault (twin_of I)
+DecodedFirstLaw = (I : List ℕ) (method : Method) → All IsByte I → method_of I ≡ Some method → first_told (decoded_remains_of method I) ≡ fault_before_nodes (twin_of I)
 
 -- Where nothing is told, the bytes are those of the plain twin, and all its blocks and all its nodes are left.
 abbrev pub DecodedWholeLaw : Type 0

@@ -81,9 +81,9 @@ abbrev pub left_so_far : Claimed → List Broken → List ℕ → Left
 left_so_far claimed broken leaves = record { claimed = claimed; broken = broken; leaves = leaves }
 
 -- the entries of leaves
-abbrev pub entries_in : List ℕ → List ℕ → List ℕ
-entries_in I [] = []
-entries_in I (ib ∷ rest) = entries_at I ib ++ entries_in I rest
+abbrev pub leaf_entries : List ℕ → List ℕ → List ℕ
+leaf_entries I [] = []
+leaf_entries I (ib ∷ rest) = entries_at I ib ++ leaf_entries I rest
 
 -- A page with a fault is told, and claims nothing; one without a fault claims its space.
 abbrev pub told_page : Option Fault → Left → Bref → ℕ → Option ℕ → Left

@@ -13,7 +13,7 @@ use Rattle.pst_block.specs.Table.{Table, table_with}
 use Rattle.pst_remains.specs.declared.pages.Broken.{Broken}
 use Rattle.pst_remains.specs.Blocks.{BlocksLeft, blocks_left}
 use Rattle.pst_remains.specs.Header.{header_damage, mended, has_maps}
-use Rattle.pst_remains.specs.Pages.{Left, tree_left, entries_in, faults_of}
+use Rattle.pst_remains.specs.Pages.{Left, tree_left, leaf_entries, faults_of}
 
 -- where the mapped part ends; where nothing is mapped, it ends where it begins
 abbrev pub mapped_end : List ℕ → ℕ
@@ -32,7 +32,7 @@ node_tree_left I = tree_left Nbt I (mapped_end I) (block_tree_left I).claimed (f
 
 -- then the blocks
 unfoldable pub all_blocks_left : List ℕ → BlocksLeft
-all_blocks_left I = blocks_left (mapped_end I) I (node_tree_left I).claimed (map (block_entry_at I) (entries_in I (block_tree_left I).leaves))
+all_blocks_left I = blocks_left (mapped_end I) I (node_tree_left I).claimed (map (block_entry_at I) (leaf_entries I (block_tree_left I).leaves))
 
 -- then the maps, beside what is claimed; none, where there are no map pages
 unfoldable pub maps_damage : List ℕ → Option Fault
@@ -59,6 +59,6 @@ remains_of I = record {
   blocks = (all_blocks_left I).faults;
   maps = maps_damage I;
   table = table_with I (all_blocks_left I).good;
-  nodes = map (node_entry_at I) (entries_in I (node_tree_left I).leaves);
+  nodes = map (node_entry_at I) (leaf_entries I (node_tree_left I).leaves);
   broken = (node_tree_left I).broken;
 }

@@ -52,6 +52,6 @@ pub record IsOver (I : List ℕ) (f : Found) : Type 0 where
   pub sound : blocks_fault f.end I f.good.items ≡ None
 
 -- it is what was found of these bytes
-pub record IsFound (I : List ℕ) (f : Found) : Type 0 where
+pub record IsAllFound (I : List ℕ) (f : Found) : Type 0 where
   pub parts : parts_over I f ≡ remains_of I
   pub over : IsOver I f

@@ -11,9 +11,9 @@ ghost use Rattle.pst_page.specs.Page.{entries_at};
 ghost use Rattle.pst_space.specs.Claimed.{IsUnits, is_clear, first_unit, unit_count, unit_total};
 ghost use Rattle.pst_block.specs.Block.{block_span, block_size as size_of};
 ghost use Rattle.pst_block.specs.Fault.{block_trailer_fault};
-ghost use Rattle.pst_remains.specs.Blocks.{block_damage as damage, is_named as is_named_by, blocks_left, blocks_so_far, with_block, with_blocks};
+ghost use Rattle.pst_remains.specs.Blocks.{block_damage as damage, is_named_by_trailer as is_named_by, blocks_left, blocks_so_far, with_block, with_blocks};
 ghost use Rattle.pst_remains.specs.Leaf.{AreLeaves, IsLeaf};
-ghost use Rattle.pst_remains.specs.Pages.{entries_in};
+ghost use Rattle.pst_remains.specs.Pages.{leaf_entries};
 
 use crate::judged::{check_free, claim_free};
 use pst_block::{block_place, block_size, check_trailer};
@@ -166,7 +166,7 @@ pub fn sort_blocks(
     requires leaves { AreLeaves Bbt (bytes_of image) leaves.now }
     ensures same { length claims.new ≡ length claims.old }
     ensures left { IfOk result (λ s. blocks_left (end_of header.now) (bytes_of image.entry) claims.old
-        (map (block_entry_at (bytes_of image.entry)) (entries_in (bytes_of image.entry) leaves.now))
+        (map (block_entry_at (bytes_of image.entry)) (leaf_entries (bytes_of image.entry) leaves.now))
         ≡ blocks_so_far claims.new s.faults.items s.good.items) }
 {
     let mut sorted = Sorted {

@@ -6,7 +6,7 @@ ghost use Rattle.pst_encoding.specs.Tables.{IsByte};
 ghost use Rattle.pst_fault.specs.Fault.{no_memory};
 ghost use Rattle.pst_plain.specs.Twin.{method_of as method_in, with_method};
 ghost use Rattle.pst_remains.specs.Decoded.{decoded_remains_of};
-ghost use Rattle.pst_remains.specs.View.{parts_in, parts_over, IsFound, IsOver};
+ghost use Rattle.pst_remains.specs.View.{parts_in, parts_over, IsAllFound, IsOver};
 
 use crate::find::find_remains;
 use crate::found::Found;
@@ -24,7 +24,7 @@ fn are_bytes(file: &[u8])
 // What is found of a file.
 fn look(alloc: Global, file: &[u8]) -> Result<Found, Fault>
     requires { 564 ≤ length file.now }
-    ensures exact { IfOk result (IsFound file.now) }
+    ensures exact { IfOk result (IsAllFound file.now) }
     ensures err { IfErr result (λ f. f ≡ no_memory) }
 {
     let remains = find_remains(alloc, Image::new(file))?;
@@ -34,7 +34,7 @@ fn look(alloc: Global, file: &[u8]) -> Result<Found, Fault>
 // What is found of an encoded file with bCryptMethod 0, which it has then.
 fn look_plain(alloc: Global, method: Method, file: &mut [u8]) -> Result<Found, Fault>
     requires method { method_in file.old ≡ Some method }
-    ensures exact { IfOk result (IsFound (with_method 0 file.old)) }
+    ensures exact { IfOk result (IsAllFound (with_method 0 file.old)) }
     ensures plain { OnOk result (file.new ≡ with_method 0 file.old) }
     ensures err { IfErr result (λ f. f ≡ no_memory) }
     ensures same { OnErr result (file.new ≡ file.old) }

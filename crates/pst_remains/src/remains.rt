@@ -44,7 +44,7 @@ pub struct Remains<'a> {
 
 impl<'a> Remains<'a> {
     ghost use Rattle.std.specs.Prelude.{◌≡◌};
-    ghost use Rattle.pst_btree.specs.Lists.{listed_nodes};
+    ghost use Rattle.pst_btree.specs.Lists.{nodes_in_list};
     ghost use Rattle.pst_block.specs.Blocks.{table_of, image_of};
     ghost use Rattle.pst_remains.specs.View.{table_in, image_in};
 
@@ -58,7 +58,7 @@ impl<'a> Remains<'a> {
 
     /// The nodes that are left.
     pub fn node_list(&self) -> NodeList<'_>
-        ensures { listed_nodes result ≡ self.now.nodes.items }
+        ensures { nodes_in_list result ≡ self.now.nodes.items }
     {
         NodeList::of(&self.nodes)
     }

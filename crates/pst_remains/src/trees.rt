@@ -10,7 +10,7 @@ ghost use Rattle.pst_page.specs.Page.{entries_at, level_at};
 ghost use Rattle.pst_space.specs.Claimed.{unit_total};
 ghost use Rattle.pst_btree.specs.Order.{Rises};
 ghost use Rattle.pst_remains.specs.Leaf.{AreLeaves, IsLeaf};
-ghost use Rattle.pst_remains.specs.Pages.{entries_in, faults_of as told, left_so_far, tree_left};
+ghost use Rattle.pst_remains.specs.Pages.{leaf_entries, faults_of as told, left_so_far, tree_left};
 
 use crate::pages::{Broken, Seen};
 use crate::walk_page::walk_page;
@@ -49,7 +49,7 @@ pub fn walk_tree(
         ≡ left_so_far claims.new s.broken.items s.leaves.items) }
     ensures leaves { IfOk result (λ s. AreLeaves kind (bytes_of image.entry) s.leaves.items) }
     ensures keys { IfOk result (λ s. Rises 0 None (map (key_at kind (bytes_of image.entry))
-        (entries_in (bytes_of image.entry) s.leaves.items))) }
+        (leaf_entries (bytes_of image.entry) s.leaves.items))) }
 {
     let mut seen = Seen {
         broken: Vec::new(alloc),
@@ -100,7 +100,7 @@ fn push_leaf(image: Image, ib: u64, nodes: &mut Vec<NodeEntry>) -> Result<(), Al
 pub fn nodes_in(alloc: Global, image: Image, leaves: &[u64]) -> Result<Vec<NodeEntry>, AllocError>
     requires { AreLeaves Nbt (bytes_of image) leaves.now }
     ensures { IfOk result (λ v. v.items ≡ map (node_entry_at (bytes_of image.entry))
-        (entries_in (bytes_of image.entry) leaves.now)) }
+        (leaf_entries (bytes_of image.entry) leaves.now)) }
 {
     let mut nodes = Vec::new(alloc);
     for ib in leaves {

@@ -25,7 +25,8 @@ fn check_answer(
     digest: Option<[u8; 32]>,
     bytes: &[u8],
 ) -> Result<Shown<'static>, Refusal<'static>>
-    ensures { (digested : Bool) → Gives result (answer_with (report strict digested) digest bytes.now) }
+    ensures { (digested : Bool)
+        → Gives result (answer_with (report strict digested) digest bytes.now) }
 {
     let verified = verify(alloc, bytes)?;
     let text = check_line(alloc, &verified.report, digest)?;
@@ -76,7 +77,8 @@ fn contents_answer<'p>(
     nid: &'p u32,
     bytes: &[u8],
 ) -> Result<Shown<'static>, Refusal<'p>>
-    ensures { (digest : Option (List ℕ)) → Gives result (answer_with (contents nid.now) digest bytes.now) }
+    ensures { (digest : Option (List ℕ))
+        → Gives result (answer_with (contents nid.now) digest bytes.now) }
 {
     let store = verify(alloc, bytes)?.store;
     store.is_sound();

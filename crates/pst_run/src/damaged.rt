@@ -102,7 +102,8 @@ fn damage_left(alloc: Global, remains: &Remains) -> Result<Damage, Fault>
 
 // What is told of all that is broken, where something is.
 fn broken_told(alloc: Global, found: &Damage) -> Result<Option<Vec<u8>>, AllocError>
-    ensures { IfOk result (λ t. option_map (λ v. v.items) t ≡ told_broken (damage_parts found.now)) }
+    ensures { IfOk result (λ t. option_map (λ v. v.items) t
+        ≡ told_broken (damage_parts found.now)) }
 {
     if is_whole(found) {
         return Ok(None);
@@ -116,7 +117,8 @@ pub(crate) fn broken_if(
     ask: &Ask,
     remains: &Remains,
 ) -> Result<Option<Vec<u8>>, Fault>
-    ensures value { let broken = broken_for (wanted_of ask.now) (damage_in (parts_in remains.now)) in
+    ensures value { let broken = broken_for (wanted_of ask.now) (damage_in
+        (parts_in remains.now)) in
         IfOk result (λ t. option_map (λ v. v.items) t ≡ broken) }
     ensures err { IfErr result (λ f. f ≡ no_memory) }
 {

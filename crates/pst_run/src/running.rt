@@ -99,7 +99,8 @@ fn write_whole_of<'a, W: Write>(
     out: &mut W,
 ) -> Result<bool, Refusal<'a>>
     requires { whole_wanted (request_of request.now) ≡ true }
-    ensures { EndsShowing result (whole_by (method_for request.now.decode bytes.items) (wanted_of request.now.ask) bytes.items)
+    ensures { EndsShowing result (whole_by (method_for request.now.decode bytes.items)
+        (wanted_of request.now.ask) bytes.items)
         (W.contents out.old) (W.contents out.new) }
 {
     if request.decode {

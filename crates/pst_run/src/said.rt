@@ -91,7 +91,8 @@ impl fmt::Display for Step {
 fn put_path<E: Write>(path: &[u32], err: &mut E) -> bool
     ensures all { result ≡ true →
         Appends (E.contents err.old) (E.contents err.new) (path_text true path.now) }
-    ensures front { AppendsFront (E.contents err.old) (E.contents err.new) (path_text true path.now) }
+    ensures front { AppendsFront (E.contents err.old) (E.contents err.new)
+        (path_text true path.now) }
 {
     let mut first = true;
     for nid in path {

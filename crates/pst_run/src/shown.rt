@@ -49,7 +49,8 @@ impl<'a> Shown<'a> {
 /// Writes all of it: a text as one, bytes of the file piece by piece, for which no memory is taken, and an archive file by file, for
 /// which memory may be refused. After a fault the writer holds a front of it.
 pub fn emit_text<W: Write>(alloc: Global, text: &Text, out: &mut W) -> Result<(), ExportFault>
-    ensures all { OnOk result (Appends (W.contents out.old) (W.contents out.new) (bytes_shown text.now)) }
+    ensures all { OnOk result (Appends (W.contents out.old) (W.contents out.new)
+        (bytes_shown text.now)) }
     ensures front { AppendsFront (W.contents out.old) (W.contents out.new) (bytes_shown text.now) }
     ensures memory { IsErrOf result ExportFault.Memory → is_streamed text.now ≡ true }
 {

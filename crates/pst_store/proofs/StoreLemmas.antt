@@ -25,7 +25,7 @@ use Rattle.pst_msg.specs.pst_names.declared.name_map.TheConstants.{NAME_MAP}
 use Rattle.pst_msg.specs.pst_names.declared.name.Name.{Name}
 use Rattle.pst_msg.specs.pst_names.declared.name_map.NameMap.{NameMap}
 use Rattle.pst_msg.specs.pst_names.Fault.{names_fault}
-use Rattle.pst_msg.specs.pst_names.Name.{name_of, store_name}
+use Rattle.pst_msg.specs.pst_names.Name.{name_of_property, store_name}
 use Rattle.pst_msg.specs.pst_names.View.{node_of_names, names_roots, name_parts, IsLent, IsLentIn}
 use Rattle.pst_msg.proofs.pst_names.NameLaws.{names_none}
 use Rattle.pst_msg.proofs.ContentsLaws.{none_required, none_are_names}
@@ -97,7 +97,7 @@ pub names_sound : (t : Table) (nodes : List NodeEntry) (node : Node) → messagi
 names_sound t nodes node none is same = rw same (names_none t (roots_of node) (none_are_names t nodes (parts t nodes none).names (roots_of node) (sym is)).1)
 
 -- what a property is called by it, and by none
-pub name_is : (t : Table) (nodes : List NodeEntry) (m : NameMap) (id : ℕ) (found : Option Name) → Some (names_roots m) ≡ node_in nodes NAME_MAP → table_of_node (node_of_names m) ≡ t → option_map name_parts found ≡ name_of (table_of_node (node_of_names m)) (names_roots m) id → option_map name_parts found ≡ store_name t nodes id
+pub name_is : (t : Table) (nodes : List NodeEntry) (m : NameMap) (id : ℕ) (found : Option Name) → Some (names_roots m) ≡ node_in nodes NAME_MAP → table_of_node (node_of_names m) ≡ t → option_map name_parts found ≡ name_of_property (table_of_node (node_of_names m)) (names_roots m) id → option_map name_parts found ≡ store_name t nodes id
 unfolding store_name
 name_is t nodes m id found is same named = rw (← is, ← same) named
 

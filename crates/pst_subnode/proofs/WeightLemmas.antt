@@ -14,7 +14,7 @@ use Rattle.pst_subnode.specs.declared.frame.LeafBlocks.{LeafBlocks}
 use Rattle.pst_subnode.specs.declared.frame.Below.TheVariants.{Entries, Leaves}
 use Rattle.pst_subnode.specs.Body.{sub_in}
 use Rattle.pst_subnode.specs.List.{leaf_subs}
-use Rattle.pst_subnode.specs.Left.{entries_left, leaves_left, subs_left}
+use Rattle.pst_subnode.specs.Left.{sub_entries_left, leaves_left, subs_left}
 use Rattle.pst_subnode.specs.declared.frame.Frame.{Frame}
 use Rattle.pst_subnode.specs.Weight.{unit_weight, frame_weight, stack_weight, below_rank}
 
@@ -66,7 +66,7 @@ none_from part i n z = rw z refl
 -- of an SLBLOCK, whose entries alone are left
 pub entries_length : (s : Subs) → s.leaves.left ≡ 0 → length (subs_left s) ≡ s.entries.left
 entries_length s none =
-    length-append (entries_left s.entries) (leaves_left (table_of s.blocks) s.leaves)
+    length-append (sub_entries_left s.entries) (leaves_left (table_of s.blocks) s.leaves)
     ∙ omega (arith, length_from (sub_in (bytes_of s.entries.body)) s.entries.next s.entries.left, ap length (none_from (leaf_subs (table_of s.blocks) (bytes_of s.leaves.body)) s.leaves.next s.leaves.left none))
 
 pub entries_light : (f : Frame) (subs : Subs) → f.below ≡ Entries subs → subs.leaves.left ≡ 0 → subs.entries.left < 65536 → frame_weight f < unit_weight (2 * f.limit + 1)

@@ -11,8 +11,8 @@ use Rattle.pst_subnode.specs.Body.{sub_at}
 use Rattle.pst_subnode.specs.List.{leaf_subs}
 
 -- the entries that are left of an SLBLOCK
-abbrev pub entries_left : Rest → List Sub
-entries_left r = join_from (sub_at (bytes_of r.body)) r.next r.left
+abbrev pub sub_entries_left : Rest → List Sub
+sub_entries_left r = join_from (sub_at (bytes_of r.body)) r.next r.left
 
 -- those of the SLBLOCKs that are left of an SIBLOCK
 abbrev pub leaves_left : Table → Rest → List Sub
@@ -20,4 +20,4 @@ leaves_left t r = join_from (leaf_subs t (bytes_of r.body)) r.next r.left
 
 -- the entries that are left
 abbrev pub subs_left : Subs → List Sub
-subs_left s = entries_left s.entries ++ leaves_left (table_of s.blocks) s.leaves
+subs_left s = sub_entries_left s.entries ++ leaves_left (table_of s.blocks) s.leaves

@@ -16,7 +16,7 @@ use Rattle.pst_ndb.specs.Alike.{Alike}
 use Rattle.pst_value.specs.declared.hnid.Hnid.{Hnid}
 use Rattle.pst_value.specs.declared.hnid.Hnid.TheVariants.{Nothing, Item, Subnode}
 use Rattle.pst_value.specs.Hnid.{hnid_of}
-use Rattle.pst_value.specs.Values.{held_of, one_span, data_under, spans_under, hnid_spans, some_spans, held_spans, value_spans}
+use Rattle.pst_value.specs.Values.{held_of, one_span, node_spans, spans_under, hnid_spans, some_spans, held_spans, value_spans}
 use Rattle.pst_value.specs.Fault.{missing_at, length_fault, hnid_fault, value_held_fault, value_fault}
 use Rattle.pst_value.specs.Laws.{AlikeValueLaw}
 
@@ -28,11 +28,11 @@ pub heap_alike : (t : Table) (r s : Roots) → Alike r s → heap_at t r ≡ hea
 heap_alike t r s e = ap (heap_with t.image) (data_spans_same t r.bid_data s.bid_data e.0)
 
 -- and their subnodes have the same data
-data_under_same : (t : Table) (r s : Roots) (found : Option Sub) → option_map (data_under t) (option_map (sub_roots r) found) ≡ option_map (data_under t) (option_map (sub_roots s) found)
+data_under_same : (t : Table) (r s : Roots) (found : Option Sub) → option_map (node_spans t) (option_map (sub_roots r) found) ≡ option_map (node_spans t) (option_map (sub_roots s) found)
 data_under_same t r s None = refl
 data_under_same t r s (Some x) = refl
 
-subnode_alike : (t : Table) (r s : Roots) (nid : ℕ) → Alike r s → option_map (data_under t) (subnode_of t r nid) ≡ option_map (data_under t) (subnode_of t s nid)
+subnode_alike : (t : Table) (r s : Roots) (nid : ℕ) → Alike r s → option_map (node_spans t) (subnode_of t r nid) ≡ option_map (node_spans t) (subnode_of t s nid)
 unfolding subnode_of
 subnode_alike t r s nid e = rw (subs_same t r.bid_sub s.bid_sub e.1) (data_under_same t r s (first_with sub_nid nid (subs_of t s.bid_sub)))
 

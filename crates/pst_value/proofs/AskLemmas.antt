@@ -19,7 +19,7 @@ use Rattle.pst_heap.specs.Values.{HeapData, heap_at, item_of}
 use Rattle.pst_value.specs.declared.asks.Asks.{Asks}
 use Rattle.pst_value.specs.declared.hnid.Hnid.TheVariants.{Nothing, Item, Subnode}
 use Rattle.pst_value.specs.Hnid.{hnid_of}
-use Rattle.pst_value.specs.Values.{held_of, one_span, data_under, hnid_spans}
+use Rattle.pst_value.specs.Values.{held_of, one_span, node_spans, hnid_spans}
 use Rattle.pst_value.specs.Fault.{missing_at, length_fault, hnid_fault, value_fault}
 use Rattle.pst_value.specs.Asks.{SameData, fits, is_fitting, all_fit, has_matrix}
 use Rattle.pst_value.specs.Met.{are_met, AsksMore, HoldsWith}
@@ -67,7 +67,7 @@ item_holds t r s kind place hid raw e none is sound = with_spans t r s kind plac
 
 -- a subnode, which is asked for
 
-fitting_none : (t : Table) (kind place : ℕ) (missing : Fault) (o : Option Roots) → fits t kind o ≡ true → there_or missing (length_fault kind place) (option_map (data_under t) o) ≡ None
+fitting_none : (t : Table) (kind place : ℕ) (missing : Fault) (o : Option Roots) → fits t kind o ≡ true → there_or missing (length_fault kind place) (option_map (node_spans t) o) ≡ None
 fitting_none t kind place missing None fit = absurd (false≢true fit)
 fitting_none t kind place missing (Some s) fit = holds_or_true _ _ fit
 

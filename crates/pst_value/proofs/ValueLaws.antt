@@ -17,7 +17,7 @@ use Rattle.pst_value.specs.declared.hnid.Hnid.{Hnid}
 use Rattle.pst_value.specs.declared.hnid.Hnid.TheVariants.{Nothing, Item, Subnode}
 use Rattle.pst_value.specs.Class.{class_of}
 use Rattle.pst_value.specs.Hnid.{hnid_of}
-use Rattle.pst_value.specs.Values.{held_of, one_span, data_under, spans_under, hnid_spans, some_spans, held_spans, value_spans}
+use Rattle.pst_value.specs.Values.{held_of, one_span, node_spans, spans_under, hnid_spans, some_spans, held_spans, value_spans}
 use Rattle.pst_value.specs.Fault.{missing_at, is_length_of, is_length, length_fault, hnid_fault, value_held_fault, value_fault}
 use Rattle.pst_value.specs.Grammar.{HasSpansUnder, HasHnid, HasLength, HasValueAs, HasValue}
 use Rattle.pst_value.specs.Laws.{ValueLaw, PlaceLaw}
@@ -32,7 +32,7 @@ mapped_law f (Some x) spans = (
 named_law : (t : Table) (r : Roots) (h : Hnid) (spans : List Span) → HasSpansUnder t r h spans ↔ (spans_under t r h ≡ Some spans)
 named_law t r Nothing spans = ((λ e. ap Some (sym e)), (λ e. sym (some_is _ _ e)))
 named_law t r (Item hid) spans = mapped_law one_span _ spans
-named_law t r (Subnode nid) spans = mapped_law (data_under t) _ spans
+named_law t r (Subnode nid) spans = mapped_law (node_spans t) _ spans
 
 pub hnid_law : (t : Table) (r : Roots) (hnid : ℕ) (spans : List Span) → HasHnid t r hnid spans ↔ (hnid_spans t r hnid ≡ Some spans)
 unfolding hnid_spans

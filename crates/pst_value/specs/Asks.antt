@@ -6,7 +6,7 @@ use Rattle.pst_block.specs.Block.{bid_key}
 use Rattle.pst_block.specs.Table.{Table}
 use Rattle.pst_datatree.specs.Data.{size_of}
 use Rattle.pst_ndb.specs.Roots.{Roots, subnode_of}
-use Rattle.pst_value.specs.Values.{data_under}
+use Rattle.pst_value.specs.Values.{node_spans}
 use Rattle.pst_value.specs.Fault.{is_length}
 
 -- ---- what is asked
@@ -18,7 +18,7 @@ SameData r s = bid_key r.bid_data ≡ bid_key s.bid_data
 -- a subnode is there, and its data has a length that a type allows
 abbrev pub fits : Table → ℕ → Option Roots → Bool
 fits t kind None = false
-fits t kind (Some s) = is_length kind (size_of (data_under t s))
+fits t kind (Some s) = is_length kind (size_of (node_spans t s))
 
 unfoldable pub is_fitting : Table → Roots → ℕ × ℕ → Bool
 is_fitting t r a = fits t a.1 (subnode_of t r a.0)

@@ -13,14 +13,14 @@ use Rattle.pst_value.specs.declared.hnid.Hnid.{Hnid}
 use Rattle.pst_value.specs.declared.hnid.Hnid.TheVariants.{Nothing, Item, Subnode}
 use Rattle.pst_value.specs.Class.{class_of}
 use Rattle.pst_value.specs.Hnid.{hnid_of}
-use Rattle.pst_value.specs.Values.{held_of, one_span, front_of, data_under}
+use Rattle.pst_value.specs.Values.{held_of, one_span, front_of, node_spans}
 
 -- an HNID that names an item of the heap, and one that names a subnode
 abbrev pub HasItem : Table → Roots → ℕ → List Span → Type 0
 HasItem t r hnid spans = (s : Span) × (item_of (heap_at t r) hnid ≡ Some s) × (spans ≡ one_span s)
 
 abbrev pub HasSubnodeData : Table → Roots → ℕ → List Span → Type 0
-HasSubnodeData t r hnid spans = (s : Roots) × (subnode_of t r hnid ≡ Some s) × (spans ≡ data_under t s)
+HasSubnodeData t r hnid spans = (s : Roots) × (subnode_of t r hnid ≡ Some s) × (spans ≡ node_spans t s)
 
 -- what an HNID names: nothing, the empty value; an item; the data of a subnode
 abbrev pub HasSpansUnder : Table → Roots → Hnid → List Span → Type 0

@@ -41,14 +41,14 @@ held_of t len = held_as (class_of t) t len
 abbrev pub one_span : Span → List Span
 one_span s = s ∷ []
 
-abbrev pub data_under : Table → Roots → List Span
-data_under t s = data_spans t s.bid_data
+abbrev pub node_spans : Table → Roots → List Span
+node_spans t s = data_spans t s.bid_data
 
 -- its spans; none where there is no such item or subnode
 abbrev pub spans_under : Table → Roots → Hnid → Option (List Span)
 spans_under t r Nothing = Some []
 spans_under t r (Item hid) = option_map one_span (item_of (heap_at t r) hid)
-spans_under t r (Subnode nid) = option_map (data_under t) (subnode_of t r nid)
+spans_under t r (Subnode nid) = option_map (node_spans t) (subnode_of t r nid)
 
 unfoldable pub hnid_spans : Table → Roots → ℕ → Option (List Span)
 hnid_spans t r hnid = spans_under t r (hnid_of hnid)

@@ -6,7 +6,7 @@ use Rattle.pst_block.specs.Table.{Table}
 use Rattle.pst_ndb.specs.Roots.{Roots}
 use Rattle.pst_ndb.specs.Views.{table_of_node, roots_of}
 use Rattle.pst_names.specs.declared.name_map.NameMap.{NameMap}
-use Rattle.pst_names.specs.Name.{KindParts, by_number, by_text, NameParts, name_of}
+use Rattle.pst_names.specs.Name.{KindParts, by_number, by_text, NameParts, name_of_property}
 use Rattle.pst_names.specs.View.{node_of_names}
 use Rattle.pst_pc.specs.Left.{pc_left, rest_of}
 use Rattle.pst_pc.specs.Values.{Property, property_at, spans_in}
@@ -79,7 +79,7 @@ record_data names filed places t r x =
 -- what properties are called by a name map; where there is none, no property has a name
 abbrev pub names_told : Option NameMap → ℕ → Option NameParts
 names_told None id = None
-names_told (Some map) id = name_of (table_of_node (node_of_names map)) (roots_of (node_of_names map)) id
+names_told (Some map) id = name_of_property (table_of_node (node_of_names map)) (roots_of (node_of_names map)) id
 
 -- the properties that are left
 unfoldable pub prop_rows_left : PropRows → List Data

@@ -1,5 +1,5 @@
 -- What a contract sees of what is whole of a damaged file, and of what is told of the rest.
-use Rattle.pst_btree.specs.Lists.{listed_nodes}
+use Rattle.pst_btree.specs.Lists.{nodes_in_list}
 use Rattle.pst_block.specs.Blocks.{table_of}
 use Rattle.pst_remains.specs.Remains.{RemainsParts}
 use Rattle.pst_remains.specs.View.{parts_in}
@@ -16,7 +16,7 @@ remains_whole w = parts_in w.remains
 
 -- what is told of identifiers
 abbrev pub lost_left : LeftNodes → LostParts
-lost_left l = lost_of (table_of l.blocks) (listed_nodes l.nodes) (pages_in l.pages.now)
+lost_left l = lost_of (table_of l.blocks) (nodes_in_list l.nodes) (pages_in l.pages.now)
 
 abbrev pub lost_in : Lost → LostParts
 lost_in Nothing = nothing_lost

@@ -1,7 +1,7 @@
 //! What is told of identifiers under which nothing is read.
 
 ghost use Rattle.std.specs.Prelude.{◌≡◌};
-ghost use Rattle.pst_btree.specs.Lists.{listed_nodes};
+ghost use Rattle.pst_btree.specs.Lists.{nodes_in_list};
 ghost use Rattle.pst_block.specs.Blocks.{table_of};
 ghost use Rattle.pst_damage.specs.BrokenPages.{pages_in};
 ghost use Rattle.pst_whole.specs.Nodes.{broken_nodes};
@@ -20,7 +20,7 @@ pub struct LeftNodes<'a> {
     pages: &'a BrokenPages<'a>,
     told: &'a [BrokenNode],
     ghost all_told: { told.now
-        ≡ broken_nodes (table_of blocks) (listed_nodes nodes) (pages_in pages.now) },
+        ≡ broken_nodes (table_of blocks) (nodes_in_list nodes) (pages_in pages.now) },
 }
 
 /// What is told of identifiers where nodes are read that are intact.
@@ -34,7 +34,7 @@ pub enum Lost<'a> {
 
 impl<'a> LeftNodes<'a> {
     ghost use Rattle.std.specs.Prelude.{◌≡◌};
-    ghost use Rattle.pst_btree.specs.Lists.{listed_nodes};
+    ghost use Rattle.pst_btree.specs.Lists.{nodes_in_list};
     ghost use Rattle.pst_block.specs.Blocks.{table_of};
     ghost use Rattle.pst_damage.specs.BrokenPages.{pages_in};
     ghost use Rattle.pst_whole.specs.Lost.{lost_of};
@@ -49,9 +49,9 @@ impl<'a> LeftNodes<'a> {
         told: &'a [BrokenNode],
     ) -> LeftNodes<'a>
         requires { told.now
-            ≡ broken_nodes (table_of blocks) (listed_nodes nodes) (pages_in pages.now) }
+            ≡ broken_nodes (table_of blocks) (nodes_in_list nodes) (pages_in pages.now) }
         ensures { lost_left result
-            ≡ lost_of (table_of blocks.entry) (listed_nodes nodes.entry) (pages_in pages.entry.now) }
+            ≡ lost_of (table_of blocks.entry) (nodes_in_list nodes.entry) (pages_in pages.entry.now) }
     {
         LeftNodes {
             blocks,

@@ -2,7 +2,7 @@
 
 ghost use Rattle.std.specs.Prelude.{◌≡◌, ◌++◌, [], IfOk, OnOk};
 ghost use Rattle.std.specs.List.{filter};
-ghost use Rattle.pst_btree.specs.Lists.{listed_nodes};
+ghost use Rattle.pst_btree.specs.Lists.{nodes_in_list};
 ghost use Rattle.pst_damage.specs.Judged.{Judged, kept_node, sound_by, broken_by};
 ghost use Rattle.pst_whole.specs.Nodes.{is_there};
 
@@ -14,7 +14,7 @@ use std::alloc::{AllocError, Global};
 
 /// Those of these broken nodes that are there; of a node that every store has, it may have been told that it is missing.
 pub(crate) fn told_there(nodes: NodeList, told: Vec<BrokenNode>) -> Vec<BrokenNode>
-    ensures { result.items ≡ filter (is_there (listed_nodes nodes.entry)) told.items }
+    ensures { result.items ≡ filter (is_there (nodes_in_list nodes.entry)) told.items }
 {
     let mut told = told;
     told.retain(|node| nodes.find(node.nid).is_some());
@@ -41,8 +41,8 @@ pub(crate) fn untold(
     nodes: NodeList,
     told: &[BrokenNode],
 ) -> Result<Vec<NodeEntry>, AllocError>
-    ensures { (part : Judged) → told.now ≡ broken_by part (listed_nodes nodes.entry) →
-        IfOk result (λ v. v.items ≡ sound_by part (listed_nodes nodes.entry)) }
+    ensures { (part : Judged) → told.now ≡ broken_by part (nodes_in_list nodes.entry) →
+        IfOk result (λ v. v.items ≡ sound_by part (nodes_in_list nodes.entry)) }
 {
     let mut whole = Vec::new(alloc);
     let mut next = 0;

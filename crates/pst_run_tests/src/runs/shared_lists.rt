@@ -8,12 +8,12 @@ use std::test::Fail;
 // An SIBLOCK of two SLBLOCKs.
 const TWO_LISTS: [u8; 8] = [2, 1, 2, 0, 0, 0, 0, 0];
 
-// Folders 0x142 and 0x162 share a table of ten messages, 194 bytes behind an XBLOCK, and one of a message that belongs to a folder
-// itself, 78 bytes. The ten messages, the attachment 0x8025 of message 0x344, and node 0x13f have texts in one list: subnodes 0x61,
+// Folders 0x142, 0x162 and 0x182 share a table of ten messages, 194 bytes behind an XBLOCK, one of a message that belongs to a folder
+// itself, 78 bytes, and one of the folder below them, 0x1c2. The ten messages, the attachment 0x8025 of message 0x344, and node 0x13f have texts in one list: subnodes 0x61,
 // 0x41 and 0x21, in this order, in two SLBLOCKs.
 const SHARED: Store<'static> = Store::Wider(
     &[
-        (12, Body::Rows(&[0x142, 0x162])),
+        (12, Body::Rows(&[0x142, 0x162, 0x182])),
         (
             16,
             Body::Rows(&[
@@ -57,16 +57,24 @@ const SHARED: Store<'static> = Store::Wider(
             74,
             Body::Names(LIST_OF_TWO, &[0x671, 68, 0, 0x8025, 64, 58]),
         ),
+        (76, Body::Rows(&[0x1c2])),
     ],
     &[
         (0x12d, 12, 0),
         (0x13f, 60, 58),
         (0x142, 8, 0),
+        (0x14d, 76, 0),
         (0x14e, 22, 0),
         (0x14f, 30, 0),
         (0x162, 8, 0),
+        (0x16d, 76, 0),
         (0x16e, 22, 0),
         (0x16f, 30, 0),
+        (0x182, 8, 0),
+        (0x18d, 76, 0),
+        (0x18e, 22, 0),
+        (0x18f, 30, 0),
+        (0x1c2, 8, 0),
         (0x204, 32, 58),
         (0x224, 32, 58),
         (0x244, 32, 58),
@@ -86,7 +94,7 @@ const ROWS: [Asked<'static>; 6] = [
     (
         &["folders", "store.pst"],
         Yes(
-            "{\"folders\":[{\"associated\":0,\"messages\":0,\"name\":null,\"nid\":\"0x122\",\"path\":[\"0x122\"],\"subfolders\":[\"0x142\",\"0x162\"]},{\"associated\":1,\"messages\":10,\"name\":null,\"nid\":\"0x142\",\"path\":[\"0x122\",\"0x142\"],\"subfolders\":[]},{\"associated\":1,\"messages\":10,\"name\":null,\"nid\":\"0x162\",\"path\":[\"0x122\",\"0x162\"],\"subfolders\":[]}]}\n",
+            "{\"folders\":[{\"associated\":0,\"messages\":0,\"name\":null,\"nid\":\"0x122\",\"path\":[\"0x122\"],\"subfolders\":[\"0x142\",\"0x162\",\"0x182\"]},{\"associated\":1,\"messages\":10,\"name\":null,\"nid\":\"0x142\",\"path\":[\"0x122\",\"0x142\"],\"subfolders\":[\"0x1c2\"]},{\"associated\":1,\"messages\":10,\"name\":null,\"nid\":\"0x162\",\"path\":[\"0x122\",\"0x162\"],\"subfolders\":[\"0x1c2\"]},{\"associated\":1,\"messages\":10,\"name\":null,\"nid\":\"0x182\",\"path\":[\"0x122\",\"0x182\"],\"subfolders\":[\"0x1c2\"]},{\"associated\":0,\"messages\":0,\"name\":null,\"nid\":\"0x1c2\",\"path\":[\"0x122\",\"0x142\",\"0x1c2\"],\"subfolders\":[]}]}\n",
         ),
     ),
     (
@@ -98,7 +106,7 @@ const ROWS: [Asked<'static>; 6] = [
     (
         &["messages", "store.pst"],
         Yes(
-            "{\"attachments\":0,\"class\":\"N\",\"folders\":[\"0x142\",\"0x162\"],\"nid\":\"0x204\",\"received\":null,\"recipients\":0,\"sender\":\"Ann\",\"sent\":null,\"size\":null,\"subject\":\"Hi\"}\n{\"attachments\":0,\"class\":\"N\",\"folders\":[\"0x142\",\"0x162\"],\"nid\":\"0x224\",\"received\":null,\"recipients\":0,\"sender\":\"Ann\",\"sent\":null,\"size\":null,\"subject\":\"Hi\"}\n{\"attachments\":0,\"class\":\"N\",\"folders\":[\"0x142\",\"0x162\"],\"nid\":\"0x244\",\"received\":null,\"recipients\":0,\"sender\":\"Ann\",\"sent\":null,\"size\":null,\"subject\":\"Hi\"}\n{\"attachments\":0,\"class\":\"N\",\"folders\":[\"0x142\",\"0x162\"],\"nid\":\"0x264\",\"received\":null,\"recipients\":0,\"sender\":\"Ann\",\"sent\":null,\"size\":null,\"subject\":\"Hi\"}\n{\"attachments\":0,\"class\":\"N\",\"folders\":[\"0x142\",\"0x162\"],\"nid\":\"0x284\",\"received\":null,\"recipients\":0,\"sender\":\"Ann\",\"sent\":null,\"size\":null,\"subject\":\"Hi\"}\n{\"attachments\":0,\"class\":\"N\",\"folders\":[\"0x142\",\"0x162\"],\"nid\":\"0x2a4\",\"received\":null,\"recipients\":0,\"sender\":\"Ann\",\"sent\":null,\"size\":null,\"subject\":\"Hi\"}\n{\"attachments\":0,\"class\":\"N\",\"folders\":[\"0x142\",\"0x162\"],\"nid\":\"0x2c4\",\"received\":null,\"recipients\":0,\"sender\":\"Ann\",\"sent\":null,\"size\":null,\"subject\":\"Hi\"}\n{\"attachments\":0,\"class\":\"N\",\"folders\":[\"0x142\",\"0x162\"],\"nid\":\"0x2e4\",\"received\":null,\"recipients\":0,\"sender\":\"Ann\",\"sent\":null,\"size\":null,\"subject\":\"Hi\"}\n{\"attachments\":0,\"class\":\"N\",\"folders\":[\"0x142\",\"0x162\"],\"nid\":\"0x304\",\"received\":null,\"recipients\":0,\"sender\":\"Ann\",\"sent\":null,\"size\":null,\"subject\":\"Hi\"}\n{\"attachments\":0,\"class\":\"N\",\"folders\":[\"0x142\",\"0x162\"],\"nid\":\"0x324\",\"received\":null,\"recipients\":0,\"sender\":\"Ann\",\"sent\":null,\"size\":null,\"subject\":\"Hi\"}\n{\"attachments\":1,\"class\":null,\"folders\":[],\"nid\":\"0x344\",\"received\":null,\"recipients\":0,\"sender\":null,\"sent\":null,\"size\":null,\"subject\":null}\n",
+            "{\"attachments\":0,\"class\":\"N\",\"folders\":[\"0x142\",\"0x162\",\"0x182\"],\"nid\":\"0x204\",\"received\":null,\"recipients\":0,\"sender\":\"Ann\",\"sent\":null,\"size\":null,\"subject\":\"Hi\"}\n{\"attachments\":0,\"class\":\"N\",\"folders\":[\"0x142\",\"0x162\",\"0x182\"],\"nid\":\"0x224\",\"received\":null,\"recipients\":0,\"sender\":\"Ann\",\"sent\":null,\"size\":null,\"subject\":\"Hi\"}\n{\"attachments\":0,\"class\":\"N\",\"folders\":[\"0x142\",\"0x162\",\"0x182\"],\"nid\":\"0x244\",\"received\":null,\"recipients\":0,\"sender\":\"Ann\",\"sent\":null,\"size\":null,\"subject\":\"Hi\"}\n{\"attachments\":0,\"class\":\"N\",\"folders\":[\"0x142\",\"0x162\",\"0x182\"],\"nid\":\"0x264\",\"received\":null,\"recipients\":0,\"sender\":\"Ann\",\"sent\":null,\"size\":null,\"subject\":\"Hi\"}\n{\"attachments\":0,\"class\":\"N\",\"folders\":[\"0x142\",\"0x162\",\"0x182\"],\"nid\":\"0x284\",\"received\":null,\"recipients\":0,\"sender\":\"Ann\",\"sent\":null,\"size\":null,\"subject\":\"Hi\"}\n{\"attachments\":0,\"class\":\"N\",\"folders\":[\"0x142\",\"0x162\",\"0x182\"],\"nid\":\"0x2a4\",\"received\":null,\"recipients\":0,\"sender\":\"Ann\",\"sent\":null,\"size\":null,\"subject\":\"Hi\"}\n{\"attachments\":0,\"class\":\"N\",\"folders\":[\"0x142\",\"0x162\",\"0x182\"],\"nid\":\"0x2c4\",\"received\":null,\"recipients\":0,\"sender\":\"Ann\",\"sent\":null,\"size\":null,\"subject\":\"Hi\"}\n{\"attachments\":0,\"class\":\"N\",\"folders\":[\"0x142\",\"0x162\",\"0x182\"],\"nid\":\"0x2e4\",\"received\":null,\"recipients\":0,\"sender\":\"Ann\",\"sent\":null,\"size\":null,\"subject\":\"Hi\"}\n{\"attachments\":0,\"class\":\"N\",\"folders\":[\"0x142\",\"0x162\",\"0x182\"],\"nid\":\"0x304\",\"received\":null,\"recipients\":0,\"sender\":\"Ann\",\"sent\":null,\"size\":null,\"subject\":\"Hi\"}\n{\"attachments\":0,\"class\":\"N\",\"folders\":[\"0x142\",\"0x162\",\"0x182\"],\"nid\":\"0x324\",\"received\":null,\"recipients\":0,\"sender\":\"Ann\",\"sent\":null,\"size\":null,\"subject\":\"Hi\"}\n{\"attachments\":1,\"class\":null,\"folders\":[],\"nid\":\"0x344\",\"received\":null,\"recipients\":0,\"sender\":null,\"sent\":null,\"size\":null,\"subject\":null}\n",
         ),
     ),
     (

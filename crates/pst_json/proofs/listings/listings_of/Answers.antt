@@ -17,5 +17,6 @@ loop-folder-preserved c =
       table = ap table_of_nodes steps.1 ∙ i.table;
       nodes = ap entries_of_nodes steps.1 ∙ i.nodes;
       index = rw table at c.in_ok-note_folder.ensures.index;
-      noted = λ nid. folder_noted (lists t nodes nid) (intact_roots c.in-Some.folder) _ _ _ _ _ steps.0 (rw (table, entries) at (c.in_ok-note_folder.ensures.noted nid)) (i.noted nid);
+      rows = rw table at c.in_ok-note_folder.ensures.rows;
+      noted = λ nid there. folder_noted (lists t nodes nid) (intact_roots c.in-Some.folder) _ _ _ _ _ steps.0 (rw (table, entries) at (c.in_ok-note_folder.ensures.noted nid there)) (i.noted nid there);
     }

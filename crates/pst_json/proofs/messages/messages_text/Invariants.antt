@@ -2,6 +2,7 @@ use Rattle.std.proofs.Common.{◌≡◌, ◌++◌}
 use Rattle.pst_ndb.specs.NodeTable.{table_of_nodes}
 use Rattle.pst_intact.specs.View.{table_of_intact, nodes_of_intact, intact_messages_left, messages_beside}
 use Rattle.pst_ndb.specs.NodeIndexes.{AreNodeIndexes}
+use Rattle.pst_json.specs.Listings.{AreThere}
 use Rattle.pst_json.specs.Messages.{messages_text, summary_lines}
 use Rattle.pst_json.specs.RowCounts.{AreCountsTrue}
 use Rattle.pst_json.proofs.messages.messages_text.Given as goal
@@ -12,5 +13,6 @@ invariant-loop-message l = let t = table_of_intact l.intact in let nodes = nodes
   table : table_of_nodes (messages_beside l.message-iterator) ≡ t;
   known : AreCountsTrue t l.counts;
   index : AreNodeIndexes t l.index;
+  there : AreThere nodes (intact_messages_left l.message-iterator);
   lines : l.text.items ++ summary_lines t nodes (intact_messages_left l.message-iterator) ≡ messages_text t nodes;
 }

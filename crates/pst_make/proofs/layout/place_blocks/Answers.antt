@@ -3,7 +3,7 @@ use Rattle.std.proofs.lemmas.Result.{err_from_is_err_and}
 use Rattle.std.specs.List.{All}
 use Rattle.pst_make.specs.declared.layout.PlacedBlock.{PlacedBlock}
 use Rattle.pst_make.specs.declared.plan.BlockPlan.{BlockPlan}
-use Rattle.pst_make.specs.Layout.{after, place_of, place_in, places_from, IsBlockBelow}
+use Rattle.pst_make.specs.Layout.{after, place_of, place_of_block, places_from, IsBlockBelow}
 use Rattle.pst_make.specs.Plan.{body_length}
 use Rattle.pst_make.specs.Sealed.{sealed_size}
 use Rattle.pst_make.proofs.LayoutLemmas.{fault_later, blocks_reach, blocks_step, blocks_below, places_next, places_done}
@@ -28,7 +28,7 @@ loop-block-preserved c =
     let forward : c.loop-block.cursor.next ≤ c.place.new.self.next = omega (arith, c.in_ok-ib.ensures.forward, c.in_ok-ib.ensures.placed.0, c.in_ok-ib.ensures.placed.1) in
     record {
       next = blocks_step c.args.blocks.now c.loop-block.block-index c.block-item.result c.loop-block.cursor.next _ _ c.loop-block-test.true c.block-item.is c.loop-block.invariant.next next-is;
-      places = subst (λ (items : List PlacedBlock). map place_in items ++ places_from c.place.new.self.next (drop (c.loop-block.block-index + 1) c.args.blocks.now) ≡ places_from c.args.cursor.now.next c.args.blocks.now) (sym c.in_ok-push.ensures.items)
+      places = subst (λ (items : List PlacedBlock). map place_of_block items ++ places_from c.place.new.self.next (drop (c.loop-block.block-index + 1) c.args.blocks.now) ≡ places_from c.args.cursor.now.next c.args.blocks.now) (sym c.in_ok-push.ensures.items)
           (places_next c.args.blocks.now c.loop-block.block-index c.block-item.result c.loop-block.placed.items _ c.loop-block.cursor.next c.place.new.self.next _ c.loop-block-test.true c.block-item.is
           refl (c.in_ok-ib.ensures.placed.0 ∙ ap (place_of c.loop-block.cursor.next) size-is) (ap length body-is) next-is c.loop-block.invariant.places);
       below = subst (λ (items : List PlacedBlock). All (IsBlockBelow c.place.new.self.next) items) (sym c.in_ok-push.ensures.items)

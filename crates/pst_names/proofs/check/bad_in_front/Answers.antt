@@ -1,5 +1,5 @@
 use Rattle.std.proofs.Common.{◌≡◌, ℕ, ◌/◌, List, length, ap}
-use Rattle.pst_names.specs.Known.{allows, AreAllowed, IsRun}
+use Rattle.pst_names.specs.Known.{allows, AreAllowed, IsGoodRun}
 use Rattle.pst_names.specs.Rest.{rest_file}
 use Rattle.pst_names.specs.Strings.{rule_guids, rule_strings}
 use Rattle.pst_names.proofs.RunLemmas.{run_of, known_run}
@@ -20,7 +20,7 @@ returns-in_err-put-in-None-clause-known c =
     let count = length c.front-front.result.now / 8 in
     let whole : count ≡ length r.front.now / 8 = ap (λ (bs : List ℕ). length bs / 8) c.front-front.ensures.bytes in
     let good : AreAllowed g s r.front.now = rw c.front-front.ensures.bytes at c.in-None.ensures in
-    let run : IsRun (allows g s) (rest_file r) r.at count = run_of (allows g s) (rest_file r) r.front.now r.at count r.own whole good in
+    let run : IsGoodRun (allows g s) (rest_file r) r.at count = run_of (allows g s) (rest_file r) r.front.now r.at count r.own whole good in
     c.in_err-put-in-None.ensures (allows g s) (rest_file r) (rw c.at-in-None.ensures run) c.requires.known
 
 pub returns-in_ok-put-in-None-clause-known : goal.returns-in_ok-put-in-None-clause-known
@@ -31,5 +31,5 @@ returns-in_ok-put-in-None-clause-known c =
     let count = length c.front-front.result.now / 8 in
     let whole : count ≡ length r.front.now / 8 = ap (λ (bs : List ℕ). length bs / 8) c.front-front.ensures.bytes in
     let good : AreAllowed g s r.front.now = rw c.front-front.ensures.bytes at c.in-None.ensures in
-    let run : IsRun (allows g s) (rest_file r) r.at count = run_of (allows g s) (rest_file r) r.front.now r.at count r.own whole good in
+    let run : IsGoodRun (allows g s) (rest_file r) r.at count = run_of (allows g s) (rest_file r) r.front.now r.at count r.own whole good in
     c.in_ok-put-in-None.ensures (allows g s) (rest_file r) (rw c.at-in-None.ensures run) c.requires.known

@@ -6,7 +6,7 @@ use Rattle.pst_pc.specs.View.{node_of_pc}
 use Rattle.pst_names.specs.declared.streams.TheConstants.{ENTRIES}
 use Rattle.pst_names.specs.Streams.{stream_spans}
 use Rattle.pst_names.specs.Entry.{entry_with}
-use Rattle.pst_names.specs.Fault.{entry_fault, entries_fault}
+use Rattle.pst_names.specs.Fault.{name_entry_fault, entries_fault}
 use Rattle.pst_names.specs.Behind.{IsBehind}
 use Rattle.pst_names.specs.Rest.{rest_file, rest_spans}
 use Rattle.pst_names.specs.Known.{allows, AreRunsTrue}
@@ -24,7 +24,7 @@ invariant-loop-number l =
       most : l.number ≤ l.count;
       behind : IsBehind I all (8 * l.number) (rest_spans l.rest);
       file : rest_file l.rest ≡ I;
-      left : left_from (entry_fault (rule_guids l.rules) (rule_strings l.rules)) (entry_with all (joined_bytes I all)) l.number l.count ≡ entries_fault (table_of_node node) (roots_of node);
+      left : left_from (name_entry_fault (rule_guids l.rules) (rule_strings l.rules)) (entry_with all (joined_bytes I all)) l.number l.count ≡ entries_fault (table_of_node node) (roots_of node);
       known : AreRunsTrue (allows (rule_guids l.rules) (rule_strings l.rules)) I l.runs;
     }
 

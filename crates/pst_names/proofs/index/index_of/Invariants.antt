@@ -5,7 +5,7 @@ use Rattle.pst_ndb.specs.Views.{image_of_node, table_of_node, roots_of}
 use Rattle.pst_pc.specs.View.{node_of_pc}
 use Rattle.pst_names.specs.declared.streams.TheConstants.{ENTRIES}
 use Rattle.pst_names.specs.Streams.{stream_spans}
-use Rattle.pst_names.specs.Entry.{entry_with, entries_from}
+use Rattle.pst_names.specs.Entry.{entry_with, name_entries}
 use Rattle.pst_names.specs.Behind.{IsBehind}
 use Rattle.pst_names.specs.Index.{naming_fields, known_of, is_noted}
 use Rattle.pst_names.specs.Known.{AreRunsTrue}
@@ -22,7 +22,7 @@ invariant-loop-number l =
       most : l.number ≤ l.count;
       behind : IsBehind I all (8 * l.number) (rest_spans l.rest);
       file : rest_file l.rest ≡ I;
-      left : (id : ℕ) → known_of l.index id (entries_from (entry_with all (joined_bytes I all)) l.number (l.count - l.number)) ≡ naming_fields (table_of_node node) (roots_of node) id;
+      left : (id : ℕ) → known_of l.index id (name_entries (entry_with all (joined_bytes I all)) l.number (l.count - l.number)) ≡ naming_fields (table_of_node node) (roots_of node) id;
       known : AreRunsTrue (is_noted l.index) I l.runs;
     }
 

@@ -1,6 +1,6 @@
 use Rattle.std.proofs.Common.{◌≡◌, ℕ, ◌/◌, List, length, ap, arith}
 use Rattle.pst_names.specs.Index.{is_noted, HasNoted}
-use Rattle.pst_names.specs.Known.{AreAll, IsRun, AreRunsTrue}
+use Rattle.pst_names.specs.Known.{AreAll, IsGoodRun, AreRunsTrue}
 use Rattle.pst_names.specs.Rest.{rest_file}
 use Rattle.pst_names.proofs.IndexLemmas.{noted_again, runs_stay}
 use Rattle.pst_names.proofs.RunLemmas.{run_of, known_run}
@@ -24,6 +24,6 @@ returns-clause-known c =
     let whole : count ≡ length r.front.now / 8 = ap (λ (bs : List ℕ). length bs / 8) c.front-front.ensures.bytes in
     let noted : HasNoted old new r.front.now (length r.front.now / 8) = rw c.front-front.ensures.bytes at c.in_ok-put_all.ensures in
     let all : AreAll (is_noted new) r.front.now = λ j le. noted.there j (omega (arith, le)) in
-    let run : IsRun (is_noted new) (rest_file r) r.at count = run_of (is_noted new) (rest_file r) r.front.now r.at count r.own whole all in
+    let run : IsGoodRun (is_noted new) (rest_file r) r.at count = run_of (is_noted new) (rest_file r) r.front.now r.at count r.own whole all in
     let before : AreRunsTrue (is_noted new) (rest_file r) c.args.runs.now = runs_stay old new (rest_file r) c.args.runs.now noted.keeps c.requires.known in
     c.in_ok-put.ensures (is_noted new) (rest_file r) (rw c.at-at.ensures run) before

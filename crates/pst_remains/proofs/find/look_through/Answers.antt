@@ -2,7 +2,7 @@ use Rattle.std.proofs.Common.{refl}
 use Rattle.pst_bytes.specs.Image.{bytes_of}
 use Rattle.pst_header.specs.Header.{end_of}
 use Rattle.pst_header.proofs.Head.{mapped_end}
-use Rattle.pst_remains.specs.Pages.{entries_in}
+use Rattle.pst_remains.specs.Pages.{leaf_entries}
 use Rattle.pst_remains.proofs.BlockLemmas.{sorted_rises, sorted_sound}
 use Rattle.pst_remains.proofs.NodeLemmas.{nodes_rise}
 use Rattle.pst_remains.proofs.RemainsLemmas.{gathered}
@@ -16,8 +16,8 @@ invariant_of-remains c =
     record {
       inside = rw c.end-end.ensures (mapped_end I c.args.header.now c.requires.mapped);
       sound = rw c.end-end.ensures (sorted_sound (end_of c.args.header.now) I _ _ _ _ _ sorted);
-      block_keys = sorted_rises (end_of c.args.header.now) I _ _ (entries_in I c.in_ok-first.first.leaves.items) _ _ sorted c.in_ok-first.ensures.keys;
-      node_keys = nodes_rise I (entries_in I c.in_ok-second.second.leaves.items) _ nodes c.in_ok-second.ensures.keys;
+      block_keys = sorted_rises (end_of c.args.header.now) I _ _ (leaf_entries I c.in_ok-first.first.leaves.items) _ _ sorted c.in_ok-first.ensures.keys;
+      node_keys = nodes_rise I (leaf_entries I c.in_ok-second.second.leaves.items) _ nodes c.in_ok-second.ensures.keys;
     }
 
 pub returns-clause-exact : goal.returns-clause-exact

@@ -11,7 +11,7 @@ returns-in_default-clause-left c = (gone_past c.args.folder c.args.rest c.args.l
 pub returns-clause-left : goal.returns-clause-left
 returns-clause-left c =
     let called = c.in_ok-inner.ensures ∙ ap (λ f. folder_in f c.nid.result) c.deref.ensures ∙ ap (folder_in (string_bytes c.args.folder)) c.nid.ensures in
-    gone_on c.args.folder c.in_ok-inner.inner c.args.rest c.next.new.self c.in-Some.attachment c.args.levels c.args.self.now.tasks.items c.push.new.self.items _
+    gone_on c.args.folder c.in_ok-inner.inner c.args.rest c.next_by.new.self c.in-Some.attachment c.args.levels c.args.self.now.tasks.items c.push.new.self.items _
     c.in-Some.ensures.steps.0 c.in-Some.ensures.steps.1 c.in-Some.ensures.steps.2 c.in_ok-push.ensures.items called (rw c.deref-2.ensures at c.in_ok-put_embedded.ensures.left)
 
 pub returns-clause-over : goal.returns-clause-over

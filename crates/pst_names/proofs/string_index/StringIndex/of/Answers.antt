@@ -10,7 +10,7 @@ use Rattle.pst_names.specs.Streams.{stream_spans}
 use Rattle.pst_names.specs.Behind.{IsBehind, behind_spans}
 use Rattle.pst_names.specs.Rest.{rest_file, rest_spans, front_span}
 use Rattle.pst_names.specs.declared.stretch.Stretch.{Stretch}
-use Rattle.pst_names.specs.Stretch.{IsStretch}
+use Rattle.pst_names.specs.Stretch.{IsStretchOf}
 use Rattle.pst_names.proofs.RestLemmas.{joins, same_place, front_fits}
 use Rattle.pst_names.proofs.StretchLemmas.{front_own}
 use Rattle.pst_names.proofs.string_index.StringIndex.of.Goals as goal
@@ -35,7 +35,7 @@ loop-start-preserved c =
     let behind : IsBehind I (rest_spans h) n (rest_spans c.skip-rest.result) = subst (λ J. IsBehind J (rest_spans h) n (rest_spans c.skip-rest.result)) file c.skip-rest.ensures.behind in
     let stretch : front ≡ take (length front) (drop l.start (bytes_in c.stream-value.result)) =
     subst (λ bs. front ≡ take (length front) (drop l.start bs)) (sym here_bytes) (front_own I front all (behind_spans h.behind) l.start h.at here own) in
-    let P : Stretch → Type 0 = λ s. IsStretch (bytes_in c.stream-value.result) s in
+    let P : Stretch → Type 0 = λ s. IsStretchOf (bytes_in c.stream-value.result) s in
     let item : Stretch = record { start = l.start; bytes = c.front-bytes.result } in
     record {
       most = omega (arith, size, fits, same);

@@ -8,7 +8,7 @@ use Rattle.pst_names.specs.declared.streams.TheConstants.{STRINGS}
 use Rattle.pst_names.specs.Streams.{stream_spans}
 use Rattle.pst_names.specs.Behind.{IsBehind}
 use Rattle.pst_names.specs.Rest.{rest_file, rest_spans}
-use Rattle.pst_names.specs.Stretch.{IsStretch}
+use Rattle.pst_names.specs.Stretch.{IsStretchOf}
 use Rattle.pst_names.proofs.string_index.StringIndex.of.Given as goal
 
 -- the stretches so far, and what is left behind them
@@ -20,7 +20,7 @@ invariant-loop-start l =
       most : l.start ≤ l.len;
       behind : IsBehind I (stream_spans (table_of_node node) (roots_of node) STRINGS) l.start (rest_spans l.rest);
       file : rest_file l.rest ≡ I;
-      are : All (λ s. IsStretch (bytes_in l.value) s) l.stretches.items;
+      are : All (λ s. IsStretchOf (bytes_in l.value) s) l.stretches.items;
     }
 
 abbrev pub decreases-loop-start : goal.decreases-loop-start
