@@ -125,7 +125,8 @@ fn node_in(found: &ArgMatches) -> Result<u32, Lack>
 
 // The path that is named.
 fn path_in(alloc: Global, found: &ArgMatches) -> Result<Path, NoOrder>
-    ensures { Reads nids_of result (path_named (first_of (codes "PATH") (rows_of (found_of found.now)))) }
+    ensures { let word = first_of (codes "PATH") (rows_of (found_of found.now)) in
+        Reads nids_of result (path_named word) }
 {
     match text_in(found, "PATH") {
         Some(word) => read_path(alloc, word),

@@ -10,6 +10,8 @@ pub(crate) struct Chance {
 }
 
 impl Chance {
+    ghost use Rattle.std.specs.Prelude.{◌≡◌, ◌<◌};
+
     /// The run of a seed.
     pub(crate) fn new(seed: u64) -> Chance {
         Chance {
@@ -18,7 +20,10 @@ impl Chance {
     }
 
     /// A number below a limit, 0 where that is 0.
-    pub(crate) fn below(&mut self, limit: u32) -> u32 {
+    pub(crate) fn below(&mut self, limit: u32) -> u32
+        ensures below { 0 < limit → result < limit }
+        ensures none { limit ≡ 0 → result ≡ 0 }
+    {
         let word = self.words.next_word();
         if limit == 0 { 0 } else { word % limit }
     }

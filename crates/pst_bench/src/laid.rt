@@ -16,7 +16,7 @@ impl Body {
     /// Of these bytes, encoded by the permutation where that is wanted (2.2.2.2 and 5.1).
     pub(crate) fn new(mut bytes: Vec<u8>, encoded: bool) -> Body {
         if encoded {
-            Codec::Permute.encode(0, &mut bytes);
+            Codec::Permute(None).encode(0, &mut bytes);
         }
         let check = pst_crc::check(&bytes);
         Body { bytes, check }

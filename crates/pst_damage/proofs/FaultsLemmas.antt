@@ -12,7 +12,7 @@ use Rattle.pst_datatree.specs.Data.{data_fault}
 use Rattle.pst_ndb.specs.Roots.{Roots}
 use Rattle.pst_remains.specs.declared.pages.Broken.{Broken}
 use Rattle.pst_tc.specs.Values.{tc_rows}
-use Rattle.pst_msg.specs.declared.faults.Faults.{Faults}
+use Rattle.pst_msg.specs.pst_remembered.declared.faults.Faults.{Faults}
 use Rattle.pst_msg.specs.pst_mail.declared.items.Items.{Items}
 use Rattle.pst_msg.specs.pst_mail.declared.items.Items.TheVariants.{Subfolders, Messages, Associated}
 use Rattle.pst_msg.specs.Broken.{roots_at}

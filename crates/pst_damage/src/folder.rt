@@ -121,12 +121,12 @@ fn check_all(
     requires sound { tc_fault (table_of_node table) (roots_of table) ≡ None }
     requires listings { let nodes = left_nodes left.now in
         AreListingsTrue (left_table left.now) nodes (left_pages left.now) listings.old }
-    requires rows { let part = rows_part (left_table left.now) (left_nodes left.now) (left_pages left.now) in
-        AreFaultsOf as_it_is part rows.old }
+    requires rows { let t = left_table left.now in let nodes = left_nodes left.now in
+        AreFaultsOf as_it_is (rows_part t nodes (left_pages left.now)) rows.old }
     ensures listings { let nodes = left_nodes left.now in
         AreListingsTrue (left_table left.now) nodes (left_pages left.now) listings.new }
-    ensures rows { let part = rows_part (left_table left.now) (left_nodes left.now) (left_pages left.now) in
-        AreFaultsOf as_it_is part rows.new }
+    ensures rows { let t = left_table left.now in let nodes = left_nodes left.now in
+        AreFaultsOf as_it_is (rows_part t nodes (left_pages left.now)) rows.new }
     ensures exact { let r = roots_of table.entry in
         let rows = tc_rows (table_of_node table.entry) r in
         Tells result (first_of (row_damage (left_nodes left.now) (left_pages left.now) items
@@ -154,12 +154,12 @@ fn check_lent(
     requires contexts { IsCheckerOf (table_of_node table) contexts.now }
     requires listings { let nodes = left_nodes left.now in
         AreListingsTrue (left_table left.now) nodes (left_pages left.now) listings.old }
-    requires rows { let part = rows_part (left_table left.now) (left_nodes left.now) (left_pages left.now) in
-        AreFaultsOf as_it_is part rows.old }
+    requires rows { let t = left_table left.now in let nodes = left_nodes left.now in
+        AreFaultsOf as_it_is (rows_part t nodes (left_pages left.now)) rows.old }
     ensures listings { let nodes = left_nodes left.now in
         AreListingsTrue (left_table left.now) nodes (left_pages left.now) listings.new }
-    ensures rows { let part = rows_part (left_table left.now) (left_nodes left.now) (left_pages left.now) in
-        AreFaultsOf as_it_is part rows.new }
+    ensures rows { let t = left_table left.now in let nodes = left_nodes left.now in
+        AreFaultsOf as_it_is (rows_part t nodes (left_pages left.now)) rows.new }
     ensures exact { let r = roots_of table.entry in
         let rows = tc_rows (table_of_node table.entry) r in
         Tells result (first_of (row_damage (left_nodes left.now) (left_pages left.now) items

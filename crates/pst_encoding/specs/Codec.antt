@@ -5,5 +5,5 @@ use Rattle.pst_encoding.specs.declared.method.Method.{Method}
 use Rattle.pst_encoding.specs.declared.method.Method.TheVariants as method
 
 abbrev pub codec_method : Codec → Method
-codec_method codec.Permute = method.Permute
+codec_method (codec.Permute pairs) = method.Permute
 codec_method (codec.Cyclic turns) = method.Cyclic

@@ -4,4 +4,3 @@ pub mod Cyclic
 pub mod Method
 pub mod Codec
 pub mod Pairs
-pub mod Decoder

@@ -11,7 +11,7 @@ use Rattle.pst_verify.specs.pst_msg.pst_mail.declared.nid.TheConstants.{MESSAGE,
 use Rattle.pst_verify.specs.pst_msg.Nid.{is_type}
 use Rattle.pst_verify.specs.pst_msg.Values.{is_message}
 use Rattle.pst_verify.specs.pst_store.Kind.{of_kind, node_of_kind}
-use Rattle.pst_json.specs.Listings.{is_there, AreThere}
+use Rattle.pst_json.specs.Listings.{has_message, AreThere}
 use Rattle.pst_json.specs.Messages.{listed_in, messages_text, summary_data, summary_line, summary_lines}
 use Rattle.pst_value_json.specs.pst_text.Line.{data_line}
 
@@ -70,20 +70,20 @@ some_mapped : (o : Option NodeEntry) → is_some o ≡ true → is_some (option_
 some_mapped None found = found
 some_mapped (Some e) found = refl
 
-is_there_at : (nodes : List NodeEntry) (nid : ℕ) → is_message nid ≡ true → is_some (node_with nid nodes) ≡ true → is_there nodes nid ≡ true
+has_message_at : (nodes : List NodeEntry) (nid : ℕ) → is_message nid ≡ true → is_some (node_with nid nodes) ≡ true → has_message nodes nid ≡ true
 unfolding node_of_kind node_in
-is_there_at nodes nid kind found = rw kind (some_mapped (node_with nid nodes) found)
+has_message_at nodes nid kind found = rw kind (some_mapped (node_with nid nodes) found)
 
 there_in : (nodes es : List NodeEntry) → ((nid : ℕ) → is_some (node_with nid es) ≡ true → is_some (node_with nid nodes) ≡ true) → AreThere nodes (of_kind is_message (all_roots es))
 there_in nodes [] more = tt
 there_in nodes (e ∷ es) more = by_kind (there_in nodes es (λ nid found. more nid (found_behind nid e es found))) (is_message e.nid) refl
   where
     by_kind : AreThere nodes (of_kind is_message (all_roots es)) → (b : Bool) → is_message e.nid ≡ b → AreThere nodes (cond b (entry_roots e ∷ of_kind is_message (all_roots es)) (of_kind is_message (all_roots es)))
-    by_kind later true kind = (is_there_at nodes e.nid kind (more e.nid (found_here e es)), later)
+    by_kind later true kind = (has_message_at nodes e.nid kind (more e.nid (found_here e es)), later)
     by_kind later false kind = later
 
 pub all_there : (nodes : List NodeEntry) → AreThere nodes (of_kind is_message (all_roots nodes))
 all_there nodes = there_in nodes nodes (λ nid found. found)
 
-pub first_there : (nodes : List NodeEntry) (r : Roots) (old left : List Roots) → old ≡ r ∷ left → AreThere nodes old → (is_there nodes r.top ≡ true) × AreThere nodes left
+pub first_there : (nodes : List NodeEntry) (r : Roots) (old left : List Roots) → old ≡ r ∷ left → AreThere nodes old → (has_message nodes r.top ≡ true) × AreThere nodes left
 first_there nodes r old left is are = rw is at are

@@ -20,8 +20,9 @@ use Rattle.pst_damage_json.specs.Faults.{fault_data}
 use Rattle.pst_json.specs.declared.listed_rows.ListedRows.{ListedRows}
 use Rattle.pst_props.specs.declared.fault.DocFault.{DocFault}
 use Rattle.pst_props.specs.declared.fault.DocFault.TheVariants.{NoFolder, Bad}
-use Rattle.pst_json.specs.declared.texts.TheConstants.{CLASS, SENDER, SUBJECT}
-use Rattle.pst_json.specs.Folders.{text_property, table_told}
+use Rattle.pst_props.specs.declared.texts.TheConstants.{CLASS, SENDER, SUBJECT}
+use Rattle.pst_json.specs.Folders.{table_told}
+use Rattle.pst_props.specs.Texts.{text_property}
 use Rattle.pst_props.specs.Told.{lined}
 use Rattle.pst_value_json.specs.pst_text.Names.{nid_data}
 use Rattle.pst_value_json.specs.pst_text.Parts.{list_data}

@@ -1,13 +1,11 @@
 -- The folders of a store as a document ([MS-PST] 2.4.4).
-use Rattle.std.specs.Prelude.{ℕ, Bool, true, false, nat_eq, Option, Some, None, List, ◌++◌, length, codes, if◌then◌else◌}
+use Rattle.std.specs.Prelude.{ℕ, Bool, true, false, Option, Some, None, List, ◌++◌, length, codes, if◌then◌else◌}
 use Rattle.std.specs.List.{filter}
 use Rattle.serde_json.specs.Data.{Data, null, object, member, no_members}
 use Rattle.pst_fault.specs.declared.fault.Fault.{Fault}
 use Rattle.pst_page.specs.declared.entry.NodeEntry.{NodeEntry}
 use Rattle.pst_block.specs.Table.{Table}
-use Rattle.pst_btree.specs.Entries.{first_with}
 use Rattle.pst_ndb.specs.Roots.{Roots, all_roots}
-use Rattle.pst_value_json.specs.pst_pc.Values.{Property, id_of, props_of}
 use Rattle.pst_value_json.specs.pst_tc.Values.{RowParts}
 use Rattle.pst_verify.specs.pst_msg.pst_mail.declared.items.Items.{Items}
 use Rattle.pst_verify.specs.pst_msg.pst_mail.declared.items.Items.TheVariants.{Subfolders, Messages, Associated}
@@ -20,20 +18,11 @@ use Rattle.pst_verify.specs.pst_reach.declared.reached.Reach.{Reach}
 use Rattle.pst_verify.specs.pst_reach.Levels.{reaches_of}
 use Rattle.pst_verify.specs.pst_reach.Path.{path_in, is_reached_in, is_lost_in}
 use Rattle.pst_whole.specs.Lost.{LostParts, told_lost}
-use Rattle.pst_json.specs.declared.texts.TheConstants.{NAME}
+use Rattle.pst_props.specs.declared.texts.TheConstants.{NAME}
+use Rattle.pst_props.specs.Texts.{text_property}
 use Rattle.pst_value_json.specs.pst_text.Line.{data_line}
 use Rattle.pst_value_json.specs.pst_text.Names.{nid_data}
 use Rattle.pst_value_json.specs.pst_text.Parts.{natural, list_data}
-use Rattle.pst_value_json.specs.pst_text.Text.{text_data}
-
--- the text of a property, where it is there and is text
-abbrev pub text_or_null : Option Property → Data
-text_or_null None = null
-text_or_null (Some p) = if nat_eq p.kind 0x001F then text_data p.bytes else null
-
--- that of the property with an identifier
-unfoldable pub text_property : Table → Roots → ℕ → Data
-text_property t r id = text_or_null (first_with id_of id (props_of t r))
 
 -- the identifier of a row
 abbrev pub row_nid : RowParts → Data

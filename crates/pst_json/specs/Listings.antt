@@ -24,10 +24,10 @@ if_listed true folder = folder ∷ []
 if_listed false folder = []
 
 -- a message with this identifier is there
-abbrev pub is_there : List NodeEntry → ℕ → Bool
-is_there nodes nid = is_some (node_of_kind is_message nodes nid)
+abbrev pub has_message : List NodeEntry → ℕ → Bool
+has_message nodes nid = is_some (node_of_kind is_message nodes nid)
 
 -- those with these roots are
 abbrev pub AreThere : List NodeEntry → List Roots → Type 0
 AreThere nodes [] = Unit {0}
-AreThere nodes (r ∷ rs) = (is_there nodes r.top ≡ true) × AreThere nodes rs
+AreThere nodes (r ∷ rs) = (has_message nodes r.top ≡ true) × AreThere nodes rs

@@ -15,8 +15,9 @@ use Rattle.pst_verify.specs.pst_msg.Shown.{attachment_rows, rows_there, folder_t
 use Rattle.pst_verify.specs.pst_msg.Values.{is_folder}
 use Rattle.pst_verify.specs.pst_store.Kind.{of_kind}
 use Rattle.pst_json.specs.declared.messages.TheConstants.{RECEIVED, SENT, SIZE}
-use Rattle.pst_json.specs.declared.texts.TheConstants.{CLASS, SENDER, SUBJECT}
-use Rattle.pst_json.specs.Folders.{row_total, text_property}
+use Rattle.pst_props.specs.declared.texts.TheConstants.{CLASS, SENDER, SUBJECT}
+use Rattle.pst_json.specs.Folders.{row_total}
+use Rattle.pst_props.specs.Texts.{text_property}
 use Rattle.pst_props.specs.Node.{recipient_nid}
 use Rattle.pst_value_json.specs.pst_text.Line.{data_line}
 use Rattle.pst_value_json.specs.pst_text.Names.{nid_data}

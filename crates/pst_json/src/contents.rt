@@ -23,13 +23,12 @@ ghost use Rattle.pst_ndb.specs.NodeIndexes.{AreNodeIndexes};
 ghost use Rattle.pst_props.specs.Told.{TellsDoc};
 
 use crate::listed_rows::ListedRows;
-use crate::texts::{CLASS, SENDER, SUBJECT, text_property_doc};
 use pst_damage_json::fault_doc;
 use pst_fault::Fault;
 use pst_intact::Intact;
 use pst_msg::{Items, listing_nid};
 use pst_ndb::NodeIndexes;
-use pst_props::{DocFault, lend_message, new_indexes};
+use pst_props::{CLASS, DocFault, SENDER, SUBJECT, lend_message, new_indexes, text_property_doc};
 use pst_value_json::{Line, Made, Part, Pc, Row, Sink, Tc, TcRows, Tree, nid_text};
 use pst_verify::{FOLDER, Message, is_type};
 use pst_whole::Lost;

@@ -12,7 +12,8 @@ ghost use Rattle.pst_intact.specs.View.{table_of_intact, nodes_of_intact, intact
 ghost use Rattle.pst_whole.specs.View.{lost_in};
 ghost use Rattle.pst_verify.specs.pst_reach.Levels.{reaches_of};
 ghost use Rattle.pst_verify.specs.pst_reach.Path.{reach_nid, path_in};
-ghost use Rattle.pst_json.specs.Folders.{row_nid, row_total, text_property, path_data, count_data, nids_data, table_told, folder_data, folders_data, folders_line as line_of_folders};
+ghost use Rattle.pst_json.specs.Folders.{row_nid, row_total, path_data, count_data, nids_data, table_told, folder_data, folders_data, folders_line as line_of_folders};
+ghost use Rattle.pst_props.specs.Texts.{text_property};
 ghost use Rattle.pst_ndb.specs.NodeIndexes.{AreNodeIndexes};
 ghost use Rattle.pst_json.specs.RowCounts.{AreCountsTrue};
 ghost use Rattle.pst_value_json.specs.pst_text.Names.{nid_data};
@@ -20,12 +21,11 @@ ghost use Rattle.pst_value_json.specs.pst_text.Parts.{list_data};
 
 use crate::folder_rows::FolderRows;
 use crate::row_counts::RowCounts;
-use crate::texts::{NAME, text_property_doc};
 use pst_fault::Fault;
 use pst_intact::{Intact, IntactFolder};
 use pst_msg::{FOLDER, Items, is_type, listing_nid};
 use pst_ndb::NodeIndexes;
-use pst_props::lend_pc;
+use pst_props::{NAME, lend_pc, text_property_doc};
 use pst_value_json::{Line, Part, Sink, Tc, Tree, nid_text};
 use pst_verify::{Reach, path_from_root};
 use pst_whole::Lost;

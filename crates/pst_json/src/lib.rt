@@ -25,7 +25,6 @@ mod nodes;
 mod output;
 mod row_counts;
 mod row_ids;
-mod texts;
 
 pub use check::{check_doc, check_line};
 pub use contents::{contents_doc, contents_line};
@@ -36,12 +35,12 @@ pub use nodes::{nodes_doc, nodes_line};
 pub use output::{EmitFault, emit, emit_value};
 pub use pst_ndb::read_nodes;
 pub use pst_props::{
-    DocFault, DocumentIndexes, NamesIndex, attachment_line, lend_message, lost_at, message_line,
-    names_in, names_index, new_indexes, node_line, property_at, props_doc, props_line,
+    DocFault, DocumentIndexes, NamesIndex, TEXT, attachment_line, lend_message, lost_at,
+    message_line, names_in, names_index, new_indexes, node_line, property_at, props_doc,
+    props_line,
 };
 pub use pst_value_json::{
     Prop, PropType, Value, hex_doc, pc_doc, table_doc, text, text_of, value_doc,
 };
 pub use pst_verify::{Reach, Store, Verified, reach_among, verify};
 pub use pst_whole::{Intact, Lost, WholeNodes, find_whole};
-pub use texts::TEXT;

@@ -13,10 +13,10 @@ ghost use Rattle.pst_ndb.specs.NodeIndexes.{AreNodeIndexes};
 ghost use Rattle.pst_value_json.specs.pst_text.Kept.{BeginsWith};
 
 use crate::contents::{message_in, properties_of, told_doc};
-use crate::texts::{CLASS, SENDER, SUBJECT, put_text_property};
 use pst_fault::Fault;
 use pst_intact::Intact;
 use pst_ndb::NodeIndexes;
+use pst_props::{CLASS, SENDER, SUBJECT, put_text_property};
 use pst_value_json::{Pc, Row, put_nid, put_null};
 use pst_whole::Lost;
 use std::alloc::{AllocError, Global};

@@ -4,7 +4,7 @@ ghost use Rattle.std.specs.Prelude.{◌≡◌, ℕ, true, IfOk};
 ghost use Rattle.pst_ndb.specs.Views.{table_of_node, roots_of};
 ghost use Rattle.pst_value_json.specs.pst_tc.Tc.{node_of_tc};
 ghost use Rattle.pst_intact.specs.View.{table_of_intact, nodes_of_intact};
-ghost use Rattle.pst_json.specs.Listings.{folders_listing, is_there};
+ghost use Rattle.pst_json.specs.Listings.{folders_listing, has_message};
 ghost use Rattle.pst_json.specs.Messages.{listed_in};
 ghost use Rattle.pst_json.specs.RowIds.{ids_asked};
 
@@ -28,7 +28,7 @@ pub(crate) struct Listings {
 // The messages that are there among those that the rows of a table name.
 fn messages_in(alloc: Global, intact: &Intact, table: Tc) -> Result<Vec<u32>, AllocError>
     ensures { let node = node_of_tc table.entry in
-        let asked = is_there (nodes_of_intact intact.now) in
+        let asked = has_message (nodes_of_intact intact.now) in
         IfOk result (λ nids. nids.items ≡ ids_asked asked (table_of_node node) (roots_of node)) }
 {
     let mut messages = Vec::new(alloc);
@@ -51,7 +51,7 @@ impl Listings {
     ghost use Rattle.pst_btree.specs.Order.{Rises};
     ghost use Rattle.pst_ndb.specs.NodeIndexes.{AreNodeIndexes};
     ghost use Rattle.pst_intact.specs.View.{nodes_of_intact};
-    ghost use Rattle.pst_json.specs.Listings.{folders_listing, if_listed, is_there};
+    ghost use Rattle.pst_json.specs.Listings.{folders_listing, if_listed, has_message};
     ghost use Rattle.pst_json.specs.Messages.{lists, names};
     ghost use Rattle.pst_json.specs.RowIds.{AreRowIdsTrue};
 
@@ -115,14 +115,14 @@ impl Listings {
         index: &mut NodeIndexes,
     ) -> Result<(), AllocError>
         requires index { AreNodeIndexes (table_of_node (node_of_tc table)) index.old }
-        requires rows { AreRowIdsTrue (is_there (nodes_of_intact intact.now))
+        requires rows { AreRowIdsTrue (has_message (nodes_of_intact intact.now))
             (table_of_node (node_of_tc table)) rows.old }
         ensures index { AreNodeIndexes (table_of_node (node_of_tc table.entry)) index.new }
-        ensures rows { AreRowIdsTrue (is_there (nodes_of_intact intact.now))
+        ensures rows { AreRowIdsTrue (has_message (nodes_of_intact intact.now))
             (table_of_node (node_of_tc table.entry)) rows.new }
         ensures noted { let node = node_of_tc table.entry in
             let rows = tc_rows (table_of_node node) (roots_of node) in
-            OnOk result ((nid : ℕ) → is_there (nodes_of_intact intact.now) nid ≡ true
+            OnOk result ((nid : ℕ) → has_message (nodes_of_intact intact.now) nid ≡ true
             → folders_listing self.new nid
             ≡ folders_listing self.old nid ++ if_listed (list_any (names nid) rows) folder) }
     {
@@ -152,14 +152,14 @@ impl Listings {
         index: &mut NodeIndexes,
     ) -> Result<(), AllocError>
         requires index { AreNodeIndexes (table_of_nodes (intact_beside folder)) index.old }
-        requires rows { AreRowIdsTrue (is_there (nodes_of_intact intact.now))
+        requires rows { AreRowIdsTrue (has_message (nodes_of_intact intact.now))
             (table_of_nodes (intact_beside folder)) rows.old }
         ensures index { AreNodeIndexes (table_of_nodes (intact_beside folder.entry)) index.new }
-        ensures rows { AreRowIdsTrue (is_there (nodes_of_intact intact.now))
+        ensures rows { AreRowIdsTrue (has_message (nodes_of_intact intact.now))
             (table_of_nodes (intact_beside folder.entry)) rows.new }
         ensures noted { let all = intact_beside folder.entry in let t = table_of_nodes all in
             let r = intact_roots folder.entry in
-            OnOk result ((nid : ℕ) → is_there (nodes_of_intact intact.now) nid ≡ true
+            OnOk result ((nid : ℕ) → has_message (nodes_of_intact intact.now) nid ≡ true
             → folders_listing self.new nid
             ≡ folders_listing self.old nid ++ if_listed (lists t (entries_of_nodes all) nid r) r.top) }
     {
@@ -186,7 +186,7 @@ impl Listings {
 #[tactic(auto, unfolding(crate::specs::Messages::listed_in), using(crate::proofs::ListingLemmas::folder_noted, crate::proofs::ListingLemmas::folders_noted))]
 pub(crate) fn listings_of(alloc: Global, intact: &Intact) -> Result<Listings, AllocError>
     ensures { let i = intact.now in
-        IfOk result (λ l. (nid : ℕ) → is_there (nodes_of_intact i) nid ≡ true
+        IfOk result (λ l. (nid : ℕ) → has_message (nodes_of_intact i) nid ≡ true
         → folders_listing l nid ≡ listed_in (table_of_intact i) (nodes_of_intact i) nid) }
 {
     let mut listings = Listings::new(alloc);

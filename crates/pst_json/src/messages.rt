@@ -15,10 +15,9 @@ ghost use Rattle.pst_json.specs.RowCounts.{AreCountsTrue, IsHeld};
 use crate::listings::{Listings, listings_of};
 use crate::nid_lists::put_nid_list;
 use crate::row_counts::{Held, RowCounts};
-use crate::texts::{CLASS, SENDER, SUBJECT, put_text_property};
 use pst_intact::Intact;
 use pst_ndb::NodeIndexes;
-use pst_props::{lend_message, new_indexes};
+use pst_props::{CLASS, SENDER, SUBJECT, lend_message, new_indexes, put_text_property};
 use pst_value_json::{
     Pc, PropType, put_i32_or_null, put_natural, put_nid, put_null, put_time_or_null,
 };

@@ -63,8 +63,8 @@ fn encode_data(image: &mut [u8], codec: &Codec, block: BlockPlace)
 fn encode_blocks(image: &mut [u8], codec: &Codec, blocks: &[PlacedBlock])
     requires { All (IsBlockBelow (length image.old)) blocks.now }
     ensures same { length image.new ≡ length image.old }
-    ensures done { AreEncoded (codec_method codec.now) (filter holds_data (map place_of_block blocks.now))
-        image.old image.new }
+    ensures done { let places = filter holds_data (map place_of_block blocks.now) in
+        AreEncoded (codec_method codec.now) places image.old image.new }
 {
     for block in blocks {
         encode_data(image, codec, block.place());
@@ -95,7 +95,7 @@ pub fn encode(alloc: Global, image: &mut [u8], plan: &Plan, method: Method) -> R
         return Err(MakeFault::Body);
     }
     let layout = Layout::of(alloc, plan)?;
-    let codec = Codec::new(alloc, method)?;
+    let codec = Codec::new(alloc, method, 0)?;
     encode_blocks(image, &codec, &layout.blocks);
     encode_header(image, method);
     Ok(())

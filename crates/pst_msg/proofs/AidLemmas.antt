@@ -5,17 +5,17 @@ use Rattle.pst_pc.specs.pst_heap.declared.maps.Maps.{Maps}
 use Rattle.pst_pc.specs.pst_heap.Maps.{AreMapsTrue}
 use Rattle.pst_ndb.specs.declared.node_indexes.NodeIndexes.{NodeIndexes}
 use Rattle.pst_ndb.specs.NodeIndexes.{AreNodeIndexes}
-use Rattle.pst_msg.specs.declared.asked.Asked.{Asked}
-use Rattle.pst_msg.specs.declared.faults.Faults.{Faults}
+use Rattle.pst_remembered.specs.declared.asked.Asked.{Asked}
+use Rattle.pst_remembered.specs.declared.faults.Faults.{Faults}
 use Rattle.pst_msg.specs.declared.indexes.Indexes.{Indexes}
 use Rattle.pst_msg.specs.declared.known.Known.{Known}
-use Rattle.pst_msg.specs.declared.row_counts.RowCounts.{RowCounts}
-use Rattle.pst_msg.specs.Asked.{AreAskedTrue}
-use Rattle.pst_msg.specs.Broken.{context_part}
-use Rattle.pst_msg.specs.Faults.{AreFaultsOf}
+use Rattle.pst_remembered.specs.declared.row_counts.RowCounts.{RowCounts}
+use Rattle.pst_remembered.specs.Asked.{AreAskedTrue}
+use Rattle.pst_remembered.specs.Broken.{context_part}
+use Rattle.pst_remembered.specs.Faults.{AreFaultsOf}
 use Rattle.pst_msg.specs.Indexes.{AreIndexes}
 use Rattle.pst_msg.specs.Known.{IsTrueOf}
-use Rattle.pst_msg.specs.RowCounts.{AreRowCounts}
+use Rattle.pst_remembered.specs.RowCounts.{AreRowCounts}
 use Rattle.pst_msg.proofs.KnownLemmas.{held_later, message_later, attachment_later}
 
 -- those of a context, and its faults

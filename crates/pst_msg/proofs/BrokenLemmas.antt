@@ -13,7 +13,7 @@ use Rattle.pst_ndb.specs.Roots.{Roots}
 use Rattle.pst_ndb.specs.Views.{table_of_node, roots_of}
 use Rattle.pst_msg.specs.declared.frame.Frame.{Frame}
 use Rattle.pst_msg.specs.declared.known.Known.{Known}
-use Rattle.pst_msg.specs.declared.role.Role.TheVariants.{Properties}
+use Rattle.pst_remembered.specs.declared.role.Role.TheVariants.{Properties}
 use Rattle.pst_mail.specs.Fault.{held_fault, message_at, below_message}
 use Rattle.pst_msg.specs.Known.{IsTrueOf}
 use Rattle.pst_msg.specs.Frames.{left_of, holder_of, IsFrame, IsBelowMessage, IsStack, IsBrokenBy, AreBrokenBy, WaitFor}

@@ -20,7 +20,7 @@ use Rattle.pst_msg.specs.Rest.{rows_of_table_left}
 use Rattle.pst_tc.specs.Values.{RowParts}
 use Rattle.pst_msg.specs.declared.frame.Frame.{Frame}
 use Rattle.pst_msg.specs.declared.known.Known.{Known}
-use Rattle.pst_msg.specs.declared.role.Role.TheVariants.{Properties}
+use Rattle.pst_remembered.specs.declared.role.Role.TheVariants.{Properties}
 use Rattle.pst_msg.specs.Counts.{HasMessage}
 use Rattle.pst_mail.specs.Fault.{attachment_row_fault, held_fault, message_at, below_message, message_fault, attachment_fault}
 use Rattle.pst_mail.specs.Grammar.{IsAttachmentRow}

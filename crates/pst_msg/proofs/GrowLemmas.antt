@@ -14,7 +14,7 @@ use Rattle.pst_mail.specs.Values.{embedded_of, is_message, listing_of}
 use Rattle.pst_mail.specs.declared.items.Items.{Items}
 use Rattle.pst_msg.specs.declared.known.Known.{Known}
 use Rattle.pst_mail.specs.declared.nid.TheConstants.{STORE, ROOT, FOLDER, SEARCH_FOLDER, ATTACHMENTS, RECIPIENTS}
-use Rattle.pst_msg.specs.declared.role.Role.TheVariants.{Properties, Listed, Recipients, Attachments}
+use Rattle.pst_remembered.specs.declared.role.Role.TheVariants.{Properties, Listed, Recipients, Attachments}
 use Rattle.pst_mail.specs.Nid.{type_of, is_type}
 use Rattle.pst_mail.specs.Grammar.{IsAttachmentRow}
 use Rattle.pst_msg.specs.Counts.{HasMessage, node, embedded, HasAttachment, attached, Names, of_store, of_root, of_names, of_folder, of_search, of_message, of_attachment, listed, recipients, attachments, IsNode}

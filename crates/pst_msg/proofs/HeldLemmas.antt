@@ -10,7 +10,7 @@ use Rattle.std.proofs.lemmas.Option.{get_or_from_slice_get}
 use Rattle.pst_block.specs.Table.{Table}
 use Rattle.pst_msg.specs.declared.indexes.HeldIndex.{HeldIndex}
 use Rattle.pst_msg.specs.declared.indexes.Indexes.{Indexes}
-use Rattle.pst_msg.specs.ListIndex.{IsIndexIn}
+use Rattle.pst_remembered.specs.ListIndex.{IsIndexIn}
 use Rattle.pst_msg.specs.Indexes.{HasTwice, IsTwice, AreIndexes, HasRoom}
 
 pairs_before : (xs ys zs : List HeldIndex) → xs ≡ ys ++ zs → AllPairs IsTwice xs → AllPairs IsTwice ys

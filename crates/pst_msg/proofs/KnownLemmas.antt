@@ -10,25 +10,26 @@ use Rattle.pst_ndb.specs.Views.{table_of_node, roots_of}
 use Rattle.pst_ndb.specs.NodeIndexes.{AreNodeIndexes}
 use Rattle.pst_ndb.specs.Roots.{Roots}
 use Rattle.pst_pc.specs.pst_heap.Maps.{AreMapsTrue}
-use Rattle.pst_msg.specs.declared.faults.Faults.{Faults}
+use Rattle.pst_remembered.specs.declared.faults.Faults.{Faults}
 use Rattle.pst_mail.specs.declared.items.Items.TheVariants.{Subfolders, Messages, Associated}
-use Rattle.pst_msg.specs.declared.keys.Keys.{Keys}
+use Rattle.pst_remembered.specs.declared.keys.Keys.{Keys}
 use Rattle.pst_msg.specs.declared.known.Known.{Known}
 use Rattle.pst_msg.specs.Indexes.{AreIndexes}
 use Rattle.pst_mail.specs.declared.nid.TheConstants.{ATTACHMENTS, RECIPIENTS}
-use Rattle.pst_msg.specs.declared.role.Role.{Role}
-use Rattle.pst_msg.specs.declared.role.Role.TheVariants.{Properties, Listed, Recipients, Attachments}
+use Rattle.pst_remembered.specs.declared.role.Role.{Role}
+use Rattle.pst_remembered.specs.declared.role.Role.TheVariants.{Properties, Listed, Recipients, Attachments}
 use Rattle.pst_ndb.specs.Alike.{Alike}
-use Rattle.pst_msg.specs.Asked.{AreAskedTrue}
-use Rattle.pst_msg.specs.Broken.{context_part, held_part, retold}
-use Rattle.pst_msg.specs.Faults.{AreFaultsOf}
-use Rattle.pst_msg.specs.Keys.{Key, key, list_key, holds, has}
-use Rattle.pst_msg.specs.Roles.{role_number, role_with, role_fault}
-use Rattle.pst_msg.specs.RowCounts.{AreRowCounts}
+use Rattle.pst_remembered.specs.Asked.{AreAskedTrue}
+use Rattle.pst_remembered.specs.Broken.{context_part, held_part, retold}
+use Rattle.pst_remembered.specs.Faults.{AreFaultsOf}
+use Rattle.pst_remembered.specs.Keys.{Key, key, list_key, holds, has}
+use Rattle.pst_remembered.specs.Roles.{role_number, role_fault}
+use Rattle.pst_remembered.proofs.RoleLemmas.{same_role}
+use Rattle.pst_remembered.specs.RowCounts.{AreRowCounts}
 use Rattle.pst_mail.specs.Fault.{held_fault, below_message, message_at, attachment_at, message_fault, attachment_fault}
 use Rattle.pst_msg.specs.Known.{ListIn, MessagesAreTrue, AttachmentsAreTrue, ListsAreTrue, HeldIn, MessageIn, AttachmentIn, IsTrueOf}
 use Rattle.pst_mail.proofs.AlikeLemmas.{SameList, pc_alike, tc_alike, alike_law, held_alike, subnode_alike, row_alike, embedded_alike}
-use Rattle.pst_msg.proofs.KeyLemmas.{alike_of_key, same_list, has_same}
+use Rattle.pst_remembered.proofs.KeyLemmas.{alike_of_key, same_list, has_same}
 use Rattle.pst_mail.proofs.LimitLemmas.{message_limit, attachment_limit, held_limit}
 
 -- one more is in the set; and none is taken away
@@ -39,18 +40,6 @@ abbrev pub Kept : Keys → Keys → Type 0
 Kept old new = (q : Key) → holds old q ≡ true → holds new q ≡ true
 
 -- ---- roles
-
-pub role_back : (role : Role) → role_with (role_number role) ≡ role
-unfolding role_with
-role_back Properties = refl
-role_back (Listed Subfolders) = refl
-role_back (Listed Messages) = refl
-role_back (Listed Associated) = refl
-role_back Recipients = refl
-role_back Attachments = refl
-
-pub same_role : (role other : Role) → role_number role ≡ role_number other → role ≡ other
-same_role role other e = sym (role_back role) ∙ ap role_with e ∙ role_back other
 
 context_alike : (t : Table) (role : Role) (r s : Roots) → Alike r s → role_fault t role r ≡ None → role_fault t role s ≡ None
 context_alike t Properties r s e none = pc_alike t r s e none

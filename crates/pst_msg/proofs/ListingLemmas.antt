@@ -12,16 +12,17 @@ use Rattle.pst_tc.specs.Values.{info_of, tc_records, row_parts_at, tc_rows}
 use Rattle.pst_tc.proofs.AlikeLaws.{rows_alike}
 use Rattle.pst_mail.specs.declared.items.Items.{Items}
 use Rattle.pst_mail.specs.declared.items.Items.TheVariants.{Subfolders}
-use Rattle.pst_msg.specs.declared.keys.Keys.{Keys}
-use Rattle.pst_msg.specs.declared.role.Role.{Role}
-use Rattle.pst_msg.specs.declared.role.Role.TheVariants.{Properties, Listed, Recipients, Attachments}
+use Rattle.pst_remembered.specs.declared.keys.Keys.{Keys}
+use Rattle.pst_remembered.specs.declared.role.Role.{Role}
+use Rattle.pst_remembered.specs.declared.role.Role.TheVariants.{Properties, Listed, Recipients, Attachments}
 use Rattle.pst_mail.specs.Fault.{listed_item_fault}
-use Rattle.pst_msg.specs.Keys.{Key, data_key, holds}
+use Rattle.pst_remembered.specs.Keys.{Key, data_key, holds}
 use Rattle.pst_msg.specs.Known.{ListingsAreTrue}
-use Rattle.pst_msg.specs.Roles.{role_number}
+use Rattle.pst_remembered.specs.Roles.{role_number}
 use Rattle.pst_mail.proofs.ContentsLaws.{item_none, none_item}
-use Rattle.pst_msg.proofs.KeyLemmas.{same_data}
-use Rattle.pst_msg.proofs.KnownLemmas.{OneMore, same_role}
+use Rattle.pst_remembered.proofs.KeyLemmas.{same_data}
+use Rattle.pst_remembered.proofs.RoleLemmas.{same_role}
+use Rattle.pst_msg.proofs.KnownLemmas.{OneMore}
 
 -- the rows of tables that are alike name nodes that belong there together
 listing_alike : (t : Table) (nodes : List NodeEntry) (items : Items) (r s : Roots) → Alike r s → first_of (listed_item_fault nodes items r.bid_data) (tc_rows t r) ≡ None → first_of (listed_item_fault nodes items s.bid_data) (tc_rows t s) ≡ None

@@ -9,13 +9,13 @@ use Rattle.pst_block.specs.Table.{Table}
 use Rattle.pst_ndb.specs.Roots.{Roots}
 use Rattle.pst_msg.specs.declared.known.Known.{Known}
 use Rattle.pst_mail.specs.declared.nid.TheConstants.{FOLDER, SEARCH_FOLDER}
-use Rattle.pst_msg.specs.declared.role.Role.{Role}
+use Rattle.pst_remembered.specs.declared.role.Role.{Role}
 use Rattle.pst_mail.specs.Nid.{type_of, is_type}
-use Rattle.pst_msg.specs.Keys.{Key, key_cmp, keys_in, holds}
+use Rattle.pst_remembered.specs.Keys.{Key, key_cmp, keys_in, holds}
 use Rattle.pst_msg.specs.Known.{ContextIn, WholeIn, IsTrueOf}
 use Rattle.pst_msg.specs.Counts.{HasMessage, node, embedded, HasAttachment, attached, Names, of_store, of_root, of_names, of_folder, of_search, of_message, of_attachment, listed, recipients, attachments, IsNamed, IsRaised}
 use Rattle.pst_msg.specs.Growth.{AreNamed, AreContextsCounted, Grows, AllIn}
-use Rattle.pst_msg.proofs.KeyLemmas.{holds_listed, listed_holds}
+use Rattle.pst_remembered.proofs.KeyLemmas.{holds_listed, listed_holds}
 
 mutual
   message_in : (t : Table) (N : List NodeEntry) (k : Known) → IsTrueOf t k → AllIn N k → (r : Roots) → HasMessage t N r → WholeIn k.messages r

@@ -12,13 +12,13 @@ use Rattle.pst_tc.proofs.TcLaws.{tc_none}
 use Rattle.pst_mail.specs.declared.items.Items.{Items}
 use Rattle.pst_mail.specs.declared.items.Items.TheVariants.{Subfolders, Messages, Associated}
 use Rattle.pst_mail.specs.declared.nid.TheConstants.{MESSAGE, ASSOCIATED}
-use Rattle.pst_msg.specs.declared.role.Role.{Role}
+use Rattle.pst_remembered.specs.declared.role.Role.{Role}
 use Rattle.pst_mail.specs.Nid.{type_of, is_type}
 use Rattle.pst_mail.specs.Values.{is_message, listing_of}
 use Rattle.pst_mail.specs.Grammar.{IsMessage, IsAttachment, IsFolder, HasProperties, Contents}
 use Rattle.pst_msg.specs.Counts.{HasMessage, node, embedded, HasAttachment, attached, Names, of_store, of_root, of_names, of_folder, of_search, of_message, of_attachment, listed, recipients, attachments}
 use Rattle.pst_msg.specs.Laws.{NamesLaw}
-use Rattle.pst_msg.specs.Roles.{role_fault}
+use Rattle.pst_remembered.specs.Roles.{role_fault}
 use Rattle.pst_mail.proofs.MessageLaws.{message_facts, attachment_facts}
 
 of_types : (nid : ℕ) → is_message nid ≡ true → (type_of nid ≡ MESSAGE) ⊎ (type_of nid ≡ ASSOCIATED)

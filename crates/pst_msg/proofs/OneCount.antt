@@ -7,10 +7,10 @@ use Rattle.std.specs.BTreeSet.{contains}
 use Rattle.std.proofs.lemmas.Map.Lookups.{btree_set_from_contains}
 use Rattle.std.proofs.lemmas.Map.Views.{btree_set_contains_iff}
 use Rattle.pst_fault.proofs.GeneralLemmas.{same_test}
-use Rattle.pst_msg.specs.Keys.{Key, key_cmp}
+use Rattle.pst_remembered.specs.Keys.{Key, key_cmp}
 use Rattle.pst_ndb.specs.Counts.{capped}
 use Rattle.pst_msg.specs.Laws.{CountLaw}
-use Rattle.pst_msg.proofs.KeyOrderLemmas.{keys_exact, keys_total}
+use Rattle.pst_remembered.proofs.KeyOrderLemmas.{keys_exact, keys_total}
 
 abbrev btree_set : List Key → BTreeSet Key
 btree_set ks = record { keys = ks }

@@ -11,13 +11,13 @@ use Rattle.pst_names.specs.declared.name_map.TheConstants.{NAME_MAP}
 use Rattle.pst_mail.specs.declared.items.Items.{Items}
 use Rattle.pst_mail.specs.declared.nid.TheConstants.{STORE, ROOT, FOLDER, SEARCH_FOLDER, ATTACHMENTS, RECIPIENTS}
 use Rattle.pst_mail.specs.declared.object.Object.{Object}
-use Rattle.pst_msg.specs.declared.role.Role.{Role}
-use Rattle.pst_msg.specs.declared.role.Role.TheVariants.{Properties, Listed, Recipients, Attachments}
+use Rattle.pst_remembered.specs.declared.role.Role.{Role}
+use Rattle.pst_remembered.specs.declared.role.Role.TheVariants.{Properties, Listed, Recipients, Attachments}
 use Rattle.pst_mail.specs.Nid.{type_of}
 use Rattle.pst_mail.specs.Values.{is_message, listing_of, embedded_of}
 use Rattle.pst_mail.specs.Grammar.{IsAttachmentRow}
-use Rattle.pst_msg.specs.Keys.{Key, key, key_cmp}
-use Rattle.pst_msg.specs.Roles.{role_number}
+use Rattle.pst_remembered.specs.Keys.{Key, key, key_cmp}
+use Rattle.pst_remembered.specs.Roles.{role_number}
 
 -- ---- the messages and attachments of a store
 

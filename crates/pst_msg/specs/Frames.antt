@@ -18,7 +18,7 @@ use Rattle.pst_msg.specs.declared.frame.Frame.{Frame}
 use Rattle.pst_msg.specs.declared.known.Known.{Known}
 use Rattle.pst_mail.specs.declared.nid.TheConstants.{ATTACHMENTS, RECIPIENTS}
 use Rattle.pst_mail.specs.declared.object.Object.{Object}
-use Rattle.pst_msg.specs.declared.role.Role.TheVariants.{Properties, Recipients, Attachments}
+use Rattle.pst_remembered.specs.declared.role.Role.TheVariants.{Properties, Recipients, Attachments}
 use Rattle.pst_msg.specs.Counts.{HasMessage, HasAttachment}
 use Rattle.pst_mail.specs.Fault.{attachment_row_fault, held_fault, message_at, attachment_at, below_message}
 use Rattle.pst_mail.specs.Grammar.{IsAttachmentRow}

@@ -6,13 +6,13 @@ use Rattle.pst_block.specs.Table.{Table}
 use Rattle.pst_ndb.specs.Roots.{Roots, node_in, all_roots}
 use Rattle.pst_names.specs.declared.name_map.TheConstants.{NAME_MAP}
 use Rattle.pst_mail.specs.declared.items.Items.{Items}
-use Rattle.pst_msg.specs.declared.keys.Keys.{Keys}
+use Rattle.pst_remembered.specs.declared.keys.Keys.{Keys}
 use Rattle.pst_msg.specs.declared.known.Known.{Known}
 use Rattle.pst_mail.specs.declared.nid.TheConstants.{STORE, ROOT, FOLDER, SEARCH_FOLDER}
-use Rattle.pst_msg.specs.declared.role.Role.TheVariants.{Properties, Listed}
+use Rattle.pst_remembered.specs.declared.role.Role.TheVariants.{Properties, Listed}
 use Rattle.pst_mail.specs.Nid.{is_type}
 use Rattle.pst_mail.specs.Values.{is_message, listing_of}
-use Rattle.pst_msg.specs.Keys.{Key, keys_in, holds}
+use Rattle.pst_remembered.specs.Keys.{Key, keys_in, holds}
 use Rattle.pst_msg.specs.Known.{ContextIn, WholeIn}
 use Rattle.pst_ndb.specs.Counts.{capped}
 use Rattle.pst_msg.specs.Counts.{IsNamed}

@@ -4,7 +4,7 @@ use Rattle.std.specs.List.{All, AllPairs}
 use Rattle.pst_block.specs.Table.{Table}
 use Rattle.pst_msg.specs.declared.indexes.HeldIndex.{HeldIndex}
 use Rattle.pst_msg.specs.declared.indexes.Indexes.{Indexes}
-use Rattle.pst_msg.specs.ListIndex.{IsIndexIn}
+use Rattle.pst_remembered.specs.ListIndex.{IsIndexIn}
 
 -- of a list that has at least twice so many entries
 abbrev pub HasTwice : ℕ → HeldIndex → Type 0

@@ -13,19 +13,19 @@ use Rattle.pst_ndb.specs.Roots.{Roots, subnode_of}
 use Rattle.pst_pc.specs.pst_heap.Maps.{AreMapsTrue}
 use Rattle.pst_tc.specs.Values.{RowParts, tc_rows}
 use Rattle.pst_mail.specs.declared.items.Items.{Items}
-use Rattle.pst_msg.specs.declared.keys.Keys.{Keys}
+use Rattle.pst_remembered.specs.declared.keys.Keys.{Keys}
 use Rattle.pst_msg.specs.declared.known.Known.{Known}
 use Rattle.pst_mail.specs.declared.nid.TheConstants.{ATTACHMENTS, RECIPIENTS}
 use Rattle.pst_mail.specs.declared.object.Object.{Object}
-use Rattle.pst_msg.specs.declared.role.Role.{Role}
-use Rattle.pst_msg.specs.declared.role.Role.TheVariants.{Properties, Listed, Recipients, Attachments}
-use Rattle.pst_msg.specs.Asked.{AreAskedTrue}
-use Rattle.pst_msg.specs.Broken.{context_part, held_part, retold}
-use Rattle.pst_msg.specs.Faults.{AreFaultsOf}
-use Rattle.pst_msg.specs.Keys.{holds, has, data_key, list_key}
+use Rattle.pst_remembered.specs.declared.role.Role.{Role}
+use Rattle.pst_remembered.specs.declared.role.Role.TheVariants.{Properties, Listed, Recipients, Attachments}
+use Rattle.pst_remembered.specs.Asked.{AreAskedTrue}
+use Rattle.pst_remembered.specs.Broken.{context_part, held_part, retold}
+use Rattle.pst_remembered.specs.Faults.{AreFaultsOf}
+use Rattle.pst_remembered.specs.Keys.{holds, has, data_key, list_key}
 use Rattle.pst_msg.specs.Indexes.{AreIndexes}
-use Rattle.pst_msg.specs.Roles.{role_number, role_fault}
-use Rattle.pst_msg.specs.RowCounts.{AreRowCounts}
+use Rattle.pst_remembered.specs.Roles.{role_number, role_fault}
+use Rattle.pst_remembered.specs.RowCounts.{AreRowCounts}
 use Rattle.pst_mail.specs.Values.{embedded_of}
 use Rattle.pst_mail.specs.Fault.{held_fault, below_message, message_fault, attachment_fault, listed_item_fault}
 use Rattle.pst_mail.specs.Grammar.{IsAttachmentRow}

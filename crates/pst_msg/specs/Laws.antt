@@ -4,9 +4,9 @@ use Rattle.pst_page.specs.declared.entry.NodeEntry.{NodeEntry}
 use Rattle.pst_block.specs.Table.{Table}
 use Rattle.pst_ndb.specs.Roots.{Roots}
 use Rattle.pst_mail.specs.Grammar.{Contents}
-use Rattle.pst_msg.specs.declared.role.Role.{Role}
+use Rattle.pst_remembered.specs.declared.role.Role.{Role}
 use Rattle.pst_msg.specs.Counts.{Names, IsRaised}
-use Rattle.pst_msg.specs.Roles.{role_fault}
+use Rattle.pst_remembered.specs.Roles.{role_fault}
 
 -- What a store's messaging names are contexts: each has no first fault in its role.
 abbrev pub NamesLaw : Type 0

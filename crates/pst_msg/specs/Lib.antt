@@ -8,16 +8,13 @@ pub use Rattle.pst_mail.specs.Left
 pub use Rattle.pst_mail.specs.View
 pub use Rattle.pst_mail.specs.NodeLookUps
 pub use Rattle.pst_mail.specs.LookUps
+pub use Rattle.pst_remembered.specs.Keys
+pub use Rattle.pst_remembered.specs.Roles
+pub use Rattle.pst_remembered.specs.Faults
+pub use Rattle.pst_remembered.specs.Broken
+pub use Rattle.pst_remembered.specs.RowCounts
 pub mod Laws
-pub mod Rising
-pub mod Keys
-pub mod Roles
-pub mod ListIndex
 pub mod Indexes
-pub mod Asked
-pub mod Faults
-pub mod Broken
-pub mod RowCounts
 pub mod Known
 pub mod Checker
 pub mod Counts
@@ -28,3 +25,4 @@ pub mod Frames
 pub use Rattle.pst_pc.specs as pst_pc
 pub use Rattle.pst_names.specs as pst_names
 pub use Rattle.pst_mail.specs as pst_mail
+pub use Rattle.pst_remembered.specs as pst_remembered

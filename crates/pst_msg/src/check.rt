@@ -8,7 +8,7 @@ ghost use Rattle.pst_fault.specs.First.{Tells};
 ghost use Rattle.pst_ndb.specs.Roots.{Roots, node_in, all_roots};
 ghost use Rattle.pst_ndb.specs.Views.{table_of_node, table_of_ndb, nodes_of, roots_of};
 ghost use Rattle.pst_names.specs.declared.name_map.TheConstants.{NAME_MAP};
-ghost use Rattle.pst_msg.specs.declared.role.Role.TheVariants.{Properties};
+ghost use Rattle.pst_remembered.specs.declared.role.Role.TheVariants.{Properties};
 ghost use Rattle.pst_msg.specs.Counts.{Names, IsRaised};
 ghost use Rattle.pst_mail.specs.Fault.{required_fault, name_map_fault, typed_node_fault, messaging_fault};
 ghost use Rattle.pst_mail.specs.Grammar.{Contents};
@@ -17,15 +17,14 @@ ghost use Rattle.pst_msg.specs.Known.{ContextIn, ListingsAreTrue, IsTrueOf};
 
 use crate::context::once;
 use crate::folder::check_folder;
-use crate::keys::Keys;
 use crate::known::Known;
 use crate::message::check_message;
-use crate::role::Role;
 use pst_fault::{Fault, Kind};
 use pst_mail::{FOLDER, ROOT, SEARCH_FOLDER, STORE, is_message, is_type, named};
 use pst_names::{NAME_MAP, check_names};
 use pst_ndb::{Ndb, Node, Work};
 use pst_pc::known_pc;
+use pst_remembered::{Keys, Role};
 use std::alloc::Global;
 
 // A node that every store has.

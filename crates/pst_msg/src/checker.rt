@@ -4,10 +4,10 @@ use crate::check::check_map;
 use crate::context::once;
 use crate::known::Known;
 use crate::message::check_message;
-use crate::role::Role;
 use pst_fault::Fault;
 use pst_mail::Items;
 use pst_ndb::Node;
+use pst_remembered::Role;
 use std::alloc::Global;
 
 /// Checks contexts and messages one after another, and remembers what it found without fault, so that this is looked at once,

@@ -7,23 +7,22 @@ ghost use Rattle.pst_fault.specs.First.{Tells};
 ghost use Rattle.pst_ndb.specs.NodeIndexes.{AreNodeIndexes};
 ghost use Rattle.pst_ndb.specs.Views.{table_of_node, roots_of};
 ghost use Rattle.pst_pc.specs.pst_heap.Maps.{AreMapsTrue};
-ghost use Rattle.pst_msg.specs.Asked.{AreAskedTrue};
-ghost use Rattle.pst_msg.specs.Broken.{context_part};
-ghost use Rattle.pst_msg.specs.Faults.{AreFaultsOf};
-ghost use Rattle.pst_msg.specs.Roles.{role_fault, role_number as number_of};
+ghost use Rattle.pst_remembered.specs.Asked.{AreAskedTrue};
+ghost use Rattle.pst_remembered.specs.Broken.{context_part};
+ghost use Rattle.pst_remembered.specs.Faults.{AreFaultsOf};
+ghost use Rattle.pst_remembered.specs.Roles.{role_fault, role_number as number_of};
 ghost use Rattle.pst_msg.specs.Known.{ContextIn, IsTrueOf};
 ghost use Rattle.pst_msg.specs.Counts.{Names};
 ghost use Rattle.pst_msg.specs.Growth.{Grows};
 
-use crate::asked::Asked;
-use crate::broken::{has_broken_data, is_of_data, part_of, part_of_data};
-use crate::faults::Faults;
-use crate::keys::{Key, key_of};
 use crate::known::Known;
-use crate::role::{Role, check_context, role_number};
 use pst_fault::Fault;
 use pst_ndb::{Node, NodeIndexes, most_values};
 use pst_pc::Maps;
+use pst_remembered::{
+    Asked, Faults, Key, Role, check_context, has_broken_data, is_of_data, key_of, part_of,
+    part_of_data, role_number,
+};
 use std::alloc::Global;
 
 // For how many subnodes a context asks the list of its node at most: none, where that has none.
@@ -160,7 +159,7 @@ pub(crate) fn once(known: &mut Known, role: Role, node: Node) -> Result<(), Faul
         &mut known.asked,
         &mut known.broken,
     )?;
-    known.contexts.put(taken)?;
+    known.contexts.insert(taken)?;
     known.count = known.count.saturating_add(1);
     Ok(())
 }

@@ -10,7 +10,7 @@ ghost use Rattle.pst_tc.specs.Tc.{node_of_tc};
 ghost use Rattle.pst_tc.specs.Values.{tc_rows};
 ghost use Rattle.pst_tc.specs.View.{row_parts};
 ghost use Rattle.pst_mail.specs.declared.nid.TheConstants.{FOLDER};
-ghost use Rattle.pst_msg.specs.declared.role.Role.TheVariants.{Listed};
+ghost use Rattle.pst_remembered.specs.declared.role.Role.TheVariants.{Listed};
 ghost use Rattle.pst_msg.specs.Counts.{IsNode};
 ghost use Rattle.pst_mail.specs.Fault.{listed_item_fault, items_fault, table_fault, folder_fault};
 ghost use Rattle.pst_msg.specs.Growth.{FolderIn, Grows};
@@ -18,12 +18,11 @@ ghost use Rattle.pst_msg.specs.Known.{ContextIn, ListingsAreTrue, IsTrueOf};
 ghost use Rattle.pst_mail.specs.Values.{listing_of};
 
 use crate::context::once;
-use crate::keys::{Keys, key_of_data};
 use crate::known::Known;
-use crate::role::{Role, role_number};
 use pst_fault::{Fault, Kind};
 use pst_mail::{Items, listing_nid, may_list, named};
 use pst_ndb::{Ndb, Node};
+use pst_remembered::{Keys, Role, key_of_data, role_number};
 use pst_tc::{Row, Tc, known_tc};
 
 // A row of a folder's table.
@@ -72,7 +71,7 @@ fn check_rows(ndb: &Ndb, items: Items, table: Node, listings: &mut Keys) -> Resu
     }
     let rows = known_tc(table);
     check_items(ndb, items, table.bid_data(), rows)?;
-    listings.put(taken)
+    listings.insert(taken)
 }
 
 // A table of a folder, where it is there.

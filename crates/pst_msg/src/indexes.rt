@@ -5,11 +5,10 @@ ghost use Rattle.pst_subnode.specs.List.{subs_of};
 ghost use Rattle.pst_ndb.specs.Counts.{capped};
 ghost use Rattle.pst_ndb.specs.Views.{table_of_node, sub_bid_of};
 
-use crate::keys::cleared;
-use crate::list_index::ListIndex;
 use crate::rest::Rest;
 use pst_fault::Fault;
 use pst_ndb::Node;
+use pst_remembered::{ListIndex, cleared};
 use std::alloc::Global;
 
 // So many entries stand in one SLBLOCK at most, and are looked through without an index.
@@ -85,7 +84,7 @@ impl Indexes {
     ghost use Rattle.pst_fault.specs.Fault.{no_memory};
     ghost use Rattle.pst_ndb.specs.Roots.{subnode_of};
     ghost use Rattle.pst_ndb.specs.Views.{table_of_node, nid_of, roots_of};
-    ghost use Rattle.pst_msg.specs.ListIndex.{IsIndexIn};
+    ghost use Rattle.pst_remembered.specs.ListIndex.{IsIndexIn};
     ghost use Rattle.pst_msg.specs.Indexes.{AreIndexes, HasRoom};
 
     /// None yet.

@@ -1,12 +1,9 @@
 //! What is known of the parts of messages.
 
-use crate::asked::Asked;
-use crate::faults::Faults;
 use crate::indexes::Indexes;
-use crate::keys::Keys;
-use crate::row_counts::RowCounts;
 use pst_ndb::NodeIndexes;
 use pst_pc::Maps;
+use pst_remembered::{Asked, Faults, Keys, RowCounts};
 use std::alloc::Global;
 
 // Lists are asked for so many values of contexts, as 512 bytes may have, before one gets an index.

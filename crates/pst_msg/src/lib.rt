@@ -18,31 +18,22 @@
 //! `Checker` checks nodes one by one, for whoever goes on after a fault.
 #![tactic(auto)]
 
-mod asked;
-mod broken;
 mod check;
 mod checker;
 mod context;
-mod faults;
 mod folder;
 mod frame;
 mod indexes;
-mod keys;
 mod known;
 mod laws;
-mod list_index;
 mod message;
 mod open;
 mod recipients;
 mod remember;
 mod rest;
-mod rising;
-mod role;
-mod row_counts;
 
 pub use check::check_messaging;
 pub use checker::Checker;
-pub use faults::{Faults, Part};
 pub use laws::{counts_agree, named_are_contexts};
 pub use pst_mail::{
     ASSOCIATED, Attachment, Attachments, FOLDER, Folder, Items, MESSAGE, Message, NAME_MAP, Name,
@@ -52,4 +43,4 @@ pub use pst_mail::{
     messages_are_of_keys, messages_decide, named, names_gives, node_gives, nodes_decide, pc_gives,
     row_gives, tc_gives,
 };
-pub use role::Role;
+pub use pst_remembered::{Faults, Part, Role};

@@ -8,7 +8,7 @@ ghost use Rattle.pst_ndb.specs.Views.{table_of_node, sub_bid_of, roots_of};
 ghost use Rattle.pst_tc.specs.Fault.{tc_fault};
 ghost use Rattle.pst_tc.specs.Values.{tc_rows};
 ghost use Rattle.pst_tc.specs.View.{row_parts};
-ghost use Rattle.pst_msg.specs.declared.role.Role.TheVariants.{Properties};
+ghost use Rattle.pst_remembered.specs.declared.role.Role.TheVariants.{Properties};
 ghost use Rattle.pst_msg.specs.Counts.{HasMessage, HasAttachment};
 ghost use Rattle.pst_mail.specs.Fault.{attachment_row_fault, held_fault, message_at, embedded_fault, attachment_at, below_message, below_attachment};
 ghost use Rattle.pst_msg.specs.Frames.{IsMessageOpened, EmbedsKnown, IsObjectOpened, AttachmentKnown, IsAttachmentOpened, IsRowKnown, IsRowOpened};
@@ -18,19 +18,17 @@ ghost use Rattle.pst_msg.specs.Known.{ContextIn, WholeIn, NamedIn, IsTrueOf};
 ghost use Rattle.pst_msg.specs.Rest.{rows_of_table_left};
 ghost use Rattle.pst_mail.specs.Values.{embedded_of};
 
-use crate::broken::{part_of_list, told_of};
 use crate::context::once;
 use crate::frame::Frame;
-use crate::keys::{key_of, key_of_list};
 use crate::known::Known;
 use crate::recipients::check_recipients;
 use crate::remember::{refuse_held, remember_attachment, remember_held, remember_message};
 use crate::rest::Rest;
-use crate::role::Role;
 use pst_fault::{Fault, Kind};
 use pst_mail::{ATTACHMENT, ATTACHMENTS, Object, embedded, is_type, named};
 use pst_ndb::Node;
 use pst_pc::known_pc;
+use pst_remembered::{Role, key_of, key_of_list, part_of_list, told_of};
 use pst_tc::{Row, known_tc};
 
 // The rows of an attachment table without fault; where its data lies in several blocks, they are counted once.
@@ -209,7 +207,8 @@ fn open_attachment<'a>(
         Grows t (λ nodes. HasAttachment t nodes (roots_of node.entry)) known.old known.new }
     ensures refused { let t = table_of_node node.entry in
         IfErr result (IsFirst (attachment_at t limit (roots_of node.entry))) }
-    ensures done { IfOk result (λ o. IfNone o (WholeIn known.new.attachments (roots_of node.entry))) }
+    ensures done { IfOk result (λ o.
+        IfNone o (WholeIn known.new.attachments (roots_of node.entry))) }
     ensures open { let t = table_of_node node.entry in
         IfOk result (λ o. IfSome o (IsAttachmentOpened t known.new node.entry limit)) }
 {

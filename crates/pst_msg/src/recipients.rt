@@ -7,17 +7,17 @@ ghost use Rattle.pst_ndb.specs.Roots.{Roots, subnode_of};
 ghost use Rattle.pst_ndb.specs.Views.{table_of_node, roots_of};
 ghost use Rattle.pst_tc.specs.Fault.{tc_fault};
 ghost use Rattle.pst_mail.specs.declared.nid.TheConstants.{RECIPIENTS};
-ghost use Rattle.pst_msg.specs.declared.role.Role.TheVariants.{Recipients};
+ghost use Rattle.pst_remembered.specs.declared.role.Role.TheVariants.{Recipients};
 ghost use Rattle.pst_msg.specs.Counts.{HasMessage};
 ghost use Rattle.pst_msg.specs.Growth.{Grows};
 ghost use Rattle.pst_msg.specs.Known.{ContextIn, IsTrueOf};
 
 use crate::context::once;
 use crate::known::Known;
-use crate::role::Role;
 use pst_fault::Fault;
 use pst_mail::RECIPIENTS;
 use pst_ndb::Node;
+use pst_remembered::Role;
 
 /// Checks the recipient table of a message, where it is there.
 pub(crate) fn check_recipients(node: Node, known: &mut Known) -> Result<(), Fault>

@@ -6,16 +6,15 @@ ghost use Rattle.pst_fault.specs.First.{IsFirst};
 ghost use Rattle.pst_subnode.specs.declared.check.TheConstants.{LISTS};
 ghost use Rattle.pst_subnode.specs.Tree.{sub_fault};
 ghost use Rattle.pst_ndb.specs.Views.{table_of_node, sub_bid_of, roots_of};
-ghost use Rattle.pst_msg.specs.declared.role.Role.TheVariants.{Properties};
+ghost use Rattle.pst_remembered.specs.declared.role.Role.TheVariants.{Properties};
 ghost use Rattle.pst_mail.specs.Fault.{held_fault, below_message, attachment_fault};
 ghost use Rattle.pst_msg.specs.Growth.{Grows};
 ghost use Rattle.pst_msg.specs.Known.{ContextIn, WholeIn, HeldIn, AttachmentIn, IsTrueOf};
 
-use crate::broken::{is_alike, part_of_list};
-use crate::keys::{key_of, key_of_list};
 use crate::known::Known;
 use pst_fault::Fault;
 use pst_ndb::Node;
+use pst_remembered::{is_alike, key_of, key_of_list, part_of_list};
 
 // What a message holds in its list of subnodes, by that list.
 fn remember_list(node: Node, known: &mut Known) -> Result<(), Fault>
@@ -27,7 +26,7 @@ fn remember_list(node: Node, known: &mut Known) -> Result<(), Fault>
     ensures grows { Grows (table_of_node node.entry) (λ nodes. Unit {0}) known.old known.new }
     ensures memory { IfErr result (λ f. f ≡ no_memory) }
 {
-    known.lists.put(key_of_list(node))
+    known.lists.insert(key_of_list(node))
 }
 
 /// A message, whole: its properties are known, and what it holds has no fault.
@@ -42,7 +41,7 @@ pub(crate) fn remember_message(node: Node, known: &mut Known) -> Result<(), Faul
     ensures there { OnOk result (WholeIn known.new.messages (roots_of node.entry)) }
     ensures memory { IfErr result (λ f. f ≡ no_memory) }
 {
-    known.messages.put(key_of(0, node))
+    known.messages.insert(key_of(0, node))
 }
 
 /// What a message holds, and the message.
@@ -71,7 +70,7 @@ pub(crate) fn remember_attachment(node: Node, known: &mut Known) -> Result<(), F
     ensures there { OnOk result (WholeIn known.new.attachments (roots_of node.entry)) }
     ensures memory { IfErr result (λ f. f ≡ no_memory) }
 {
-    known.attachments.put(key_of(0, node))
+    known.attachments.insert(key_of(0, node))
 }
 
 /// The fault of what a message holds is known from then on, by its list, where it is the same in each message that has that.

@@ -47,7 +47,8 @@ impl<'a> Rest<'a> {
     pub(crate) fn next(&mut self) -> Option<Row<'a>>
         ensures some { IfSome result (λ row.
             rows_of_table_left self.old ≡ row_parts row ∷ rows_of_table_left self.new) }
-        ensures none { IfNone result ((rows_of_table_left self.old ≡ []) × (rows_of_table_left self.new ≡ [])) }
+        ensures none { IfNone result
+            ((rows_of_table_left self.old ≡ []) × (rows_of_table_left self.new ≡ [])) }
     {
         if self.most == Some(0) {
             return None;

@@ -24,5 +24,5 @@ pub use laws::{
     check_value_is_linear, check_values_stay, faults_stay, no_place_moves, plain_is_the_twin,
     twin_is_the_file,
 };
-pub use pst_encoding::{Codec, Decoder, Method, Pairs};
+pub use pst_encoding::{Codec, Method, Pairs};
 pub use twin::{Decoding, plain};

@@ -2,7 +2,7 @@
 
 ghost use Rattle.std.specs.Prelude.{◌≡◌, ◌≤◌, length, Some, IfOk, OnOk, OnErr};
 ghost use Rattle.std.specs.List.{All};
-ghost use Rattle.pst_encoding.specs.Decoder.{decoder_method};
+ghost use Rattle.pst_encoding.specs.Codec.{codec_method};
 ghost use Rattle.pst_encoding.specs.Tables.{IsByte};
 ghost use Rattle.pst_plain.specs.Twin.{method_of as method_in, twin_of, decoded_blocks};
 
@@ -10,7 +10,7 @@ use crate::blocks::data_blocks;
 use crate::body::decode_data;
 use crate::head::{method_of, set_method};
 use pst_bytes::Image;
-use pst_encoding::{Decoder, Method};
+use pst_encoding::{Codec, Method};
 use std::alloc::{AllocError, Global};
 
 /// What was decoded to make the plain twin of a file.
@@ -31,10 +31,10 @@ fn are_bytes(file: &[u8])
 fn decode_file(
     alloc: Global,
     method: Method,
-    decoder: &Decoder,
+    codec: &Codec,
     file: &mut [u8],
 ) -> Result<u64, AllocError>
-    requires decoder { decoder_method decoder.now ≡ method }
+    requires codec { codec_method codec.now ≡ method }
     requires long { 564 ≤ length file.old }
     requires method { method_in file.old ≡ Some method }
     ensures twin { OnOk result (file.new ≡ twin_of file.old) }
@@ -45,7 +45,7 @@ fn decode_file(
     are_bytes(file);
     set_method(0, file);
     match data_blocks(alloc, file) {
-        Ok(entries) => Ok(decode_data(decoder, &entries, file)),
+        Ok(entries) => Ok(decode_data(codec, &entries, file)),
         Err(error) => {
             set_method(method.number(), file);
             Err(error)
@@ -68,8 +68,8 @@ pub fn plain(alloc: Global, file: &mut [u8]) -> Result<Decoding, AllocError>
 {
     match method_of(Image::new(file)) {
         Some(method) => {
-            let decoder = Decoder::new(alloc, method, file.len())?;
-            let blocks = decode_file(alloc, method, &decoder, file)?;
+            let codec = Codec::new(alloc, method, file.len())?;
+            let blocks = decode_file(alloc, method, &codec, file)?;
             Ok(Decoding {
                 method: Some(method),
                 blocks,

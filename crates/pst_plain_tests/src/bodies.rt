@@ -1,7 +1,7 @@
 //! Bodies, encoded and decoded, beside what another program made of them.
 
 use crate::told::{MEMORY, holds_at, is, is_at};
-use pst_plain::{Codec, Decoder, Method, Pairs};
+use pst_plain::{Codec, Method, Pairs};
 use sha2::{Digest, Sha256};
 use std::alloc::Global;
 use std::process::Abort;
@@ -61,7 +61,7 @@ fn bytes_of_another_program(rt: HostRuntime) {
         ),
     ] {
         let mut body = rising(&rt, alloc, 256);
-        Codec::new(alloc, method)
+        Codec::new(alloc, method, 0)
             .expect(&rt, MEMORY)
             .encode(bid, &mut body);
         let digest: [u8; 32] = Sha256::digest(&body);
@@ -91,7 +91,7 @@ fn a_text_of_another_program(rt: HostRuntime) {
         ),
     ] {
         let mut body = *b"Hello, world";
-        let codec = Codec::new(alloc, method).expect(&rt, MEMORY);
+        let codec = Codec::new(alloc, method, 0).expect(&rt, MEMORY);
         codec.encode(bid, &mut body);
         holds_at(&rt, bid, body == want);
         codec.decode(bid, &mut body);
@@ -106,7 +106,7 @@ fn what_is_encoded_is_decoded(rt: HostRuntime) {
     for len in [0, 1, 2, 255, 256, 257, 511, 8175, 8176] {
         let body = rising(&rt, alloc, len);
         for method in [Method::Permute, Method::Cyclic] {
-            let codec = Codec::new(alloc, method).expect(&rt, MEMORY);
+            let codec = Codec::new(alloc, method, 0).expect(&rt, MEMORY);
             for bid in [0, 4, 0xffff, 0xffff_0000, 0x1234_5678_9abc_def0] {
                 let mut changed = rising(&rt, alloc, len);
                 codec.encode(bid, &mut changed);
@@ -120,7 +120,7 @@ fn what_is_encoded_is_decoded(rt: HostRuntime) {
 
 // By permutation all pairs are put together for 16 MiB and more; what is decoded is the same.
 #[test]
-fn a_text_by_each_decoder(rt: HostRuntime) {
+fn a_text_by_each_codec(rt: HostRuntime) {
     let alloc = rt.alloc();
     for (method, text) in [
         (
@@ -139,10 +139,10 @@ fn a_text_by_each_decoder(rt: HostRuntime) {
             (1 << 40, true),
         ] {
             let mut body = text;
-            let decoder = Decoder::new(alloc, method, len).expect(&rt, MEMORY);
-            decoder.decode(4, &mut body);
+            let codec = Codec::new(alloc, method, len).expect(&rt, MEMORY);
+            codec.decode(4, &mut body);
             holds_at(&rt, len, body == *b"Hello, world");
-            let by_pairs = matches!(decoder, Decoder::ByPairs(_));
+            let by_pairs = matches!(codec, Codec::Permute(Some(_)));
             holds_at(&rt, len, by_pairs == (many && method == Method::Permute));
         }
     }
@@ -164,13 +164,13 @@ fn pairs_as_single_bytes(rt: HostRuntime) {
         }
     }
     pairs.decode(&mut body);
-    Codec::Permute.decode(4, &mut other);
+    Codec::Permute(None).decode(4, &mut other);
     holds_at(&rt, body.len(), body.as_slice() == other.as_slice());
     for len in [0, 1, 2, 3, 4, 5, 255, 8175, 8176] {
         let mut body = rising(&rt, alloc, len);
         let mut other = rising(&rt, alloc, len);
         pairs.decode(&mut body);
-        Codec::Permute.decode(4, &mut other);
+        Codec::Permute(None).decode(4, &mut other);
         holds_at(&rt, len, body.as_slice() == other.as_slice());
     }
 }

@@ -3,7 +3,7 @@
 use crate::told::{MEMORY, holds, holds_at, is, is_at};
 use pst_block::{BlockEntry, block_size};
 use pst_make::*;
-use pst_plain::{Codec, Decoder, Decoding, Method, decode_data, plain};
+use pst_plain::{Codec, Decoding, Method, decode_data, plain};
 use sha2::{Digest, Sha256};
 use std::alloc::{AllocError, Global};
 use std::process::Abort;
@@ -39,7 +39,7 @@ fn encode_bodies<R: Abort>(
     method: Method,
     blocks: &[Place],
 ) {
-    let codec = Codec::new(alloc, method).expect(rt, MEMORY);
+    let codec = Codec::new(alloc, method, 0).expect(rt, MEMORY);
     for block in blocks {
         encode_body(rt, image, &codec, *block);
         Change::Block(block.1, block.2)
@@ -49,13 +49,13 @@ fn encode_bodies<R: Abort>(
 }
 
 // Decodes a block, if it is a data block; how many were decoded.
-fn decode_body<R: Abort>(rt: &R, image: &mut [u8], decoder: &Decoder, (bid, ib, cb): Place) -> u64 {
+fn decode_body<R: Abort>(rt: &R, image: &mut [u8], codec: &Codec, (bid, ib, cb): Place) -> u64 {
     let len = image.len() as u64;
     let size = block_size(cb);
     if ib > len || size > len - ib {
         rt.panic("no block");
     }
-    decode_data(decoder, &[BlockEntry { bid, ib, cb }], image)
+    decode_data(codec, &[BlockEntry { bid, ib, cb }], image)
 }
 
 // Makes bCryptMethod another number, and the header's check values anew.
@@ -141,22 +141,17 @@ fn blocks_one_by_one(rt: HostRuntime) {
         let store = m1(alloc).expect(&rt, MEMORY);
         let mut image = m1(alloc).expect(&rt, MEMORY);
         encode_bodies(&rt, alloc, &mut image, method, &M1);
-        let decoder = Decoder::new(alloc, method, image.len()).expect(&rt, MEMORY);
+        let codec = Codec::new(alloc, method, image.len()).expect(&rt, MEMORY);
         let [_, (_, ib, cb), _] = M1;
         is_at(
             &rt,
             method,
-            decode_body(&rt, &mut image, &decoder, (10, ib, cb)),
+            decode_body(&rt, &mut image, &codec, (10, ib, cb)),
             0,
         );
         holds_at(&rt, method, image.as_slice() != store.as_slice());
         for place in M1 {
-            is_at(
-                &rt,
-                method,
-                decode_body(&rt, &mut image, &decoder, place),
-                1,
-            );
+            is_at(&rt, method, decode_body(&rt, &mut image, &codec, place), 1);
         }
         holds_at(&rt, method, image.as_slice() == store.as_slice());
     }

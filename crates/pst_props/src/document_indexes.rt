@@ -38,7 +38,8 @@ impl DocumentIndexes {
     pub fn message_pc<'a>(&'a self, message: Message<'a>) -> Pc<'a>
         requires { AreDocumentIndexes (table_of_node (node_of_message message)) self.now }
         ensures roots { roots_of (node_of_pc result) ≡ roots_of (node_of_message message.entry) }
-        ensures table { table_of_node (node_of_pc result) ≡ table_of_node (node_of_message message.entry) }
+        ensures table { table_of_node (node_of_pc result)
+            ≡ table_of_node (node_of_message message.entry) }
     {
         lend_pc(&self.shown, message.pc())
     }
@@ -46,8 +47,10 @@ impl DocumentIndexes {
     /// The properties of an attachment, likewise.
     pub fn attachment_pc<'a>(&'a self, attachment: Attachment<'a>) -> Pc<'a>
         requires { AreDocumentIndexes (table_of_node (node_of_attachment attachment)) self.now }
-        ensures roots { roots_of (node_of_pc result) ≡ roots_of (node_of_attachment attachment.entry) }
-        ensures table { table_of_node (node_of_pc result) ≡ table_of_node (node_of_attachment attachment.entry) }
+        ensures roots { roots_of (node_of_pc result)
+            ≡ roots_of (node_of_attachment attachment.entry) }
+        ensures table { table_of_node (node_of_pc result)
+            ≡ table_of_node (node_of_attachment attachment.entry) }
     {
         lend_pc(&self.attachments, attachment.pc())
     }

@@ -62,7 +62,8 @@ pub fn lend_tc<'a>(indexes: &'a NodeIndexes, table: Tc<'a>) -> Tc<'a>
 pub fn lend_message<'a>(indexes: &'a NodeIndexes, message: Message<'a>) -> Message<'a>
     requires { AreNodeIndexes (table_of_node (node_of_message message)) indexes.now }
     ensures roots { message_roots result ≡ message_roots message.entry }
-    ensures table { table_of_node (node_of_message result) ≡ table_of_node (node_of_message message.entry) }
+    ensures table { table_of_node (node_of_message result)
+        ≡ table_of_node (node_of_message message.entry) }
     ensures nid { nid_of (node_of_message result) ≡ nid_of (node_of_message message.entry) }
 {
     message.is_sound();

@@ -24,6 +24,7 @@ mod lost;
 mod names;
 mod node;
 mod property;
+mod texts;
 
 pub use document_indexes::DocumentIndexes;
 pub use fault::DocFault;
@@ -33,3 +34,4 @@ pub use lost::lost_at;
 pub use names::{NamesIndex, names_in, names_index};
 pub use node::{props_doc, props_line};
 pub use property::property_at;
+pub use texts::{CLASS, NAME, SENDER, SUBJECT, TEXT, put_text_property, text_property_doc};

@@ -43,7 +43,8 @@ pub fn attachment_line(
     indexes: &mut DocumentIndexes,
 ) -> Result<Vec<u8>, AllocError>
     requires { AreDocumentIndexes (table_of_node (node_of_attachment attachment)) indexes.old }
-    ensures known { AreDocumentIndexes (table_of_node (node_of_attachment attachment.entry)) indexes.new }
+    ensures known { let t = table_of_node (node_of_attachment attachment.entry) in
+        AreDocumentIndexes t indexes.new }
     ensures line { let t = table_of_node (node_of_attachment attachment.entry) in
         let shown = attachment_shown attachment.entry in let told = names_told names.entry in
         IfOk result (λ text.

@@ -177,7 +177,8 @@ fn shown_found<'a, S: Sink>(
     names: Option<NameMap<'a>>,
     places: bool,
 ) -> Result<S::Out, AllocError>
-    ensures { let t = table_of_node (node_of_found found.entry) in let told = names_told names.entry in
+    ensures { let t = table_of_node (node_of_found found.entry) in
+        let told = names_told names.entry in
         IfOk result (λ out. S.Shows out (place_data told places t (place_of_found found.entry))) }
 {
     match found {

@@ -30,7 +30,8 @@ fn take_row(
     next: &mut BTreeSet<u32>,
     row: Reach,
 ) -> Result<(), AllocError>
-    ensures takes { let named = filter (is_folder_among (nodes_of_intact intact.now)) (row.nid ∷ []) in
+    ensures takes { let nodes = nodes_of_intact intact.now in
+        let named = filter (is_folder_among nodes) (row.nid ∷ []) in
         OnOk result (Takes row.depth (steps_named row.parent named) found.old next.old found.new
         next.new) }
     ensures keeps { (nid : ℕ) → is_some (reach_so_far found.old nid) ≡ true →

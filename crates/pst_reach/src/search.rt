@@ -74,7 +74,8 @@ impl<'a> Search<'a> {
         depth: u32,
         parent: u32,
     ) -> Result<(), AllocError>
-        requires taken { AreTaken (table_of_intact self.old.intact) (nodes_of_intact self.old.intact) self.old.tables self.old.found }
+        requires taken { let i = self.old.intact in
+            AreTaken (table_of_intact i) (nodes_of_intact i) self.old.tables self.old.found }
         ensures intact { self.new.intact ≡ self.old.intact }
         ensures walked { self.new.walked ≡ self.old.walked }
         ensures taken { let t = table_of_intact self.old.intact in
@@ -100,7 +101,8 @@ impl<'a> Search<'a> {
 
     // The folders at a depth, from those at the depth before.
     fn take_level(&mut self, depth: u32, level: BTreeSet<u32>) -> Result<BTreeSet<u32>, AllocError>
-        requires taken { AreTaken (table_of_intact self.old.intact) (nodes_of_intact self.old.intact) self.old.tables self.old.found }
+        requires taken { let i = self.old.intact in
+            AreTaken (table_of_intact i) (nodes_of_intact i) self.old.tables self.old.found }
         ensures intact { self.new.intact ≡ self.old.intact }
         ensures taken { let t = table_of_intact self.old.intact in
             OnOk result (AreTaken t (nodes_of_intact self.old.intact) self.new.tables self.new.found) }
@@ -128,7 +130,8 @@ impl<'a> Search<'a> {
 
     // All levels. No way is as long as there are folders, unless it goes in a circle.
     fn take_levels(&mut self, level: BTreeSet<u32>) -> Result<(), AllocError>
-        requires taken { AreTaken (table_of_intact self.old.intact) (nodes_of_intact self.old.intact) self.old.tables self.old.found }
+        requires taken { let i = self.old.intact in
+            AreTaken (table_of_intact i) (nodes_of_intact i) self.old.tables self.old.found }
         requires root { is_folder_among (nodes_of_intact self.old.intact) ROOT_NID ≡ true }
         requires within { let t = table_of_intact self.old.intact in
             IsReachedWithin t (nodes_of_intact self.old.intact) 0 self.old.found }
@@ -182,7 +185,8 @@ impl<'a> Search<'a> {
 fn search_from(alloc: Global, intact: &Intact, walked: u64) -> Result<(Vec<Reach>, u64), AllocError>
     ensures exact { let t = table_of_intact intact.now in
         IfOk result (λ x. x.0.items ≡ reaches_of t (nodes_of_intact intact.now)) }
-    ensures walked { let all = reaches_of (table_of_intact intact.now) (nodes_of_intact intact.now) in
+    ensures walked { let i = intact.now in
+        let all = reaches_of (table_of_intact i) (nodes_of_intact i) in
         (before : ℕ) → walked ≡ capped before →
         IfOk result (λ x. x.1 ≡ capped (before + folders_in all)) }
 {

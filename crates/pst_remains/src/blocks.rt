@@ -165,7 +165,8 @@ pub fn sort_blocks(
     requires units { length claims.old ≡ unit_total header.now }
     requires leaves { AreLeaves Bbt (bytes_of image) leaves.now }
     ensures same { length claims.new ≡ length claims.old }
-    ensures left { IfOk result (λ s. blocks_left (end_of header.now) (bytes_of image.entry) claims.old
+    ensures left { IfOk result (λ s.
+        blocks_left (end_of header.now) (bytes_of image.entry) claims.old
         (map (block_entry_at (bytes_of image.entry)) (leaf_entries (bytes_of image.entry) leaves.now))
         ≡ blocks_so_far claims.new s.faults.items s.good.items) }
 {

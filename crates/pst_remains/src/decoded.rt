@@ -13,7 +13,7 @@ use crate::found::Found;
 use crate::remains::Remains;
 use pst_bytes::Image;
 use pst_fault::Fault;
-use pst_plain::{Decoder, Method, decode_data, set_method};
+use pst_plain::{Codec, Method, decode_data, set_method};
 use std::alloc::Global;
 
 // That the bytes of a file are bytes.
@@ -67,9 +67,9 @@ pub fn find_decoded(alloc: Global, method: Method, file: &mut [u8]) -> Result<Fo
     ensures same { OnErr result (file.new ≡ file.old) }
 {
     are_bytes(file);
-    let decoder = Decoder::new(alloc, method, file.len())?;
+    let codec = Codec::new(alloc, method, file.len())?;
     let found = look_plain(alloc, method, file)?;
-    decode_data(&decoder, &found.good, file);
+    decode_data(&codec, &found.good, file);
     Ok(found)
 }
 

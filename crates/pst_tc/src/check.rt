@@ -181,7 +181,8 @@ fn check_any_matrix(heap: &Heap, info: Span, bth: &Bth) -> Result<(), Fault>
     requires sound { info_fault (data_of heap.now).image info ≡ None }
     requires heap { heap_of bth.now ≡ heap.now }
     requires sizes { sizes_in bth.now ≡ tc_sizes }
-    ensures exact { let t = table_of_node (node_of heap.now) in let r = roots_of (node_of heap.now) in
+    ensures exact { let t = table_of_node (node_of heap.now) in
+        let r = roots_of (node_of heap.now) in
         let rows = first_of (row_record_fault t r info) (records_of bth.now) in
         Checks result (option_map (told_under r) (matrix_fault t r info then rows)) }
 {
@@ -199,7 +200,8 @@ fn check_matrix_rows(heap: &Heap, info: Span, bth: &Bth) -> Result<(), Fault>
     requires sound { info_fault (data_of heap.now).image info ≡ None }
     requires heap { heap_of bth.now ≡ heap.now }
     requires sizes { sizes_in bth.now ≡ tc_sizes }
-    ensures exact { let t = table_of_node (node_of heap.now) in let r = roots_of (node_of heap.now) in
+    ensures exact { let t = table_of_node (node_of heap.now) in
+        let r = roots_of (node_of heap.now) in
         let rows = first_of (row_record_fault t r info) (records_of bth.now) in
         Checks result (option_map (told_under r) (matrix_fault t r info then rows)) }
 {

@@ -44,8 +44,10 @@ impl<'a> Grid<'a> {
     /// TCINFO with its row matrix.
     #[inline(always)]
     pub(crate) fn of(front: &Front<'a>, matrix: &Matrix<'a>) -> Grid<'a>
-        requires inside { LiesIn (table_of_node (node_of_tc (front_tc front.now))).image matrix.now }
-        requires rows { let node = node_of_tc (front_tc front.now) in let t = table_of_node node in
+        requires inside { let node = node_of_tc (front_tc front.now) in
+            LiesIn (table_of_node node).image matrix.now }
+        requires rows { let node = node_of_tc (front_tc front.now) in
+            let t = table_of_node node in
             HasRowsOf t (roots_of node) (matrix_hnid t.image (front_item front.now)) matrix.now }
         ensures { grid_front result ≡ front.now }
     {

@@ -1,6 +1,7 @@
 pub mod CharacterLemmas
 pub mod DigitLemmas
 pub mod EscapeLemmas
+pub mod GuidLemmas
 pub mod HexLemmas
 pub mod KeptLemmas
 pub mod LaneLemmas

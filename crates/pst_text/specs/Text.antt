@@ -1,8 +1,9 @@
--- Bytes as they are shown: in hexadecimal, or as the text that they spell.
+-- Bytes as they are shown: in hexadecimal, as the text that they spell, or as a GUID.
 use Rattle.std.specs.Prelude.{ℕ, List, encode_utf8_all}
 use Rattle.std.specs.Char.Utf16.{utf16_lossy_chars}
 use Rattle.serde_json.specs.Data.{Data, string}
 use Rattle.hex.specs.Hex.{encode_lower}
+use Rattle.uuid.specs.Text.{lower, hyphenated_text}
 use Rattle.pst_value.specs.Units.{units_of}
 
 -- lower-case hexadecimal
@@ -15,3 +16,7 @@ utf8_of bytes = encode_utf8_all (utf16_lossy_chars (units_of bytes))
 
 abbrev pub text_data : List ℕ → Data
 text_data bytes = string (utf8_of bytes)
+
+-- the hyphenated form in lower case
+abbrev pub guid_data : List ℕ → Data
+guid_data guid = string (hyphenated_text lower guid)

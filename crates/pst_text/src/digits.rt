@@ -77,7 +77,8 @@ fn upper(byte: u8) -> [u8; 2]
 
 /// Puts a property's identifier or type behind a text, as `"001F"`.
 pub fn put_id(id: u16, text: &mut Vec<u8>) -> Result<(), AllocError>
-    ensures put { OnOk result (text.new.items ≡ text.old.items ++ compact_text (string (id_text id))) }
+    ensures put { OnOk result (text.new.items
+        ≡ text.old.items ++ compact_text (string (id_text id))) }
     ensures kept { OnErr result (BeginsWith text.new.items text.old.items) }
 {
     let [first, second] = id.to_be_bytes();
@@ -131,7 +132,8 @@ fn lower_of(bytes: &[u8; 16]) -> [u8; 32]
 // Puts the two digits of a byte behind a text, in lower case.
 #[tactic(auto, using(crate::proofs::DigitLemmas::lower_put))]
 fn put_lower(byte: u8, text: &mut Vec<u8>) -> Result<(), AllocError>
-    ensures put { OnOk result (text.new.items ≡ text.old.items ++ escape (encode_lower (byte ∷ []))) }
+    ensures put { OnOk result (text.new.items
+        ≡ text.old.items ++ escape (encode_lower (byte ∷ []))) }
     ensures kept { OnErr result (BeginsWith text.new.items text.old.items) }
 {
     text.extend_from_slice(&[LOWER[(byte / 16) as usize], LOWER[(byte % 16) as usize]])?;
@@ -166,7 +168,8 @@ pub fn put_lower_bytes(bytes: &[u8], text: &mut Vec<u8>) -> Result<(), AllocErro
 
 /// Puts bytes behind a text, in hexadecimal.
 pub fn put_hex(bytes: &[u8], text: &mut Vec<u8>) -> Result<(), AllocError>
-    ensures put { OnOk result (text.new.items ≡ text.old.items ++ compact_text (hex_data bytes.now)) }
+    ensures put { OnOk result (text.new.items
+        ≡ text.old.items ++ compact_text (hex_data bytes.now)) }
     ensures kept { OnErr result (BeginsWith text.new.items text.old.items) }
 {
     text.push(b'"')?;

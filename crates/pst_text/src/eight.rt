@@ -101,8 +101,10 @@ fn chosen(units: u16x8, limit: u16, below: u16x8, other: u16x8) -> u16x8
     requires below { length below ≡ 8 }
     requires other { length other ≡ 8 }
     ensures long { length result ≡ 8 }
-    ensures below { (k : ℕ) → k < 8 → slice_index units k < limit → slice_index result k ≡ slice_index below k }
-    ensures other { (k : ℕ) → k < 8 → limit ≤ slice_index units k → slice_index result k ≡ slice_index other k }
+    ensures below { (k : ℕ) → k < 8 → slice_index units k < limit
+        → slice_index result k ≡ slice_index below k }
+    ensures other { (k : ℕ) → k < 8 → limit ≤ slice_index units k
+        → slice_index result k ≡ slice_index other k }
 {
     units.simd_lt(u16x8::splat(limit)).select(below, other)
 }
@@ -142,7 +144,8 @@ fn joined_bytes(bits: u16x8, mark: u16, second: u16x8) -> u16x8
 fn low_bytes(units: u16x8) -> u16x8
     requires { length units ≡ 8 }
     ensures long { length result ≡ 8 }
-    ensures one { (k : ℕ) → k < 8 → slice_index units k < 0x80 → slice_index result k ≡ slice_index units k }
+    ensures one { (k : ℕ) → k < 8 → slice_index units k < 0x80
+        → slice_index result k ≡ slice_index units k }
     ensures two { (k : ℕ) → k < 8 → 0x80 ≤ slice_index units k → slice_index units k < 0x800
         → slice_index result k ≡ slice_index units k / 64 + 192 + 256 * (128 + slice_index units k % 64) }
     ensures three { (k : ℕ) → k < 8 → 0x800 ≤ slice_index units k → slice_index units k < 0x10000
@@ -175,7 +178,8 @@ fn high_bytes(units: u16x8) -> u16x8
 // The characters that the eight units at a place are: of each its first two bytes, and its third one with how many there are.
 fn characters_at(bytes: &[u8], at: usize) -> ([u16; 8], [u16; 8])
     requires { at + 16 ≤ length bytes.now }
-    ensures bytes { (k : ℕ) → k < 8 → bytes_of_both (slice_index result.0 k) (slice_index result.1 k)
+    ensures bytes { (k : ℕ) → k < 8 →
+        bytes_of_both (slice_index result.0 k) (slice_index result.1 k)
         ≡ encode_utf8 (slice_index bytes.now (at + 2 * k) + 256 * slice_index bytes.now (at + 2 * k + 1)) }
     ensures most { (k : ℕ) → k < 8 → slice_index result.1 k / 256 ≤ 3 }
     ensures small { (k : ℕ) → k < 8

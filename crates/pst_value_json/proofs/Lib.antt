@@ -1,7 +1,6 @@
 pub mod CellLemmas
 pub mod ColumnLemmas
 pub mod DocLemmas
-pub mod GuidLemmas
 pub mod MemberLemmas
 pub mod PartLemmas
 pub mod PenLemmas

@@ -5,8 +5,8 @@ use Rattle.pst_text.specs.Names.{nid_or_null, id_text, tag_text}
 use Rattle.pst_text.specs.Parts.{natural, integer}
 use Rattle.pst_value_json.specs.declared.leaf.Leaf.{Leaf}
 use Rattle.pst_value_json.specs.declared.leaf.Leaf.TheVariants.{Null, Truth, Natural, Integer, Nid, Id, Tag, Word, Digest, Guid, Object, Text, Hex}
-use Rattle.pst_text.specs.Text.{hex_data, text_data}
-use Rattle.pst_value_json.specs.Value.{guid_data, object_data}
+use Rattle.pst_text.specs.Text.{guid_data, hex_data, text_data}
+use Rattle.pst_value_json.specs.Value.{object_data}
 
 abbrev pub leaf_data : Leaf → Data
 leaf_data Null = null

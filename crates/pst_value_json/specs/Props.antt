@@ -17,8 +17,8 @@ use Rattle.pst_value_json.specs.Filed.{file_told}
 use Rattle.pst_text.specs.Names.{id_text}
 use Rattle.pst_text.specs.Parts.{natural}
 use Rattle.pst_value_json.specs.Places.{places_of, places_data, if_asked, member_if}
-use Rattle.pst_text.specs.Text.{text_data}
-use Rattle.pst_value_json.specs.Value.{value_data, guid_data}
+use Rattle.pst_text.specs.Text.{guid_data, text_data}
+use Rattle.pst_value_json.specs.Value.{value_data}
 
 -- ---- a name: a number, or a text as a value of type 001F; and the GUID of its set, or null
 

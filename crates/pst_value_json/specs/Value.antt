@@ -1,19 +1,14 @@
 -- The JSON value of a property's value, by its type and its bytes.
 use Rattle.std.specs.Prelude.{ℕ, Option, Some, None, ◌%◌, List, length, nat_eq, codes, if◌then◌else◌}
-use Rattle.serde_json.specs.Data.{Data, null, boolean, string, object, member, no_members}
-use Rattle.uuid.specs.Text.{lower, hyphenated_text}
+use Rattle.serde_json.specs.Data.{Data, null, boolean, object, member, no_members}
 use Rattle.pst_value.specs.Read.{exactly, i16_of, i32_of, i64_of, u32_of, u64_of, bool_of, guid_of, object_of}
 use Rattle.pst_value.specs.Multi.{elements_of}
 use Rattle.pst_text.specs.Names.{nid_data}
 use Rattle.pst_text.specs.Parts.{natural, integer, list_data}
-use Rattle.pst_text.specs.Text.{hex_data, text_data}
+use Rattle.pst_text.specs.Text.{guid_data, hex_data, text_data}
 use Rattle.pst_value_json.specs.declared.form.Form.{Form}
 use Rattle.pst_value_json.specs.declared.form.Form.TheVariants.{Int16, Int32, Int64, Nat32, Nat64, Truth, Guid, Object, Text, Fixed, Open}
 use Rattle.pst_value_json.specs.Form.{form_of}
-
--- the hyphenated form in lower case
-abbrev pub guid_data : List ℕ → Data
-guid_data guid = string (hyphenated_text lower guid)
 
 abbrev pub object_data : ℕ × ℕ → Data
 object_data o = object (member (codes "nid") (nid_data o.0) (member (codes "size") (natural o.1) no_members))

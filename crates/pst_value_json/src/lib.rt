@@ -57,13 +57,12 @@ pub use pst_names::{NameIndex, NameMap};
 pub use pst_pc::{Pc, Prop, check_pc};
 pub use pst_tc::{Row, Rows as TcRows, Tc, check_tc, tc_ids_rise, tc_is_of_keys};
 pub use pst_text::{
-    line_text, nid_text, put_comma, put_i32_or_null, put_key, put_natural, put_nid, put_null,
-    put_time_or_null, text,
+    hex_doc, line_text, nid_text, put_comma, put_i32_or_null, put_key, put_natural, put_nid,
+    put_null, put_text, put_time_or_null, text, text_doc, text_of,
 };
 pub use pst_value::PropType;
-pub use put_values::{put_leaf, put_text};
-pub use scalar::{text_doc, text_of};
+pub use put_values::put_leaf;
 pub use shown_rows::TableRows;
 pub use sinks::{Line, Sink, Tree, put_object};
 pub use trees::only;
-pub use write_values::{hex_doc, value_doc};
+pub use write_values::value_doc;

@@ -6,7 +6,8 @@ ghost use Rattle.pst_datatree.specs.Shown.{bytes_in};
 ghost use Rattle.pst_value.specs.Read.{exactly, i16_of, i32_of, i64_of, u32_of, u64_of, bool_of, guid_of, object_of};
 ghost use Rattle.pst_value_json.specs.Leaf.{leaf_data};
 ghost use Rattle.pst_text.specs.Parts.{natural, integer};
-ghost use Rattle.pst_value_json.specs.Value.{guid_data, object_data, null_or_hex, or_hex, single_data};
+ghost use Rattle.pst_text.specs.Text.{guid_data};
+ghost use Rattle.pst_value_json.specs.Value.{object_data, null_or_hex, or_hex, single_data};
 
 use crate::form::{Form, form_of_type};
 use crate::leaf::Leaf;

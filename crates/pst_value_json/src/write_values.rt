@@ -5,12 +5,9 @@ ghost use Rattle.serde_json.specs.View.{view};
 ghost use Rattle.pst_datatree.specs.Shown.{bytes_in};
 ghost use Rattle.pst_value.specs.Elements.{elements_left};
 ghost use Rattle.pst_text.specs.Parts.{list_data};
-ghost use Rattle.pst_text.specs.Text.{hex_data};
 ghost use Rattle.pst_value_json.specs.Value.{single_data, value_data};
 
-use crate::leaf::Leaf;
 use crate::pens::Pen;
-use crate::scalar::leaf_doc;
 use crate::single::single;
 use crate::trees::only;
 use pst_datatree::Value;
@@ -64,11 +61,4 @@ pub fn value_doc(alloc: Global, kind: PropType, value: Value) -> Result<Doc, All
     let mut docs = Vec::new(alloc);
     write_value(alloc, kind, &value, &mut docs)?;
     Ok(only(docs))
-}
-
-/// A value in lower-case hexadecimal.
-pub fn hex_doc(alloc: Global, value: Value) -> Result<Doc, AllocError>
-    ensures { IfOk result (λ d. view d ≡ hex_data (bytes_in value.entry)) }
-{
-    leaf_doc(alloc, &Leaf::Hex(&value))
 }

@@ -11,8 +11,9 @@ use Rattle.pst_value_json.proofs.MemberLemmas.{first_marked, next_marked, closed
 use Rattle.pst_verify.specs.pst_msg.pst_mail.declared.items.Items.TheVariants.{Subfolders, Messages, Associated}
 use Rattle.pst_verify.specs.pst_msg.Shown.{folder_table}
 use Rattle.pst_verify.specs.pst_reach.Path.{path_in}
-use Rattle.pst_json.specs.declared.texts.TheConstants.{NAME}
-use Rattle.pst_json.specs.Folders.{path_data, text_property, table_told, count_data, nids_data, folder_data}
+use Rattle.pst_props.specs.declared.texts.TheConstants.{NAME}
+use Rattle.pst_json.specs.Folders.{path_data, table_told, count_data, nids_data, folder_data}
+use Rattle.pst_props.specs.Texts.{text_property}
 use Rattle.pst_value_json.proofs.pst_text.KeptLemmas.{kept_here, kept_more, kept_still, kept_through, kept_so}
 use Rattle.pst_json.proofs.folder_lines.put_folder.Goals as goal
 

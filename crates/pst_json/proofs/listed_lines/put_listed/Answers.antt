@@ -7,7 +7,7 @@ use Rattle.pst_intact.specs.View.{table_of_intact}
 use Rattle.pst_value_json.specs.pst_pc.View.{node_of_pc}
 use Rattle.pst_value_json.specs.pst_text.Names.{nid_data}
 use Rattle.pst_value_json.proofs.MemberLemmas.{first_marked, next_marked, closed}
-use Rattle.pst_json.specs.declared.texts.TheConstants.{CLASS, SENDER, SUBJECT}
+use Rattle.pst_props.specs.declared.texts.TheConstants.{CLASS, SENDER, SUBJECT}
 use Rattle.pst_json.specs.Contents.{text_there, listed_message_data}
 use Rattle.pst_value_json.proofs.pst_text.KeptLemmas.{kept_here, kept_more, kept_still, kept_through, kept_so}
 use Rattle.pst_json.proofs.listed_lines.put_listed.Goals as goal

@@ -3,7 +3,7 @@ use Rattle.std.specs.List.{filter}
 use Rattle.pst_ndb.specs.NodeTable.{table_of_nodes, entries_of_nodes}
 use Rattle.pst_intact.specs.View.{table_of_intact, nodes_of_intact, intact_folders_left, folders_beside}
 use Rattle.pst_ndb.specs.NodeIndexes.{AreNodeIndexes}
-use Rattle.pst_json.specs.Listings.{folders_listing, is_there}
+use Rattle.pst_json.specs.Listings.{folders_listing, has_message}
 use Rattle.pst_json.specs.Messages.{listed_in, lists, top_of_roots}
 use Rattle.pst_json.specs.RowIds.{AreRowIdsTrue}
 use Rattle.pst_json.proofs.listings.listings_of.Given as goal
@@ -14,7 +14,7 @@ invariant-loop-folder l = let t = table_of_intact l.intact in let all = nodes_of
   table : table_of_nodes (folders_beside l.folder-iterator) ≡ t;
   nodes : entries_of_nodes (folders_beside l.folder-iterator) ≡ all;
   index : AreNodeIndexes t l.index;
-  rows : AreRowIdsTrue (is_there all) t l.rows;
-  noted : (nid : ℕ) → is_there all nid ≡ true → folders_listing l.listings nid ++ map top_of_roots (filter (lists t all nid) (intact_folders_left l.folder-iterator))
+  rows : AreRowIdsTrue (has_message all) t l.rows;
+  noted : (nid : ℕ) → has_message all nid ≡ true → folders_listing l.listings nid ++ map top_of_roots (filter (lists t all nid) (intact_folders_left l.folder-iterator))
       ≡ listed_in t all nid;
 }

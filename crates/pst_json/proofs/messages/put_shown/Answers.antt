@@ -8,8 +8,8 @@ use Rattle.pst_value_json.specs.pst_text.Names.{nid_data}
 use Rattle.pst_value_json.specs.pst_text.Parts.{natural, list_data}
 use Rattle.pst_value_json.proofs.MemberLemmas.{first_marked, next_marked, closed}
 use Rattle.pst_json.specs.declared.messages.TheConstants.{RECEIVED, SENT, SIZE}
-use Rattle.pst_json.specs.declared.texts.TheConstants.{CLASS, SENDER, SUBJECT}
-use Rattle.pst_json.specs.Folders.{text_property}
+use Rattle.pst_props.specs.declared.texts.TheConstants.{CLASS, SENDER, SUBJECT}
+use Rattle.pst_props.specs.Texts.{text_property}
 use Rattle.pst_json.specs.Messages.{summary_data, time_property, number_property}
 use Rattle.pst_json.proofs.messages.put_shown.Goals as goal
 

@@ -1,8 +1,8 @@
 use Rattle.pst_fault.specs.Fault.{at_node}
 use Rattle.pst_ndb.specs.Views.{table_of_node, roots_of}
-use Rattle.pst_msg.specs.Broken.{context_part}
-use Rattle.pst_msg.proofs.DataFaultLemmas.{data_keep}
-use Rattle.pst_msg.proofs.FaultsLemmas.{context_keep}
+use Rattle.pst_remembered.specs.Broken.{context_part}
+use Rattle.pst_remembered.proofs.DataFaultLemmas.{data_keep}
+use Rattle.pst_remembered.proofs.FaultsLemmas.{context_keep}
 use Rattle.pst_msg.proofs.context.check_anew.Goals as goal
 
 pub returns-then-has_broken_data-clause-broken : goal.returns-then-has_broken_data-clause-broken

@@ -1,6 +1,6 @@
 use Rattle.pst_ndb.specs.Views.{table_of_node, roots_of}
-use Rattle.pst_msg.proofs.DataFaultLemmas.{data_told}
-use Rattle.pst_msg.proofs.FaultsLemmas.{context_told}
+use Rattle.pst_remembered.proofs.DataFaultLemmas.{data_told}
+use Rattle.pst_remembered.proofs.FaultsLemmas.{context_told}
 use Rattle.pst_msg.proofs.context.known_fault.Goals as goal
 
 pub returns-in-Some : goal.returns-in-Some

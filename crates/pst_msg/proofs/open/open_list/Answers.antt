@@ -1,6 +1,6 @@
 use Rattle.std.proofs.Common.{inr, refl}
 use Rattle.pst_ndb.specs.Views.{table_of_node}
-use Rattle.pst_msg.proofs.RetoldLemmas.{held_told}
+use Rattle.pst_remembered.proofs.RetoldLemmas.{held_told}
 use Rattle.pst_msg.proofs.open.open_list.Goals as goal
 
 pub returns-in-Some-clause-refused : goal.returns-in-Some-clause-refused

@@ -1,7 +1,7 @@
 use Rattle.pst_ndb.specs.Views.{table_of_node, roots_of}
-use Rattle.pst_msg.specs.Broken.{held_part, retold}
+use Rattle.pst_remembered.specs.Broken.{held_part, retold}
 use Rattle.pst_msg.proofs.KnownLemmas.{fault_remembered}
-use Rattle.pst_msg.proofs.RetoldLemmas.{held_keep}
+use Rattle.pst_remembered.proofs.RetoldLemmas.{held_keep}
 use Rattle.pst_msg.proofs.remember.remember_broken.Goals as goal
 
 pub returns-in_err-remember-clause-known : goal.returns-in_err-remember-clause-known

@@ -7,7 +7,7 @@ use Rattle.pst_plain.proofs.twin.decode_file.Goals as goal
 pub returns-in-Ok-clause-twin : goal.returns-in-Ok-clause-twin
 returns-in-Ok-clause-twin c =
     twin_made c.args.file.now c.set_method.new.file c.decode_data.new.file c.args.method c.deref.result.now c.requires.method c.set_method.ensures
-    (c.deref.ensures.value ∙ c.in-Ok.ensures.blocks) (c.decode_data.ensures.file ∙ ap (λ m. data_decoded m c.deref.result.now c.set_method.new.file) c.requires.decoder)
+    (c.deref.ensures.value ∙ c.in-Ok.ensures.blocks) (c.decode_data.ensures.file ∙ ap (λ m. data_decoded m c.deref.result.now c.set_method.new.file) c.requires.codec)
 
 pub returns-in-Ok-clause-blocks : goal.returns-in-Ok-clause-blocks
 returns-in-Ok-clause-blocks c =

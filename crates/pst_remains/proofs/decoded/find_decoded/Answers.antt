@@ -15,11 +15,11 @@ decode_data-requires c =
 pub returns-clause-exact : goal.returns-clause-exact
 returns-clause-exact c =
     let J = with_method 0 c.args.file.now in
-    let made : c.decode_data.new.file ≡ data_decoded c.args.method c.in_ok-found.found.good.items J = rw (c.in_ok-decoder.ensures.method, c.deref.ensures.value, c.in_ok-found.ensures.plain) at c.decode_data.ensures.file in
+    let made : c.decode_data.new.file ≡ data_decoded c.args.method c.in_ok-found.found.good.items J = rw (c.in_ok-codec.ensures.method, c.deref.ensures.value, c.in_ok-found.ensures.plain) at c.decode_data.ensures.file in
     found_decoded c.args.file.now J c.decode_data.new.file c.in_ok-found.found c.args.method refl c.in_ok-found.ensures.exact made
 
 pub returns-clause-over : goal.returns-clause-over
 returns-clause-over c =
     let J = with_method 0 c.args.file.now in
-    let made : c.decode_data.new.file ≡ data_decoded c.args.method c.in_ok-found.found.good.items J = rw (c.in_ok-decoder.ensures.method, c.deref.ensures.value, c.in_ok-found.ensures.plain) at c.decode_data.ensures.file in
+    let made : c.decode_data.new.file ≡ data_decoded c.args.method c.in_ok-found.found.good.items J = rw (c.in_ok-codec.ensures.method, c.deref.ensures.value, c.in_ok-found.ensures.plain) at c.decode_data.ensures.file in
     found_over J c.decode_data.new.file c.in_ok-found.found c.args.method (plain_bytes c.args.file.now c.args.method c.are_bytes.ensures c.requires.method) c.in_ok-found.ensures.exact made

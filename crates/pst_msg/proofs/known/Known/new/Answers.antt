@@ -1,6 +1,6 @@
 use Rattle.std.proofs.Common.{rules}
 use Rattle.pst_fault.specs.Fault.{at_node}
-use Rattle.pst_msg.specs.Broken.{context_part, held_part, retold}
+use Rattle.pst_remembered.specs.Broken.{context_part, held_part, retold}
 use Rattle.pst_msg.proofs.KnownLemmas.{nothing_known}
 use Rattle.pst_msg.proofs.known.Known.new.Goals as goal
 

@@ -1,5 +1,0 @@
-use Rattle.pst_msg.proofs.FaultsLemmas.{none_kept}
-use Rattle.pst_msg.proofs.faults.Faults.new.Goals as goal
-
-pub returns : goal.returns
-returns c retell parts = none_kept retell parts _ c.new.ensures.empty

@@ -1,0 +1,12 @@
+pub mod InsertLemmas
+pub mod RisingLemmas
+pub mod KeyOrderLemmas
+pub mod AloneLemmas
+pub mod KeyLemmas
+pub mod IndexLemmas
+pub mod RowCountLemmas
+pub mod RoleLemmas
+pub mod FaultsLemmas
+pub mod DataFaultLemmas
+pub mod RetoldLemmas
+pub mod AskedLemmas

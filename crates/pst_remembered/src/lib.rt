@@ -1,0 +1,37 @@
+//! What a check of a store's messaging remembers of the nodes that it went through, so that a part that several of them share is
+//! gone through once ([MS-PST] 2.2.2.8.3.3: data and lists of subnodes are blocks, which any node may name).
+//!
+//! Begin with specs/Keys.antt: a node is known by the identifiers of the blocks of its data and of its subnodes. `Keys` is a set of
+//! such nodes, `Faults` the faults of those that are broken, `Asked` what sound contexts asked of their lists, `RowCounts` how many
+//! rows tables have. Of each a clause says that what is remembered is true:
+//!
+//! ```text
+//! let mut keys = Keys::new(alloc);
+//! let taken = key_of(role_number(Role::Recipients), node);
+//! if !keys.has(taken) {
+//!     check_context(Role::Recipients, node, &mut maps)?;
+//!     keys.insert(taken)?;
+//! }
+//! ```
+//!
+//! pst_msg checks messaging with it.
+#![tactic(auto)]
+
+mod asked;
+mod broken;
+mod faults;
+mod keys;
+mod list_index;
+mod rising;
+mod role;
+mod row_counts;
+
+pub use asked::Asked;
+pub use broken::{
+    has_broken_data, is_alike, is_of_data, part_of, part_of_data, part_of_list, told_of,
+};
+pub use faults::{Faults, Part};
+pub use keys::{Key, Keys, cleared, key_of, key_of_data, key_of_list};
+pub use list_index::ListIndex;
+pub use role::{Role, check_context, role_number};
+pub use row_counts::RowCounts;
