@@ -207,8 +207,9 @@ def messages_of(exported):
 
 
 def write(path, message):
+    """Makes a file, which must not be there yet."""
     os.makedirs(os.path.dirname(path), exist_ok=True)
-    with open(path, "wb") as out:
+    with open(path, "xb") as out:
         out.write(message.as_bytes())
 
 

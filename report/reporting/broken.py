@@ -62,7 +62,8 @@ def broken(store):
         if fault:
             name = "The allocation maps" if word == "maps" else "The header"
             made += paragraph(f"{name}: {texts.escaped(fault.name)} at <code>{fault.at:#x}</code>.")
-    made += nodes(damage, store.parents) if damage["nodes"] else paragraph("No node is damaged.", "none")
+    known = " that is known" if damage["pages"] or damage["header"] else ""
+    made += nodes(damage, store.parents) if damage["nodes"] else paragraph(f"No node{known} is damaged.", "none")
     if damage["blocks"]:
         made += places("blocks", "Damaged blocks", "Block", damage["blocks"])
     if damage["pages"]:

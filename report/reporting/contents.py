@@ -50,18 +50,23 @@ def folders(store):
     rows = [[cell_of(it, order, len(it.path) - 1), numeral(it.listed), size(it.own), size(it.all), node(it.nid)]
             for order, it in enumerate(reached[:ROWS])]
     seen = picture("folders", "Folders by the bytes of their messages", about) if drawn else paragraph(
-        "No folder has a message with a size, so there is nothing to draw.", "none")
+        f"No {'whole table of a ' * store.is_part}folder lists a {'whole ' * store.is_part}message with a size, so there is nothing to draw.", "none")
     if not reached:
-        return drawn, seen + paragraph("The root folder is not among them, so it reaches none.", "none") + lost_folders(lost)
+        return drawn, seen + paragraph("The root folder is not among them, so it reaches none.", "none") + lost_folders(lost, store.is_part)
     tree = table("folders", "The tree of folders from the root", columns, rows, len(reached), ("Folder", "ascending"))
     made = f'<div class="pair">{seen}<div>{tree}</div></div>' if drawn else seen + tree
-    return drawn, made + lost_folders(lost)
+    return drawn, made + lost_folders(lost, store.is_part)
 
 
-def lost_folders(lost):
+def none(is_part):
+    """That there are none, as far as it is known."""
+    return "Among what is whole there are none." if is_part else "There are none."
+
+
+def lost_folders(lost, is_part):
     """The folders to which nothing leads from the root."""
     if not lost:
-        return "<h3>Folders that the root folder does not reach</h3>" + paragraph("There are none.", "none")
+        return "<h3>Folders that the root folder does not reach</h3>" + paragraph(none(is_part), "none")
     columns = [("Folder", False), ("Messages", True), ("Its own", True), ("Identifier", True)]
     rows = [[cell_of(it, order, 0), numeral(it.listed), size(it.own), node(it.nid)] for order, it in enumerate(lost[:ROWS])]
     about = "They are there and whole, with their messages, but a program that begins at the root folder does not show them."
@@ -127,13 +132,13 @@ def largest(store):
     """The largest messages."""
     rows = store.messages.largest_rows()
     if not rows:
-        return paragraph("The store has no message.", "none")
+        return paragraph("No message of it is whole." if store.is_part else "The store has no message.", "none")
     return messages(store, "largest", "The largest messages", rows, store.messages.count, ("Size", "descending"))
 
 
 def unlisted(store):
     """The messages that no folder lists."""
     if not store.messages.unlisted:
-        return paragraph("There are none.", "none")
+        return paragraph(none(store.is_part), "none")
     about = paragraph(f"They are there and whole, but no {'whole ' * store.is_part}folder\u2019s table has a row for them.", "note")
     return about + messages(store, "unlisted", "Messages in no folder", store.messages.in_no_folder, store.messages.unlisted)

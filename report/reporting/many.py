@@ -11,7 +11,7 @@ from reporting.asking import UNREAD, Stopped
 from reporting.document import Cell, code, document, facts, numeral, own_digest, paragraph, picture, table
 from reporting.store import Fault
 from reporting.sums import ROWS
-from reporting.verdict import OUTSIDE, UNCLOSED
+from reporting.verdict import OUTSIDE_OF_PROFILE
 
 MOST_KINDS = 30
 
@@ -31,7 +31,7 @@ class Line(NamedTuple):
         """Which of four it is: yes, no, outside of what is checked, or without a verdict."""
         if self.document:
             return "yes"
-        return "left" if self.fault is None else "other" if self.fault.kind in OUTSIDE | {UNCLOSED} else "no"
+        return "left" if self.fault is None else "other" if self.fault.kind in OUTSIDE_OF_PROFILE else "no"
 
 
 def length_of(path):
@@ -77,7 +77,7 @@ def verdicts(lines):
     """How many of each, in words."""
     found = Counter(it.kind for it in lines)
     if found["yes"] == len(lines) and lines:
-        kind, word = "yes", f"Yes: all {len(lines):,} files are mail stores, whole by all rules of the format."
+        kind, word = "yes", f"Yes: all {len(lines):,} files are mail stores, whole by all rules that pst_show checks."
     else:
         kind = "no" if found["no"] else "other"
         word = f"{found['yes']:,} of {texts.counted(len(lines), 'file')} {'is' if found['yes'] == 1 else 'are'} whole stores."

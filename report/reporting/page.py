@@ -8,7 +8,7 @@ from reporting.broken import broken
 from reporting.contents import folders, largest, times, unlisted
 from reporting.document import document, paragraph
 from reporting.strip import strip
-from reporting.verdict import about_file, counts, verdict
+from reporting.verdict import about_file, classed, counts, verdict
 
 LEFT = "No folders and messages are shown of a file that is not a whole store."
 
@@ -35,7 +35,8 @@ def page(store, now):
     heading = f'<span class="of">Report on</span> {texts.foreign(name, 1000)}'
     version = texts.escaped(store.program.version)
     footer = f"Made by pst_report of the answers of {version}. The pictures are drawn by d3. This page needs no network."
-    return document("A mail store of Outlook (.pst)", heading, f"Report on {texts.escaped(texts.shown(name))}", sections, data, footer)
+    title = "A file that is no mail store which pst_show reads" if classed(store) == "other" and not store.damage else "A mail store of Outlook (.pst)"
+    return document(title, heading, f"Report on {texts.escaped(texts.shown(name))}", sections, data, footer)
 
 
 def part(store):

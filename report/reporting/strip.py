@@ -36,12 +36,19 @@ def mark(places):
     return {"at": first[0], "to": max(at + size for at, size, _ in places), "what": what}
 
 
+BEHIND = "behind"
+WORDS = {BEHIND: "behind the end that the header tells"}
+
+
 def amounts(store, lost):
-    """How much is used, free and lost, or nothing where the header does not tell it so that it fits the file."""
-    if not store.head or store.head["free"] + lost > store.seal.length:
+    """How much is used, free, lost, and behind the end of the store, or nothing where the header does not tell it so that it fits the file."""
+    if not store.head:
         return []
-    free = store.head["free"]
-    return [("used", store.seal.length - free - lost), ("free", free), ("lost", lost)]
+    end, free = min(store.head["eof"], store.seal.length), store.head["free"]
+    if free + lost > end:
+        return []
+    behind = store.seal.length - end
+    return [("used", end - free - lost), ("free", free), ("lost", lost)] + [(BEHIND, behind)] * (behind > 0)
 
 
 def strip(store):
@@ -54,8 +61,9 @@ def strip(store):
     broken = broken_places(store.damage) if store.damage else []
     parts = [it for it in amounts(store, lost) if it[0] != "lost" or store.check]
     drawn = {"length": length, "lost": marks(runs, length), "broken": marks(broken, length),
-             "parts": [{"kind": kind, "bytes": size, "what": f"{kind}: {texts.counted(size, 'byte')}"} for kind, size in parts if size]}
-    entries = [(kind, kind, texts.size(size)) for kind, size in parts]
+             "parts": [{"kind": kind, "bytes": size, "what": f"{WORDS.get(kind, kind)}: {texts.counted(size, 'byte')}"}
+                       for kind, size in parts if size]}
+    entries = [(kind, WORDS.get(kind, kind), texts.size(size)) for kind, size in parts]
     if store.damage:
         entries.append(("broken", "broken", f"{parts_broken(store.damage)} ({len(broken):,} with a place in the file)"))
     about = ("Above: how much of the file is used and free, by the header\u2019s own number, which " if parts else

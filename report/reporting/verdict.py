@@ -7,6 +7,8 @@ from reporting.store import ENCODINGS
 LONGEST_LINE = 2000
 OUTSIDE = {"Short", "Magic", "Version", "Encoded"}
 UNCLOSED = "MapsInvalid"
+# In themselves no sign of damage.
+OUTSIDE_OF_PROFILE = {"Version", "Encoded", UNCLOSED}
 
 
 def classed(store):
@@ -25,17 +27,17 @@ def words(store):
     """The verdict in a few words, and what it says."""
     encoded = " It is encoded, and was decoded in memory." if store.encoding else ""
     if store.check:
-        return ("Yes: this file is a mail store, whole by all rules of the format.",
+        return ("Yes: this file is a mail store, whole by all rules that pst_show checks.",
                 "Its header, both index trees, every block by its check value, the allocation maps, and the properties and tables of every "
-                "folder, message and attachment are what the format asks for, and all that these name is there." + encoded)
+                "folder, message and attachment are what these rules ask for, and all that they name is there." + encoded)
     if store.fault.kind in OUTSIDE:
         return ("No: this file is none of the stores that pst_show checks.",
                 "Nothing more of it was looked at, so nothing is said of damage.")
     if store.damage is None:
         return ("No: this file breaks a rule of the format.", "What else may be broken is not told." + encoded)
     if is_unclosed_alone(store):
-        return ("No: this store was not closed in order.", "Its header marks the allocation maps as invalid, as Outlook leaves them where "
-                "it is cut off; it makes them anew when it next opens the store. Nothing else is broken." + encoded)
+        return ("No: the allocation maps of this store are marked as invalid.", "Its header marks them so, as Outlook does where it is cut off; it "
+                "makes them anew when it next opens the store. Nothing else is broken." + encoded)
     return ("No: this file is damaged.", f"The first rule that it breaks is told below. Broken: {parts_broken(store.damage)}."
             + encoded + hidden(store.damage))
 
@@ -48,7 +50,8 @@ def hidden(damage):
 
 def parts_broken(damage):
     """As `the header, 1 index page and 3 blocks`."""
-    parts = [word for key, word in (("header", "the header"), ("maps", "the allocation maps")) if damage[key]]
+    header = "the header, or the length of the file" if damage["header"] and damage["header"]["kind"] == "Root" else "the header"
+    parts = [word for key, word in (("header", header), ("maps", "the allocation maps")) if damage[key]]
     lists = (("pages", "index page"), ("blocks", "block"), ("nodes", "node"))
     parts += [texts.counted(len(damage[key]), word) for key, word in lists if damage[key]]
     return " and ".join(filter(None, (", ".join(parts[:-1]), parts[-1])))
