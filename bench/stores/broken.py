@@ -1,13 +1,18 @@
-"""Damaged stores that are made to be slow for `damage`: what many nodes share is broken at its end. They are no stores,
-so `check` refuses them."""
-from stores.contexts import INTEGER32, STRING, text
+"""Damaged stores that are made to be slow for `damage`: what many nodes share is broken at its end, or much is broken. They
+are no stores, so `check` refuses them."""
+from stores.contexts import BINARY, INTEGER32, STRING, PropertyContext, TableContext, text
 from stores.far import full_map
-from stores.hostile import PLAIN, attachment_entries, embedding_context, identifiers, ordered, roots, small_message
-from stores.lists import (BLOCKS_IN_A_LIST, SUBNODES_IN_A_LEAF, leaf_list, leaf_lists, list_over, subnode_list, xblock,
-                          xxblock)
-from stores.mail import ATTACHMENT_METHOD, ATTACHMENTS, EMBEDDED_MESSAGE, SUBJECT, context, table
+from stores.hostile import (PLAIN, SEARCH_FOLDER, attachment_entries, chosen, embedding_context, identifiers, ordered, roots,
+                            small_message)
+from stores.lists import (BLOCKS_IN_A_LIST, SUBNODES_IN_A_LEAF, data_tree, leaf_list, leaf_lists, list_over, subnode_list,
+                          xblock, xxblock)
+from stores.mail import (ATTACHMENT_METHOD, ATTACHMENTS, DISPLAY_NAME, EMBEDDED_MESSAGE, RECIPIENTS, SUBJECT, context,
+                         table)
 
 NO_BLOCK = 0x7FFF_FFF0  # the identifier of a block that is not there
+NO_ITEM = 0x0000_FFE0  # that of an item in the first span of a heap, which has not so many
+GUID = 0x0048  # a type whose values have 16 bytes
+SUNK = 3800  # blocks that lie on one another, as many as there is room for behind one allocation map
 
 
 def missing_rows(store, messages=4000, count=4000):
@@ -73,4 +78,62 @@ def sunk_lists(store, lists=60, leaves=100, depth=250, order="shuffled"):
             below = leaf_list(store, [(PLAIN, 0, below)])
 
 
-MAKERS = (missing_rows, wrong_holders, broken_maps, twice_listed, sunk_lists)
+def own_wrong(store, contexts=8000, records=65_000, how="item"):
+    """CONTEXTS RECORDS HOW: own_records, but that the last record is wrong: it names an item or a subnode that is not there, or
+    a value of a wrong length. HOW is item, subnode or length."""
+    roots(store)
+    made = PropertyContext(store)
+    for number in range(records):
+        made.set_raw(number + 1, INTEGER32, 7)
+    wrong = {"item": (BINARY, NO_ITEM), "subnode": (BINARY, PLAIN), "length": (GUID, made.heap.add(b"abc"))}
+    made.set_raw(records + 1, *chosen(wrong, how))
+    data = data_tree(store, made.bodies())
+    for node in identifiers(contexts, SEARCH_FOLDER):
+        store.node(node, data, leaf_list(store, []))
+
+
+def own_wrong_tables(store, messages=200, rows=4000, columns=255, how="item"):
+    """MESSAGES ROWS COLUMNS HOW: own_tables, but that in the last row half of the columns name an item that is not there, or that
+    the last record of the row index names a row that is not there. HOW is item or row."""
+    roots(store)
+    made = TableContext(store, [(DISPLAY_NAME, INTEGER32), (DISPLAY_NAME + 0x1000, STRING)], doubles=columns - 4)
+    for number in range(rows):
+        made.add(number, {DISPLAY_NAME: 7})
+    numbers = list(range(rows))
+    if chosen({"item": False, "row": True}, how):
+        numbers[-1] = rows + 100_000
+    else:
+        made.set_raw(DISPLAY_NAME + 0x1000, NO_ITEM)
+    data, _ = made.write(numbers)
+    message = small_message(store)
+    for node in identifiers(messages, 4):
+        own = leaf_list(store, made.subnodes)
+        store.node(node, message, leaf_list(store, [(RECIPIENTS, data, own)]))
+
+
+def broken_behind(store, nodes=16_000, blocks=1020):
+    """NODES BLOCKS: nodes with XXBLOCKs of their own over one XBLOCK of so many blocks, behind which it names one that is not
+    there."""
+    roots(store)
+    named = [store.block(b"\7") for _ in range(blocks)]
+    below = xblock(store, named + [NO_BLOCK], blocks + 1)
+    for node in identifiers(nodes, PLAIN):
+        store.node(node, xxblock(store, [below], blocks + 1))
+
+
+def lost_nodes(store, nodes=60_000):
+    """NODES: so many nodes whose data is not there."""
+    roots(store)
+    for node in identifiers(nodes, PLAIN):
+        store.node(node, NO_BLOCK)
+
+
+def wrong_sums(store, blocks=30_000):
+    """BLOCKS: so many blocks of 8,176 bytes with wrong check values, each of which begins 64 bytes behind the one before it."""
+    roots(store)
+    for first in range(0, blocks, SUNK):
+        store.wrong_blocks(min(SUNK, blocks - first))
+
+
+MAKERS = (missing_rows, wrong_holders, broken_maps, twice_listed, sunk_lists, own_wrong, own_wrong_tables, broken_behind,
+          lost_nodes, wrong_sums)

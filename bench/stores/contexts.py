@@ -81,10 +81,11 @@ class Heap:
         return body + struct.pack(f"<HH{len(places)}H", len(items), 0, *places)
 
 
-def add_bth(heap, key_size, data_size, records, in_a_leaf=None, empty=0, behind=0):
+def add_bth(heap, key_size, data_size, records, in_a_leaf=None, empty=0, behind=0, levels=0):
     """Adds a BTH (2.3.2) of records, pairs of key and data whose keys rise; answers its header's identifier. In a
     leaf are so many, or as many as fit; and so many leaves without records, which are one item, stand behind that
-    many of the others, in front of all where these are none."""
+    many of the others, in front of all where these are none. There are at least so many levels of branches, the upper
+    ones of one record."""
     header = heap.add(struct.pack("<BBBBI", BTH_CLIENT, key_size, data_size, 0, 0))
     key_format, level, width = KEY_FORMATS[key_size], 0, key_size + data_size
     nothing = struct.pack("<I", heap.add_empty()) if empty else b""
@@ -98,7 +99,7 @@ def add_bth(heap, key_size, data_size, records, in_a_leaf=None, empty=0, behind=
         if level == 0:
             least = above[behind - 1][0] + 1 if behind else 0
             above[behind:behind] = [(least + number, nothing) for number in range(empty)]
-        if len(above) <= 1:
+        if not above or len(above) == 1 and level >= levels:
             break
         records, level, width = above, level + 1, key_size + 4
     root = above[0][1] if above else bytes(4)

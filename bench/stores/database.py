@@ -72,6 +72,20 @@ class NodeDatabase:
         self.blocks.append((identifier, struct.pack("<QQHHI", identifier, place, len(body), 2, 0)))
         return identifier
 
+    def wrong_blocks(self, count):
+        """Names so many blocks of 8,176 bytes on one another: each begins 64 bytes behind the one before it, and has a
+        trailer of its own, whose check value is wrong."""
+        behind = LONGEST_BODY // UNIT  # units before the one in which the trailer of a block lies
+        place = self._place((behind + count) * UNIT, UNIT)
+        units = [bytes(UNIT)] * behind
+        for first in range(place, place + count * UNIT, UNIT):
+            identifier = self.next_block
+            self.next_block += 4
+            trailer = struct.pack("<HHIQ", LONGEST_BODY, signature(first, identifier), 1, identifier)
+            units.append(trailer.rjust(UNIT, b"\0"))
+            self.blocks.append((identifier, struct.pack("<QQHHI", identifier, first, LONGEST_BODY, 2, 0)))
+        self._write(b"".join(units))
+
     def node(self, identifier, data, subnodes=0, parent=0):
         """Names a node (2.2.2.7.7.4): its data, the list of its subnodes, its parent."""
         if identifier in self.nodes:

@@ -5,7 +5,7 @@ import struct
 from stores.contexts import BINARY, INTEGER32, OBJECT, STRING, PropertyContext, TableContext, text
 from stores.database import LONGEST_BODY
 from stores.hostile import PLAIN, SEARCH_FOLDER, TEXTS, identifiers, named_folders, roots, small_message
-from stores.lists import BLOCKS_IN_A_LIST, data_tree, far_tree, leaf_list, subnode_list, xblock, xxblock
+from stores.lists import BLOCKS_IN_A_LIST, data_tree, far_tree, leaf_list, repeated_tree, subnode_list, xblock, xxblock
 from stores.mail import (ATTACHMENT_DATA, ATTACHMENT_METHOD, ATTACHMENTS, CONTENT_COUNT, CONTENTS, DISPLAY_NAME,
                          EMBEDDED_MESSAGE, RECIPIENTS, SUBJECT, context, table)
 
@@ -35,17 +35,23 @@ def far_values(store, properties=60_000):
     store.node(0x200024, far_tree(store, made.bodies()))
 
 
-def far_cells(store, rows=200, columns=255, messages=1):
-    """ROWS COLUMNS MESSAGES: messages that share a table of so many recipients and columns, each under a list of
-    its own; its cells are by turns two places of a row, which name two items in two spans behind a thousand XBLOCKs
-    without entries."""
-    roots(store)
+def turning_cells(store, rows, columns):
+    """A table of so many rows and columns, whose cells are by turns two places of a row, which name two items in two spans."""
     made = TableContext(store, [(DISPLAY_NAME, STRING), (DISPLAY_NAME + 0x1000, STRING)], doubles=columns - 4)
     items = far_items(made.heap)
     for number in range(rows):
         made.add(number, {})
         made.set_raw(DISPLAY_NAME, items[0])
         made.set_raw(DISPLAY_NAME + 0x1000, items[1])
+    return made
+
+
+def far_cells(store, rows=200, columns=255, messages=1):
+    """ROWS COLUMNS MESSAGES: messages that share a table of so many recipients and columns, each under a list of
+    its own; its cells are by turns two places of a row, which name two items in two spans behind a thousand XBLOCKs
+    without entries."""
+    roots(store)
+    made = turning_cells(store, rows, columns)
     data, _ = made.write(write_heap=far_tree)
     message = small_message(store)
     for node in identifiers(messages + 1, 4)[1:]:
@@ -105,11 +111,9 @@ def far_listings(store, folders=2000):
         store.node(node & ~0x1F | CONTENTS, data)
 
 
-def far_objects(store, count=2000):
-    """COUNT: a message with so many attachments, each under a list of its own, which embed all the same message;
-    the object that names it is a subnode of 1,021 x 1,021 spans, of which all but the last have no byte."""
-    roots(store)
-    message = small_message(store)
+def far_object(store):
+    """The object that names an embedded message, as the data of a subnode of 1,021 x 1,021 spans, of which all but the last
+    have no byte; and the data of an attachment that has it."""
     none = [store.block(b"")] * (BLOCKS_IN_A_LIST - 1)
     length = len(EMBEDDED_OBJECT)
     lists = [xblock(store, none, 0)] * (BLOCKS_IN_A_LIST - 1)
@@ -118,7 +122,16 @@ def far_objects(store, count=2000):
     made = PropertyContext(store)
     made.set(ATTACHMENT_METHOD, INTEGER32, 5)
     made.set_raw(ATTACHMENT_DATA, OBJECT, PLAIN)
-    held, nids = data_tree(store, made.bodies()), identifiers(count, 5)
+    return value, data_tree(store, made.bodies())
+
+
+def far_objects(store, count=2000):
+    """COUNT: a message with so many attachments, each under a list of its own, which embed all the same message;
+    the object that names it is a subnode of 1,021 x 1,021 spans, of which all but the last have no byte."""
+    roots(store)
+    message = small_message(store)
+    value, held = far_object(store)
+    nids = identifiers(count, 5)
     rows = (ATTACHMENTS, *table(store, [], [(row, {}) for row in nids]))
     entries = [(row, held, leaf_list(store, [(PLAIN, value, 0), (EMBEDDED_MESSAGE, message, 0)])) for row in nids]
     store.node(0x200024, message, subnode_list(store, [rows] + entries))
@@ -192,15 +205,9 @@ def far_rows(store, rows=60_000):
         made.add(number, {})
     count = made.rows_in_a_block()
     period = -(-rows // count) * count
-
-    def write_blocks(store, bodies):
-        bodies[-1] = bodies[-1].ljust(LONGEST_BODY, b"\0")
-        below = xblock(store, [store.block(body) for body in bodies], sum(map(len, bodies)))
-        return xxblock(store, [below] * BLOCKS_IN_A_LIST, sum(map(len, bodies)) * BLOCKS_IN_A_LIST)
-
     numbers = [(number * 7 % 31 * 32 + 31) * period + number for number in range(rows)]
     store.node(0x200024, small_message(store), leaf_list(store, [
-        (RECIPIENTS, *made.write(numbers, period, write_blocks))]))
+        (RECIPIENTS, *made.write(numbers, period, repeated_tree))]))
 
 
 def shared_matrix(store, folders=5000, count=60_000):

@@ -60,6 +60,14 @@ def late_tree(store):
     return xxblock(store, [most] * (BLOCKS_IN_A_LIST - 1) + [last], BLOCKS_IN_A_LIST ** 2)
 
 
+def repeated_tree(store, bodies):
+    """A data tree of 1,021 times the XBLOCK of these bodies, the last of which is made as long as a block may be."""
+    whole = [*bodies[:-1], bodies[-1].ljust(LONGEST_BODY, b"\0")]
+    length = sum(map(len, whole))
+    below = xblock(store, [store.block(body) for body in whole], length)
+    return xxblock(store, [below] * BLOCKS_IN_A_LIST, length * BLOCKS_IN_A_LIST)
+
+
 def data_of(store, data):
     """The data tree over these bytes, cut into blocks of 8,176."""
     return data_tree(store, [data[first:first + LONGEST_BODY] for first in range(0, len(data), LONGEST_BODY)])

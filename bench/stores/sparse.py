@@ -3,8 +3,8 @@ such values."""
 import struct
 
 from stores.contexts import BINARY, INTEGER32, OBJECT, STRING, PropertyContext, text
-from stores.far import EMBEDDED_OBJECT
-from stores.hostile import PLAIN, TEXTS, identifiers, named_folders, ordered, roots, small_message
+from stores.far import EMBEDDED_OBJECT, far_object
+from stores.hostile import PLAIN, TEXTS, identifiers, named_folders, ordered, own_messages, roots, small_message
 from stores.lists import BLOCKS_IN_A_LIST, data_of, data_tree, leaf_list, subnode_list, xblock, xxblock
 from stores.mail import (ATTACHMENT_DATA, ATTACHMENT_METHOD, ATTACHMENTS, EMBEDDED_MESSAGE, NAME_MAP, context, table)
 
@@ -60,6 +60,17 @@ def sparse_objects(store, count=8000):
     store.node(0x200024, message, subnode_list(store, [rows] + entries))
 
 
+def object_messages(store, messages=8000):
+    """MESSAGES: messages with data of their own that share a list; in it is one attachment, which embeds a message; the object
+    that names it is a subnode of 1,021 x 1,021 spans, of which all but the last have no byte."""
+    roots(store)
+    message, row = small_message(store), identifiers(1, 5)[0]
+    value, held = far_object(store)
+    rows = table(store, [], [(row, {})])
+    below = leaf_list(store, [(PLAIN, value, 0), (EMBEDDED_MESSAGE, message, 0)])
+    own_messages(store, messages, leaf_list(store, [(ATTACHMENTS, *rows), (row, held, below)]))
+
+
 def spelt(store, body, spans=BLOCKS_IN_A_LIST, lists=BLOCKS_IN_A_LIST):
     """A data tree of LISTS times one XBLOCK of SPANS times one block."""
     length = len(body) * spans
@@ -85,19 +96,34 @@ def name_map(store, strings, entries, sets=0):
     store.node(NAME_MAP, *made.write())
 
 
-def named_message(store, names):
-    """A message with so many properties that have names."""
-    store.node(0x200024, *context(store, [(0x8000 + number, INTEGER32, 7) for number in range(names)]).write())
+def named_context(store, names):
+    """The data of a message with so many properties that have names, and its list of subnodes."""
+    return context(store, [(0x8000 + number, INTEGER32, 7) for number in range(names)]).write()
+
+
+def spelt_names(store, names):
+    """A name map of so many properties, each with a name that is a string, of a set of its own; the strings and the sets
+    are streams of a million spans of one byte."""
+    entries = b"".join(struct.pack("<IHH", FIRST_STRING + number, 2 * (LAST_SET - number) + 1, number)
+                       for number in range(names))
+    name_map(store, spelt(store, b"\0"), data_of(store, entries), spelt(store, b"\7", BLOCKS_IN_A_LIST - 13))
 
 
 def far_sets(store, names=20_000):
     """NAMES: a message with so many properties, each with a name that is a string, of a set of its own; the strings and
     the sets are streams of a million spans of one byte."""
     roots(store)
-    entries = b"".join(struct.pack("<IHH", FIRST_STRING + number, 2 * (LAST_SET - number) + 1, number)
-                       for number in range(names))
-    name_map(store, spelt(store, b"\0"), data_of(store, entries), spelt(store, b"\7", BLOCKS_IN_A_LIST - 13))
-    named_message(store, names)
+    spelt_names(store, names)
+    store.node(0x200024, *named_context(store, names))
+
+
+def named_messages(store, messages=4000, names=4):
+    """MESSAGES NAMES: messages that are one context of so many such properties."""
+    roots(store)
+    spelt_names(store, names)
+    made = named_context(store, names)
+    for node in identifiers(messages, 4):
+        store.node(node, *made)
 
 
 def crossed_entries(store, lists=BLOCKS_IN_A_LIST, kinds=BLOCKS_IN_A_LIST):
@@ -120,7 +146,7 @@ def long_names(store, names=1000, length=20_000):
     string = struct.pack("<I", 2 * length) + text("x" * length)
     entries = b"".join(struct.pack("<IHH", 0, 1, number) for number in range(names))
     name_map(store, data_of(store, string), data_of(store, entries))
-    named_message(store, names)
+    store.node(0x200024, *named_context(store, names))
 
 
 def listed_names(store, names=30_000, count=60_000, order="falling"):
@@ -133,8 +159,8 @@ def listed_names(store, names=30_000, count=60_000, order="falling"):
         made.set_raw(identifier, BINARY, made.subnode(data_of(store, stream)))
     held = ordered(sorted(made.subnodes) + [(entry, 0, 0) for entry in identifiers(count, PLAIN)], order)
     store.node(NAME_MAP, data_tree(store, made.bodies()), subnode_list(store, held))
-    named_message(store, names)
+    store.node(0x200024, *named_context(store, names))
 
 
-MAKERS = (sparse_values, sparse_names, sparse_objects, spelt_bodies, far_sets, crossed_entries, long_names,
-          listed_names)
+MAKERS = (sparse_values, sparse_names, sparse_objects, object_messages, spelt_bodies, far_sets, named_messages,
+          crossed_entries, long_names, listed_names)
