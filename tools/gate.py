@@ -3,12 +3,12 @@
 
     tools/gate.py [--quick [-v]]
 
-`rt ci` proves every crate and its tests from nothing, tries the must-fail edits and runs the tests, and leaves the program
-in crates/pst_show/out; the library is then made of crates/pst_c. Both must have the bytes of those that are kept in built/.
-Each command of TRIED is then run over the program, LIBRARY over the library, and REPORT over the program where there is a Chromium;
-each counts as one that passed or failed. They need two to four minutes. Where something failed before, they are not run. With
---quick the lines of tools/refuse/refuse, one for each command line, are shown where it fails, and with -v. The last line is
-'N passed, M failed'.
+`rt ci` proves every crate and its tests, each from nothing where this machine has kept nothing of it, tries the must-fail edits and
+runs the tests, and leaves the program in crates/pst_show/out; the library is then made of crates/pst_c. Both must have the bytes of
+those that are kept in built/. Each command of TRIED is then run over the program, LIBRARY over the library, and REPORT over the
+program where there is a Chromium; each counts as one that passed or failed. They need two to four minutes. Where something failed
+before, they are not run. With --quick the lines of tools/refuse/refuse, one for each command line, are shown where it fails, and
+with -v. The last line is 'N passed, M failed'.
 """
 import os
 import re

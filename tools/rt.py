@@ -4,8 +4,8 @@
     tools/rt.py WORD..          as `rt WORD..`
 
 rt works out which crates lie below one, and a sum of all their sources, by every path of crates.txt, each time that it asks:
-there are 690,000 paths below the program. For the first it asks some thousand times before its first proof of `rt ci`; the sum it
-takes twice for each library, and would be busy with those of the upper ones for an hour and a half. Here what lies below is
+there are over three million paths below the program. For the first it asks some thousand times before its first proof of `rt ci`;
+the sum it takes twice for each library, and would be busy with those of the upper ones for hours. Here what lies below is
 remembered, since crates.txt does not change while rt runs, and a sum as long as no file has changed of which it was taken.
 
 `rt ci` proves a library, and begins its edits with another proof of it, a fifth of the whole gate. Here the library is proved by
