@@ -2,12 +2,11 @@
 are no stores, so `check` refuses them."""
 from stores.contexts import BINARY, INTEGER32, STRING, PropertyContext, TableContext, text
 from stores.far import full_map
-from stores.hostile import (PLAIN, SEARCH_FOLDER, attachment_entries, chosen, embedding_context, identifiers, ordered, roots,
-                            small_message)
+from stores.hostile import (PLAIN, SEARCH_FOLDER, attachment_entries, chosen, embedding_context, identifiers, ordered,
+                            recipients_of_all, roots, small_message)
 from stores.lists import (BLOCKS_IN_A_LIST, SUBNODES_IN_A_LEAF, data_tree, leaf_list, leaf_lists, list_over, subnode_list,
                           xblock, xxblock)
-from stores.mail import (ATTACHMENT_METHOD, ATTACHMENTS, DISPLAY_NAME, EMBEDDED_MESSAGE, RECIPIENTS, SUBJECT, context,
-                         table)
+from stores.mail import (ATTACHMENT_METHOD, ATTACHMENTS, DISPLAY_NAME, EMBEDDED_MESSAGE, SUBJECT, context, table)
 
 NO_BLOCK = 0x7FFF_FFF0  # the identifier of a block that is not there
 NO_ITEM = 0x0000_FFE0  # that of an item in the first span of a heap, which has not so many
@@ -105,10 +104,7 @@ def own_wrong_tables(store, messages=200, rows=4000, columns=255, how="item"):
     else:
         made.set_raw(DISPLAY_NAME + 0x1000, NO_ITEM)
     data, _ = made.write(numbers)
-    message = small_message(store)
-    for node in identifiers(messages, 4):
-        own = leaf_list(store, made.subnodes)
-        store.node(node, message, leaf_list(store, [(RECIPIENTS, data, own)]))
+    recipients_of_all(store, messages, data, made.subnodes)
 
 
 def broken_behind(store, nodes=16_000, blocks=1020):

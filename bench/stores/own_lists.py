@@ -1,11 +1,11 @@
 """Stores that are made to be slow: contexts that share their data, each under a list of subnodes of its own. A list
 takes some hundred bytes, so whoever goes through the data once more for each list takes the product of both."""
 from stores.contexts import BINARY, INTEGER32, STRING, PropertyContext, TableContext, text
-from stores.hostile import (PLAIN, SEARCH_FOLDER, attachment_entries, embedding_context, identifiers, ordered, roots,
-                            small_message)
+from stores.hostile import (PLAIN, SEARCH_FOLDER, attachment_entries, embedding_context, identifiers, ordered,
+                            recipients_of_all, roots, small_message)
 from stores.lists import data_tree, leaf_list, leaf_lists, list_over, subnode_list, xblock
-from stores.mail import (ATTACHMENTS, CONTENT_COUNT, CONTENTS, DISPLAY_NAME, EMBEDDED_MESSAGE, RECIPIENTS, SUBJECT,
-                         context, table)
+from stores.mail import (ATTACHMENTS, CONTENT_COUNT, CONTENTS, DISPLAY_NAME, EMBEDDED_MESSAGE, SUBJECT, context,
+                         table)
 
 
 def own_records(store, contexts=2000, records=60_000, named=0):
@@ -28,10 +28,7 @@ def own_tables(store, messages=2000, rows=20_000, columns=255):
     for number in range(rows):
         made.add(number, {DISPLAY_NAME: 7})
     data, _ = made.write()
-    message = small_message(store)
-    for node in identifiers(messages, 4):
-        own = leaf_list(store, made.subnodes)
-        store.node(node, message, leaf_list(store, [(RECIPIENTS, data, own)]))
+    recipients_of_all(store, messages, data, made.subnodes)
 
 
 def own_contents(store, folders=2000, messages=20_000):
