@@ -23,6 +23,20 @@ def missing_rows(store, messages=4000, count=4000):
         store.node(node, message, shared)
 
 
+def own_missing(store, messages=4000, rows=100_001, tables=1, in_a_leaf=1):
+    """MESSAGES ROWS TABLES IN_A_LEAF: messages with a list of their own each, and by turns one of so many tables of attachments,
+    none of which is there; a table has so many rows, and so many of them in a leaf of its row index, where 0 is as many as fit."""
+    roots(store)
+    message, made = small_message(store), []
+    for number in range(tables):
+        rows_of = TableContext(store, [])
+        for named in identifiers(rows + number, 5):
+            rows_of.add(named, {})
+        made.append(rows_of.write(in_a_leaf=in_a_leaf or None))
+    for number, (node, own) in enumerate(zip(identifiers(messages, 4), identifiers(messages, PLAIN))):
+        store.node(node, message, leaf_list(store, [(ATTACHMENTS, *made[number % tables]), (own, 0, 0)]))
+
+
 def wrong_holders(store, messages=10_000, count=10_000):
     """MESSAGES COUNT: messages with a list of their own each and one attachment, which they share; it embeds a message with
     so many attachments, which are one context, and whose table names in its last row a subnode that is no attachment."""
@@ -131,5 +145,5 @@ def wrong_sums(store, blocks=30_000):
         store.wrong_blocks(min(SUNK, blocks - first))
 
 
-MAKERS = (missing_rows, wrong_holders, broken_maps, twice_listed, sunk_lists, own_wrong, own_wrong_tables, broken_behind,
+MAKERS = (missing_rows, own_missing, wrong_holders, broken_maps, twice_listed, sunk_lists, own_wrong, own_wrong_tables, broken_behind,
           lost_nodes, wrong_sums)

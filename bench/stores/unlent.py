@@ -3,9 +3,11 @@ list in which their row matrix is; and again for each path, document or list of 
 from stores.contexts import INTEGER32, STRING, TableContext, text
 from stores.far import LAST_MESSAGE
 from stores.hostile import chosen, identifiers, own_messages, roots, small_message
-from stores.lists import BLOCKS_IN_A_LIST, data_tree, far_tree, leaf_list, list_over, repeated_tree, subnode_list, xblock
+from stores.lists import (BLOCKS_IN_A_LIST, data_tree, far_tree, leaf_list, leaf_lists, list_over, repeated_tree, subnode_list,
+                          xblock)
 from stores.mail import ATTACHMENT_METHOD, ATTACHMENTS, CONTENTS, DISPLAY_NAME, HIERARCHY, RECIPIENTS, ROOT, context, table
 from stores.repeats import far_rows_of, table_apart
+from stores.shared import own_fronts
 
 ROW = 0x100005  # the one row of a table of recipients or attachments
 
@@ -164,4 +166,35 @@ def far_row_held(store, messages=8000, which="attachments"):
     own_messages(store, messages, leaf_list(store, of_one_row(store, which, *written)))
 
 
-MAKERS = (leafy_recipients, wide_columns, matrix_held, matrix_reached, tall_held, tall_own, tall_shared, far_table, far_row_held)
+def fill_rows(store, tables, rows):
+    """Messages that share their attachments, of which each has so many, by tables whose first span is their own."""
+    held, nids = an_attachment(store), identifiers(rows, 5)
+    made, bodies = TableContext(store, []), []
+    made.heap.begin_span()
+    for row in nids:
+        made.add(row, {})
+    _, subnodes = made.write(write_heap=lambda _, spans: bodies.extend(spans))
+    message, shared = small_message(store), leaf_lists(store, [(row, held, 0) for row in nids])
+    for node, data in zip(identifiers(tables, 4), own_fronts(store, tables, bodies[0], bodies[1:])):
+        own = leaf_list(store, [(ATTACHMENTS, data, subnodes)])
+        store.node(node, message, list_over(store, [(ATTACHMENTS, own), *shared]))
+
+
+def left_out(store, messages=1000, leaves=40_000, tables=40, rows=10_000):
+    """MESSAGES LEAVES TABLES ROWS: messages that share a table of 17 attachments, behind which its row index has so many leaves
+    without rows, each under a list of its own; before them so many messages with tables of so many attachments each, which
+    share all but the first span."""
+    roots(store)
+    fill_rows(store, tables, rows)
+    held, nids = an_attachment(store), identifiers(17, 5)
+    made = TableContext(store, [])
+    for row in nids:
+        made.add(row, {})
+    data, subnodes = made.write(in_a_leaf=1, empty=leaves, behind=17)
+    for node in identifiers(tables + messages, 4)[tables:]:
+        entries = [(ATTACHMENTS, data, subnodes), *((row, held, 0) for row in nids)]
+        store.node(node, small_message(store), leaf_list(store, entries))
+
+
+MAKERS = (leafy_recipients, wide_columns, matrix_held, matrix_reached, tall_held, tall_own, tall_shared, far_table, far_row_held,
+          left_out)
