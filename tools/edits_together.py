@@ -4,8 +4,10 @@ A function is proved by its own body and by the contracts of what it calls. So e
 different functions do not meet: what the prover says of one of these functions is the same whether or not the others are edited. An
 edit is refused here where the prover tells, of a place in a function that this edit alone has changed, or of the answers that are
 written for it, that something is not proved there; of a function that is not proved only because it calls one that is not, no such
-place is told. All else (an edit that changes more than a body, two of one function, one of which nothing is told, or that a proof names
-what it took away, a check that comes to no verdict) is tried alone, as rt does.
+place is told. The only edit of a crate, for which rt makes no folder to begin with, is tried by a check of the module that it
+changes and of what that calls, in place of one of the whole crate from nothing. All else (an edit that changes more than a body, two
+of one function, one of which nothing is told, or that a proof names what it took away, a check that comes to no verdict) is tried
+alone, as rt does.
 """
 import os
 import re
@@ -13,7 +15,7 @@ import shutil
 import threading
 
 # How many edits are tried in one check at most: a check has one processor, and others want work, too.
-MOST = 8
+MOST = 16
 BEGIN = re.compile(r"( *)(pub(\([a-z]+\))? )?(const )?fn (?P<name>\w+)")
 PLACE = re.compile(r"note: (?:\./)?(?P<file>src/\S+?\.rt):(?P<line>\d+):\d+: it is not proved ")
 ANSWER = re.compile(r"(?:\./)?proofs/(?P<of>\S+)/Answers\.antt:\d+:\d+: error: (?!.*(has no field|is not in scope|has no `|was not admitted))")
@@ -82,6 +84,15 @@ class Edit:
                 elif line.startswith("new:"):
                     self.changes.append((file, old, line[len("new:") :].removeprefix(" ")))
 
+    def applied(self, texts):
+        """The texts with its changes, or None where one of these does not stand there once, as rt has it."""
+        texts = dict(texts)
+        for file, old, new in self.changes:
+            if not old or texts.get(file, "").count(old) != 1:
+                return None
+            texts[file] = texts[file].replace(old, new)
+        return texts
+
     def functions(self, texts):
         """The functions whose bodies it changes; nothing where it changes more than that."""
         found = {}
@@ -113,14 +124,15 @@ class Group:
 
 
 class Together:
-    """Which edits are tried in one check, by their paths."""
+    """Which edits are tried in one check, by their paths, and which are the only ones of their crates."""
 
     def __init__(self, rt):
-        self.rt, self.of = rt, {}
+        self.rt, self.of, self.only = rt, {}, set()
 
     def groups(self, crate, paths):
-        """The paths of the edits of a crate that are tried in one check, two or more each."""
+        """The paths of the edits of a crate that are tried in one check, two or more each. An only one is noted."""
         texts, groups = sources(crate.folder), []
+        self.only.update(paths if len(paths) == 1 else ())
         for edit in map(Edit, paths):
             functions = edit.functions(texts)
             if functions:
@@ -138,6 +150,8 @@ class Together:
 
         def must_fail(crate, path, flags, kept=None):
             group = self.of.get(path)
+            if path in self.only and not kept:
+                return self.refused_in_module(crate, path, flags) or made(crate, path, flags, kept)
             if not kept or not group:
                 return made(crate, path, flags, kept)
             with group.trying:
@@ -153,9 +167,7 @@ class Together:
         texts, linked = sources(crate.folder), getattr(self.rt, "linked", None)
         for edit, _ in group:
             # (one whose words another has written, too, is left out, so that nothing is told of it)
-            if all(texts[file].count(old) == 1 for file, old, _ in edit.changes):
-                for file, old, new in edit.changes:
-                    texts[file] = texts[file].replace(old, new)
+            texts = edit.applied(texts) or texts
         changed = {file: texts[file] for edit, _ in group for file, _, _ in edit.changes}
         over = f"{kept}-together" if linked else kept
         try:
@@ -170,13 +182,34 @@ class Together:
         lines = ran.stdout.rstrip("\n").split("\n")
         if ran.returncode != 1 or not lines[-1].startswith("logic=not-proved"):
             return {}
-        came = {}
-        for edit, functions in group:
-            told = next((line for line in lines if any(it.is_told(line) for it in functions)), None)
-            if told:
-                label = f"must-fail {crate.name}/{os.path.basename(edit.path)}"
-                came[edit.path] = getattr(self.rt, "REFUSED", True), f"{label}: refused, as it must be: {told[:160]}"
-        return came
+        came = {edit.path: self.told_of(crate, edit, functions, lines) for edit, functions in group}
+        return {path: it for path, it in came.items() if it}
+
+    def refused_in_module(self, crate, path, flags):
+        """Tries the only edit of a crate, where it changes bodies of one module below the root, by a check of that module alone."""
+        texts, edit = sources(crate.folder), Edit(path)
+        functions = (edit.functions(texts) or {}).values()
+        files = {it.file for it in functions}
+        if len(files) != 1 or files <= {"src/lib.rt", "src/main.rt"}:
+            return None
+        [file] = files
+        changed = edit.applied(texts)
+        if not changed:
+            return None
+        module = file[len("src/") : -len(".rt")].replace("/", "::")
+        ran = self.rt.checked(crate, {file: changed[file]}, [*flags, "--only", module], None)
+        lines = ran.stdout.rstrip("\n").split("\n")
+        if ran.returncode != 1 or not lines[-1].startswith("only="):
+            return None
+        return self.told_of(crate, edit, functions, lines)
+
+    def told_of(self, crate, edit, functions, lines):
+        """That an edit is refused, as rt tells it of one, where the prover tells it of one of these functions."""
+        told = next((line for line in lines if any(it.is_told(line) for it in functions)), None)
+        if not told:
+            return None
+        label = f"must-fail {crate.name}/{os.path.basename(edit.path)}"
+        return getattr(self.rt, "REFUSED", True), f"{label}: refused, as it must be: {told[:160]}"
 
 
 def sources(folder):

@@ -9,9 +9,9 @@ the sum it takes twice for each library, and would be busy with those of the upp
 remembered, since crates.txt does not change while rt runs, and a sum as long as no file has changed of which it was taken.
 
 `rt ci` proves a library, and begins its edits with another proof of it, a fifth of the whole gate. Here the library is proved by
-`rattle check -o` and built from that, as rt does with programs, and the edits begin over what this proof has left: the modules
-that were checked, laid where rattle keeps its work between two checks. Behind the edits rt has the crate itself proved over that
-folder; where it is not, each edit is tried again from nothing.
+`rattle check -o` and built from that, as rt does with programs, and the edits begin over what it holds of this proof, which may be
+an earlier run's: the modules that were checked, laid where rattle keeps its work between two checks. Behind the edits rt has the
+crate itself proved over that folder; where it is not, each edit is tried again from nothing.
 
 Each edit is a check of the whole crate, half of which goes by before its function is looked at. Here those edits of a crate that
 change the bodies of different functions are tried in one check (tools/edits_together.py).
@@ -101,9 +101,9 @@ def is_known(rt, known):
     return hashlib.sha256(text.encode()).hexdigest() == wanted
 
 
-def left_by(crate):
-    """The folder of a crate's out/ for what its proof has left."""
-    return os.path.join(crate.folder, "out", "proved")
+def held_by(crate):
+    """The folder of a built library with what its proof checked; none of a program or a static library."""
+    return os.path.join(crate.rlib, "toolchain")
 
 
 def proved_for_others(rt, crate, words):
@@ -121,7 +121,7 @@ def proved_for_others(rt, crate, words):
 
 
 def prove_library(rt, crate, flags):
-    """Proves a library from nothing, builds it of what was proved, and keeps what was checked where the crate has edits."""
+    """Proves a library from nothing, and builds it of what was proved."""
     words = crate.words(flags, keeps=False)
     with tempfile.TemporaryDirectory(prefix="rt-proved-") as room:
         proved = os.path.join(room, "proved")
@@ -133,11 +133,7 @@ def prove_library(rt, crate, flags):
             words = [*words[:at], *words[at + 2 :]]
         shutil.rmtree(os.path.dirname(crate.rlib), ignore_errors=True)
         os.makedirs(os.path.dirname(crate.rlib))
-        status = crate.call(rt.rtlib.RATTLE, "build", *words, "--crate-checked", proved, "--statements", "-o", crate.rlib)
-        if status == 0 and rt.edits_of(crate)[0]:
-            shutil.rmtree(left_by(crate), ignore_errors=True)
-            shutil.move(os.path.join(proved, "toolchain"), left_by(crate))
-    return status
+        return crate.call(rt.rtlib.RATTLE, "build", *words, "--crate-checked", proved, "--statements", "-o", crate.rlib)
 
 
 def crate_proved(rt, made):
@@ -152,7 +148,7 @@ def crate_proved(rt, made):
 
 
 def lay(rt, proved, kept):
-    """Lays what a proof has left where rattle keeps its work, below a folder."""
+    """Lays what a proof has checked where rattle keeps its work, below a folder."""
     with tempfile.TemporaryDirectory(prefix="rt-nothing-") as room:
         os.mkdir(os.path.join(room, "src"))
         with open(os.path.join(room, "src", "lib.rt"), "w", encoding="utf-8") as file:
@@ -173,14 +169,13 @@ def lay(rt, proved, kept):
 
 
 def edits_tried(rt, together, made):
-    """How `rt ci` tries a crate's edits, over what its proof has left where that is there, and several in one check."""
+    """How `rt ci` tries a crate's edits, over what its library holds of its proof where there is one, and several in one check."""
 
     def must_fail_all(crate, edits, flags):
-        if not edits or not os.path.isdir(left_by(crate)):
+        if not edits or not os.path.isdir(held_by(crate)):
             return made(crate, edits, flags)
         with tempfile.TemporaryDirectory(prefix="rt-edits-") as kept:
-            lay(rt, left_by(crate), kept)
-            shutil.rmtree(left_by(crate))
+            lay(rt, held_by(crate), kept)
             together.groups(crate, edits)
             tried = [rt.must_fail(crate, edit, flags, kept) for edit in edits]
             is_sound = not rt.checked(crate, {}, flags, kept).returncode
@@ -190,16 +185,15 @@ def edits_tried(rt, together, made):
 
 
 def seeds_of_proofs(rt, made):
-    """How the folder is made that a crate's edits begin with: of what the crate's proof has left, where that is there."""
+    """How the folder is made that a crate's edits begin with: of what its library holds of its proof, where there is one."""
 
     def seeded(crate, flags, start=None):
-        if start or not os.path.isdir(left_by(crate)):
+        if start or not os.path.isdir(held_by(crate)):
             return made(crate, flags, start)
         room = tempfile.mkdtemp(prefix=f"rt-edits-{os.getpid()}-")
         rt.SEEDS.append(room)
         os.mkdir(os.path.join(room, "seed"))
-        lay(rt, left_by(crate), os.path.join(room, "seed"))
-        shutil.rmtree(left_by(crate))
+        lay(rt, held_by(crate), os.path.join(room, "seed"))
         return room
 
     return seeded
