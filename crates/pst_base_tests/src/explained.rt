@@ -4,11 +4,11 @@ use crate::told::{is, is_at};
 use pst_explain::{Kind, explanation, kind_named};
 
 const BLOCK_TRAILER: &str =
-    "14 BlockTrailer: the last 16 bytes of a block do not fit the block: it is damaged or overwritten
+    "14 BlockTrailer: the last 16 bytes of a block do not fit the block and its entry: one of these is damaged or overwritten
   at: the block, where its entry says
   bid: that of its entry
   nid: 0x0, nothing
-  to do: Which node has the block: that of which nodes prints the bid as data_bid or sub_bid, or one of longer data. Take the file from a backup
+  to do: Take the file from a backup; damage lists the nodes that this breaks, and messages --whole and export --whole give what is whole
   [MS-PST]: 2.2.2.8.1
 ";
 

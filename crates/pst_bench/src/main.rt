@@ -1,5 +1,5 @@
-//! Makes large stores from a number, asks of them what a user waits for, through `run` of pst_run as the program does, and prints
-//! a digest of all that is answered:
+//! Makes large stores from a number, asks of them what a user waits for, through `run` of pst_run, which does in one call what the
+//! program does in two, and prints a digest of all that is answered:
 //!
 //! ```text
 //! pst_bench JOB SEED COUNT

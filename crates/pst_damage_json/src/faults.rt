@@ -1,4 +1,4 @@
-//! Faults put straight behind a text, as JSON.
+//! Faults as JSON: a tree, and put straight behind a text.
 
 ghost use Rattle.std.specs.Prelude.{◌≡◌, ◌++◌, IfOk, OnOk};
 ghost use Rattle.serde_json.specs.Data.{string};

@@ -1,4 +1,5 @@
-//! The bodies of XBLOCKs and XXBLOCKs ([MS-PST] 2.2.2.8.3.2).
+//! The bodies of blocks that name others: XBLOCKs and XXBLOCKs ([MS-PST] 2.2.2.8.3.2), and the front that lists of subnodes have
+//! likewise (2.2.2.8.3.3).
 
 ghost use Rattle.std.specs.Prelude.{◌≡◌, ◌+◌, ◌*◌, ◌≤◌, IsTrue, length};
 ghost use Rattle.pst_bytes.specs.Image.{bytes_of};

@@ -34,25 +34,25 @@ macro_rules! table {
                 "It is outside the profile, and not said to be damaged: 14 and 15 are ANSI stores, 36 is one with pages of 4,096 bytes. Another program has to read it",
                 "2.2.2.6";
             [Kind::Encoded(_)] "4" "Encoded"
-                "the contents are encoded: 1 is Outlook's default; --decode reads it",
+                "the contents are encoded by method n: 1 is Outlook's default; --decode reads 1 and 2",
                 "0x201, where the method of encoding stands",
                 "0x0, nothing",
                 "0x0, nothing",
-                "Give the command --decode",
+                "Give the command --decode. With another n than 1 and 2 it is outside the profile, and not said to be damaged: another program has to read it",
                 "2.2.2.6";
             [Kind::HeaderCheck] "5" "HeaderCheck"
                 "a check value of the header does not fit its bytes",
                 "0x4 or 0x20c, where the check value stands",
                 "0x0, nothing",
                 "0x0, nothing",
-                "The first 564 bytes are damaged: take the file from a backup",
+                "The first 564 bytes are damaged: take the file from a backup; damage lists what is broken, and messages --whole and export --whole give what is whole",
                 "2.2.2.6";
             [Kind::Root] "6" "Root"
                 "at 0xb8: the file is shorter than its header says, as when it was cut off; at 0xc0: the last allocation map is said to lie where none can",
                 "0xb8 or 0xc0, where the number stands",
                 "0x0, nothing",
                 "0x0, nothing",
-                "With 0xb8 look whether the file was copied whole; else take it from a backup",
+                "With 0xb8 look whether the file was copied whole; else take it from a backup; damage lists what is broken, and messages --whole and export --whole give what is whole",
                 "2.2.2.5";
             [Kind::MapsInvalid] "7" "MapsInvalid"
                 "the header marks the allocation maps as invalid",
@@ -66,77 +66,77 @@ macro_rules! table {
                 "the page, where it is said to lie",
                 "that of the reference to the page",
                 "0x0, nothing",
-                "An index tree is broken: take the file from a backup",
+                "An index tree is broken: take the file from a backup; damage lists what is broken, and messages --whole and export --whole give what is whole",
                 "2.2.2.7";
             [Kind::PageTrailer] "9" "PageTrailer"
-                "the last 16 bytes of a page do not fit the page: it is damaged or overwritten",
+                "the last 16 bytes of a page do not fit the page and the reference to it: one of these is damaged or overwritten",
                 "the page",
                 "that of the reference to the page",
                 "0x0, nothing",
-                "An index tree is broken: take the file from a backup",
+                "An index tree is broken: take the file from a backup; damage lists what is broken, and messages --whole and export --whole give what is whole",
                 "2.2.2.7.1";
             [Kind::PageShape] "10" "PageShape"
                 "the counts in a page are impossible",
                 "the page",
                 "that of the reference to the page",
                 "0x0, nothing",
-                "An index tree is broken: take the file from a backup",
+                "An index tree is broken: take the file from a backup; damage lists what is broken, and messages --whole and export --whole give what is whole",
                 "2.2.2.7.7.1";
             [Kind::KeyOrder] "11" "KeyOrder"
                 "the entries of an index tree are out of order",
                 "the entry",
                 "that of the page",
                 "0x0, nothing",
-                "An index tree is broken: take the file from a backup",
+                "An index tree is broken: take the file from a backup; damage lists what is broken, and messages --whole and export --whole give what is whole",
                 "2.2.2.7.7";
             [Kind::Overlap] "12" "Overlap"
                 "two things lie on the same bytes",
                 "the page or block that comes second",
                 "its own",
                 "0x0, nothing",
-                "One of the two is overwritten: take the file from a backup",
+                "One of the two is overwritten: take the file from a backup; damage lists what is broken, and messages --whole and export --whole give what is whole",
                 "2.2.2.7 and 2.2.2.8";
             [Kind::BlockPlace] "13" "BlockPlace"
                 "a block is said to lie where none can, or is too long",
                 "the block, where its entry says",
                 "that of its entry",
                 "0x0, nothing",
-                "Which node has the block: that of which nodes prints the bid as data_bid or sub_bid, or one of longer data. Take the file from a backup",
+                "Take the file from a backup; damage lists the nodes that this breaks, and messages --whole and export --whole give what is whole",
                 "2.2.2.8";
             [Kind::BlockTrailer] "14" "BlockTrailer"
-                "the last 16 bytes of a block do not fit the block: it is damaged or overwritten",
+                "the last 16 bytes of a block do not fit the block and its entry: one of these is damaged or overwritten",
                 "the block, where its entry says",
                 "that of its entry",
                 "0x0, nothing",
-                "Which node has the block: that of which nodes prints the bid as data_bid or sub_bid, or one of longer data. Take the file from a backup",
+                "Take the file from a backup; damage lists the nodes that this breaks, and messages --whole and export --whole give what is whole",
                 "2.2.2.8.1";
             [Kind::BlockMissing] "15" "BlockMissing"
                 "a block is named that the index does not have",
                 "0x0, nothing",
                 "that which is missing, as it is written",
                 "the node that leads to it",
-                "Take the file from a backup; others of its parts may be whole",
+                "Take the file from a backup; damage lists what is broken, and messages --whole and export --whole give what is whole",
                 "2.2.2.7.7.3";
             [Kind::DataTree] "16" "DataTree"
                 "the list of the blocks that a node's data is made of is broken",
                 "the XBLOCK or XXBLOCK with the breach",
                 "that of its entry",
                 "the node whose data it is",
-                "Take the file from a backup; others of its parts may be whole",
+                "Take the file from a backup; damage lists what is broken, and messages --whole and export --whole give what is whole",
                 "2.2.2.8.3.2";
             [Kind::Subnode] "17" "Subnode"
                 "a list of subnodes is broken, or a value names a subnode that is not there",
                 "the block of the list with the breach, or the four bytes that name the subnode",
                 "that of the block's entry, or the identifier of the node's or subnode's data, as it is written",
                 "the node",
-                "Ask check of the file: props and value tell this also of a node that has no properties, as a table, in a store that is whole. Else take the file from a backup; others of its parts may be whole",
+                "Ask check of the file: props and value tell this also of a node that has no properties, as a table, in a store that is whole. Else take the file from a backup; damage lists what is broken, and messages --whole and export --whole give what is whole",
                 "2.2.2.8.3.3";
             [Kind::Nesting] "18" "Nesting"
                 "subnodes nest more than 256 deep, or in a circle",
                 "0x0, nothing",
                 "what the node names as its subnodes, as it is written",
                 "the node",
-                "Take the file from a backup; others of its parts may be whole",
+                "Take the file from a backup; damage lists what is broken, and messages --whole and export --whole give what is whole",
                 "2.2.2.8.3.3";
             [Kind::MapPage] "19" "MapPage"
                 "a page of the allocation maps is damaged",
@@ -157,49 +157,49 @@ macro_rules! table {
                 "the block of the data, 0x0 where there is none",
                 "the identifier of the node's or subnode's data, as it is written",
                 "the node",
-                "Ask check of the file: props and value tell this also of a node that has no properties, as a table, in a store that is whole. Else take the file from a backup; others of its parts may be whole",
+                "Ask check of the file: props and value tell this also of a node that has no properties, as a table, in a store that is whole. Else take the file from a backup; damage lists what is broken, and messages --whole and export --whole give what is whole",
                 "2.3.1";
             [Kind::HeapId] "22" "HeapId"
                 "something is named in a heap that is not there",
                 "the four bytes that name it",
                 "the identifier of the node's or subnode's data, as it is written",
                 "the node",
-                "Ask check of the file: props and value tell this also of a node that has no properties, as a table, in a store that is whole. Else take the file from a backup; others of its parts may be whole",
+                "Ask check of the file: props and value tell this also of a node that has no properties, as a table, in a store that is whole. Else take the file from a backup; damage lists what is broken, and messages --whole and export --whole give what is whole",
                 "2.3.1.1";
             [Kind::Bth] "23" "Bth"
                 "an index in a heap is broken or out of order",
                 "the item of the heap, or the record out of order",
                 "the identifier of the node's or subnode's data, as it is written",
                 "the node",
-                "Ask check of the file: props and value tell this also of a node that has no properties, as a table, in a store that is whole. Else take the file from a backup; others of its parts may be whole",
+                "Ask check of the file: props and value tell this also of a node that has no properties, as a table, in a store that is whole. Else take the file from a backup; damage lists what is broken, and messages --whole and export --whole give what is whole",
                 "2.3.2";
             [Kind::Property] "24" "Property"
                 "the value of a property has a length that its type does not allow, or the map of the names of properties is broken",
                 "the record of the property, or the cell; of that map, the stream or the entry with the breach",
                 "the identifier of the node's or subnode's data, as it is written",
                 "the node",
-                "Ask check of the file: props and value tell this also of a node that has no properties, as a table, in a store that is whole. Else take the file from a backup; others of its parts may be whole",
+                "Ask check of the file: props and value tell this also of a node that has no properties, as a table, in a store that is whole. Else take the file from a backup; damage lists what is broken, and messages --whole and export --whole give what is whole",
                 "2.3.3, of that map 2.4.7";
             [Kind::Table] "25" "Table"
                 "a table's description, a column or a row is broken",
                 "the description (TCINFO), the column, or the record of the row",
                 "the identifier of the node's or subnode's data, as it is written",
                 "the node",
-                "Take the file from a backup; others of its parts may be whole",
+                "Take the file from a backup; damage lists what is broken, and messages --whole and export --whole give what is whole",
                 "2.3.4";
             [Kind::NodeMissing] "26" "NodeMissing"
                 "a folder, message or attachment is named that is not there, or the store lacks its root folder or its own properties",
                 "the bytes that name it, 0x0 where every store has to have it",
                 "that of the data in which they stand",
                 "the node that is missing",
-                "Take the file from a backup; others of its parts may be whole",
+                "Take the file from a backup; damage lists what is broken, and messages --whole and export --whole give what is whole",
                 "2.4";
             [Kind::NodeKind] "27" "NodeKind"
                 "what is named is of the wrong kind, as a folder in a list of messages",
                 "the bytes that name it",
                 "that of the data in which they stand",
                 "the node that is named",
-                "Take the file from a backup; others of its parts may be whole",
+                "Take the file from a backup; damage lists what is broken, and messages --whole and export --whole give what is whole",
                 "2.2.2.1";
             [Kind::NoMemory] "28" "NoMemory"
                 "memory was refused, and nothing is said of the file: out of memory, and status 4",

@@ -10,12 +10,12 @@ ghost use Rattle.pst_verify.specs.pst_msg.Shown.{attachment_rows};
 ghost use Rattle.pst_verify.specs.pst_msg.View.{node_of_message, message_roots};
 ghost use Rattle.pst_json.specs.Folders.{row_total};
 ghost use Rattle.pst_props.specs.Node.{recipient_nid};
-ghost use Rattle.pst_msg.specs.RowCounts.{IsCountOf};
-ghost use Rattle.pst_json.specs.RowCounts.{AreCountsTrue, IsHeld, IsHeldBy};
+ghost use Rattle.pst_json.specs.RowCounts.{AreCountsTrue, IsCountOf, IsHeld, IsHeldBy};
 
 use pst_datatree::is_internal;
-use pst_ndb::Node;
+use pst_ndb::{Node, NodeIndexes};
 use pst_page::PageKind;
+use pst_props::lend_tc;
 use pst_value_json::{Tc, tc_is_of_keys};
 use pst_verify::Message;
 use std::alloc::{AllocError, Global};
@@ -36,10 +36,22 @@ pub(crate) fn is_small(node: Node) -> bool {
     !is_internal(node.bid_data()) && node.spans().size() <= SMALL
 }
 
+// How many rows a table has, whose data is lent the index of its spans, and no index of a list, since none is asked; or memory is
+// refused.
+fn counted(alloc: Global, table: Tc) -> Result<u64, AllocError>
+    ensures { let node = node_of_tc table.entry in
+        IfOk result (λ n. n ≡ length (tc_rows (table_of_node node) (roots_of node))) }
+{
+    let mut index = NodeIndexes::new(alloc, u64::MAX);
+    index.turn(alloc, table.node(), 0)?;
+    Ok(lend_tc(&index, table).row_count())
+}
+
 /// How many rows tables have, as far as they were counted. A number is that of each table with the same data, and what is known of
 /// a message is so of each that has the same list of subnodes.
 #[derive(Drop)]
 pub(crate) struct RowCounts {
+    alloc: Global,
     // By the block of a list of subnodes, with bit 0 of its identifier cleared.
     lists: BTreeMap<u64, Held>,
     // By the block of a table's data, likewise.
@@ -53,6 +65,7 @@ impl RowCounts {
         ensures { (t : Table) → AreCountsTrue t result }
     {
         RowCounts {
+            alloc,
             lists: BTreeMap::new(alloc),
             tables: BTreeMap::new(alloc),
         }
@@ -93,7 +106,7 @@ impl RowCounts {
             return Ok(count);
         }
         tc_is_of_keys();
-        let count = table.row_count();
+        let count = counted(self.alloc, table)?;
         self.put_table(block, count)?;
         Ok(count)
     }

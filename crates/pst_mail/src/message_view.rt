@@ -88,7 +88,7 @@ impl<'a> Message<'a> {
         known_pc(self.node)
     }
 
-    /// Its recipient table; None exactly where it has none.
+    /// Its recipient table ([MS-PST] 2.4.5.3); None exactly where it has none.
     #[tactic(auto, using(crate::proofs::ViewLemmas::message_recipients))]
     pub fn recipients(&self) -> Option<Tc<'a>>
         ensures roots { let node = node_of_message self.now in
@@ -105,7 +105,7 @@ impl<'a> Message<'a> {
         }
     }
 
-    /// Its attachment table; None exactly where it has none.
+    /// Its attachment table ([MS-PST] 2.4.6.1); None exactly where it has none.
     #[tactic(auto, using(crate::proofs::ViewLemmas::message_attachments))]
     pub fn attachment_table(&self) -> Option<Tc<'a>>
         ensures roots { let node = node_of_message self.now in

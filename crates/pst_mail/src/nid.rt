@@ -10,20 +10,25 @@ pub const STORE: u32 = 0x21;
 /// The root folder.
 pub const ROOT: u32 = 0x122;
 
-/// The subnode of a message that has its recipient table ([MS-PST] 2.4.5.3), and that with its attachment table (2.4.6.1).
+/// The subnode of a message that has its recipient table ([MS-PST] 2.4.5.3).
 pub const RECIPIENTS: u32 = 0x692;
 
+/// The subnode of a message that has its attachment table ([MS-PST] 2.4.6.1).
 pub const ATTACHMENTS: u32 = 0x671;
 
-/// The types.
+/// The type of a folder.
 pub const FOLDER: u32 = 0x02;
 
+/// The type of a search folder.
 pub const SEARCH_FOLDER: u32 = 0x03;
 
+/// The type of a message.
 pub const MESSAGE: u32 = 0x04;
 
+/// The type of an attachment, a subnode of a message.
 pub const ATTACHMENT: u32 = 0x05;
 
+/// The type of a message that belongs to a folder itself.
 pub const ASSOCIATED: u32 = 0x08;
 
 pub(crate) const HIERARCHY: u32 = 0x0d;

@@ -9,13 +9,13 @@ use Rattle.pst_remembered.specs.declared.asked.Asked.{Asked}
 use Rattle.pst_remembered.specs.declared.faults.Faults.{Faults}
 use Rattle.pst_msg.specs.declared.indexes.Indexes.{Indexes}
 use Rattle.pst_msg.specs.declared.known.Known.{Known}
-use Rattle.pst_remembered.specs.declared.row_counts.RowCounts.{RowCounts}
+use Rattle.pst_remembered.specs.declared.row_names.RowNames.{RowNames}
 use Rattle.pst_remembered.specs.Asked.{AreAskedTrue}
 use Rattle.pst_remembered.specs.Broken.{context_part}
 use Rattle.pst_remembered.specs.Faults.{AreFaultsOf}
 use Rattle.pst_msg.specs.Indexes.{AreIndexes}
 use Rattle.pst_msg.specs.Known.{IsTrueOf}
-use Rattle.pst_remembered.specs.RowCounts.{AreRowCounts}
+use Rattle.pst_remembered.specs.RowNames.{AreRowNames}
 use Rattle.pst_msg.proofs.KnownLemmas.{held_later, message_later, attachment_later}
 
 -- those of a context, and its faults
@@ -29,7 +29,7 @@ aids_turned t k index maps asked broken is turned more kept faults = record {
   indexes = is.indexes;
   maps = more;
   asked = kept;
-  row_counts = is.row_counts;
+  row_names = is.row_names;
   broken = faults;
   broken_lists = is.broken_lists;
   messages_in = λ s there. message_later t k _ s (λ q h. h) (λ q h. h) (is.messages_in s there);
@@ -48,7 +48,7 @@ indexes_turned t k indexes is turned = record {
   indexes = turned;
   maps = is.maps;
   asked = is.asked;
-  row_counts = is.row_counts;
+  row_names = is.row_names;
   broken = is.broken;
   broken_lists = is.broken_lists;
   messages_in = λ s there. message_later t k _ s (λ q h. h) (λ q h. h) (is.messages_in s there);
@@ -56,9 +56,9 @@ indexes_turned t k indexes is turned = record {
   lists_in = λ s there. held_later t k _ s (λ q h. h) (λ q h. h) (is.lists_in s there);
 }
 
--- counts of rows
-pub counts_turned : (t : Table) (k : Known) (row_counts : RowCounts) → IsTrueOf t k → AreRowCounts t row_counts → IsTrueOf t (record k { row_counts = row_counts })
-counts_turned t k row_counts is turned = record {
+-- what rows name
+pub names_turned : (t : Table) (k : Known) (row_names : RowNames) → IsTrueOf t k → AreRowNames t row_names → IsTrueOf t (record k { row_names = row_names })
+names_turned t k row_names is turned = record {
   contexts = is.contexts;
   messages = is.messages;
   attachments = is.attachments;
@@ -67,7 +67,7 @@ counts_turned t k row_counts is turned = record {
   indexes = is.indexes;
   maps = is.maps;
   asked = is.asked;
-  row_counts = turned;
+  row_names = turned;
   broken = is.broken;
   broken_lists = is.broken_lists;
   messages_in = λ s there. message_later t k _ s (λ q h. h) (λ q h. h) (is.messages_in s there);

@@ -16,18 +16,20 @@ use Rattle.pst_ndb.specs.declared.node.Node.{Node}
 use Rattle.pst_ndb.specs.Roots.{Roots}
 use Rattle.pst_ndb.specs.Views.{table_of_node, roots_of}
 use Rattle.pst_msg.specs.declared.rest.Rest.{Rest}
-use Rattle.pst_msg.specs.Rest.{rows_of_table_left}
+use Rattle.pst_msg.specs.Rest.{rows_of_table_left, table_of_rest}
 use Rattle.pst_tc.specs.Values.{RowParts}
 use Rattle.pst_msg.specs.declared.frame.Frame.{Frame}
 use Rattle.pst_msg.specs.declared.known.Known.{Known}
 use Rattle.pst_remembered.specs.declared.role.Role.TheVariants.{Properties}
-use Rattle.pst_msg.specs.Counts.{HasMessage}
+use Rattle.pst_remembered.specs.declared.row_names.RowName.{RowName}
+use Rattle.pst_remembered.specs.RowNames.{name_of_row}
+use Rattle.pst_msg.specs.Counts.{HasMessage, attached}
 use Rattle.pst_mail.specs.Fault.{attachment_row_fault, held_fault, message_at, below_message, message_fault, attachment_fault}
 use Rattle.pst_mail.specs.Grammar.{IsAttachmentRow}
 use Rattle.pst_msg.specs.Growth.{Grows}
 use Rattle.pst_msg.specs.Known.{WholeIn, NamedIn, HeldIn, IsTrueOf}
-use Rattle.pst_msg.specs.Steps.{frame_steps}
-use Rattle.pst_msg.specs.Frames.{left_of, holder_of, IsWaited, IsFrame, IsHolder, HasHolder, HolderIn, ComesWith, IsBelowMessage, IsStack, IsMessageOpened, AttachmentKnown, IsRowKnown, IsRowOpened, with_rest, IsWentOn}
+use Rattle.pst_msg.specs.Steps.{frame_steps, row_steps, steps_below_message}
+use Rattle.pst_msg.specs.Frames.{left_of, holder_of, IsWaited, IsFrame, IsHolder, HasHolder, HolderIn, ComesWith, IsBelowMessage, IsStack, IsMessageOpened, AttachmentKnown, IsRowKnown, IsRowOpened, with_rest, IsWentOn, row_named, HoldsAttachment}
 use Rattle.pst_msg.proofs.CountLemmas.{grows_of, grows_then}
 use Rattle.pst_msg.proofs.GrowLemmas.{by_first}
 use Rattle.pst_msg.proofs.KnownLemmas.{known_message}
@@ -40,6 +42,7 @@ pub frame_later : (t : Table) (H : List NodeEntry → Type 0) (a b : Known) (now
 frame_later t H a b now waits f g is = record {
   table = is.table;
   sound = is.sound;
+  rows = is.rows;
   first = is.first;
   within = is.within;
   properties = g.contexts _ is.properties;
@@ -81,6 +84,7 @@ frame_done : (t : Table) (k : Known) (now : Option Fault) (waits : Option Roots)
 frame_done t k now waits f none whole is = record {
   table = is.table;
   sound = is.sound;
+  rows = is.rows;
   first = is.first ∙ then_none now (left_of t f) none;
   within = is.within;
   properties = is.properties;
@@ -120,6 +124,38 @@ pub stack_refused : (t : Table) (root : Roots) (k : Known) (f : Frame) (below : 
 unfolding IsStack
 stack_refused t root k f below e known refused is = below_refused t root k (roots_of f.node) f.limit (holder_of f) below e known refused is.3
 
+-- ---- what a row names says all that is told of it here
+
+row_fault_named : (t : Table) (below : Roots → Option Fault) (r : Roots) (bid : ℕ) (x : RowParts) → attachment_row_fault t below r bid (row_named (name_of_row x)) ≡ attachment_row_fault t below r bid x
+unfolding attachment_row_fault
+row_fault_named t below r bid x = refl
+
+row_steps_named : (t : Table) (below : Roots → ℕ) (r : Roots) (x : RowParts) → row_steps t below r (row_named (name_of_row x)) ≡ row_steps t below r x
+unfolding row_steps
+row_steps_named t below r x = refl
+
+pub refused_by_name : (t : Table) (below : Roots → Option Fault) (r : Roots) (bid : ℕ) (name : RowName) (x : RowParts) (e : Fault) → name ≡ name_of_row x → IsFirst (attachment_row_fault t below r bid (row_named name)) e → IsFirst (attachment_row_fault t below r bid x) e
+refused_by_name t below r bid name x e same is = rw (← row_fault_named t below r bid x) (rw same at is)
+
+pub known_by_name : (t : Table) (k : Known) (r : Roots) (limit bid : ℕ) (name : RowName) (x : RowParts) → name ≡ name_of_row x → IsRowKnown t k r limit bid (row_named name) → IsRowKnown t k r limit bid x
+known_by_name t k r limit bid name x same of_name =
+    let is : IsRowKnown t k r limit bid (row_named (name_of_row x)) = rw same at of_name in
+    record { first = sym (row_fault_named t (below_message t limit) r bid x) ∙ is.first; there = is.there }
+
+pub opened_by_name : (t : Table) (k : Known) (r : Roots) (limit bid : ℕ) (name : RowName) (x : RowParts) (f : Frame) → name ≡ name_of_row x → IsRowOpened t k r limit bid (row_named name) f → IsRowOpened t k r limit bid x f
+opened_by_name t k r limit bid name x f same of_name =
+    let is : IsRowOpened t k r limit bid (row_named (name_of_row x)) f = rw same at of_name in
+    record {
+      first = sym (row_fault_named t (below_message t limit) r bid x) ∙ is.first;
+      attachment = is.attachment;
+      found = is.found;
+      holder = is.holder;
+      held = is.held;
+      frame = is.frame;
+      steps = omega (arith, is.steps, row_steps_named t (steps_below_message t limit) r x);
+      reached = is.reached;
+    }
+
 -- ---- a row is gone through
 
 row_contains : (x : RowParts) (xs rest : List RowParts) → xs ≡ x ∷ rest → Contains xs x
@@ -145,10 +181,11 @@ rows_step t k waits f rest x rows is here y row =
       ]
     ]
 
-with_row : (t : Table) (k : Known) (now : Option Fault) (waits : Option Roots) (f : Frame) (rest : Rest) (x : RowParts) → rows_of_table_left f.rest ≡ x ∷ rows_of_table_left rest → IsFrame t k None None f → attachment_row_fault t (below_message t f.limit) (roots_of f.node) f.bid x ≡ now → NamedIn t k.attachments (roots_of f.node) x ⊎ IsWaited waits t (roots_of f.node) x → IsFrame t k now waits (with_rest f rest)
-with_row t k now waits f rest x rows is first here = record {
+with_row : (t : Table) (k : Known) (now : Option Fault) (waits : Option Roots) (f : Frame) (rest : Rest) (x : RowParts) → table_of_rest rest ≡ t → rows_of_table_left f.rest ≡ x ∷ rows_of_table_left rest → IsFrame t k None None f → attachment_row_fault t (below_message t f.limit) (roots_of f.node) f.bid x ≡ now → NamedIn t k.attachments (roots_of f.node) x ⊎ IsWaited waits t (roots_of f.node) x → IsFrame t k now waits (with_rest f rest)
+with_row t k now waits f rest x table rows is first here = record {
   table = is.table;
   sound = is.sound;
+  rows = table;
   first = is.first ∙ row_left t f rest x rows ∙ ap (λ o. o then left_of t (with_rest f rest)) first;
   within = λ y w. is.within y (rw rows (contains_later x y (rows_of_table_left rest) w));
   properties = is.properties;
@@ -158,8 +195,8 @@ with_row t k now waits f rest x rows is first here = record {
 }
 
 -- one that is remembered
-pub frame_step : (t : Table) (H : List NodeEntry → Type 0) (a b : Known) (f : Frame) (rest : Rest) (x : RowParts) → Grows t H a b → IsFrame t a None None f → rows_of_table_left f.rest ≡ x ∷ rows_of_table_left rest → IsRowKnown t b (roots_of f.node) f.limit f.bid x → IsFrame t b None None (with_rest f rest)
-frame_step t H a b f rest x g is rows known = with_row t b None None f rest x rows (frame_later t H a b None None f g is) known.first (inl known.there)
+pub frame_step : (t : Table) (H : List NodeEntry → Type 0) (a b : Known) (f : Frame) (rest : Rest) (x : RowParts) → Grows t H a b → IsFrame t a None None f → table_of_rest rest ≡ t → rows_of_table_left f.rest ≡ x ∷ rows_of_table_left rest → IsRowKnown t b (roots_of f.node) f.limit f.bid x → IsFrame t b None None (with_rest f rest)
+frame_step t H a b f rest x g is table rows known = with_row t b None None f rest x table rows (frame_later t H a b None None f g is) known.first (inl known.there)
 
 pub fewer_left : (t : Table) (f : Frame) (rest : Rest) (x : RowParts) (most : ℕ) → rows_of_table_left f.rest ≡ x ∷ rows_of_table_left rest → frame_steps t f ≤ most → frame_steps t (with_rest f rest) ≤ most
 fewer_left t f rest x most rows h = omega (arith, h, fewer_steps t f rest x rows)
@@ -171,18 +208,18 @@ frame_refused t k f rest x e known is rows refused =
     (is_first_then (attachment_row_fault t (below_message t f.limit) (roots_of f.node) f.bid x) (left_of t (with_rest f rest)) e refused)
 
 -- one in whose attachment there is a message to be gone through first
-pub frame_opened : (t : Table) (H : List NodeEntry → Type 0) (a b : Known) (old f : Frame) (rest : Rest) (x : RowParts) (above : Frame) → Grows t H a b → IsFrame t a None None f → rows_of_table_left f.rest ≡ x ∷ rows_of_table_left rest → IsRowOpened t b (roots_of f.node) f.limit f.bid x above → roots_of f.node ≡ roots_of old.node → f.limit ≡ old.limit → f.holder ≡ old.holder → frame_steps t f ≤ frame_steps t old → IsWentOn t b old (with_rest f rest) above
-frame_opened t H a b old f rest x above g is rows one roots limit holder steps =
+pub frame_opened : (t : Table) (H : List NodeEntry → Type 0) (a b : Known) (old f : Frame) (rest : Rest) (x : RowParts) (above : Frame) → Grows t H a b → IsFrame t a None None f → table_of_rest rest ≡ t → rows_of_table_left f.rest ≡ x ∷ rows_of_table_left rest → IsRowOpened t b (roots_of f.node) f.limit f.bid x above → roots_of f.node ≡ roots_of old.node → f.limit ≡ old.limit → f.holder ≡ old.holder → frame_steps t f ≤ frame_steps t old → IsWentOn t b old (with_rest f rest) above
+frame_opened t H a b old f rest x above g is table rows one roots limit holder steps =
     let waited : IsWaited (holder_of above) t (roots_of f.node) x = rw one.holder one.found in
     let row : IsAttachmentRow t (roots_of f.node) x = row_of_frame t a f rest x rows is in
     record {
       roots = roots;
       limit = limit;
       holder = holder;
-      frame = with_row t b (message_at t above.limit (roots_of above.node)) (holder_of above) f rest x rows (frame_later t H a b None None f g is) one.first (inr waited);
+      frame = with_row t b (message_at t above.limit (roots_of above.node)) (holder_of above) f rest x table rows (frame_later t H a b None None f g is) one.first (inr waited);
       upper = one.frame;
       held = one.held;
-      reached = λ nodes h. one.reached nodes (rw roots h) row;
+      reached = λ nodes h. one.reached nodes (λ s e. attached (roots_of f.node) s x (rw roots h) row e);
       steps = omega (arith, one.steps, steps, fewer_steps t f rest x rows);
     }
 
@@ -230,14 +267,15 @@ holder_whole_now t H a b r node is g known whole =
     let later : IsHolder t b r node = some_later t H a b r (Some node) g is in
     rw is.table (attachment_known t b node is.table known (holder_done t b r node later whole))
 
-pub row_of_message : (t : Table) (r : Roots) (x : RowParts) (a b c : Known) → IsAttachmentRow t r x → Grows t (λ nodes. HasMessage t nodes r) a b → Grows t (λ nodes. HasMessage t nodes r × IsAttachmentRow t r x) b c → Grows t (λ nodes. HasMessage t nodes r) a c
-row_of_message t r x a b c row g h = grows_then t (λ nodes. HasMessage t nodes r) a b c g (grows_of t (λ nodes. HasMessage t nodes r × IsAttachmentRow t r x) (λ nodes. HasMessage t nodes r) b c (λ nodes held. (held, row)) h)
+pub row_of_message : (t : Table) (r : Roots) (name : RowName) (x : RowParts) (a b c : Known) → name ≡ name_of_row x → IsAttachmentRow t r x → Grows t (λ nodes. HasMessage t nodes r) a b → Grows t (λ nodes. HoldsAttachment t nodes r name.id) b c → Grows t (λ nodes. HasMessage t nodes r) a c
+row_of_message t r name x a b c same row g h = grows_then t (λ nodes. HasMessage t nodes r) a b c g (grows_of t (λ nodes. HoldsAttachment t nodes r name.id) (λ nodes. HasMessage t nodes r) b c (λ nodes held s e. attached r s x held row (rw same at e)) h)
 
 -- the rows that are left, told by another iterator
-pub frame_same : (t : Table) (k : Known) (f : Frame) (rest : Rest) → rows_of_table_left rest ≡ rows_of_table_left f.rest → IsFrame t k None None f → IsFrame t k None None (with_rest f rest)
-frame_same t k f rest same is = record {
+pub frame_same : (t : Table) (k : Known) (f : Frame) (rest : Rest) → table_of_rest rest ≡ t → rows_of_table_left rest ≡ rows_of_table_left f.rest → IsFrame t k None None f → IsFrame t k None None (with_rest f rest)
+frame_same t k f rest table same is = record {
   table = is.table;
   sound = is.sound;
+  rows = table;
   first = is.first ∙ ap (λ xs. first_of (attachment_row_fault t (below_message t f.limit) (roots_of f.node) f.bid) xs) (sym same);
   within = λ y w. is.within y (rw same at w);
   properties = is.properties;

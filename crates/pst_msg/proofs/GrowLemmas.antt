@@ -6,7 +6,6 @@ use Rattle.pst_page.specs.declared.entry.NodeEntry.{NodeEntry}
 use Rattle.pst_block.specs.Table.{Table}
 use Rattle.pst_ndb.specs.declared.node.Node.{Node}
 use Rattle.pst_mail.specs.declared.object.Object.{Object}
-use Rattle.pst_tc.specs.Values.{RowParts, tc_rows}
 use Rattle.pst_names.specs.declared.name_map.TheConstants.{NAME_MAP}
 use Rattle.pst_ndb.specs.Roots.{Roots, subnode_of, node_in, all_roots}
 use Rattle.pst_ndb.specs.Views.{roots_of}
@@ -16,8 +15,8 @@ use Rattle.pst_msg.specs.declared.known.Known.{Known}
 use Rattle.pst_mail.specs.declared.nid.TheConstants.{STORE, ROOT, FOLDER, SEARCH_FOLDER, ATTACHMENTS, RECIPIENTS}
 use Rattle.pst_remembered.specs.declared.role.Role.TheVariants.{Properties, Listed, Recipients, Attachments}
 use Rattle.pst_mail.specs.Nid.{type_of, is_type}
-use Rattle.pst_mail.specs.Grammar.{IsAttachmentRow}
-use Rattle.pst_msg.specs.Counts.{HasMessage, node, embedded, HasAttachment, attached, Names, of_store, of_root, of_names, of_folder, of_search, of_message, of_attachment, listed, recipients, attachments, IsNode}
+use Rattle.pst_msg.specs.Counts.{HasMessage, node, embedded, HasAttachment, Names, of_store, of_root, of_names, of_folder, of_search, of_message, of_attachment, listed, recipients, attachments, IsNode}
+use Rattle.pst_msg.specs.Frames.{HoldsAttachment}
 use Rattle.pst_msg.specs.Growth.{Grows, FolderIn, NodeIn}
 use Rattle.pst_msg.proofs.CountLemmas.{grows_then, grows_of}
 use Rattle.pst_fault.proofs.EachLemmas.{contains_here, contains_later}
@@ -30,14 +29,8 @@ recipients_grow t u r s a b same is g = grows_of t (λ nodes. Names t nodes Reci
 pub attachments_grow : (t u : Table) (r : Roots) (s : Node) (a b : Known) → u ≡ t → Some (roots_of s) ≡ subnode_of t r ATTACHMENTS → Grows u (λ nodes. Names u nodes Attachments (roots_of s)) a b → Grows t (λ nodes. HasMessage t nodes r) a b
 attachments_grow t u r s a b same is g = grows_of t (λ nodes. Names t nodes Attachments (roots_of s)) (λ nodes. HasMessage t nodes r) a b (λ nodes held. attachments r (roots_of s) held (sym is)) (rw same at g)
 
-pub row_grows : (t u : Table) (r : Roots) (x : RowParts) (s : Node) (a b : Known) → u ≡ t → Some (roots_of s) ≡ subnode_of t r x.id → Grows u (λ nodes. HasAttachment u nodes (roots_of s)) a b → Grows t (λ nodes. HasMessage t nodes r × IsAttachmentRow t r x) a b
-row_grows t u r x s a b same is g = grows_of t (λ nodes. HasAttachment t nodes (roots_of s)) (λ nodes. HasMessage t nodes r × IsAttachmentRow t r x) a b (λ nodes h. attached r (roots_of s) x h.0 h.1 (sym is)) (rw same at g)
-
-pub rows_grow : (t : Table) (r : Roots) (x : RowParts) (all : List RowParts) (a b c : Known) → Contains all x → Grows t (λ nodes. HasMessage t nodes r × ((x : RowParts) → Contains all x → IsAttachmentRow t r x)) a b → Grows t (λ nodes. HasMessage t nodes r × IsAttachmentRow t r x) b c → Grows t (λ nodes. HasMessage t nodes r × ((x : RowParts) → Contains all x → IsAttachmentRow t r x)) a c
-rows_grow t r x all a b c within g h = grows_then t (λ nodes. HasMessage t nodes r × ((x : RowParts) → Contains all x → IsAttachmentRow t r x)) a b c g (grows_of t (λ nodes. HasMessage t nodes r × IsAttachmentRow t r x) (λ nodes. HasMessage t nodes r × ((x : RowParts) → Contains all x → IsAttachmentRow t r x)) b c (λ nodes held. (held.0, held.1 x within)) h)
-
-pub all_rows_grow : (t u : Table) (r s : Roots) (n : Node) (a b : Known) → u ≡ t → s ≡ roots_of n → Some (roots_of n) ≡ subnode_of t r ATTACHMENTS → Grows t (λ nodes. HasMessage t nodes r × ((x : RowParts) → Contains (tc_rows u s) x → IsAttachmentRow t r x)) a b → Grows t (λ nodes. HasMessage t nodes r) a b
-all_rows_grow t u r s n a b same one is g = grows_of t (λ nodes. HasMessage t nodes r × ((x : RowParts) → Contains (tc_rows u s) x → IsAttachmentRow t r x)) (λ nodes. HasMessage t nodes r) a b (λ nodes held. (held, λ x w. (roots_of n, sym is, rw (← same, ← one) w))) g
+pub row_grows : (t u : Table) (r : Roots) (nid : ℕ) (s : Node) (a b : Known) → u ≡ t → Some (roots_of s) ≡ subnode_of t r nid → Grows u (λ nodes. HasAttachment u nodes (roots_of s)) a b → Grows t (λ nodes. HoldsAttachment t nodes r nid) a b
+row_grows t u r nid s a b same is g = grows_of t (λ nodes. HasAttachment t nodes (roots_of s)) (λ nodes. HoldsAttachment t nodes r nid) a b (λ nodes h. h (roots_of s) (sym is)) (rw same at g)
 
 pub properties_grow : (t : Table) (r : Roots) (a b : Known) → Grows t (λ nodes. Names t nodes Properties r) a b → Grows t (λ nodes. HasMessage t nodes r) a b
 properties_grow t r a b g = grows_of t (λ nodes. Names t nodes Properties r) (λ nodes. HasMessage t nodes r) a b (λ nodes held. of_message r held) g

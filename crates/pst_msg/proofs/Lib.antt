@@ -17,6 +17,7 @@ pub mod ListingLemmas
 pub mod CountLemmas
 pub mod GrowLemmas
 pub mod StepLemmas
+pub mod RestLemmas
 pub mod FrameLemmas
 pub mod OpenLemmas
 pub mod BrokenLemmas

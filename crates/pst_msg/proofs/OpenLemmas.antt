@@ -16,7 +16,7 @@ use Rattle.pst_ndb.specs.Roots.{Roots, subnode_of}
 use Rattle.pst_ndb.specs.Views.{table_of_node, sub_bid_of, roots_of}
 use Rattle.pst_pc.specs.Fault.{pc_fault}
 use Rattle.pst_tc.specs.Fault.{tc_fault}
-use Rattle.pst_msg.specs.Rest.{rows_of_table_left}
+use Rattle.pst_msg.specs.Rest.{rows_of_table_left, table_of_rest}
 use Rattle.pst_tc.specs.Values.{RowParts, tc_rows}
 use Rattle.pst_msg.specs.declared.frame.Frame.{Frame}
 use Rattle.pst_msg.specs.declared.known.Known.{Known}
@@ -24,7 +24,7 @@ use Rattle.pst_mail.specs.declared.nid.TheConstants.{ATTACHMENT, ATTACHMENTS, RE
 use Rattle.pst_mail.specs.declared.object.Object.{Object}
 use Rattle.pst_remembered.specs.declared.role.Role.TheVariants.{Properties, Recipients, Attachments}
 use Rattle.pst_mail.specs.Nid.{is_type, named}
-use Rattle.pst_msg.specs.Counts.{embedded, attached}
+use Rattle.pst_msg.specs.Counts.{embedded}
 use Rattle.pst_mail.specs.Fault.{attachment_row_fault, attachments_fault, held_fault, message_part, embedded_fault, attachment_part, message_at, attachment_at, below_message, below_attachment, message_fault, attachment_fault}
 use Rattle.pst_msg.specs.Growth.{Grows}
 use Rattle.pst_msg.specs.Known.{ContextIn, WholeIn, IsTrueOf}
@@ -93,8 +93,8 @@ held_without t below r recipients is =
     then_none (if_there (tc_fault t) (subnode_of t r RECIPIENTS)) (if_there (attachments_fault t below r) (subnode_of t r ATTACHMENTS)) recipients
     ∙ ap (λ o. if_there (attachments_fault t below r) o) (sym is)
 
-pub opened : (t : Table) (k : Known) (f : Frame) (table : Roots) → table_of_node f.node ≡ t → sub_fault t f.limit (sub_bid_of f.node) ≡ None → if_there (tc_fault t) (subnode_of t (roots_of f.node) RECIPIENTS) ≡ None → subnode_of t (roots_of f.node) ATTACHMENTS ≡ Some table → tc_fault t table ≡ None → f.bid ≡ table.bid_data → rows_of_table_left f.rest ≡ tc_rows t table → ContextIn k Properties (roots_of f.node) → ((s : Roots) → subnode_of t (roots_of f.node) RECIPIENTS ≡ Some s → ContextIn k Recipients s) → ContextIn k Attachments table → IsMessageOpened t k (roots_of f.node) f.limit f.holder f
-opened t k f table same sound recipients is none bid rows properties recipients_in there =
+pub opened : (t : Table) (k : Known) (f : Frame) (table : Roots) → table_of_node f.node ≡ t → sub_fault t f.limit (sub_bid_of f.node) ≡ None → if_there (tc_fault t) (subnode_of t (roots_of f.node) RECIPIENTS) ≡ None → subnode_of t (roots_of f.node) ATTACHMENTS ≡ Some table → tc_fault t table ≡ None → f.bid ≡ table.bid_data → table_of_rest f.rest ≡ t → rows_of_table_left f.rest ≡ tc_rows t table → ContextIn k Properties (roots_of f.node) → ((s : Roots) → subnode_of t (roots_of f.node) RECIPIENTS ≡ Some s → ContextIn k Recipients s) → ContextIn k Attachments table → IsMessageOpened t k (roots_of f.node) f.limit f.holder f
+opened t k f table same sound recipients is none bid made rows properties recipients_in there =
     let part = λ (b : ℕ). attachment_row_fault t (below_message t f.limit) (roots_of f.node) b in
     record {
       roots = refl;
@@ -103,6 +103,7 @@ opened t k f table same sound recipients is none bid rows properties recipients_
       frame = record {
         table = same;
         sound = sound;
+        rows = made;
         first = held_is t (below_message t f.limit) (roots_of f.node) table recipients is none ∙ ap (λ b. first_of (part b) (tc_rows t table)) (sym bid) ∙ ap (λ xs. first_of (part f.bid) xs) (sym rows);
         within = λ x w. (table, is, rw (← rows) w);
         properties = properties;
@@ -200,5 +201,5 @@ row_opened t u k limit bid r x s f same some found kind of_u =
       held = rw is.holder is.held;
       frame = is.frame;
       steps = omega (arith, is.steps, row_steps_is t limit r x (roots_of s) some (sym found));
-      reached = λ nodes h row. is.reached nodes (attached r (roots_of s) x h row (sym found));
+      reached = λ nodes h. is.reached nodes (h (roots_of s) (sym found));
     }

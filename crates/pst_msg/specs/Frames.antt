@@ -12,7 +12,8 @@ use Rattle.pst_ndb.specs.declared.node.Node.{Node}
 use Rattle.pst_ndb.specs.Roots.{Roots, subnode_of}
 use Rattle.pst_ndb.specs.Views.{table_of_node, sub_bid_of, roots_of}
 use Rattle.pst_msg.specs.declared.rest.Rest.{Rest}
-use Rattle.pst_msg.specs.Rest.{rows_of_table_left}
+use Rattle.pst_msg.specs.Rest.{rows_of_table_left, table_of_rest}
+use Rattle.pst_remembered.specs.declared.row_names.RowName.{RowName}
 use Rattle.pst_tc.specs.Values.{RowParts}
 use Rattle.pst_msg.specs.declared.frame.Frame.{Frame}
 use Rattle.pst_msg.specs.declared.known.Known.{Known}
@@ -46,6 +47,7 @@ IsWaited (Some a) t r x = subnode_of t r x.id ≡ Some a
 pub record IsFrame (t : Table) (k : Known) (now : Option Fault) (waits : Option Roots) (f : Frame) : Type 0 where
   pub table : table_of_node f.node ≡ t
   pub sound : sub_fault t f.limit (sub_bid_of f.node) ≡ None
+  pub rows : table_of_rest f.rest ≡ t
   -- the first fault of what it holds is that of what is above it, and else of its rows that are left
   pub first : held_fault t (below_message t f.limit) (roots_of f.node) ≡ (now then left_of t f)
   pub within : (x : RowParts) → Contains (rows_of_table_left f.rest) x → IsAttachmentRow t (roots_of f.node) x
@@ -142,6 +144,14 @@ pub record IsAttachmentOpened (t : Table) (k : Known) (a : Node) (limit : ℕ) (
   pub steps : frame_steps t f ≤ attachment_steps t limit (roots_of a)
   pub reached : (nodes : List NodeEntry) → HasAttachment t nodes (roots_of a) → HasMessage t nodes (roots_of f.node)
 
+-- a row of which no more is told than what it names
+abbrev pub row_named : RowName → RowParts
+row_named name = record { id = name.id; at = name.at; place = record { at = 0; len = 0 } }
+
+-- the subnode with an identifier, where it is there, is an attachment of a store
+abbrev pub HoldsAttachment : Table → List NodeEntry → Roots → ℕ → Type 0
+HoldsAttachment t nodes r nid = (s : Roots) → subnode_of t r nid ≡ Some s → HasAttachment t nodes s
+
 -- the attachment that a row names is remembered, and has no fault
 pub record IsRowKnown (t : Table) (k : Known) (r : Roots) (limit : ℕ) (bid : ℕ) (x : RowParts) : Type 0 where
   pub first : attachment_row_fault t (below_message t limit) r bid x ≡ None
@@ -156,7 +166,7 @@ pub record IsRowOpened (t : Table) (k : Known) (r : Roots) (limit : ℕ) (bid : 
   pub held : HasHolder t k f
   pub frame : IsFrame t k None None f
   pub steps : frame_steps t f < row_steps t (steps_below_message t limit) r x
-  pub reached : (nodes : List NodeEntry) → HasMessage t nodes r → IsAttachmentRow t r x → HasMessage t nodes (roots_of f.node)
+  pub reached : (nodes : List NodeEntry) → HoldsAttachment t nodes r x.id → HasMessage t nodes (roots_of f.node)
 
 -- a message with these rows left
 abbrev pub with_rest : Frame → Rest → Frame

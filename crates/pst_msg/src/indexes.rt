@@ -9,7 +9,8 @@ use crate::rest::Rest;
 use pst_fault::Fault;
 use pst_ndb::Node;
 use pst_remembered::{ListIndex, cleared};
-use std::alloc::Global;
+use std::alloc::{AllocError, Global};
+use std::collections::BTreeSet;
 
 // So many entries stand in one SLBLOCK at most, and are looked through without an index.
 const FEW: u64 = 340;
@@ -33,8 +34,8 @@ pub(crate) struct HeldIndex {
 #[derive(Drop)]
 pub(crate) struct Indexes {
     held: Vec<HeldIndex>,
-    // The list that was found to rise last, 0 where none was.
-    risen: u64,
+    // The lists that were found to rise, by their blocks with bit 0 of the identifier cleared.
+    risen: BTreeSet<u64>,
 }
 
 /// How many subnodes a node has.
@@ -93,7 +94,7 @@ impl Indexes {
     {
         Indexes {
             held: Vec::new(alloc),
-            risen: 0,
+            risen: BTreeSet::new(alloc),
         }
     }
 
@@ -123,40 +124,40 @@ impl Indexes {
         }
     }
 
-    // Whether the list of a node rises. It is gone through once, as long as no other is.
+    // Whether the list of a node rises. One that does is gone through once for this. Or memory is refused.
     #[tactic(auto, using(crate::proofs::HeldLemmas::same_held))]
-    fn is_risen(&mut self, node: Node) -> bool
+    fn is_risen(&mut self, node: Node) -> Result<bool, AllocError>
         ensures { (t : Table) → AreIndexes t self.old → AreIndexes t self.new }
     {
         let list = cleared(node.bid_sub());
-        if list == self.risen {
-            return true;
+        if self.risen.contains(&list) {
+            return Ok(true);
         }
         if !do_rise(node) {
-            return false;
+            return Ok(false);
         }
-        self.risen = list;
-        true
+        let _is_new = self.risen.insert(list)?;
+        Ok(true)
     }
 
     // Whether so many rows are left that an index of a node's list is worth its making: many, or some where the list does not rise.
-    fn pays(&mut self, node: Node, rest: &Rest) -> bool
+    fn pays(&mut self, node: Node, rest: &Rest) -> Result<bool, AllocError>
         ensures { (t : Table) → AreIndexes t self.old → AreIndexes t self.new }
     {
         let left = rest.count(FEW_ROWS);
         if left == FEW_ROWS {
-            return true;
+            return Ok(true);
         }
         if left < SOME_ROWS {
-            return false;
+            return Ok(false);
         }
-        !self.is_risen(node)
+        Ok(!self.is_risen(node)?)
     }
 
     /// Makes the index of a node's list, where that is long and many rows are left to be looked up there; unless it is there
     /// already. The rows are looked at only where the list is long, and where it is not known how many they are: behind the last one
-    /// there may be leaves without rows, which have to be passed to see that none is left. It is made at the expense of those of lists with fewer than twice as many
-    /// entries: to make them again takes no more than a few times what this one does.
+    /// there may be leaves without rows, which have to be passed to see that none is left. It is made at the expense of those of lists
+    /// with fewer than twice as many entries: to make them again takes no more than a few times what this one does.
     pub(crate) fn turn(&mut self, alloc: Global, node: Node, rest: &Rest) -> Result<(), Fault>
         requires { AreIndexes (table_of_node node) self.old }
         ensures index { AreIndexes (table_of_node node.entry) self.new }
@@ -165,7 +166,7 @@ impl Indexes {
         if self.of_list(node).is_some() || !is_long(node) {
             return Ok(());
         }
-        if !self.pays(node, rest) {
+        if !self.pays(node, rest)? {
             return Ok(());
         }
         let entries = entries_of(node);

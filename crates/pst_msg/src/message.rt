@@ -9,10 +9,10 @@ ghost use Rattle.pst_ndb.specs.Views.{table_of_node, roots_of};
 ghost use Rattle.pst_msg.specs.Counts.{HasMessage};
 ghost use Rattle.pst_subnode.specs.declared.check.TheConstants.{LISTS};
 ghost use Rattle.pst_mail.specs.Fault.{held_fault, below_message, message_at, message_fault};
-ghost use Rattle.pst_msg.specs.Frames.{IsFrame, HasHolder, HolderIn, AreBrokenBy, WaitFor, IsWentOn};
+ghost use Rattle.pst_msg.specs.Frames.{IsFrame, HasHolder, HolderIn, AreBrokenBy, WaitFor, IsWentOn, with_rest};
 ghost use Rattle.pst_msg.specs.Growth.{Grows};
 ghost use Rattle.pst_msg.specs.Known.{WholeIn, IsTrueOf};
-ghost use Rattle.pst_msg.specs.Rest.{rows_of_table_left};
+ghost use Rattle.pst_msg.specs.Rest.{IsNextRow, AreNoRows, rows_of_table_left, table_of_rest};
 
 use crate::frame::Frame;
 use crate::known::Known;
@@ -20,6 +20,7 @@ use crate::open::{open_message, open_row};
 use crate::remember::{remember_attachment, remember_broken, remember_held};
 use pst_fault::Fault;
 use pst_ndb::Node;
+use pst_remembered::RowName;
 use pst_subnode::LISTS;
 
 // A message of which no row is left, and the attachment that embeds it, are remembered.
@@ -53,6 +54,23 @@ fn turn_to(frame: &Frame, gone: u32, known: &mut Known) -> Result<(), Fault>
         return Ok(());
     }
     known.indexes.turn(known.alloc, frame.node, &frame.rest)
+}
+
+// What the next row of a message's attachment table names; or memory is refused.
+fn next_row(frame: &mut Frame, known: &mut Known) -> Result<Option<RowName>, Fault>
+    requires known { IsTrueOf (table_of_node frame.old.node) known.old }
+    requires table { table_of_rest frame.old.rest ≡ table_of_node frame.old.node }
+    ensures known { IsTrueOf (table_of_node frame.old.node) known.new }
+    ensures grows { Grows (table_of_node frame.old.node) (λ nodes. Unit {0}) known.old known.new }
+    ensures only { frame.new ≡ with_rest frame.old frame.new.rest }
+    ensures table { table_of_rest frame.new.rest ≡ table_of_node frame.old.node }
+    ensures some { IfOk result (λ o. IfSome o (λ name.
+        IsNextRow (rows_of_table_left frame.old.rest) name (rows_of_table_left frame.new.rest))) }
+    ensures none { IfOk result (λ o. IfNone o
+        (AreNoRows (rows_of_table_left frame.old.rest) (rows_of_table_left frame.new.rest))) }
+    ensures memory { IfErr result (λ f. f ≡ no_memory) }
+{
+    frame.rest.next(&known.index, &mut known.row_names)
 }
 
 // A fault in what a message holds is that of those which wait for it, too: it is known from then on of each.
@@ -114,7 +132,7 @@ fn go_on<'a>(
         IfOk result (λ o. IfSome o (IsWentOn t known.new frame.old frame.new)) }
 {
     let mut gone = before;
-    while let Some(row) = frame.rest.next() {
+    while let Some(row) = next_row(frame, known)? {
         turn_to(frame, gone, known)?;
         gone = gone.saturating_add(1);
         match open_row(frame.node, frame.bid, row, frame.limit, known) {

@@ -7,15 +7,13 @@ ghost use Rattle.pst_subnode.specs.Tree.{sub_fault};
 ghost use Rattle.pst_ndb.specs.Views.{table_of_node, sub_bid_of, roots_of};
 ghost use Rattle.pst_tc.specs.Fault.{tc_fault};
 ghost use Rattle.pst_tc.specs.Values.{tc_rows};
-ghost use Rattle.pst_tc.specs.View.{row_parts};
 ghost use Rattle.pst_remembered.specs.declared.role.Role.TheVariants.{Properties};
 ghost use Rattle.pst_msg.specs.Counts.{HasMessage, HasAttachment};
 ghost use Rattle.pst_mail.specs.Fault.{attachment_row_fault, held_fault, message_at, embedded_fault, attachment_at, below_message, below_attachment};
-ghost use Rattle.pst_msg.specs.Frames.{IsMessageOpened, EmbedsKnown, IsObjectOpened, AttachmentKnown, IsAttachmentOpened, IsRowKnown, IsRowOpened};
-ghost use Rattle.pst_mail.specs.Grammar.{IsAttachmentRow};
+ghost use Rattle.pst_msg.specs.Frames.{IsMessageOpened, EmbedsKnown, IsObjectOpened, AttachmentKnown, IsAttachmentOpened, IsRowKnown, IsRowOpened, HoldsAttachment, row_named};
 ghost use Rattle.pst_msg.specs.Growth.{Grows};
 ghost use Rattle.pst_msg.specs.Known.{ContextIn, WholeIn, NamedIn, IsTrueOf};
-ghost use Rattle.pst_msg.specs.Rest.{rows_of_table_left};
+ghost use Rattle.pst_msg.specs.Rest.{rows_of_table_left, table_of_rest};
 ghost use Rattle.pst_mail.specs.Values.{embedded_of};
 
 use crate::context::once;
@@ -23,15 +21,15 @@ use crate::frame::Frame;
 use crate::known::Known;
 use crate::recipients::check_recipients;
 use crate::remember::{refuse_held, remember_attachment, remember_held, remember_message};
-use crate::rest::Rest;
+use crate::rest::{NumberedRows, Rest};
 use pst_fault::{Fault, Kind};
 use pst_mail::{ATTACHMENT, ATTACHMENTS, Object, embedded, is_type, named};
 use pst_ndb::Node;
 use pst_pc::known_pc;
-use pst_remembered::{Role, key_of, key_of_list, part_of_list, told_of};
-use pst_tc::{Row, known_tc};
+use pst_remembered::{Role, RowName, key_of, key_of_list, part_of_list, told_of};
+use pst_tc::known_tc;
 
-// The rows of an attachment table without fault; where its data lies in several blocks, they are counted once.
+// The rows of an attachment table without fault.
 fn rows_of<'a>(table: Node<'a>, known: &mut Known) -> Result<Rest<'a>, Fault>
     requires sound { tc_fault (table_of_node table) (roots_of table) ≡ None }
     requires known { IsTrueOf (table_of_node table) known.old }
@@ -39,10 +37,13 @@ fn rows_of<'a>(table: Node<'a>, known: &mut Known) -> Result<Rest<'a>, Fault>
     ensures grows { Grows (table_of_node table.entry) (λ nodes. Unit {0}) known.old known.new }
     ensures left { let t = table_of_node table.entry in
         IfOk result (λ rest. rows_of_table_left rest ≡ tc_rows t (roots_of table.entry)) }
+    ensures table { IfOk result (λ rest. table_of_rest rest ≡ table_of_node table.entry) }
     ensures memory { IfErr result (λ f. f ≡ no_memory) }
 {
-    let most = known.row_counts.of(table)?;
-    Ok(Rest::of(known_tc(table).rows(), most))
+    match known.row_names.count(known.index.lend(table))? {
+        Some(count) => Ok(Rest::Numbered(NumberedRows::of(table, count))),
+        None => Ok(Rest::Rows(known_tc(table).rows())),
+    }
 }
 
 // What a message holds in its list of subnodes, up to the rows of its attachment table; where it has none, the message is
@@ -227,34 +228,29 @@ fn open_attachment<'a>(
 pub(crate) fn open_row<'a>(
     node: Node<'a>,
     bid: u64,
-    row: Row,
+    row: RowName,
     limit: u32,
     known: &mut Known,
 ) -> Result<Option<Frame<'a>>, Fault>
     requires sound { sub_fault (table_of_node node) limit (sub_bid_of node) ≡ None }
     requires known { IsTrueOf (table_of_node node) known.old }
     ensures known { IsTrueOf (table_of_node node.entry) known.new }
-    ensures grows { let t = table_of_node node.entry in let r = roots_of node.entry in
-        let x = row_parts row.entry in
-        Grows t (λ nodes. HasMessage t nodes r × IsAttachmentRow t r x) known.old known.new }
+    ensures grows { let t = table_of_node node.entry in
+        Grows t (λ nodes. HoldsAttachment t nodes (roots_of node.entry) row.id) known.old known.new }
     ensures refused { let t = table_of_node node.entry in let r = roots_of node.entry in
-        let x = row_parts row.entry in
-        IfErr result (IsFirst (attachment_row_fault t (below_message t limit) r bid x)) }
+        IfErr result (IsFirst (attachment_row_fault t (below_message t limit) r bid (row_named row))) }
     ensures done { let t = table_of_node node.entry in let r = roots_of node.entry in
-        let x = row_parts row.entry in
-        IfOk result (λ o. IfNone o (IsRowKnown t known.new r limit bid x)) }
+        IfOk result (λ o. IfNone o (IsRowKnown t known.new r limit bid (row_named row))) }
     ensures open { let t = table_of_node node.entry in let r = roots_of node.entry in
-        let x = row_parts row.entry in
-        IfOk result (λ o. IfSome o (IsRowOpened t known.new r limit bid x)) }
+        IfOk result (λ o. IfSome o (IsRowOpened t known.new r limit bid (row_named row))) }
 {
-    let id = row.id();
-    match known.indexes.subnode(node, id) {
+    match known.indexes.subnode(node, row.id) {
         Some(sub) => {
-            if !is_type(ATTACHMENT, id) {
-                return Err(named(Kind::NodeKind, row.at(), bid, id));
+            if !is_type(ATTACHMENT, row.id) {
+                return Err(named(Kind::NodeKind, row.at, bid, row.id));
             }
             open_attachment(sub, limit - 1, known)
         }
-        None => Err(named(Kind::NodeMissing, row.at(), bid, id)),
+        None => Err(named(Kind::NodeMissing, row.at, bid, row.id)),
     }
 }

@@ -5,7 +5,7 @@ use crate::span_indexes::SpanIndexes;
 use crate::sub_indexes::SubIndexes;
 use std::alloc::{AllocError, Global};
 
-/// How many subnodes the properties or the rows of a node may be: no more than its data has records of 8 bytes.
+/// How many subnodes the values of a node's properties, or of its rows, may be in: no more than its data has records of 8 bytes.
 pub fn most_values(node: Node) -> u64 {
     node.spans().size() / 8
 }

@@ -1,4 +1,4 @@
-//! The rows of a hierarchy table, each of which names a folder.
+//! The rows of a hierarchy table, each of which names a folder, where that is among the nodes.
 
 ghost use Rattle.std.specs.Prelude.{◌≡◌, ℕ, OnOk, true, is_some, [], ◌∷◌};
 ghost use Rattle.std.specs.List.{filter};

@@ -3,6 +3,7 @@
 ghost use Rattle.std.specs.Prelude.{◌≡◌, ℕ, ◌+◌, None, [], ◌∷◌, IfOk, OnOk, OnErr, map};
 ghost use Rattle.pst_btree.specs.Order.{Rises};
 ghost use Rattle.pst_ndb.specs.Counts.{capped};
+ghost use Rattle.pst_ndb.specs.NodeIndexes.{AreNodeIndexes, AreNodeIndexes-prop};
 ghost use Rattle.pst_ndb.specs.Views.{table_of_ndb, nodes_of, roots_of};
 ghost use Rattle.pst_store.specs.pst_msg.Fault.{messaging_fault};
 ghost use Rattle.pst_intact.specs.View.{table_of_intact, nodes_of_intact};
@@ -13,11 +14,15 @@ ghost use Rattle.pst_reach.specs.Search.{table_key};
 use crate::reached::Reach;
 use crate::rows::take_rows;
 use pst_intact::Intact;
-use pst_ndb::{Ndb, Node, Work};
+use pst_ndb::{Ndb, Node, NodeIndexes, Work};
 use pst_page::PageKind;
 use pst_store::{FOLDER, ROOT, Store, is_type};
+use pst_tc::{Tc, known_tc};
 use std::alloc::{AllocError, Global};
 use std::collections::{BTreeMap, BTreeSet};
+
+// Lists of tables are asked for so many row matrices before one gets an index.
+const OFTEN: u64 = 24;
 
 // The key of a table: its data alone, since its list of subnodes says nothing of what its rows name.
 fn key_of(table: Node) -> u64
@@ -56,16 +61,49 @@ struct Search<'a> {
     tables: BTreeSet<u64>,
     // How many folders were walked from.
     walked: u64,
+    // By what tables are found that have much of the same: their row matrices in their lists, and the spans of their data.
+    index: NodeIndexes,
+    ghost indexed: { AreNodeIndexes (table_of_intact intact) index } by { AreNodeIndexes-prop
+        (table_of_intact intact) index },
 }
 
 impl<'a> Search<'a> {
-    ghost use Rattle.std.specs.Prelude.{◌≡◌, ℕ, suc, ◌+◌, true, OnOk, IfOk, length};
+    ghost use Rattle.std.specs.Prelude.{◌≡◌, ℕ, suc, ◌+◌, true, is_some, OnOk, IfOk, length};
     ghost use Rattle.pst_ndb.specs.Counts.{capped};
+    ghost use Rattle.pst_ndb.specs.Views.{table_of_node, roots_of};
+    ghost use Rattle.pst_tc.specs.Tc.{node_of_tc};
+    ghost use Rattle.pst_tc.specs.Values.{tc_rows};
     ghost use Rattle.pst_intact.specs.View.{table_of_intact, nodes_of_intact};
-    ghost use Rattle.pst_reach.specs.Levels.{steps_of, reaches_of, folders_in, folders_at};
-    ghost use Rattle.pst_reach.specs.Reach.{folder_ids, is_folder_among};
+    ghost use Rattle.pst_reach.specs.Levels.{steps_named, steps_of, reaches_of, folders_in, folders_at};
+    ghost use Rattle.pst_reach.specs.Reach.{folder_ids, folders_named, is_folder_among};
     ghost use Rattle.pst_store.specs.pst_msg.pst_mail.declared.nid.TheConstants.{ROOT as ROOT_NID};
-    ghost use Rattle.pst_reach.specs.Search.{Takes, AreTaken, IsReachedWithin, IsLevel};
+    ghost use Rattle.pst_reach.specs.Search.{reach_so_far, Takes, AreTaken, IsReachedWithin, IsLevel};
+
+    // The rows of a hierarchy table, which is lent its indexes.
+    fn take_table(
+        &mut self,
+        next: &mut BTreeSet<u32>,
+        depth: u32,
+        parent: u32,
+        table: Tc,
+    ) -> Result<(), AllocError>
+        requires { table_of_node (node_of_tc table) ≡ table_of_intact self.old.intact }
+        ensures intact { self.new.intact ≡ self.old.intact }
+        ensures tables { self.new.tables ≡ self.old.tables }
+        ensures walked { self.new.walked ≡ self.old.walked }
+        ensures takes { let node = node_of_tc table.entry in
+            let rows = tc_rows (table_of_node node) (roots_of node) in
+            let ids = folders_named (nodes_of_intact self.old.intact) rows in
+            OnOk result
+            (Takes depth (steps_named parent ids) self.old.found next.old self.new.found next.new) }
+        ensures keeps { (nid : ℕ) → is_some (reach_so_far self.old.found nid) ≡ true →
+            is_some (reach_so_far self.new.found nid) ≡ true }
+    {
+        table.is_sound();
+        self.index.turn(self.alloc, table.node(), 1)?;
+        let lent = known_tc(self.index.lend(table.node()));
+        take_rows(&self.intact, &mut self.found, next, depth, parent, lent)
+    }
 
     // The rows of the hierarchy table of a folder at the depth before.
     fn take_folder(
@@ -94,7 +132,7 @@ impl<'a> Search<'a> {
         if self.tables.contains(&key) {
             return Ok(());
         }
-        take_rows(&self.intact, &mut self.found, next, depth, parent, table)?;
+        self.take_table(next, depth, parent, table)?;
         let _new = self.tables.insert(key)?;
         Ok(())
     }
@@ -209,6 +247,7 @@ fn search_from(alloc: Global, intact: &Intact, walked: u64) -> Result<(Vec<Reach
         found,
         tables: BTreeSet::new(alloc),
         walked,
+        index: NodeIndexes::new(alloc, OFTEN),
     };
     search.take_levels(level)?;
     let reached = search.list()?;

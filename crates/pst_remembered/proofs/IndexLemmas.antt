@@ -1,15 +1,9 @@
 -- An index of a list of subnodes.
-use Rattle.std.proofs.Common.{◌≡◌, ℕ, Option, None, sym, ap, ◌∙◌}
-use Rattle.std.specs.Prelude.{option_map}
+use Rattle.std.proofs.Common.{◌≡◌, ℕ, sym, ◌∙◌}
 use Rattle.pst_block.specs.Block.{bid_key}
-use Rattle.pst_block.specs.Table.{Table}
-use Rattle.pst_btree.specs.Entries.{first_with}
 use Rattle.pst_subnode.specs.declared.index.SubIndex.{SubIndex}
-use Rattle.pst_subnode.specs.declared.sub.Sub.{Sub}
-use Rattle.pst_subnode.specs.List.{sub_nid, subs_of}
 use Rattle.pst_subnode.proofs.IndexLemmas.{index_of_key}
 use Rattle.pst_ndb.specs.declared.node.Node.{Node}
-use Rattle.pst_ndb.specs.Roots.{Roots, sub_roots, subnode_of}
 use Rattle.pst_ndb.specs.Views.{table_of_node, sub_bid_of, IsIndexedBy}
 use Rattle.pst_remembered.specs.declared.list_index.ListIndex.{ListIndex}
 use Rattle.pst_remembered.specs.ListIndex.{IsIndexIn}

@@ -80,7 +80,7 @@ impl Keys {
         self.others.has(&taken)
     }
 
-    /// Inserts a key; or memory is refused, and it stays as it is.
+    /// Inserts a key. NoMemory where memory is refused, and it stays as it is.
     pub fn insert(&mut self, taken: Key) -> Result<(), Fault>
         ensures only { (q : SpecKey) → holds self.new q ≡ true →
             (holds self.old q ≡ true) ⊎ (taken ≡ q) }

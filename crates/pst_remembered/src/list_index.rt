@@ -21,7 +21,7 @@ impl ListIndex {
     ghost use Rattle.pst_ndb.specs.Views.{table_of_node, nid_of, roots_of, IsIndexedBy};
     ghost use Rattle.pst_remembered.specs.ListIndex.{IsIndexIn, index_in};
 
-    /// That of a node's list.
+    /// That of a node's list. NoMemory where memory is refused.
     #[tactic(auto, using(crate::proofs::IndexLemmas::index_of_list))]
     pub fn of(alloc: Global, node: Node) -> Result<ListIndex, Fault>
         ensures index { IfOk result (IsIndexIn (table_of_node node.entry)) }

@@ -61,7 +61,8 @@ fn check_table(node: Node, maps: &mut Maps) -> Result<(), Fault>
     Ok(())
 }
 
-/// Checks the context of a node in a role, by what is known of page maps.
+/// Checks the context of a node in a role, by what is known of page maps: properties as `check_pc_with` answers ([MS-PST] 2.3.3), a
+/// table as `check_tc_with` does (2.3.4). NoMemory where memory is refused.
 pub fn check_context(role: Role, node: Node, maps: &mut Maps) -> Result<(), Fault>
     requires known { AreMapsTrue (table_of_node node) maps.old }
     ensures known { AreMapsTrue (table_of_node node.entry) maps.new }

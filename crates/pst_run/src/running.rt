@@ -173,10 +173,10 @@ pub fn decline<W: Write, E: Write>(none: NoOrder, out: &mut W, err: &mut E) -> u
 }
 
 /// Shows what is asked for of these bytes of a file, and gives the status with which the program ends: 0 where it is shown, 1
-/// where the file is refused, or has no such folder or node, or has lost space and the check is strict, or where `damage` found something broken, 3 where the output cannot
-/// be written, 4 where memory is refused. Each other status than 0 comes with a line on `err`, but for lost space, what is broken and
-/// an output that is closed; a fault of `err` changes nothing. With the status comes the fault for which the file is refused, where
-/// that is why.
+/// where the file is refused, or has no such folder, node or property, or too many paths for an archive, or has lost space and the
+/// check is strict, or where `damage` found something broken, 3 where the output cannot be written, 4 where memory is refused. Each
+/// other status than 0 comes with a line on `err`, but for lost space, what is broken and an output that is closed; a fault of `err`
+/// changes nothing. With the status comes the fault for which the file is refused, where that is why.
 #[tactic(auto, using(crate::proofs::RunLemmas::tells_shown, crate::proofs::RunLemmas::tells_refused))]
 pub fn answer_out<W: Write, E: Write>(
     alloc: Global,
@@ -250,10 +250,10 @@ pub fn explain_out<W: Write, E: Write>(kind: Option<Kind>, out: &mut W, err: &mu
 }
 
 /// Runs what the words after the program's name ask for, and gives the status with which the program ends: 0 where it
-/// is shown (or help, or the version), 1 where the file is refused, or has no such folder or node, or has lost space and the
-/// check is strict, or where `damage` found something broken, 2 where the words are refused, 3 where the file cannot be read or the
-/// output cannot be written, 4 where memory is refused. Each other status than 0 comes with a line on `err`, but for lost space and
-/// what is broken; a fault of `err` changes nothing.
+/// is shown (or help, or the version), 1 where the file is refused, or has no such folder, node or property, or too many paths for
+/// an archive, or has lost space and the check is strict, or where `damage` found something broken, 2 where the words are refused, 3
+/// where the file cannot be read or the output cannot be written, 4 where memory is refused. Each other status than 0 comes with a
+/// line on `err`, but for lost space, what is broken and an output that is closed; a fault of `err` changes nothing.
 pub fn run<R: Read, W: Write, E: Write>(
     alloc: Global,
     words: &[String],

@@ -1,9 +1,10 @@
 -- Digits in hexadecimal, which stand for themselves between quotes.
 use Rattle.std.proofs.Common.{◌≡◌, ℕ, zero, suc, ◌+◌, ◌/◌, ◌%◌, ◌^◌, ◌<◌, ◌≤◌, Bool, true, false, cond, List, [], ◌∷◌, ◌++◌, length, take, drop, set, get_or, refl, sym, ap, ◌∙◌, inl, inr, arith, append_assoc, append-nil, eq-eqb}
+use Rattle.std.proofs.lemmas.Bool.Decides.{nat_tests}
 use Rattle.std.proofs.lemmas.Bool.{and_parts, cases_lt, ne_eqb, lt-ltb, le-ltb}
 use Rattle.std.proofs.lemmas.List.{drop_more, drop_all, drop-set, take-append-drop}
 use Rattle.std.proofs.lemmas.Grind.{flat_map-append}
-use Rattle.std.specs.Prelude.{codes, slice_index, ◌&&◌}
+use Rattle.std.specs.Prelude.{codes, slice_index, ◌&&◌, nat_lt}
 use Rattle.std.specs.Fmt.{digits, digits_onto, digit_glyph}
 use Rattle.hex.specs.Hex.{lower_digits, upper_digits, encode_with}
 use Rattle.json.specs.Print.{escape, escape_byte}
@@ -169,6 +170,20 @@ byte_next t bytes i d b text put whole inside is now so_far =
 pub bytes_end : (t bytes : List ℕ) (i : ℕ) (text whole : List ℕ) → length bytes ≤ i → text ++ escape (encode_with t (drop i bytes)) ≡ whole → text ≡ whole
 unfolding encode_with
 bytes_end t bytes i text whole past so_far = sym (append-nil text) ∙ ap (λ l. text ++ escape (encode_with t l)) (sym (drop_all i bytes past)) ∙ so_far
+
+-- ---- digits in lower case are ASCII
+
+abbrev all_below : ℕ → List ℕ → Bool
+all_below n [] = true
+all_below n (x ∷ xs) = nat_lt x n && all_below n xs
+
+below_at : (t : List ℕ) (i : ℕ) → all_below 128 t ≡ true → slice_index t i < 128
+below_at [] i all = omega arith
+below_at (x ∷ t) zero all = let first = (and_parts (nat_lt x 128) (all_below 128 t) all).0 in grind (arith, nat_tests)
+below_at (x ∷ t) (suc i) all = below_at t i (and_parts (nat_lt x 128) (all_below 128 t) all).1
+
+pub lower_are_ascii : (i : ℕ) → slice_index lower_digits i < 128
+lower_are_ascii i = below_at lower_digits i refl
 
 -- ---- bytes by sixteen
 

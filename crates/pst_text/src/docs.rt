@@ -1,6 +1,6 @@
 //! Texts and bytes of values, as strings and as trees.
 
-ghost use Rattle.std.specs.Prelude.{◌≡◌, IfOk, string_bytes};
+ghost use Rattle.std.specs.Prelude.{◌≡◌, ◌++◌, IfOk, OnOk, string_bytes};
 ghost use Rattle.std.specs.List.{concat};
 ghost use Rattle.hex.specs.Hex.{encode_lower};
 ghost use Rattle.serde_json.specs.View.{view};
@@ -9,6 +9,7 @@ ghost use Rattle.pst_datatree.specs.Shown.{bytes_in};
 ghost use Rattle.pst_value.specs.Units.{units_of};
 ghost use Rattle.pst_text.specs.Text.{hex_data, utf8_of, text_data};
 
+use crate::digits::put_lower_bytes;
 use pst_datatree::{Pieces, Value};
 use pst_value::units16;
 use serde_json::Value as Doc;
@@ -56,26 +57,43 @@ pub fn text_doc(alloc: Global, value: Value) -> Result<Doc, AllocError>
     Ok(Doc::from(text_of(alloc, value)?))
 }
 
-// The bytes of pieces in hexadecimal.
-#[tactic(auto, using(crate::proofs::HexLemmas::hex_goes_on, crate::proofs::HexLemmas::hex_ends))]
-fn hex_of_pieces(alloc: Global, pieces: Pieces) -> Result<String, AllocError>
-    ensures { IfOk result (λ s. string_bytes s ≡ encode_lower (concat (slices_left pieces.entry))) }
+// Puts the digits of bytes behind others, in lower case.
+fn put_digits(bytes: &[u8], digits: &mut Vec<u8>) -> Result<(), AllocError>
+    ensures { OnOk result (digits.new.items ≡ digits.old.items ++ encode_lower bytes.now) }
 {
-    let mut text = String::new(alloc);
+    put_lower_bytes(bytes, digits)?;
+    Ok(())
+}
+
+// Puts the digits of pieces behind others, one piece after another.
+fn put_pieces(pieces: Pieces, digits: &mut Vec<u8>) -> Result<(), AllocError>
+    ensures { OnOk result (digits.new.items
+        ≡ digits.old.items ++ encode_lower (concat (slices_left pieces.entry))) }
+{
     for piece in pieces {
-        let digits = hex::encode(alloc, piece)?;
-        text.push_str(&digits)?;
+        put_digits(piece, digits)?;
     }
-    Ok(text)
+    Ok(())
+}
+
+// The digits of the bytes of a value.
+fn digits_of(alloc: Global, value: Value) -> Result<Vec<u8>, AllocError>
+    ensures { IfOk result (λ v. v.items ≡ encode_lower (bytes_in value.entry)) }
+{
+    let mut digits = Vec::new(alloc);
+    match value.with_bytes() {
+        Value::Whole(_, slice) => put_digits(slice, &mut digits)?,
+        Value::Pieces(pieces) => put_pieces(pieces, &mut digits)?,
+    }
+    Ok(digits)
 }
 
 /// The bytes of a value in lower-case hexadecimal.
 pub fn hex_doc(alloc: Global, value: Value) -> Result<Doc, AllocError>
     ensures { IfOk result (λ d. view d ≡ hex_data (bytes_in value.entry)) }
 {
-    let text = match value.with_bytes() {
-        Value::Whole(_, slice) => hex::encode(alloc, slice)?,
-        Value::Pieces(pieces) => hex_of_pieces(alloc, pieces)?,
-    };
+    let digits = digits_of(alloc, value)?;
+    // Digits are ASCII, so they are UTF-8.
+    let text = unsafe { String::from_utf8_unchecked(digits) };
     Ok(Doc::from(text))
 }

@@ -1,7 +1,7 @@
 //! What is put behind a text of JSON: numbers, identifiers, times, bytes in hexadecimal, and texts between quotes.
 //!
-//! Begin with `put_units`, which puts a text of 16-bit units there, as properties have it ([MS-PST] 2.11.1.1, PtypString), eight units
-//! at a time where they stand for themselves. Each call puts its own behind what stands there, and where memory is refused the text
+//! Begin with `put_text`, which puts the text of a value there, 16-bit units as properties have it ([MS-PST] 2.11.1.1, PtypString),
+//! eight units at a time where they stand for themselves. Each call puts its own behind what stands there, and where memory is refused the text
 //! begins with what it had:
 //!
 //! ```text

@@ -82,7 +82,7 @@ impl Asks {
         self.matrix
     }
 
-    /// Asks for a subnode in which a value of a type lies; or memory is refused.
+    /// Asks for a subnode in which a value of a type lies. NoMemory where memory is refused.
     pub fn put(&mut self, nid: u32, kind: u16) -> Result<(), Fault>
         ensures more { AsksMore self.old self.new }
         ensures there { OnOk result ((t : Table) (s : Roots) →

@@ -32,7 +32,7 @@ Exit status:
   2    The words are refused
   3    The file cannot be read or is too long, or the output cannot be written
   4    Memory was refused
-  125  The program could not be built, of the script that builds it first";
+  125  Of the script ./pst_show alone: there is no program that it may run";
 
 const CHECK: &str = ending!(
     "Checks the whole file, and prints how many pages, blocks, nodes, folders and messages
@@ -45,10 +45,11 @@ the file as it is stored, before anything is decoded.",
 );
 
 const DAMAGE: &str = ending!(
-    "Checks the whole file, goes on behind each fault, and prints all faults: of the header,
-the pages of both B-trees, the blocks, the allocation maps and the nodes, and how many
-nodes, folders and messages are whole. It repairs nothing. With --digest it also prints
-the SHA-256 of the file as it is stored, before anything is decoded.",
+    "Checks the whole file, goes on behind each fault, and prints the first fault of each
+part: of the header, the pages of both B-trees, the blocks, the allocation maps and the
+nodes, and how many nodes, folders and messages are whole. It repairs nothing. With
+--digest it also prints the SHA-256 of the file as it is stored, before anything is
+decoded.",
     "Nothing is broken: the file is a store",
     "Something is broken, and the answer is printed; or the file is too short, no .pst, of
      another version or encoded: then standard error tells which"

@@ -40,7 +40,7 @@ Exit status:
   2    The words are refused
   3    The file cannot be read or is too long, or the output cannot be written
   4    Memory was refused
-  125  The program could not be built, of the script that builds it first
+  125  Of the script ./pst_show alone: there is no program that it may run
 ";
 
 fn has_help<R: Abort + AllocGlobal>(rt: &R, name: &str, help: &str) {
@@ -58,6 +58,6 @@ fn help_and_the_version_are_shown(rt: HostRuntime) {
         has_help(&rt, name, help);
     }
     for word in ["--version", "-V"] {
-        is_answered(&rt, &[word], false, "pst_show 1.0.0\n");
+        is_answered(&rt, &[word], false, "pst_show 1.0.1\n");
     }
 }

@@ -86,6 +86,32 @@ fn tables_by_lists_of_their_own(rt: HostRuntime) {
     share_a_table(&rt, 0x41, 24, &THREE, line);
 }
 
+// Two messages that share a table of two attachments, 0x8025 and 0x8045, whose row matrix is subnode 0x41. Both are an attachment
+// without properties; in the list of the second message the second one has this identifier.
+fn share_attachments<R: Abort + AllocGlobal>(rt: &R, nid: u32, line: &str) {
+    let blocks = [
+        (12, Properties(&[], &[])),
+        (16, Bytes(&[0x25, 0x80, 0, 0, 0x80, 0x45, 0x80, 0, 0, 0x80])),
+        (20, Apart(&[0x8025, 0x8045])),
+        (
+            30,
+            List(&[(0x671, 20, 42), (0x8025, 12, 0), (0x8045, 12, 0)]),
+        ),
+        (34, List(&[(0x671, 20, 46), (0x8025, 12, 0), (nid, 12, 0)])),
+        (42, List(&[(0x41, 16, 0)])),
+        (46, List(&[(0x41, 17, 0)])),
+    ];
+    are_answered(rt, &blocks, &TWO, line);
+}
+
+#[test]
+fn attachments_by_lists_of_their_own(rt: HostRuntime) {
+    share_attachments(&rt, 0x8045, "yes 7");
+    // The list of the second message has another one than the second row names.
+    let line = "no: 26 NodeMissing at 0x4d44 bid 0x14 nid 0x8045";
+    share_attachments(&rt, 0x8065, line);
+}
+
 // Folders that share the data of a table of one subfolder, whose row matrix is subnode 0x41, each under a list of its own: in the
 // second one that has this data.
 fn share_a_listing<R: Abort + AllocGlobal>(rt: &R, data: u64, line: &str) {

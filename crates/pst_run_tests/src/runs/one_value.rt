@@ -131,11 +131,11 @@ fn a_front_of_its_pieces_is_left(rt: HostRuntime) -> Result<(), Fail> {
 
 // What is said of the kind that the small store has in a_damaged_file_has_no_value.
 const EXPLAINED: &str =
-    "14 BlockTrailer: the last 16 bytes of a block do not fit the block: it is damaged or overwritten
+    "14 BlockTrailer: the last 16 bytes of a block do not fit the block and its entry: one of these is damaged or overwritten
   at: the block, where its entry says
   bid: that of its entry
   nid: 0x0, nothing
-  to do: Which node has the block: that of which nodes prints the bid as data_bid or sub_bid, or one of longer data. Take the file from a backup
+  to do: Take the file from a backup; damage lists the nodes that this breaks, and messages --whole and export --whole give what is whole
   [MS-PST]: 2.2.2.8.1
 ";
 

@@ -45,10 +45,11 @@ Options:
       --decode  Decodes an encoded file first, in memory
   -h, --help    Print help
 
-Checks the whole file, goes on behind each fault, and prints all faults: of the header,
-the pages of both B-trees, the blocks, the allocation maps and the nodes, and how many
-nodes, folders and messages are whole. It repairs nothing. With --digest it also prints
-the SHA-256 of the file as it is stored, before anything is decoded.
+Checks the whole file, goes on behind each fault, and prints the first fault of each
+part: of the header, the pages of both B-trees, the blocks, the allocation maps and the
+nodes, and how many nodes, folders and messages are whole. It repairs nothing. With
+--digest it also prints the SHA-256 of the file as it is stored, before anything is
+decoded.
 
 Exit status:
   0  Nothing is broken: the file is a store

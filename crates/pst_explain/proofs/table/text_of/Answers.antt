@@ -31,6 +31,9 @@ returns-in-PageTrailer c = rw c.in-PageTrailer.is refl
 pub returns-in-PageShape : goal.returns-in-PageShape
 returns-in-PageShape c = rw c.in-PageShape.is refl
 
+pub returns-in-KeyOrder : goal.returns-in-KeyOrder
+returns-in-KeyOrder c = rw c.in-KeyOrder.is refl
+
 pub returns-in-Overlap : goal.returns-in-Overlap
 returns-in-Overlap c = rw c.in-Overlap.is refl
 

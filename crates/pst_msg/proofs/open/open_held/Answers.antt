@@ -18,7 +18,7 @@ returns-in-Err-once-clause-grows c =
     grows_then t _ _ _ _ (grows_then t _ _ _ _ c.check_recipients.ensures.grows (attachments_grow t (table_of_node c.in-Some.table) (roots_of c.args.node) c.in-Some.table c.check_recipients.new.known c.once.new.known c.in-Some.ensures.table c.in-Some.ensures.roots c.once.ensures.grows))
     (grows_any t _ c.once.new.known c.refuse_held-in-Err-once.new.known c.refuse_held-in-Err-once.ensures.grows)
 
--- what is known, once the rows are counted
+-- what is known, once it is found how many rows there are
 counted : (t u : Table) (H : List NodeEntry → Type 0) (a b c : Known) → u ≡ t → Grows t H a b → Grows u (λ nodes. Unit {0}) b c → Grows t H a c
 counted t u H a b c same g h = grows_then t H a b c g (grows_any t H b c (rw same at h))
 
@@ -40,6 +40,7 @@ returns-in_ok-rest-in-Some-clause-open c =
     opened t c.rows_of.new.known f table refl c.requires.sound c.in_default.ensures.exact.0 (sym c.in-Some.ensures.roots)
     (rw (← c.in-Some.ensures.table) c.in_default-once.ensures.exact.0)
     c.bid_data.ensures
+    (c.in_ok-rest-in-Some.ensures.table ∙ c.in-Some.ensures.table)
     (c.in_ok-rest-in-Some.ensures.left ∙ ap (λ u. tc_rows u table) c.in-Some.ensures.table)
     (c.rows_of.ensures.grows.contexts _ (c.once.ensures.grows.contexts _ (c.check_recipients.ensures.grows.contexts _ c.requires.properties)))
     (λ s e. c.rows_of.ensures.grows.contexts _ (c.once.ensures.grows.contexts _ (c.in_default.ensures.there s e)))

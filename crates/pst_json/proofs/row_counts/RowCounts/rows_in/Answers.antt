@@ -18,10 +18,10 @@ pub returns-in_err-put_table-clause-known : goal.returns-in_err-put_table-clause
 returns-in_err-put_table-clause-known c =
     let n = node_of_tc c.args.table in
     let same : c.key_of-block.result ≡ bid_key (roots_of n).bid_data = search rules in
-    c.put_table.ensures (table_of_node n) (is_count c.tc_is_of_keys.ensures (table_of_node n) (roots_of n) c.row_count-count.result c.key_of-block.result c.row_count-count.ensures same) c.requires
+    c.put_table.ensures (table_of_node n) (is_count c.tc_is_of_keys.ensures (table_of_node n) (roots_of n) c.in_ok-count.count c.key_of-block.result c.in_ok-count.ensures same) c.requires
 
 pub returns-clause-known : goal.returns-clause-known
 returns-clause-known c =
     let n = node_of_tc c.args.table in
     let same : c.key_of-block.result ≡ bid_key (roots_of n).bid_data = search rules in
-    c.put_table.ensures (table_of_node n) (is_count c.tc_is_of_keys.ensures (table_of_node n) (roots_of n) c.row_count-count.result c.key_of-block.result c.row_count-count.ensures same) c.requires
+    c.put_table.ensures (table_of_node n) (is_count c.tc_is_of_keys.ensures (table_of_node n) (roots_of n) c.in_ok-count.count c.key_of-block.result c.in_ok-count.ensures same) c.requires

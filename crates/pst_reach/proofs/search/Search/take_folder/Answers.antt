@@ -36,15 +36,15 @@ returns-then-contains-clause-takes c =
 pub returns-clause-taken : goal.returns-clause-taken
 returns-clause-taken c =
     let node = node_of_tc c.in-Some-hierarchy.table in
-    table_taken_by c.args.depth c.args.parent (table_of_intact c.args.self.now.intact) (table_of_node node) (nodes_of_intact c.args.self.now.intact) (roots_of node) c.key_of-key.result c.args.self.now.tables c.insert.new.self c.args.self.now.found c.take_rows.new.found c.args.next.now c.take_rows.new.next
+    table_taken_by c.args.depth c.args.parent (table_of_intact c.args.self.now.intact) (table_of_node node) (nodes_of_intact c.args.self.now.intact) (roots_of node) c.key_of-key.result c.args.self.now.tables c.insert.new.self c.args.self.now.found c.take_table.new.self.found c.args.next.now c.take_table.new.next
     (c.in-Some-hierarchy.ensures.table ∙ c.in-Some.ensures.table) (c.key_of-key.ensures ∙ ap (λ n. table_key (roots_of n)) c.node.ensures)
-    c.in_ok-_new.ensures.updates.0 c.take_rows.ensures.keeps c.in_ok-take_rows.ensures.takes c.requires.taken
+    (rw c.take_table.ensures.tables at c.in_ok-_new.ensures.updates.0) c.take_table.ensures.keeps c.in_ok-take_table.ensures.takes c.requires.taken
 
 pub returns-clause-takes : goal.returns-clause-takes
 returns-clause-takes c =
     let intact = c.args.self.now.intact in
     let folder = c.in-Some.folder in
     let node = node_of_tc c.in-Some-hierarchy.table in
-    takes_same c.args.depth _ _ c.args.self.now.found c.take_rows.new.found c.args.next.now c.take_rows.new.next
+    takes_same c.args.depth _ _ c.args.self.now.found c.take_table.new.self.found c.args.next.now c.take_table.new.next
     (table_steps_in (table_of_intact intact) (table_of_node node) (nodes_of_intact intact) (entries_of_nodes (intact_beside folder)) c.args.parent (intact_roots folder) (roots_of node) (c.in-Some-hierarchy.ensures.table ∙ c.in-Some.ensures.table) c.in-Some.ensures.nodes c.in-Some.ensures.roots c.in-Some-hierarchy.ensures.roots)
-    c.in_ok-take_rows.ensures.takes
+    c.in_ok-take_table.ensures.takes
