@@ -41,7 +41,7 @@ words_of PageShape = words (codes "the counts in a page are impossible") (codes 
 words_of KeyOrder = words (codes "the entries of an index tree are out of order") (codes "the entry") (codes "that of the page") (codes "0x0, nothing")
     (codes "An index tree is broken: take the file from a backup; damage lists what is broken, and messages --whole and export --whole give what is whole") (codes "2.2.2.7.7")
 words_of Overlap = words (codes "two things lie on the same bytes") (codes "the page or block that comes second") (codes "its own") (codes "0x0, nothing")
-    (codes "One of the two is overwritten: take the file from a backup; damage lists what is broken, and messages --whole and export --whole give what is whole") (codes "2.2.2.7 and 2.2.2.8")
+    (codes "One of the two, or what names it, is overwritten: take the file from a backup; damage lists what is broken, and messages --whole and export --whole give what is whole") (codes "2.2.2.7 and 2.2.2.8")
 words_of BlockPlace = words (codes "a block is said to lie where none can, or is too long") (codes "the block, where its entry says") (codes "that of its entry") (codes "0x0, nothing")
     (codes "Take the file from a backup; damage lists the nodes that this breaks, and messages --whole and export --whole give what is whole") (codes "2.2.2.8")
 words_of BlockTrailer = words (codes "the last 16 bytes of a block do not fit the block and its entry: one of these is damaged or overwritten") (codes "the block, where its entry says") (codes "that of its entry") (codes "0x0, nothing")

@@ -94,7 +94,7 @@ macro_rules! table {
                 "the page or block that comes second",
                 "its own",
                 "0x0, nothing",
-                "One of the two is overwritten: take the file from a backup; damage lists what is broken, and messages --whole and export --whole give what is whole",
+                "One of the two, or what names it, is overwritten: take the file from a backup; damage lists what is broken, and messages --whole and export --whole give what is whole",
                 "2.2.2.7 and 2.2.2.8";
             [Kind::BlockPlace] "13" "BlockPlace"
                 "a block is said to lie where none can, or is too long",

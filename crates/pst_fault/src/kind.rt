@@ -30,7 +30,7 @@ pub enum Kind {
     PageShape,
     /// A key of a B-tree page is out of order or out of the bounds above it (2.2.2.7.7).
     KeyOrder,
-    /// A page or a block lies on another (2.2.2.7.2).
+    /// A page or a block lies on another (2.2.2.7, 2.2.2.8).
     Overlap,
     /// A block lies where none may lie (2.2.2.8).
     BlockPlace,
@@ -58,7 +58,7 @@ pub enum Kind {
     Property,
     /// A table context is not what it has to be (2.3.4).
     Table,
-    /// A node is named that is not there (2.4.4, 2.4.5, 2.4.6).
+    /// A node is named that is not there (2.4).
     NodeMissing,
     /// A node is named that is of another type than it has to be (2.2.2.1).
     NodeKind,

@@ -20,7 +20,8 @@ use Rattle.pst_json.specs.declared.row_counts.Held.{Held}
 use Rattle.pst_json.specs.declared.row_counts.RowCounts.{RowCounts}
 use Rattle.pst_json.specs.Folders.{row_total}
 use Rattle.pst_props.specs.Node.{recipient_nid}
-use Rattle.pst_json.specs.RowCounts.{IsCountOf, IsHeld, IsHeldBy, AreCountsTrue}
+use Rattle.pst_msg.specs.RowCounts.{IsCountOf}
+use Rattle.pst_json.specs.RowCounts.{IsHeld, IsHeldBy, AreCountsTrue}
 
 -- ---- the same data: as many rows
 

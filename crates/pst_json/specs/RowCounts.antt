@@ -7,7 +7,7 @@ use Rattle.std.proofs.Props.{props}
 use Rattle.pst_block.specs.Block.{bid_key}
 use Rattle.pst_block.specs.Table.{Table}
 use Rattle.pst_ndb.specs.Roots.{Roots, subnode_of}
-use Rattle.pst_value_json.specs.pst_tc.Values.{tc_rows}
+use Rattle.pst_msg.specs.RowCounts.{IsCountOf}
 use Rattle.pst_verify.specs.pst_msg.Shown.{attachment_rows}
 use Rattle.pst_json.specs.declared.row_counts.Held.{Held}
 use Rattle.pst_json.specs.declared.row_counts.RowCounts.{RowCounts}
@@ -24,10 +24,6 @@ IsHeldBy t list held = (r : Roots) → bid_key r.bid_sub ≡ list → IsHeld t r
 
 abbrev pub AreListsTrue : Table → RowCounts → Type 0
 AreListsTrue t c = (list : ℕ) (held : Held) → get nat_cmp c.lists list ≡ Some held → IsHeldBy t list held
-
--- each table with this data has so many rows
-abbrev pub IsCountOf : Table → ℕ → ℕ → Type 0
-IsCountOf t block count = (r : Roots) → bid_key r.bid_data ≡ block → count ≡ length (tc_rows t r)
 
 abbrev pub AreTablesTrue : Table → RowCounts → Type 0
 AreTablesTrue t c = (block count : ℕ) → get nat_cmp c.tables block ≡ Some count → IsCountOf t block count

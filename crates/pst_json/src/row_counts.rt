@@ -10,7 +10,8 @@ ghost use Rattle.pst_verify.specs.pst_msg.Shown.{attachment_rows};
 ghost use Rattle.pst_verify.specs.pst_msg.View.{node_of_message, message_roots};
 ghost use Rattle.pst_json.specs.Folders.{row_total};
 ghost use Rattle.pst_props.specs.Node.{recipient_nid};
-ghost use Rattle.pst_json.specs.RowCounts.{AreCountsTrue, IsCountOf, IsHeld, IsHeldBy};
+ghost use Rattle.pst_msg.specs.RowCounts.{IsCountOf};
+ghost use Rattle.pst_json.specs.RowCounts.{AreCountsTrue, IsHeld, IsHeldBy};
 
 use pst_datatree::is_internal;
 use pst_ndb::{Node, NodeIndexes};

@@ -12,7 +12,7 @@ pub fn is_folder(nid: u32) -> bool
     is_type(FOLDER, nid) || is_type(SEARCH_FOLDER, nid)
 }
 
-/// Whether a node is a message, or one that belongs to a folder itself, by its type ([MS-PST] 2.2.2.1).
+/// Whether a node is a message, or an associated one, by its type ([MS-PST] 2.2.2.1).
 pub fn is_message(nid: u32) -> bool
     ensures { result ≡ is_message nid }
 {

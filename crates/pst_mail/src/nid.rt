@@ -28,7 +28,7 @@ pub const MESSAGE: u32 = 0x04;
 /// The type of an attachment, a subnode of a message.
 pub const ATTACHMENT: u32 = 0x05;
 
-/// The type of a message that belongs to a folder itself.
+/// The type of an associated message, which belongs to its folder itself.
 pub const ASSOCIATED: u32 = 0x08;
 
 pub(crate) const HIERARCHY: u32 = 0x0d;

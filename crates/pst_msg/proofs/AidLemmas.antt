@@ -9,12 +9,14 @@ use Rattle.pst_remembered.specs.declared.asked.Asked.{Asked}
 use Rattle.pst_remembered.specs.declared.faults.Faults.{Faults}
 use Rattle.pst_msg.specs.declared.indexes.Indexes.{Indexes}
 use Rattle.pst_msg.specs.declared.known.Known.{Known}
+use Rattle.pst_remembered.specs.declared.row_counts.RowCounts.{RowCounts}
 use Rattle.pst_remembered.specs.declared.row_names.RowNames.{RowNames}
 use Rattle.pst_remembered.specs.Asked.{AreAskedTrue}
 use Rattle.pst_remembered.specs.Broken.{context_part}
 use Rattle.pst_remembered.specs.Faults.{AreFaultsOf}
 use Rattle.pst_msg.specs.Indexes.{AreIndexes}
 use Rattle.pst_msg.specs.Known.{IsTrueOf}
+use Rattle.pst_remembered.specs.RowCounts.{AreRowCounts}
 use Rattle.pst_remembered.specs.RowNames.{AreRowNames}
 use Rattle.pst_msg.proofs.KnownLemmas.{held_later, message_later, attachment_later}
 
@@ -30,6 +32,7 @@ aids_turned t k index maps asked broken is turned more kept faults = record {
   maps = more;
   asked = kept;
   row_names = is.row_names;
+  row_counts = is.row_counts;
   broken = faults;
   broken_lists = is.broken_lists;
   messages_in = λ s there. message_later t k _ s (λ q h. h) (λ q h. h) (is.messages_in s there);
@@ -49,6 +52,7 @@ indexes_turned t k indexes is turned = record {
   maps = is.maps;
   asked = is.asked;
   row_names = is.row_names;
+  row_counts = is.row_counts;
   broken = is.broken;
   broken_lists = is.broken_lists;
   messages_in = λ s there. message_later t k _ s (λ q h. h) (λ q h. h) (is.messages_in s there);
@@ -68,6 +72,27 @@ names_turned t k row_names is turned = record {
   maps = is.maps;
   asked = is.asked;
   row_names = turned;
+  row_counts = is.row_counts;
+  broken = is.broken;
+  broken_lists = is.broken_lists;
+  messages_in = λ s there. message_later t k _ s (λ q h. h) (λ q h. h) (is.messages_in s there);
+  attachments_in = λ s there. attachment_later t k _ s (λ q h. h) (λ q h. h) (is.attachments_in s there);
+  lists_in = λ s there. held_later t k _ s (λ q h. h) (λ q h. h) (is.lists_in s there);
+}
+
+-- how many rows there are
+pub counts_turned : (t : Table) (k : Known) (row_counts : RowCounts) → IsTrueOf t k → AreRowCounts t row_counts → IsTrueOf t (record k { row_counts = row_counts })
+counts_turned t k row_counts is turned = record {
+  contexts = is.contexts;
+  messages = is.messages;
+  attachments = is.attachments;
+  lists = is.lists;
+  index = is.index;
+  indexes = is.indexes;
+  maps = is.maps;
+  asked = is.asked;
+  row_names = is.row_names;
+  row_counts = turned;
   broken = is.broken;
   broken_lists = is.broken_lists;
   messages_in = λ s there. message_later t k _ s (λ q h. h) (λ q h. h) (is.messages_in s there);

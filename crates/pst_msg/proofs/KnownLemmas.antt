@@ -24,6 +24,7 @@ use Rattle.pst_remembered.specs.Faults.{AreFaultsOf}
 use Rattle.pst_remembered.specs.Keys.{Key, key, list_key, holds, has}
 use Rattle.pst_remembered.specs.Roles.{role_number, role_fault}
 use Rattle.pst_remembered.proofs.RoleLemmas.{same_role}
+use Rattle.pst_remembered.specs.RowCounts.{AreRowCounts}
 use Rattle.pst_remembered.specs.RowNames.{AreRowNames}
 use Rattle.pst_mail.specs.Fault.{held_fault, below_message, message_at, attachment_at, message_fault, attachment_fault}
 use Rattle.pst_msg.specs.Known.{ListIn, MessagesAreTrue, AttachmentsAreTrue, ListsAreTrue, HeldIn, MessageIn, AttachmentIn, IsTrueOf}
@@ -104,8 +105,8 @@ known_list t keys limit node same holds is sound =
 from_none : (keys : Keys) (P : Type 0) (q : Key) → ((k : Key) → holds keys k ≡ false) → holds keys q ≡ true → P
 from_none keys P q none there = absurd (false≢true (sym (none q) ∙ there))
 
-pub nothing_known : (t : Table) (k : Known) → ((q : Key) → holds k.contexts q ≡ false) → ((q : Key) → holds k.messages q ≡ false) → ((q : Key) → holds k.attachments q ≡ false) → ((q : Key) → holds k.lists q ≡ false) → AreNodeIndexes t k.index → AreIndexes t k.indexes → AreMapsTrue t k.maps → AreAskedTrue t k.asked → AreRowNames t k.row_names → AreFaultsOf at_node (context_part t) k.broken → AreFaultsOf retold (held_part t) k.broken_lists → IsTrueOf t k
-nothing_known t k contexts messages attachments lists index indexes maps asked row_names broken broken_lists = record {
+pub nothing_known : (t : Table) (k : Known) → ((q : Key) → holds k.contexts q ≡ false) → ((q : Key) → holds k.messages q ≡ false) → ((q : Key) → holds k.attachments q ≡ false) → ((q : Key) → holds k.lists q ≡ false) → AreNodeIndexes t k.index → AreIndexes t k.indexes → AreMapsTrue t k.maps → AreAskedTrue t k.asked → AreRowNames t k.row_names → AreRowCounts t k.row_counts → AreFaultsOf at_node (context_part t) k.broken → AreFaultsOf retold (held_part t) k.broken_lists → IsTrueOf t k
+nothing_known t k contexts messages attachments lists index indexes maps asked row_names row_counts broken broken_lists = record {
   contexts = λ role s there. from_none k.contexts _ _ contexts there;
   messages = λ s there. from_none k.messages _ _ messages there;
   attachments = λ s there. from_none k.attachments _ _ attachments there;
@@ -115,6 +116,7 @@ nothing_known t k contexts messages attachments lists index indexes maps asked r
   maps = maps;
   asked = asked;
   row_names = row_names;
+  row_counts = row_counts;
   broken = broken;
   broken_lists = broken_lists;
   messages_in = λ s there. from_none k.messages _ _ messages there;
@@ -141,6 +143,7 @@ context_remembered t role r k new count is none more kept = record {
   maps = is.maps;
   asked = is.asked;
   row_names = is.row_names;
+  row_counts = is.row_counts;
   broken = is.broken;
   broken_lists = is.broken_lists;
   messages_in = λ s there. message_later t k _ s kept (λ q h. h) (is.messages_in s there);
@@ -163,6 +166,7 @@ message_remembered t known new limit node same is sound none inside more kept =
       maps = is.maps;
       asked = is.asked;
       row_names = is.row_names;
+      row_counts = is.row_counts;
       broken = is.broken;
       broken_lists = is.broken_lists;
       messages_in = λ s in_new. message_later t known _ s (λ q h. h) (λ q h. h) (elim (more (key 0 s) in_new) [ inl was ↦ is.messages_in s was | inr e ↦ message_in_alike t known r s (alike_of_key 0 0 r s e).1 inside ]);
@@ -185,6 +189,7 @@ attachment_remembered t known new limit node same is sound none inside more kept
       maps = is.maps;
       asked = is.asked;
       row_names = is.row_names;
+      row_counts = is.row_counts;
       broken = is.broken;
       broken_lists = is.broken_lists;
       messages_in = λ s there. message_later t known _ s (λ q h. h) kept (is.messages_in s there);
@@ -207,6 +212,7 @@ list_remembered t known new limit node same is sound none inside more kept =
       maps = is.maps;
       asked = is.asked;
       row_names = is.row_names;
+      row_counts = is.row_counts;
       broken = is.broken;
       broken_lists = is.broken_lists;
       messages_in = λ s there. message_later t known _ s (λ q h. h) (λ q h. h) (is.messages_in s there);
@@ -227,6 +233,7 @@ fault_remembered t k broken_lists is faults = record {
   maps = is.maps;
   asked = is.asked;
   row_names = is.row_names;
+  row_counts = is.row_counts;
   broken = is.broken;
   broken_lists = faults;
   messages_in = λ s there. message_later t k _ s (λ q h. h) (λ q h. h) (is.messages_in s there);

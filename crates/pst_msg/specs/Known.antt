@@ -25,6 +25,7 @@ use Rattle.pst_remembered.specs.Faults.{AreFaultsOf}
 use Rattle.pst_remembered.specs.Keys.{holds, has, data_key, list_key}
 use Rattle.pst_msg.specs.Indexes.{AreIndexes}
 use Rattle.pst_remembered.specs.Roles.{role_number, role_fault}
+use Rattle.pst_remembered.specs.RowCounts.{AreRowCounts}
 use Rattle.pst_remembered.specs.RowNames.{AreRowNames}
 use Rattle.pst_mail.specs.Values.{embedded_of}
 use Rattle.pst_mail.specs.Fault.{held_fault, below_message, message_fault, attachment_fault, listed_item_fault}
@@ -92,6 +93,7 @@ pub record IsTrueOf (t : Table) (k : Known) : Type 0 where
   pub maps : AreMapsTrue t k.maps
   pub asked : AreAskedTrue t k.asked
   pub row_names : AreRowNames t k.row_names
+  pub row_counts : AreRowCounts t k.row_counts
   -- each fault that is remembered is that of its context, or of what a message holds in its list
   pub broken : AreFaultsOf at_node (context_part t) k.broken
   pub broken_lists : AreFaultsOf retold (held_part t) k.broken_lists

@@ -12,6 +12,7 @@ pub use Rattle.pst_remembered.specs.Keys
 pub use Rattle.pst_remembered.specs.Roles
 pub use Rattle.pst_remembered.specs.Faults
 pub use Rattle.pst_remembered.specs.Broken
+pub use Rattle.pst_remembered.specs.RowCounts
 pub use Rattle.pst_remembered.specs.RowNames
 pub mod Laws
 pub mod Indexes

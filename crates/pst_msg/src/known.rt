@@ -3,7 +3,7 @@
 use crate::indexes::Indexes;
 use pst_ndb::NodeIndexes;
 use pst_pc::Maps;
-use pst_remembered::{Asked, Faults, Keys, RowNames};
+use pst_remembered::{Asked, Faults, Keys, RowCounts, RowNames};
 use std::alloc::Global;
 
 // Lists are asked for so many values of contexts, as 512 bytes may have, before one gets an index.
@@ -30,6 +30,8 @@ pub(crate) struct Known {
     pub(crate) asked: Asked,
     /// What the rows of attachment tables name, of tables that messages may share.
     pub(crate) row_names: RowNames,
+    /// How many rows those have for whose names there is no room.
+    pub(crate) row_counts: RowCounts,
     /// The faults of contexts, each by the number of its role.
     pub(crate) broken: Faults,
     /// The faults of what messages hold in their lists of subnodes, by the list: those of contexts, and those that name what is
@@ -64,6 +66,7 @@ impl Known {
             maps: Maps::new(alloc),
             asked: Asked::new(alloc),
             row_names: RowNames::new(alloc),
+            row_counts: RowCounts::new(alloc),
             broken: Faults::new(alloc),
             broken_lists: Faults::new(alloc),
             count,

@@ -21,7 +21,7 @@ use crate::frame::Frame;
 use crate::known::Known;
 use crate::recipients::check_recipients;
 use crate::remember::{refuse_held, remember_attachment, remember_held, remember_message};
-use crate::rest::{NumberedRows, Rest};
+use crate::rest::{CountedRows, NumberedRows, Rest};
 use pst_fault::{Fault, Kind};
 use pst_mail::{ATTACHMENT, ATTACHMENTS, Object, embedded, is_type, named};
 use pst_ndb::Node;
@@ -40,10 +40,11 @@ fn rows_of<'a>(table: Node<'a>, known: &mut Known) -> Result<Rest<'a>, Fault>
     ensures table { IfOk result (λ rest. table_of_rest rest ≡ table_of_node table.entry) }
     ensures memory { IfErr result (λ f. f ≡ no_memory) }
 {
-    match known.row_names.count(known.index.lend(table))? {
-        Some(count) => Ok(Rest::Numbered(NumberedRows::of(table, count))),
-        None => Ok(Rest::Rows(known_tc(table).rows())),
+    if let Some(count) = known.row_names.count(known.index.lend(table))? {
+        return Ok(Rest::Numbered(NumberedRows::of(table, count)));
     }
+    let most = known.row_counts.of(table)?;
+    Ok(Rest::Rows(CountedRows::of(known_tc(table).rows(), most)))
 }
 
 // What a message holds in its list of subnodes, up to the rows of its attachment table; where it has none, the message is

@@ -49,9 +49,14 @@ impl NodeIndexes {
         }
     }
 
-    // Turns to the data of a node, and not to its list. Or memory is refused.
+    /// Whether there is an index of the list of a node.
+    pub fn has_list(&self, node: Node) -> bool {
+        self.lists.has(node)
+    }
+
+    /// Turns to the data of a node, and not to its list. Or memory is refused.
     #[tactic(auto, unfolding(crate::specs::NodeIndexes::AreNodeIndexes))]
-    fn turn_to_data(&mut self, alloc: Global, node: Node) -> Result<(), AllocError>
+    pub fn turn_to_data(&mut self, alloc: Global, node: Node) -> Result<(), AllocError>
         requires { AreNodeIndexes (table_of_node node) self.old }
         ensures { AreNodeIndexes (table_of_node node.entry) self.new }
     {

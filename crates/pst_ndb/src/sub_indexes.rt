@@ -78,6 +78,11 @@ impl SubIndexes {
         self.indexes.get(&list_of(node))
     }
 
+    /// Whether there is an index of a node's list.
+    pub fn has(&self, node: Node) -> bool {
+        !self.indexes.is_empty() && self.indexes.contains_key(&list_of(node))
+    }
+
     // A list without an index is asked for so many subnodes. Whether lists have been asked for so many, since the last index was made,
     // that one pays.
     #[tactic(auto, unfolding(crate::specs::SubIndexes::AreSubIndexes))]

@@ -33,7 +33,7 @@ fn embedded_nid(attachment: Attachment, index: &NodeIndexes) -> Option<u32>
     }
 }
 
-/// What the object of an attachment is made of.
+/// What the object of an attachment is made of. It is lent what the first indexes lend, and what the second do besides.
 #[tactic(auto, unfolding(crate::specs::Node::attachment_data))]
 pub(crate) fn attachment_parts<'a>(
     alloc: Global,
@@ -41,18 +41,20 @@ pub(crate) fn attachment_parts<'a>(
     names: Option<NameMap<'a>>,
     filed: Filed,
     places: bool,
-    index: &'a NodeIndexes,
+    lists: &'a NodeIndexes,
+    spans: &'a NodeIndexes,
 ) -> Result<Vec<Part<PropRows<'a>>>, AllocError>
-    requires { AreNodeIndexes (table_of_node (node_of_attachment attachment)) index.now }
+    requires lists { AreNodeIndexes (table_of_node (node_of_attachment attachment)) lists.now }
+    requires spans { AreNodeIndexes (table_of_node (node_of_attachment attachment)) spans.now }
     ensures shown { let t = table_of_node (node_of_attachment attachment.entry) in
         let shown = attachment_shown attachment.entry in let told = names_told names.entry in
         IfOk result (λ parts.
         parts_data prop_rows_left parts.items ≡ attachment_data told filed places t shown) }
     ensures keys { IfOk result (λ parts. KeysRise prop_rows_left parts.items) }
 {
-    let lent = lend_pc(index, attachment.pc());
+    let lent = lend_pc(spans, lend_pc(lists, attachment.pc()));
     let parts = vec![in alloc;
-        Part::Value("embedded", Made::Nid(embedded_nid(attachment, index))),
+        Part::Value("embedded", Made::Nid(embedded_nid(attachment, lists))),
         Part::Value("nid", Made::Nid(Some(attachment.nid()))),
         Part::Rows("props", prop_rows(&lent, names, filed, places)),
     ]?;
@@ -87,8 +89,50 @@ pub(crate) fn shown_attachment<S: Sink>(
 {
     let node = attachment.node();
     index.turn(alloc, node, most_values(node))?;
-    let parts = attachment_parts(alloc, attachment, names, filed, places, index)?;
+    let parts = attachment_parts(alloc, attachment, names, filed, places, index, index)?;
     S::object(alloc, parts)
+}
+
+// Turns to an attachment in the list of a message, but not to its list, where those that are kept have an index of it already.
+fn turn_to_listed(
+    alloc: Global,
+    attachment: Attachment,
+    kept: &NodeIndexes,
+    index: &mut NodeIndexes,
+) -> Result<(), AllocError>
+    requires { AreNodeIndexes (table_of_node (node_of_attachment attachment)) index.old }
+    ensures { AreNodeIndexes (table_of_node (node_of_attachment attachment.entry)) index.new }
+{
+    let node = attachment.node();
+    if kept.has_list(node) {
+        return index.turn_to_data(alloc, node);
+    }
+    index.turn(alloc, node, most_values(node))
+}
+
+// What the object of an attachment in the list of a message is made of. The index has turned to it.
+fn listed_parts<'a>(
+    alloc: Global,
+    attachment: Attachment<'a>,
+    names: Option<NameMap<'a>>,
+    files: bool,
+    places: bool,
+    kept: &'a NodeIndexes,
+    index: &'a NodeIndexes,
+) -> Result<Vec<Part<PropRows<'a>>>, AllocError>
+    requires kept { AreNodeIndexes (table_of_node (node_of_attachment attachment)) kept.now }
+    requires index { AreNodeIndexes (table_of_node (node_of_attachment attachment)) index.now }
+    ensures shown { let t = table_of_node (node_of_attachment attachment.entry) in
+        let shown = attachment_shown attachment.entry in let told = names_told names.entry in
+        IfOk result (λ parts.
+        parts_data prop_rows_left parts.items ≡ listed_data told files places t shown) }
+    ensures keys { IfOk result (λ parts. KeysRise prop_rows_left parts.items) }
+{
+    let filed = filed_in_list(files, attachment.nid());
+    if kept.has_list(attachment.node()) {
+        return attachment_parts(alloc, attachment, names, filed, places, kept, index);
+    }
+    attachment_parts(alloc, attachment, names, filed, places, index, index)
 }
 
 // An attachment in the list of a message as an object.
@@ -98,16 +142,19 @@ fn listed_doc(
     names: Option<NameMap>,
     files: bool,
     places: bool,
+    kept: &NodeIndexes,
     index: &mut NodeIndexes,
 ) -> Result<Doc, AllocError>
-    requires { AreNodeIndexes (table_of_node (node_of_attachment attachment)) index.old }
+    requires kept { AreNodeIndexes (table_of_node (node_of_attachment attachment)) kept.now }
+    requires index { AreNodeIndexes (table_of_node (node_of_attachment attachment)) index.old }
     ensures known { AreNodeIndexes (table_of_node (node_of_attachment attachment.entry)) index.new }
     ensures shown { let t = table_of_node (node_of_attachment attachment.entry) in
         let shown = attachment_shown attachment.entry in let told = names_told names.entry in
         IfOk result (λ d. view d ≡ listed_data told files places t shown) }
 {
-    let filed = filed_in_list(files, attachment.nid());
-    shown_attachment::<Tree>(alloc, attachment, names, filed, places, index)
+    turn_to_listed(alloc, attachment, kept, index)?;
+    let parts = listed_parts(alloc, attachment, names, files, places, kept, index)?;
+    Tree::object(alloc, parts)
 }
 
 // Puts an attachment in the list of a message behind a text, as `listed_doc` shows it.
@@ -117,11 +164,13 @@ fn put_listed(
     names: Option<NameMap>,
     files: bool,
     places: bool,
+    kept: &NodeIndexes,
     index: &mut NodeIndexes,
     later: bool,
     text: &mut Vec<u8>,
 ) -> Result<(), AllocError>
-    requires { AreNodeIndexes (table_of_node (node_of_attachment attachment)) index.old }
+    requires kept { AreNodeIndexes (table_of_node (node_of_attachment attachment)) kept.now }
+    requires index { AreNodeIndexes (table_of_node (node_of_attachment attachment)) index.old }
     ensures known { AreNodeIndexes (table_of_node (node_of_attachment attachment.entry)) index.new }
     ensures put { let t = table_of_node (node_of_attachment attachment.entry) in
         let shown = attachment_shown attachment.entry in let told = names_told names.entry in
@@ -129,22 +178,23 @@ fn put_listed(
         ≡ text.old.items ++ row_text (listed_data told files places t shown) later) }
     ensures kept { OnErr result (BeginsWith text.new.items text.old.items) }
 {
-    let node = attachment.node();
-    index.turn(alloc, node, most_values(node))?;
-    let filed = filed_in_list(files, attachment.nid());
-    let parts = attachment_parts(alloc, attachment, names, filed, places, index)?;
+    turn_to_listed(alloc, attachment, kept, index)?;
+    let parts = listed_parts(alloc, attachment, names, files, places, kept, index)?;
     put_object(alloc, parts, later, text)
 }
 
 /// The attachments that are left, the names that their properties are shown with, whether files are told in place of their contents,
-/// whether with their places, and the index of the list that they ask.
+/// whether with their places, the indexes that earlier documents keep of attachments, and those of lists that have none there.
 #[derive(Drop)]
 pub(crate) struct AttachmentRows<'a> {
     pub(crate) attachments: Attachments<'a>,
     pub(crate) names: Option<NameMap<'a>>,
     pub(crate) files: bool,
     pub(crate) places: bool,
+    pub(crate) kept: &'a NodeIndexes,
     pub(crate) index: NodeIndexes,
+    ghost known: { AreNodeIndexes (table_of_node (holder_left attachments)) kept.now } by { AreNodeIndexes-prop
+        (table_of_node (holder_left attachments)) kept.now },
     ghost indexed: { AreNodeIndexes (table_of_node (holder_left attachments)) index } by { AreNodeIndexes-prop
         (table_of_node (holder_left attachments)) index },
 }
@@ -164,6 +214,7 @@ impl Rows for AttachmentRows<'_> {
                     self.names,
                     self.files,
                     self.places,
+                    self.kept,
                     &mut self.index,
                 )?;
                 Ok(Some(doc))
@@ -188,6 +239,7 @@ impl Rows for AttachmentRows<'_> {
             self.names,
             self.files,
             self.places,
+            self.kept,
             &mut self.index,
             later,
             text,

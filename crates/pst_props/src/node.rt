@@ -51,9 +51,11 @@ fn shown_lists<'a, S: Sink>(
     names: Option<NameMap<'a>>,
     files: bool,
     places: bool,
+    kept: &'a NodeIndexes,
     recipients: MessageRows<'a>,
 ) -> Result<S::Out, AllocError>
-    requires { let node = node_of_message message in
+    requires known { AreNodeIndexes (table_of_node (node_of_message message)) kept.now }
+    requires recipients { let node = node_of_message message in
         let t = table_of_node node in let r = roots_of node in
         array (items_of (list_left recipients))
         ≡ recipients_there places t (subnode_of t r recipient_nid) }
@@ -66,6 +68,7 @@ fn shown_lists<'a, S: Sink>(
         names,
         files,
         places,
+        kept,
         index: new_indexes(alloc),
     });
     let filed = filed_of(files);
@@ -79,7 +82,8 @@ fn shown_lists<'a, S: Sink>(
     S::object(alloc, parts)
 }
 
-// The document of a message, under the identifier of its node. The index turns to its recipients.
+// The document of a message, under the identifier of its node. The index turns to its recipients; those that are kept of attachments
+// are lent to its own.
 #[tactic(auto, using(pst_ndb::proofs::NodeIndexesLemmas::last_of))]
 fn shown_message<S: Sink>(
     alloc: Global,
@@ -88,9 +92,11 @@ fn shown_message<S: Sink>(
     names: Option<NameMap>,
     files: bool,
     places: bool,
+    kept: &NodeIndexes,
     index: &mut NodeIndexes,
 ) -> Result<S::Out, AllocError>
-    requires { AreNodeIndexes (table_of_node (node_of_message message)) index.old }
+    requires kept { AreNodeIndexes (table_of_node (node_of_message message)) kept.now }
+    requires index { AreNodeIndexes (table_of_node (node_of_message message)) index.old }
     ensures known { AreNodeIndexes (table_of_node (node_of_message message.entry)) index.new }
     ensures shown { let node = node_of_message message.entry in let told = names_told names.entry in
         IfOk result (λ out.
@@ -107,6 +113,7 @@ fn shown_message<S: Sink>(
                 names,
                 files,
                 places,
+                kept,
                 MessageRows::Recipients(rows),
             )
         }
@@ -117,6 +124,7 @@ fn shown_message<S: Sink>(
             names,
             files,
             places,
+            kept,
             MessageRows::Nobody,
         ),
     }
@@ -146,6 +154,7 @@ pub(crate) fn indexed_message<S: Sink>(
         names,
         files,
         places,
+        &indexes.attachments,
         &mut indexes.recipients,
     )
 }

@@ -4,6 +4,7 @@ pub mod KeyOrderLemmas
 pub mod AloneLemmas
 pub mod KeyLemmas
 pub mod IndexLemmas
+pub mod RowCountLemmas
 pub mod RowNameLemmas
 pub mod RoleLemmas
 pub mod FaultsLemmas

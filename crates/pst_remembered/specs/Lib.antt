@@ -5,4 +5,5 @@ pub mod ListIndex
 pub mod Asked
 pub mod Faults
 pub mod Broken
+pub mod RowCounts
 pub mod RowNames

@@ -3,7 +3,7 @@
 //!
 //! Begin with specs/Keys.antt: a node is known by the identifiers of the blocks of its data and of its subnodes. `Keys` is a set of
 //! such nodes, `Faults` the faults of those that are broken, `Asked` what sound contexts asked of their lists, `RowNames` what
-//! the rows of tables name. Of each a clause says that what is remembered is true:
+//! the rows of tables name, `RowCounts` how many they are. Of each a clause says that what is remembered is true:
 //!
 //! ```text
 //! let mut keys = Keys::new(alloc);
@@ -24,6 +24,7 @@ mod keys;
 mod list_index;
 mod rising;
 mod role;
+mod row_counts;
 mod row_names;
 
 pub use asked::Asked;
@@ -34,4 +35,5 @@ pub use faults::{Faults, Part};
 pub use keys::{Key, Keys, cleared, key_of, key_of_data, key_of_list};
 pub use list_index::ListIndex;
 pub use role::{Role, check_context, role_number};
+pub use row_counts::RowCounts;
 pub use row_names::{RowName, RowNames};

@@ -1,8 +1,8 @@
 //! What is put behind a text of JSON: numbers, identifiers, times, bytes in hexadecimal, and texts between quotes.
 //!
 //! Begin with `put_text`, which puts the text of a value there, 16-bit units as properties have it ([MS-PST] 2.11.1.1, PtypString),
-//! eight units at a time where they stand for themselves. Each call puts its own behind what stands there, and where memory is refused the text
-//! begins with what it had:
+//! eight units at a time where they stand for themselves. Each call puts its own behind what stands there, and where memory is
+//! refused the text begins with what it had:
 //!
 //! ```text
 //! let mut text = Vec::new(alloc);

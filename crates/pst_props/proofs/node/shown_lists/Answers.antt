@@ -14,4 +14,4 @@ returns g c =
     let files = c.args.files in
     let attachments = ap (λ n. map (listed_data told files places (table_of_node n)) (attachments_left c.attachments.result)) c.attachments.ensures.holder in
     let props = c.prop_rows.ensures ∙ ap (λ n. map (record_data told c.filed_of-filed.result places (table_of_node n) (roots_of n)) (pc_records (table_of_node n) (roots_of n))) c.pc.ensures in
-    rw (c.in_ok-parts.ensures.items, attachments, c.attachments.ensures.left, props, c.filed_of-filed.ensures, c.requires) at c.object.ensures
+    rw (c.in_ok-parts.ensures.items, attachments, c.attachments.ensures.left, props, c.filed_of-filed.ensures, c.requires.recipients) at c.object.ensures

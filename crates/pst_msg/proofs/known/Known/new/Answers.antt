@@ -5,4 +5,4 @@ use Rattle.pst_msg.proofs.KnownLemmas.{nothing_known}
 use Rattle.pst_msg.proofs.known.Known.new.Goals as goal
 
 pub returns-clause-known : goal.returns-clause-known
-returns-clause-known c = λ t. nothing_known t _ (search rules) (search rules) (search rules) (search rules) (search rules) (c.new-6.ensures t) (search rules) (search rules) (search rules) (c.new-10.ensures at_node (context_part t)) (c.new-11.ensures retold (held_part t))
+returns-clause-known c = λ t. nothing_known t _ (search rules) (search rules) (search rules) (search rules) (search rules) (c.new-6.ensures t) (search rules) (search rules) (search rules) (search rules) (c.new-11.ensures at_node (context_part t)) (c.new-12.ensures retold (held_part t))
