@@ -1,82 +1,56 @@
 //! All that is broken of a file as a document.
 
-ghost use Rattle.std.specs.Prelude.{◌≡◌, ◌++◌, IfOk, OnOk, codes, option_map};
-ghost use Rattle.serde_json.specs.Written.{compact_text};
+ghost use Rattle.std.specs.Prelude.{◌≡◌, IfOk, OnOk};
 ghost use Rattle.pst_damage.specs.View.{damage_parts};
-ghost use Rattle.pst_value_json.specs.Object.{if_member_text};
-ghost use Rattle.pst_value_json.specs.pst_text.Text.{hex_data};
 ghost use Rattle.pst_damage_json.specs.Damage.{whole_data, damage_data, damage_line as line_of_damage};
 
-use crate::faults::put_fault_or_null;
-use crate::lists::{put_faults, put_nodes};
+use crate::faults::write_fault_or_null;
+use crate::lists::{write_faults, write_nodes};
 use pst_damage::{Damage, Whole};
-use pst_value_json::{put_key, put_natural};
-use serde_json::Value as Doc;
+use pst_value_json::{Leaf, Pen, end_line, write_digest_member};
 use std::alloc::{AllocError, Global};
 
-// Puts how much is whole behind a text, as an object.
+// Writes how much is whole, as an object.
 #[tactic(auto, unfolding(crate::specs::Damage::whole_data))]
-fn put_whole(whole: &Whole, text: &mut Vec<u8>) -> Result<(), AllocError>
-    ensures { OnOk result (text.new.items ≡ text.old.items ++ compact_text (whole_data whole.now)) }
+fn write_whole<P: Pen>(alloc: Global, whole: &Whole, pen: &mut P) -> Result<(), AllocError>
+    ensures put { OnOk result (P.Puts pen.old pen.new (whole_data whole.now)) }
+    ensures kept { (base : P) → P.Keeps base pen.old → P.Keeps base pen.new }
 {
-    text.extend_from_slice(b"{\"folders\":")?;
-    put_natural(whole.folders as u64, text)?;
-    text.extend_from_slice(b",\"messages\":")?;
-    put_natural(whole.messages as u64, text)?;
-    text.extend_from_slice(b",\"nodes\":")?;
-    put_natural(whole.nodes as u64, text)?;
-    text.push(b'}')?;
-    Ok(())
+    pen.first(alloc, "folders", b"{\"folders\":")?;
+    pen.leaf(alloc, &Leaf::Natural(whole.folders as u64))?;
+    pen.next(alloc, "messages", b",\"messages\":")?;
+    pen.leaf(alloc, &Leaf::Natural(whole.messages as u64))?;
+    pen.next(alloc, "nodes", b",\"nodes\":")?;
+    pen.leaf(alloc, &Leaf::Natural(whole.nodes as u64))?;
+    pen.close(alloc)
 }
 
-// Puts bytes behind a text, in hexadecimal and in quotes.
-fn put_digits(alloc: Global, bytes: [u8; 32], text: &mut Vec<u8>) -> Result<(), AllocError>
-    ensures { OnOk result (text.new.items ≡ text.old.items ++ compact_text (hex_data bytes)) }
-{
-    let digits = Doc::from(hex::encode(alloc, bytes)?);
-    let quoted = digits.to_vec(alloc)?;
-    text.extend_from_slice(&quoted)?;
-    Ok(())
-}
-
-// Puts the SHA-256 of the file behind a text, as a member behind others, where it is told.
-fn put_digest(alloc: Global, digest: Option<[u8; 32]>, text: &mut Vec<u8>) -> Result<(), AllocError>
-    ensures { OnOk result (text.new.items
-        ≡ text.old.items ++ if_member_text (codes "sha256") (option_map hex_data digest)) }
-{
-    let Some(digest) = digest else {
-        return Ok(());
-    };
-    put_key("sha256", true, text)?;
-    put_digits(alloc, digest, text)
-}
-
-// Puts the document behind a text.
+// Writes the document.
 #[tactic(auto, unfolding(crate::specs::Damage::damage_data))]
-fn put_damage(
+fn write_damage<P: Pen>(
     alloc: Global,
     damage: &Damage,
     digest: Option<[u8; 32]>,
-    text: &mut Vec<u8>,
+    pen: &mut P,
 ) -> Result<(), AllocError>
-    ensures { OnOk result (text.new.items
-        ≡ text.old.items ++ compact_text (damage_data (damage_parts damage.now) digest)) }
+    ensures put { OnOk result (P.Puts pen.old pen.new
+        (damage_data (damage_parts damage.now) digest)) }
+    ensures kept { (base : P) → P.Keeps base pen.old → P.Keeps base pen.new }
 {
-    text.extend_from_slice(b"{\"blocks\":")?;
-    put_faults(alloc, &damage.blocks, text)?;
-    text.extend_from_slice(b",\"header\":")?;
-    put_fault_or_null(alloc, &damage.header, text)?;
-    text.extend_from_slice(b",\"maps\":")?;
-    put_fault_or_null(alloc, &damage.maps, text)?;
-    text.extend_from_slice(b",\"nodes\":")?;
-    put_nodes(alloc, &damage.nodes, text)?;
-    text.extend_from_slice(b",\"pages\":")?;
-    put_faults(alloc, &damage.pages, text)?;
-    put_digest(alloc, digest, text)?;
-    text.extend_from_slice(b",\"whole\":")?;
-    put_whole(&damage.whole, text)?;
-    text.push(b'}')?;
-    Ok(())
+    pen.first(alloc, "blocks", b"{\"blocks\":")?;
+    write_faults(alloc, &damage.blocks, pen)?;
+    pen.next(alloc, "header", b",\"header\":")?;
+    write_fault_or_null(alloc, &damage.header, pen)?;
+    pen.next(alloc, "maps", b",\"maps\":")?;
+    write_fault_or_null(alloc, &damage.maps, pen)?;
+    pen.next(alloc, "nodes", b",\"nodes\":")?;
+    write_nodes(alloc, &damage.nodes, pen)?;
+    pen.next(alloc, "pages", b",\"pages\":")?;
+    write_faults(alloc, &damage.pages, pen)?;
+    write_digest_member(alloc, digest, pen)?;
+    pen.next(alloc, "whole", b",\"whole\":")?;
+    write_whole(alloc, &damage.whole, pen)?;
+    pen.close(alloc)
 }
 
 /// The line that shows all that is broken of a file: the compact text of a JSON object, whose keys stand in the order of their
@@ -94,7 +68,6 @@ pub fn damage_line(
     ensures { IfOk result (λ t. t.items ≡ line_of_damage (damage_parts damage.now) digest) }
 {
     let mut text = Vec::new(alloc);
-    put_damage(alloc, damage, digest, &mut text)?;
-    text.push(b'\n')?;
-    Ok(text)
+    write_damage(alloc, damage, digest, &mut text)?;
+    end_line(text)
 }

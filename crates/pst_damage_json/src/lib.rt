@@ -13,4 +13,4 @@ mod faults;
 mod lists;
 
 pub use damage::damage_line;
-pub use faults::fault_doc;
+pub use faults::write_fault;

@@ -1,67 +1,65 @@
-//! Lists of what is broken, put straight behind a text, as JSON.
+//! Lists of what is broken, as JSON.
 
-ghost use Rattle.std.specs.Prelude.{◌≡◌, ◌++◌, OnOk};
-ghost use Rattle.serde_json.specs.Written.{compact_text};
+ghost use Rattle.std.specs.Prelude.{OnOk};
 ghost use Rattle.pst_value_json.specs.pst_text.Parts.{list_data};
 ghost use Rattle.pst_damage_json.specs.Damage.{broken_data};
 ghost use Rattle.pst_damage_json.specs.Faults.{fault_data};
 
-use crate::faults::put_fault;
+use crate::faults::write_fault;
 use pst_damage::BrokenNode;
 use pst_fault::Fault;
-use pst_value_json::{put_comma, put_nid};
+use pst_value_json::{Leaf, Pen};
 use std::alloc::{AllocError, Global};
 
-/// Puts faults behind a text, as a list.
-pub(crate) fn put_faults(
+/// Writes faults, as a list.
+pub(crate) fn write_faults<P: Pen>(
     alloc: Global,
     faults: &[Fault],
-    text: &mut Vec<u8>,
+    pen: &mut P,
 ) -> Result<(), AllocError>
-    ensures { OnOk result (text.new.items
-        ≡ text.old.items ++ compact_text (list_data fault_data faults.now)) }
+    ensures put { OnOk result (P.Puts pen.old pen.new (list_data fault_data faults.now)) }
+    ensures kept { (base : P) → P.Keeps base pen.old → P.Keeps base pen.new }
 {
-    text.push(b'[')?;
+    pen.open_list(alloc)?;
     let mut later = false;
     for fault in faults {
-        put_comma(later, text)?;
-        put_fault(alloc, fault, text)?;
+        pen.comma(later)?;
+        write_fault(alloc, fault, pen)?;
+        pen.item(alloc)?;
         later = true;
     }
-    text.push(b']')?;
-    Ok(())
+    pen.close_list(later)
 }
 
-// Puts a node with a fault behind a text, as an object.
+// Writes a node with a fault, as an object.
 #[tactic(auto, unfolding(crate::specs::Damage::broken_data))]
-fn put_broken(alloc: Global, broken: &BrokenNode, text: &mut Vec<u8>) -> Result<(), AllocError>
-    ensures { OnOk result (text.new.items
-        ≡ text.old.items ++ compact_text (broken_data broken.now)) }
+fn write_broken<P: Pen>(alloc: Global, broken: &BrokenNode, pen: &mut P) -> Result<(), AllocError>
+    ensures put { OnOk result (P.Puts pen.old pen.new (broken_data broken.now)) }
+    ensures kept { (base : P) → P.Keeps base pen.old → P.Keeps base pen.new }
 {
-    text.extend_from_slice(b"{\"fault\":")?;
-    put_fault(alloc, &broken.fault, text)?;
-    text.extend_from_slice(b",\"node\":")?;
-    put_nid(broken.nid, text)?;
-    text.push(b'}')?;
-    Ok(())
+    pen.first(alloc, "fault", b"{\"fault\":")?;
+    write_fault(alloc, &broken.fault, pen)?;
+    pen.next(alloc, "node", b",\"node\":")?;
+    pen.leaf(alloc, &Leaf::Nid(Some(broken.nid)))?;
+    pen.close(alloc)
 }
 
-/// Puts nodes with a fault behind a text, as a list.
-pub(crate) fn put_nodes(
+/// Writes nodes with a fault, as a list.
+pub(crate) fn write_nodes<P: Pen>(
     alloc: Global,
     nodes: &[BrokenNode],
-    text: &mut Vec<u8>,
+    pen: &mut P,
 ) -> Result<(), AllocError>
-    ensures { OnOk result (text.new.items
-        ≡ text.old.items ++ compact_text (list_data broken_data nodes.now)) }
+    ensures put { OnOk result (P.Puts pen.old pen.new (list_data broken_data nodes.now)) }
+    ensures kept { (base : P) → P.Keeps base pen.old → P.Keeps base pen.new }
 {
-    text.push(b'[')?;
+    pen.open_list(alloc)?;
     let mut later = false;
     for broken in nodes {
-        put_comma(later, text)?;
-        put_broken(alloc, broken, text)?;
+        pen.comma(later)?;
+        write_broken(alloc, broken, pen)?;
+        pen.item(alloc)?;
         later = true;
     }
-    text.push(b']')?;
-    Ok(())
+    pen.close_list(later)
 }

@@ -1,7 +1,7 @@
 //! Lines, against those that another program made of the same files.
 
 use pst_damage::{BrokenNode, Damage, Whole};
-use pst_damage_json::damage_line;
+use pst_damage_json::{damage_line, write_fault};
 use pst_fault::{Fault, Kind};
 use std::alloc::{AllocError, Global};
 use std::process::Abort;
@@ -79,6 +79,9 @@ const SOUND: &str =
 
 const BLOCKS: &str =
     "{\"blocks\":[{\"at\":20224,\"bid\":32,\"kind\":\"BlockPlace\",\"nid\":\"0x0\",\"number\":13},{\"at\":20288,\"bid\":36,\"kind\":\"BlockPlace\",\"nid\":\"0x0\",\"number\":13},{\"at\":20416,\"bid\":40,\"kind\":\"BlockPlace\",\"nid\":\"0x0\",\"number\":13},{\"at\":20480,\"bid\":44,\"kind\":\"BlockPlace\",\"nid\":\"0x0\",\"number\":13}],\"header\":{\"at\":184,\"bid\":0,\"kind\":\"Root\",\"nid\":\"0x0\",\"number\":6},\"maps\":null,\"nodes\":[{\"fault\":{\"at\":0,\"bid\":32,\"kind\":\"BlockMissing\",\"nid\":\"0x142\",\"number\":15},\"node\":\"0x142\"},{\"fault\":{\"at\":0,\"bid\":36,\"kind\":\"BlockMissing\",\"nid\":\"0x14e\",\"number\":15},\"node\":\"0x14e\"},{\"fault\":{\"at\":0,\"bid\":40,\"kind\":\"BlockMissing\",\"nid\":\"0x162\",\"number\":15},\"node\":\"0x162\"},{\"fault\":{\"at\":0,\"bid\":44,\"kind\":\"BlockMissing\",\"nid\":\"0x16e\",\"number\":15},\"node\":\"0x16e\"}],\"pages\":[],\"whole\":{\"folders\":1,\"messages\":5,\"nodes\":7}}";
+
+const FAULT: &str =
+    "{\"at\":23552,\"bid\":20,\"kind\":\"BlockTrailer\",\"nid\":\"0x0\",\"number\":14}";
 
 const MAPS: &str =
     "{\"blocks\":[{\"at\":23552,\"bid\":20,\"kind\":\"BlockTrailer\",\"nid\":\"0x0\",\"number\":14}],\"header\":{\"at\":248,\"bid\":0,\"kind\":\"MapsInvalid\",\"nid\":\"0x0\",\"number\":7},\"maps\":{\"at\":17408,\"bid\":0,\"kind\":\"MapPage\",\"nid\":\"0x0\",\"number\":19},\"nodes\":[{\"fault\":{\"at\":0,\"bid\":20,\"kind\":\"BlockMissing\",\"nid\":\"0x400004\",\"number\":15},\"node\":\"0x400004\"}],\"pages\":[],\"whole\":{\"folders\":5,\"messages\":3,\"nodes\":25}}";
@@ -195,4 +198,13 @@ fn a_digest_of_a_broken_file_is_told(rt: HostRuntime) -> Result<(), Fail> {
         ..NOTHING
     };
     is_line(&rt, rt.alloc(), &told, Some(SHA_OF_BROKEN), BROKEN)
+}
+
+#[test]
+fn a_fault_is_an_object(rt: HostRuntime) -> Result<(), Fail> {
+    let fault = Fault::within(Kind::BlockTrailer, 23552, 20);
+    let mut text = Vec::new(rt.alloc());
+    write_fault(rt.alloc(), &fault, &mut text)?;
+    assert_eq!(rt; text.as_slice(), FAULT.as_bytes());
+    Ok(())
 }

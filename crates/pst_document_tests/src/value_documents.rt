@@ -1,8 +1,4 @@
-//! What parts become in each sink, of small stores, against texts written by hand.
-
-ghost use Rattle.pst_value_json.specs.Cells.{table_rows_left};
-ghost use Rattle.pst_value_json.specs.Object.{KeysRise};
-ghost use Rattle.pst_value_json.specs.Props.{prop_rows_left};
+//! What is written with each pen, of small stores, against texts written by hand.
 
 use crate::told::{MEMORY, is};
 use pst_bytes::Image;
@@ -11,7 +7,7 @@ use pst_ndb::{Node, check_ndb};
 use pst_pc::check_pc;
 use pst_tc::check_tc;
 use pst_value_json::*;
-use std::alloc::Global;
+use std::alloc::{AllocError, Global};
 use std::process::Abort;
 
 // A node of an image.
@@ -27,58 +23,66 @@ const ROWS: &str =
     "{\"cells\":[{\"tag\":\"67F20003\",\"value\":322},{\"tag\":\"36020003\",\"value\":7}],\"row\":\"0x142\"}]";
 
 // An object of properties.
-fn parts_of<'a, R: Abort>(rt: &R, alloc: Global, pc: &Pc<'a>) -> Vec<Part<PropRows<'a>>>
-    ensures { KeysRise prop_rows_left result.items }
-{
-    let Ok(parts) = vec![in alloc;
-        Part::Value("nid", Made::Nid(Some(0x21))),
-        Part::Rows("props", prop_rows(pc, None, Filed::Nothing, false)),
-    ] else {
-        rt.panic("no memory");
-    };
-    parts
+fn write_node<P: Pen>(alloc: Global, pc: &Pc, pen: &mut P) -> Result<(), AllocError> {
+    pen.first(alloc, "nid", b"{\"nid\":")?;
+    pen.leaf(alloc, &Leaf::Nid(Some(0x21)))?;
+    pen.next(alloc, "props", b",\"props\":")?;
+    write_props(alloc, pc, None, Filed::Nothing, false, pen)?;
+    pen.close(alloc)
 }
 
 // An object of the rows of a table.
-fn table_parts<'a, R: Abort>(rt: &R, alloc: Global, tc: &Tc<'a>) -> Vec<Part<TableRows<'a>>>
-    ensures { KeysRise table_rows_left result.items }
-{
-    let Ok(rows) = table_rows(alloc, tc, false) else {
-        rt.panic("no memory");
-    };
-    let Ok(parts) = vec![in alloc;
-        Part::Value("kind", Made::Word("table")),
-        Part::Rows("rows", rows),
-        Part::Value("shown", Made::Natural(1)),
-        Part::Value("store", Made::Nid(None)),
-    ] else {
-        rt.panic("no memory");
-    };
-    parts
+fn write_rows<P: Pen>(alloc: Global, tc: &Tc, pen: &mut P) -> Result<(), AllocError> {
+    pen.first(alloc, "kind", b"{\"kind\":")?;
+    pen.leaf(alloc, &Leaf::Word("table"))?;
+    pen.next(alloc, "rows", b",\"rows\":")?;
+    write_table(alloc, tc, false, pen)?;
+    pen.next(alloc, "shown", b",\"shown\":")?;
+    pen.leaf(alloc, &Leaf::Natural(1))?;
+    pen.next(alloc, "store", b",\"store\":")?;
+    pen.leaf(alloc, &Leaf::Nid(None))?;
+    pen.close(alloc)
+}
+
+// An object of a list without items, and a digest.
+fn write_digest<P: Pen>(alloc: Global, pen: &mut P) -> Result<(), AllocError> {
+    pen.first(alloc, "lost", b"{\"lost\":")?;
+    write_nothing(alloc, pen)?;
+    write_digest_member(alloc, Some([0x4d; 32]), pen)?;
+    pen.close(alloc)
+}
+
+// Two objects of properties, as a list.
+fn write_two<P: Pen>(alloc: Global, pc: &Pc, pen: &mut P) -> Result<(), AllocError> {
+    pen.open_list(alloc)?;
+    pen.comma(false)?;
+    write_node(alloc, pc, pen)?;
+    pen.item(alloc)?;
+    pen.comma(true)?;
+    write_node(alloc, pc, pen)?;
+    pen.item(alloc)?;
+    pen.close_list(true)
 }
 
 fn is_made_a_tree<R: Abort>(rt: &R, alloc: Global, pc: &Pc, wanted: &[u8]) {
-    let parts = parts_of(rt, alloc, pc);
-    let tree = Tree::object(alloc, parts).expect(rt, MEMORY);
-    let told = text(alloc, &tree).expect(rt, MEMORY);
+    let mut docs = Vec::new(alloc);
+    write_node(alloc, pc, &mut docs).expect(rt, MEMORY);
+    let told = text(alloc, &only(docs)).expect(rt, MEMORY);
     is(rt, told.as_slice(), wanted);
 }
 
 fn is_made_a_line<R: Abort>(rt: &R, alloc: Global, pc: &Pc, wanted: &[u8]) {
-    let parts = parts_of(rt, alloc, pc);
-    let line = Line::object(alloc, parts).expect(rt, MEMORY);
+    let mut text = Vec::new(alloc);
+    write_node(alloc, pc, &mut text).expect(rt, MEMORY);
+    let line = end_line(text).expect(rt, MEMORY);
     is(rt, line.as_slice(), wanted);
 }
 
-// Two objects, the second of which is a later one.
-fn are_put<R: Abort>(rt: &R, alloc: Global, pc: &Pc) {
-    let mut objects = Vec::new(alloc);
-    for later in [false, true] {
-        let parts = parts_of(rt, alloc, pc);
-        put_object(alloc, parts, later, &mut objects).expect(rt, MEMORY);
-    }
-    let wanted = format!(in alloc; "{PROPERTIES},{PROPERTIES}").expect(rt, MEMORY);
-    is(rt, objects.as_slice(), wanted.as_bytes());
+fn are_listed<R: Abort>(rt: &R, alloc: Global, pc: &Pc) {
+    let mut list = Vec::new(alloc);
+    write_two(alloc, pc, &mut list).expect(rt, MEMORY);
+    let wanted = format!(in alloc; "[{PROPERTIES},{PROPERTIES}]").expect(rt, MEMORY);
+    is(rt, list.as_slice(), wanted.as_bytes());
 }
 
 #[test]
@@ -91,7 +95,7 @@ fn properties_become_a_tree_and_a_line(rt: HostRuntime) {
     let wanted = format!(in alloc; "{PROPERTIES}\n").expect(&rt, MEMORY);
     is_made_a_tree(&rt, alloc, &pc, wanted.as_bytes());
     is_made_a_line(&rt, alloc, &pc, wanted.as_bytes());
-    are_put(&rt, alloc, &pc);
+    are_listed(&rt, alloc, &pc);
 }
 
 #[test]
@@ -101,12 +105,23 @@ fn rows_become_a_line(rt: HostRuntime) {
     let Ok(tc) = check_tc(node_of(&rt, alloc, &image, 0x12d)) else {
         rt.panic("no table");
     };
-    let parts = table_parts(&rt, alloc, &tc);
-    let line = Line::object(alloc, parts).expect(&rt, MEMORY);
+    let mut text = Vec::new(alloc);
+    write_rows(alloc, &tc, &mut text).expect(&rt, MEMORY);
+    let line = end_line(text).expect(&rt, MEMORY);
     let wanted = format!(in alloc;
         "{{\"kind\":\"table\",\"rows\":[{ROWS},\"shown\":1,\"store\":null}}\n"
     ).expect(&rt, MEMORY);
     is(&rt, line.as_slice(), wanted.as_bytes());
+}
+
+#[test]
+fn a_digest_stands_behind_others(rt: HostRuntime) {
+    let alloc = rt.alloc();
+    let mut text = Vec::new(alloc);
+    write_digest(alloc, &mut text).expect(&rt, MEMORY);
+    let digits = "4d4d4d4d4d4d4d4d4d4d4d4d4d4d4d4d4d4d4d4d4d4d4d4d4d4d4d4d4d4d4d4d";
+    let wanted = format!(in alloc; "{{\"lost\":[],\"sha256\":\"{digits}\"}}").expect(&rt, MEMORY);
+    is(&rt, text.as_slice(), wanted.as_bytes());
 }
 
 #[test]

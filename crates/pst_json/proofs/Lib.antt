@@ -1,4 +1,3 @@
-pub mod FolderLemmas
 pub mod HeadLemmas
 pub mod ListingLemmas
 pub mod MessageLemmas

@@ -1,10 +1,7 @@
--- Rows one after another: folders that are shown, and identifiers in a list.
-use Rattle.std.proofs.Common.{◌≡◌, ℕ, ◌+◌, ◌<◌, ◌≤◌, Bool, true, false, List, [], ◌∷◌, ◌++◌, length, get_or, map, drop, refl, sym, ap, ◌∙◌, append-nil}
-use Rattle.std.proofs.lemmas.List.{at_drop_more, drop_all}
+-- Folders that are shown, one after another.
+use Rattle.std.proofs.Common.{◌≡◌, Bool, true, false, List, [], ◌∷◌, ◌++◌, map, refl, sym, ap, ◌∙◌}
 use Rattle.std.specs.List.{filter}
 use Rattle.serde_json.specs.Data.{Data}
-use Rattle.serde_json.specs.View.{view}
-use Rattle.serde_json.specs.declared.value.Value.{Value}
 use Rattle.pst_page.specs.declared.entry.NodeEntry.{NodeEntry}
 use Rattle.pst_block.specs.Table.{Table}
 use Rattle.pst_ndb.specs.Roots.{Roots, all_roots}
@@ -12,9 +9,12 @@ use Rattle.pst_verify.specs.pst_msg.Values.{is_folder}
 use Rattle.pst_verify.specs.pst_reach.declared.reached.Reach.{Reach}
 use Rattle.pst_verify.specs.pst_reach.Levels.{reaches_of}
 use Rattle.pst_verify.specs.pst_store.Kind.{of_kind}
+use Rattle.pst_intact.specs.declared.intact.Intact.{Intact}
+use Rattle.pst_intact.specs.View.{table_of_intact, nodes_of_intact}
 use Rattle.pst_whole.specs.Lost.{LostParts}
+use Rattle.pst_json.specs.declared.folder_rows.FolderRows.{FolderRows}
+use Rattle.pst_json.specs.FolderRows.{folder_rows, folder_rows_left, intact_of, lost_of_rows, reached_of}
 use Rattle.pst_json.specs.Folders.{is_shown, shown_folders, folder_data}
-use Rattle.pst_value_json.specs.pst_text.Names.{nid_data}
 
 -- ---- folders that pass a test
 
@@ -39,18 +39,18 @@ front_none front behind is = rw is refl
 pub rows_of_all : (t : Table) (nodes : List NodeEntry) (lost : LostParts) (reached : List Reach) (left : List Roots) → left ≡ of_kind is_folder (all_roots nodes) → reached ≡ reaches_of t nodes → map (folder_data t nodes lost reached) (filter (is_shown false reached) left ++ filter (is_shown true reached) (of_kind is_folder (all_roots nodes))) ≡ map (folder_data t nodes lost (reaches_of t nodes)) (shown_folders nodes (reaches_of t nodes))
 rows_of_all t nodes lost reached left all found = rw (all, found) refl
 
--- ---- identifiers, each as a document
+-- ---- the rows that are left
 
-shift : {X Y : Type 0} (f : X → Y) (xs : List X) (x : X) (rest : List Y) → map f (xs ++ (x ∷ [])) ++ rest ≡ map f xs ++ (f x ∷ rest)
-shift f [] x rest = refl
-shift f (y ∷ ys) x rest = ap (λ l. f y ∷ l) (shift f ys x rest)
+abbrev rows_of : Intact → LostParts → List Reach → List Roots → List Data
+rows_of i lost reached rs = map (folder_data (table_of_intact i) (nodes_of_intact i) lost reached) rs
 
-pub nids_more : (nids : List ℕ) (i d nid : ℕ) (items more : List Value) (doc : Value) (all : List Data) → i < length nids → nid ≡ get_or nids i d → view doc ≡ nid_data nid → more ≡ items ++ (doc ∷ []) → map view items ++ map nid_data (drop i nids) ≡ all → map view more ++ map nid_data (drop (i + 1) nids) ≡ all
-nids_more nids i d nid items more doc all inside at is push so_far =
-    rw push (shift view items doc (map nid_data (drop (i + 1) nids))
-    ∙ ap (λ v. map view items ++ (v ∷ map nid_data (drop (i + 1) nids))) (is ∙ ap nid_data at)
-    ∙ sym (at_drop_more (λ l. map view items ++ map nid_data l) nids i d inside) ∙ so_far)
+pub rows_more : (old now : FolderRows) (x : Roots) → intact_of now ≡ intact_of old → lost_of_rows now ≡ lost_of_rows old → reached_of now ≡ reached_of old → folder_rows_left old ≡ x ∷ folder_rows_left now
+    → folder_rows old ≡ folder_data (table_of_intact (intact_of now)) (nodes_of_intact (intact_of now)) (lost_of_rows now) (reached_of now) x ∷ folder_rows now
+rows_more old now x same_intact same_lost same_reached is =
+    ap (λ i. rows_of i (lost_of_rows old) (reached_of old) (folder_rows_left old)) (sym same_intact)
+    ∙ ap (λ l. rows_of (intact_of now) l (reached_of old) (folder_rows_left old)) (sym same_lost)
+    ∙ ap (λ r. rows_of (intact_of now) (lost_of_rows now) r (folder_rows_left old)) (sym same_reached)
+    ∙ ap (rows_of (intact_of now) (lost_of_rows now) (reached_of now)) is
 
-pub nids_end : (nids : List ℕ) (i : ℕ) (items : List Value) (all : List Data) → length nids ≤ i → map view items ++ map nid_data (drop i nids) ≡ all → map view items ≡ all
-nids_end nids i items all outside so_far =
-    sym (append-nil (map view items)) ∙ sym (ap (λ l. map view items ++ map nid_data l) (drop_all i nids outside)) ∙ so_far
+pub rows_none : (rows : FolderRows) → folder_rows_left rows ≡ [] → folder_rows rows ≡ []
+rows_none rows is = ap (rows_of (intact_of rows) (lost_of_rows rows) (reached_of rows)) is

@@ -1,11 +1,11 @@
 -- The report of a check as a document, and its line.
-use Rattle.std.specs.Prelude.{ℕ, Option, Some, None, List, map, drop, codes}
-use Rattle.serde_json.specs.Data.{Data, Members, string, object, member, no_members}
+use Rattle.std.specs.Prelude.{ℕ, Option, option_map, List, codes}
+use Rattle.serde_json.specs.Data.{Data, string, object, member, no_members}
 use Rattle.pst_bytes.specs.declared.span.Span.{Span}
 use Rattle.pst_amap.specs.declared.report.BitOrder.{BitOrder}
 use Rattle.pst_amap.specs.declared.report.BitOrder.TheVariants.{High, Low}
 use Rattle.pst_verify.specs.declared.report.Report.{Report}
-use Rattle.pst_json.specs.declared.check.LostRows.{LostRows}
+use Rattle.pst_value_json.specs.Places.{member_if}
 use Rattle.pst_value_json.specs.pst_text.Parts.{natural, list_data}
 use Rattle.pst_value_json.specs.pst_text.Line.{data_line}
 use Rattle.pst_value_json.specs.pst_text.Text.{hex_data}
@@ -30,13 +30,6 @@ report_parts r = record { pages = r.pages; blocks = r.blocks; nodes = r.nodes; f
 unfoldable pub lost_data : Span → Data
 lost_data s = object (member (codes "at") (natural s.at) (member (codes "len") (natural s.len) no_members))
 
--- the runs from one on
-abbrev pub runs_left : LostRows → List Span
-runs_left rows = drop rows.at rows.runs.now
-
-abbrev pub lost_rows : LostRows → List Data
-lost_rows rows = map lost_data (runs_left rows)
-
 abbrev pub order_data : BitOrder → Data
 order_data High = string (codes "high")
 order_data Low = string (codes "low")
@@ -45,12 +38,7 @@ order_data Low = string (codes "low")
 abbrev pub yes_data : Data
 yes_data = string (codes "yes")
 
--- the SHA-256 of the file, where it is told, before the members behind it
-abbrev pub with_digest : Option (List ℕ) → Members → Members
-with_digest None behind = behind
-with_digest (Some digest) behind = member (codes "sha256") (hex_data digest) behind
-
--- the members stand in the order of their keys' bytes
+-- the members stand in the order of their keys' bytes; the SHA-256 of the file is one of them where it is told
 unfoldable pub check_data : ReportParts → Option (List ℕ) → Data
 check_data r digest =
     object
@@ -61,7 +49,7 @@ check_data r digest =
     (member (codes "nodes") (natural r.nodes)
     (member (codes "order") (order_data r.order)
     (member (codes "pages") (natural r.pages)
-    (with_digest digest
+    (member_if (codes "sha256") (option_map hex_data digest)
     (member (codes "verdict") yes_data
     no_members)))))))))
 

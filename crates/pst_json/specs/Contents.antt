@@ -1,5 +1,5 @@
 -- The messages of a folder as a document ([MS-PST] 2.4.4.5).
-use Rattle.std.specs.Prelude.{ℕ, Option, Some, None, List, map, Result, Ok, Err, codes, if◌then◌else◌}
+use Rattle.std.specs.Prelude.{ℕ, Option, Some, None, List, Result, Ok, Err, codes, if◌then◌else◌}
 use Rattle.serde_json.specs.Data.{Data, null, object, member, no_members}
 use Rattle.pst_fault.specs.declared.fault.Fault.{Fault}
 use Rattle.pst_page.specs.declared.entry.NodeEntry.{NodeEntry}
@@ -8,16 +8,12 @@ use Rattle.pst_ndb.specs.Roots.{Roots, node_in}
 use Rattle.pst_value_json.specs.pst_tc.Values.{RowParts}
 use Rattle.pst_verify.specs.pst_msg.pst_mail.declared.items.Items.TheVariants.{Messages}
 use Rattle.pst_verify.specs.pst_msg.pst_mail.declared.nid.TheConstants.{FOLDER}
-use Rattle.pst_verify.specs.pst_msg.Left.{rows_of_rest}
 use Rattle.pst_verify.specs.pst_msg.Nid.{is_type}
 use Rattle.pst_verify.specs.pst_msg.Shown.{rows_there, folder_table}
 use Rattle.pst_verify.specs.pst_msg.Values.{is_message}
 unfoldable pub use Rattle.pst_verify.specs.pst_store.Kind.{node_of_kind}
-use Rattle.pst_intact.specs.View.{table_of_intact, nodes_of_intact}
 use Rattle.pst_whole.specs.Lost.{LostParts, told_lost}
-use Rattle.pst_whole.specs.View.{lost_in}
 use Rattle.pst_damage_json.specs.Faults.{fault_data}
-use Rattle.pst_json.specs.declared.listed_rows.ListedRows.{ListedRows}
 use Rattle.pst_props.specs.declared.fault.DocFault.{DocFault}
 use Rattle.pst_props.specs.declared.fault.DocFault.TheVariants.{NoFolder, Bad}
 use Rattle.pst_props.specs.declared.texts.TheConstants.{CLASS, SENDER, SUBJECT}
@@ -53,11 +49,6 @@ told_or_listed (Some f) t nodes x = told_data f x.id
 -- a row
 unfoldable pub listed_row_data : Table → List NodeEntry → LostParts → RowParts → Data
 listed_row_data t nodes lost x = told_or_listed (told_lost lost x.id) t nodes x
-
--- the messages that are left
-abbrev pub listed_rows : ListedRows → List Data
-listed_rows rows =
-    map (listed_row_data (table_of_intact rows.intact) (nodes_of_intact rows.intact) (lost_in rows.lost)) (rows_of_rest rows.rows)
 
 -- the messages of a folder, their identifiers rising
 unfoldable pub contents_data : Table → List NodeEntry → LostParts → ℕ → Data

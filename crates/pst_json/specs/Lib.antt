@@ -13,7 +13,6 @@ pub use Rattle.pst_props.specs.Path
 pub use Rattle.pst_props.specs.Node
 pub use Rattle.pst_props.specs.Found
 pub use Rattle.pst_props.specs.Property
-pub use Rattle.pst_props.specs.Lists
 pub use Rattle.pst_props.specs.Texts
 pub mod Head
 pub mod Nodes

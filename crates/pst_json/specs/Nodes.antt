@@ -1,9 +1,7 @@
 -- The document of a list of nodes, and its line.
-use Rattle.std.specs.Prelude.{ℕ, List, map, codes}
+use Rattle.std.specs.Prelude.{ℕ, List, codes}
 use Rattle.serde_json.specs.Data.{Data, object, member, no_members}
 use Rattle.pst_page.specs.declared.entry.NodeEntry.{NodeEntry}
-use Rattle.pst_btree.specs.Nodes.{nodes_left}
-use Rattle.pst_json.specs.declared.nodes.NodeRows.{NodeRows}
 use Rattle.pst_value_json.specs.pst_text.Names.{nid_data}
 use Rattle.pst_value_json.specs.pst_text.Parts.{natural, list_data}
 use Rattle.pst_value_json.specs.pst_text.Line.{data_line}
@@ -17,10 +15,6 @@ node_data entry =
     (member (codes "parent") (nid_data entry.parent)
     (member (codes "sub_bid") (natural entry.bid_sub)
     no_members))))
-
--- the nodes that are left
-abbrev pub node_rows : NodeRows → List Data
-node_rows rows = map node_data (nodes_left rows.0)
 
 unfoldable pub nodes_data : List NodeEntry → Data
 nodes_data entries = object (member (codes "nodes") (list_data node_data entries) no_members)

@@ -3,21 +3,15 @@
 ghost use Rattle.std.specs.Prelude.{◌≡◌, IfOk, OnOk};
 ghost use Rattle.serde_json.specs.Data.{string};
 ghost use Rattle.serde_json.specs.View.{view};
-ghost use Rattle.pst_json.specs.Check.{lost_data, lost_rows, report_parts, order_data, check_data, check_line as line_of_check};
+ghost use Rattle.pst_json.specs.Check.{lost_data, report_parts, order_data, check_data, check_line as line_of_check};
+ghost use Rattle.pst_value_json.specs.pst_text.Parts.{list_data};
 
 use pst_amap::BitOrder;
 use pst_bytes::Span;
-use pst_value_json::{Leaf, Line, Made, Part, Pen, Rows, Sink, Tree, only, put_comma};
+use pst_value_json::{Leaf, Pen, end_line, only, write_digest_member};
 use pst_verify::Report;
 use serde_json::Value as Doc;
 use std::alloc::{AllocError, Global};
-
-/// The lost runs from one on, each as an object.
-#[derive(Drop)]
-pub(crate) struct LostRows<'a> {
-    runs: &'a [Span],
-    at: usize,
-}
 
 // Writes a lost run, as an object.
 #[tactic(auto, unfolding(crate::specs::Check::lost_data))]
@@ -32,46 +26,20 @@ fn write_lost<P: Pen>(alloc: Global, run: Span, pen: &mut P) -> Result<(), Alloc
     pen.close(alloc)
 }
 
-impl LostRows<'_> {
-    ghost use Rattle.std.specs.Prelude.{◌≡◌, [], ◌∷◌, MatchOption};
-    ghost use Rattle.pst_json.specs.Check.{runs_left};
-
-    // The next run.
-    fn next_run(&mut self) -> Option<Span>
-        ensures { MatchOption result (runs_left self.old ≡ [])
-            (λ run. runs_left self.old ≡ run ∷ runs_left self.new) }
-    {
-        let run = *self.runs.get(self.at)?;
-        self.at += 1;
-        Some(run)
+// Writes lost runs, as a list.
+fn write_runs<P: Pen>(alloc: Global, runs: &[Span], pen: &mut P) -> Result<(), AllocError>
+    ensures put { OnOk result (P.Puts pen.old pen.new (list_data lost_data runs.now)) }
+    ensures kept { (base : P) → P.Keeps base pen.old → P.Keeps base pen.new }
+{
+    pen.open_list(alloc)?;
+    let mut later = false;
+    for lost in runs {
+        pen.comma(later)?;
+        write_lost(alloc, *lost, pen)?;
+        pen.item(alloc)?;
+        later = true;
     }
-}
-
-impl Rows for LostRows<'_> {
-    ghost left = { lost_rows };
-
-    fn next_doc(&mut self, alloc: Global) -> Result<Option<Doc>, AllocError> {
-        let Some(run) = self.next_run() else {
-            return Ok(None);
-        };
-        let mut docs = Vec::new(alloc);
-        write_lost(alloc, run, &mut docs)?;
-        Ok(Some(only(docs)))
-    }
-
-    fn put_next(
-        &mut self,
-        alloc: Global,
-        later: bool,
-        text: &mut Vec<u8>,
-    ) -> Result<bool, AllocError> {
-        let Some(run) = self.next_run() else {
-            return Ok(false);
-        };
-        put_comma(later, text)?;
-        write_lost(alloc, run, text)?;
-        Ok(true)
-    }
+    pen.close_list(later)
 }
 
 // The name of an order of bits.
@@ -84,33 +52,35 @@ fn order_word(order: BitOrder) -> &'static str
     }
 }
 
-// The document.
+// Writes the document.
 #[tactic(auto, unfolding(crate::specs::Check::check_data))]
-fn shown_report<S: Sink>(
+fn write_report<P: Pen>(
     alloc: Global,
     report: &Report,
     digest: Option<[u8; 32]>,
-) -> Result<S::Out, AllocError>
-    ensures { IfOk result (λ out. S.Shows out (check_data (report_parts report.now) digest)) }
+    pen: &mut P,
+) -> Result<(), AllocError>
+    ensures put { OnOk result (P.Puts pen.old pen.new (check_data (report_parts report.now) digest)) }
+    ensures kept { (base : P) → P.Keeps base pen.old → P.Keeps base pen.new }
 {
-    let lost = LostRows {
-        runs: &report.lost,
-        at: 0,
-    };
-    let mut parts = vec![in alloc;
-        Part::Value("blocks", Made::Natural(report.blocks)),
-        Part::Value("folders", Made::Natural(report.folders)),
-        Part::Rows("lost", lost),
-        Part::Value("messages", Made::Natural(report.messages)),
-        Part::Value("nodes", Made::Natural(report.nodes)),
-        Part::Value("order", Made::Word(order_word(report.order))),
-        Part::Value("pages", Made::Natural(report.pages)),
-    ]?;
-    if let Some(digest) = digest {
-        parts.push(Part::Value("sha256", Made::Digest(digest)))?;
-    }
-    parts.push(Part::Value("verdict", Made::Word("yes")))?;
-    S::object(alloc, parts)
+    pen.first(alloc, "blocks", b"{\"blocks\":")?;
+    pen.leaf(alloc, &Leaf::Natural(report.blocks))?;
+    pen.next(alloc, "folders", b",\"folders\":")?;
+    pen.leaf(alloc, &Leaf::Natural(report.folders))?;
+    pen.next(alloc, "lost", b",\"lost\":")?;
+    write_runs(alloc, &report.lost, pen)?;
+    pen.next(alloc, "messages", b",\"messages\":")?;
+    pen.leaf(alloc, &Leaf::Natural(report.messages))?;
+    pen.next(alloc, "nodes", b",\"nodes\":")?;
+    pen.leaf(alloc, &Leaf::Natural(report.nodes))?;
+    pen.next(alloc, "order", b",\"order\":")?;
+    pen.leaf(alloc, &Leaf::Word(order_word(report.order)))?;
+    pen.next(alloc, "pages", b",\"pages\":")?;
+    pen.leaf(alloc, &Leaf::Natural(report.pages))?;
+    write_digest_member(alloc, digest, pen)?;
+    pen.next(alloc, "verdict", b",\"verdict\":")?;
+    pen.leaf(alloc, &Leaf::Word("yes"))?;
+    pen.close(alloc)
 }
 
 /// The report of a check as a JSON object, whose keys stand in the order of their bytes: how many blocks, folders,
@@ -123,12 +93,13 @@ pub fn check_doc(
 ) -> Result<Doc, AllocError>
     ensures { IfOk result (λ d. view d ≡ check_data (report_parts report.now) digest) }
 {
-    shown_report::<Tree>(alloc, report, digest)
+    let mut docs = Vec::new(alloc);
+    write_report(alloc, report, digest, &mut docs)?;
+    Ok(only(docs))
 }
 
-/// The line that shows the report of a check: the compact text of its document, and a line feed. It is made run by run:
-/// beside the text, memory is taken for one lost run at a time.
-#[tactic(auto, unfolding(crate::specs::Check::check_line))]
+/// The line that shows the report of a check: the compact text of its document, and a line feed. No memory is taken beside the text.
+#[tactic(auto, unfolding(crate::specs::Check::check_line, pst_text::specs::Line::data_line))]
 pub fn check_line(
     alloc: Global,
     report: &Report,
@@ -136,5 +107,7 @@ pub fn check_line(
 ) -> Result<Vec<u8>, AllocError>
     ensures { IfOk result (λ t. t.items ≡ line_of_check (report_parts report.now) digest) }
 {
-    shown_report::<Line>(alloc, report, digest)
+    let mut text = Vec::new(alloc);
+    write_report(alloc, report, digest, &mut text)?;
+    end_line(text)
 }

@@ -1,148 +1,32 @@
 //! The messages of a folder as a document.
 
-ghost use Rattle.std.specs.Prelude.{◌≡◌, true, Ok, Err, IfOk, IfErr, IfSome, option_map};
+ghost use Rattle.std.specs.Prelude.{◌≡◌, true, Ok, Err, IfOk, IfErr, IfSome, OnOk, option_map};
 ghost use Rattle.serde_json.specs.View.{view};
-ghost use Rattle.pst_block.specs.Table.{Table};
 ghost use Rattle.pst_ndb.specs.Views.{table_of_node, roots_of};
 ghost use Rattle.pst_intact.specs.View.{table_of_intact, nodes_of_intact};
 ghost use Rattle.pst_whole.specs.View.{lost_in};
-ghost use Rattle.pst_value_json.specs.pst_pc.View.{node_of_pc};
 ghost use Rattle.pst_value_json.specs.pst_tc.Tc.{node_of_tc};
-ghost use Rattle.pst_value_json.specs.pst_tc.View.{row_parts};
+ghost use Rattle.pst_value_json.specs.pst_tc.Values.{tc_rows};
+ghost use Rattle.pst_value_json.specs.pst_text.Line.{data_line};
+ghost use Rattle.pst_value_json.specs.pst_text.Parts.{list_data};
 ghost use Rattle.pst_verify.specs.pst_msg.pst_mail.declared.items.Items.TheVariants.{Messages};
-ghost use Rattle.pst_verify.specs.pst_msg.Left.{rows_of_rest};
 ghost use Rattle.pst_verify.specs.pst_msg.Nid.{is_type as is_type_of};
 ghost use Rattle.pst_verify.specs.pst_msg.pst_mail.declared.nid.TheConstants.{FOLDER as FOLDER_KIND};
 ghost use Rattle.pst_ndb.specs.Roots.{node_in};
 ghost use Rattle.pst_verify.specs.pst_msg.Shown.{rows_there, folder_table};
-ghost use Rattle.pst_verify.specs.pst_msg.Values.{is_message};
-ghost use Rattle.pst_verify.specs.pst_store.Kind.{node_of_kind};
-ghost use Rattle.pst_verify.specs.pst_msg.View.{tc_roots, node_of_message, message_roots};
-ghost use Rattle.pst_json.specs.Contents.{text_there, listed_message_data, told_data, listed_row_data, contents_data, contents_there, contents_of, contents_line as line_of_contents};
-ghost use Rattle.pst_ndb.specs.NodeIndexes.{AreNodeIndexes};
+ghost use Rattle.pst_verify.specs.pst_msg.View.{tc_roots};
+ghost use Rattle.pst_json.specs.Contents.{listed_row_data, contents_data, contents_there, contents_of, contents_line as line_of_contents};
 ghost use Rattle.pst_props.specs.Told.{TellsDoc};
 
-use crate::listed_rows::ListedRows;
-use pst_damage_json::fault_doc;
-use pst_fault::Fault;
+use crate::listed::write_listed_row;
 use pst_intact::Intact;
 use pst_msg::{Items, listing_nid};
-use pst_ndb::NodeIndexes;
-use pst_props::{CLASS, DocFault, SENDER, SUBJECT, lend_message, new_indexes, text_property_doc};
-use pst_value_json::{Line, Made, Part, Pc, Row, Sink, Tc, TcRows, Tree, nid_text};
-use pst_verify::{FOLDER, Message, is_type};
+use pst_props::{DocFault, lend_tc, new_indexes};
+use pst_value_json::{Leaf, Pen, Tc, end_line, only, write_nothing};
+use pst_verify::{FOLDER, is_type};
 use pst_whole::Lost;
-use serde_json::{Value as Doc, json};
+use serde_json::Value as Doc;
 use std::alloc::{AllocError, Global};
-
-// How many texts of a message are looked up, each of which may be a subnode.
-const TEXTS: u64 = 3;
-
-/// The message that a row names, where that is there. The index turns to its list.
-pub(crate) fn message_in<'a>(
-    alloc: Global,
-    intact: &Intact<'a>,
-    nid: u32,
-    index: &mut NodeIndexes,
-) -> Result<Option<Message<'a>>, AllocError>
-    requires { AreNodeIndexes (table_of_intact intact.now) index.old }
-    ensures known { AreNodeIndexes (table_of_intact intact.now) index.new }
-    ensures roots { let nodes = nodes_of_intact intact.now in
-        IfOk result (λ m. option_map message_roots m ≡ node_of_kind is_message nodes nid) }
-    ensures table { let t = table_of_intact intact.now in
-        IfOk result (λ m. IfSome m (λ x. table_of_node (node_of_message x) ≡ t)) }
-{
-    match intact.message(nid) {
-        Some(message) => {
-            index.turn(alloc, message.node(), TEXTS)?;
-            Ok(Some(message))
-        }
-        None => Ok(None),
-    }
-}
-
-/// The properties of a message, where that is there, which is lent its indexes.
-pub(crate) fn properties_of<'a>(
-    message: Option<Message<'a>>,
-    index: &'a NodeIndexes,
-) -> Option<Pc<'a>>
-    requires { IfSome message (λ m. AreNodeIndexes (table_of_node (node_of_message m)) index.now) }
-    ensures roots { option_map (λ p. roots_of (node_of_pc p)) result ≡
-        option_map message_roots message.entry }
-    ensures table { (t : Table) → IfSome message.entry (λ m. table_of_node (node_of_message m) ≡ t)
-        → IfSome result (λ p. table_of_node (node_of_pc p) ≡ t) }
-{
-    match message {
-        Some(message) => { Some(lend_message(index, message).pc()) }
-        None => None,
-    }
-}
-
-// The text of one of these properties; null where there are none.
-fn text_of(alloc: Global, pc: Option<Pc>, id: u16) -> Result<Doc, AllocError>
-    ensures { (t : Table) → IfSome pc.entry (λ p. table_of_node (node_of_pc p) ≡ t)
-        → IfOk result (λ d. view d ≡
-        text_there t (option_map (λ p. roots_of (node_of_pc p)) pc.entry) id) }
-{
-    match pc {
-        Some(pc) => text_property_doc(alloc, &pc, id),
-        None => Ok(Doc::Null),
-    }
-}
-
-// The message that a row names as an object.
-#[tactic(auto, unfolding(crate::specs::Contents::listed_message_data))]
-fn listed_doc(
-    alloc: Global,
-    intact: &Intact,
-    row: Row,
-    index: &mut NodeIndexes,
-) -> Result<Doc, AllocError>
-    requires { AreNodeIndexes (table_of_intact intact.now) index.old }
-    ensures known { AreNodeIndexes (table_of_intact intact.now) index.new }
-    ensures shown { let t = table_of_intact intact.now in
-        IfOk result (λ d. view d ≡ listed_message_data t (nodes_of_intact intact.now)
-        (row_parts row.entry)) }
-{
-    let message = message_in(alloc, intact, row.id(), index)?;
-    let pc = properties_of(message, index);
-    let class = text_of(alloc, pc, CLASS)?;
-    let nid = nid_text(alloc, row.id())?;
-    let sender = text_of(alloc, pc, SENDER)?;
-    let subject = text_of(alloc, pc, SUBJECT)?;
-    json!(in alloc; {"class": class, "nid": nid, "sender": sender, "subject": subject})
-}
-
-/// A fault, in place of the message with an identifier, as an object.
-#[tactic(auto, unfolding(crate::specs::Contents::told_data))]
-pub(crate) fn told_doc(alloc: Global, fault: &Fault, nid: u32) -> Result<Doc, AllocError>
-    ensures { IfOk result (λ d. view d ≡ told_data fault.now nid) }
-{
-    let fault = fault_doc(alloc, fault)?;
-    let nid = nid_text(alloc, nid)?;
-    json!(in alloc; {"fault": fault, "nid": nid})
-}
-
-/// What a row names as an object: the message, or what is told of it.
-#[tactic(auto, unfolding(crate::specs::Contents::listed_row_data))]
-pub(crate) fn row_doc(
-    alloc: Global,
-    intact: &Intact,
-    lost: &Lost,
-    row: Row,
-    index: &mut NodeIndexes,
-) -> Result<Doc, AllocError>
-    requires { AreNodeIndexes (table_of_intact intact.now) index.old }
-    ensures known { AreNodeIndexes (table_of_intact intact.now) index.new }
-    ensures shown { let t = table_of_intact intact.now in
-        IfOk result (λ d. view d ≡ listed_row_data t (nodes_of_intact intact.now) (lost_in lost.now)
-        (row_parts row.entry)) }
-{
-    match lost.told(row.id()) {
-        Some(fault) => told_doc(alloc, &fault, row.id()),
-        None => listed_doc(alloc, intact, row, index),
-    }
-}
 
 // The contents table of a folder, where it is there and nothing is told of it, or that there is no such folder.
 #[tactic(auto, unfolding(crate::specs::Contents::node_of_kind))]
@@ -198,44 +82,122 @@ fn contents_table<'a>(
     }
 }
 
-// The rows of a table, where it is there.
-fn rows_of(table: Option<Tc>) -> Option<TcRows>
-    ensures { (t : Table) → IfSome table.entry (λ x. table_of_node (node_of_tc x) ≡ t)
-        → rows_of_rest result ≡ rows_there t (option_map tc_roots table.entry) }
+// Writes what the rows of a table name, as a list. The table is lent the indexes of its list and its data, where they are long.
+fn write_rows<P: Pen>(
+    alloc: Global,
+    intact: &Intact,
+    lost: &Lost,
+    table: Tc,
+    pen: &mut P,
+) -> Result<(), AllocError>
+    ensures put { let i = intact.now in let node = node_of_tc table.entry in
+        let rows = tc_rows (table_of_node node) (roots_of node) in
+        let shown = listed_row_data (table_of_intact i) (nodes_of_intact i) (lost_in lost.now) in
+        OnOk result (P.Puts pen.old pen.new (list_data shown rows)) }
+    ensures kept { (base : P) → P.Keeps base pen.old → P.Keeps base pen.new }
+{
+    let mut own = new_indexes(alloc);
+    own.turn(alloc, table.node(), 1)?;
+    let lent = lend_tc(&own, table);
+    let mut index = new_indexes(alloc);
+    pen.open_list(alloc)?;
+    let mut later = false;
+    for row in lent.rows() {
+        pen.comma(later)?;
+        write_listed_row(alloc, intact, lost, row, &mut index, pen)?;
+        pen.item(alloc)?;
+        later = true;
+    }
+    pen.close_list(later)
+}
+
+// Writes those of a table, of no rows where it is not there.
+fn write_listing<P: Pen>(
+    alloc: Global,
+    intact: &Intact,
+    lost: &Lost,
+    table: Option<Tc>,
+    pen: &mut P,
+) -> Result<(), AllocError>
+    requires { let t = table_of_intact intact.now in
+        IfSome table (λ x. table_of_node (node_of_tc x) ≡ t) }
+    ensures put { let t = table_of_intact intact.now in
+        let shown = listed_row_data t (nodes_of_intact intact.now) (lost_in lost.now) in
+        OnOk result (P.Puts pen.old pen.new
+        (list_data shown (rows_there t (option_map tc_roots table.entry)))) }
+    ensures kept { (base : P) → P.Keeps base pen.old → P.Keeps base pen.new }
 {
     match table {
-        Some(tc) => Some(tc.rows()),
-        None => None,
+        Some(table) => write_rows(alloc, intact, lost, table, pen),
+        None => write_nothing(alloc, pen),
     }
 }
 
-// The document of a folder, whose contents table this is.
+// Writes the document of a folder, whose contents table this is.
 #[tactic(auto, unfolding(crate::specs::Contents::contents_data))]
-fn shown_contents<'a, S: Sink>(
+fn write_contents<P: Pen>(
     alloc: Global,
-    intact: &Intact<'a>,
-    lost: &Lost<'a>,
+    intact: &Intact,
+    lost: &Lost,
     nid: u32,
-    table: Option<Tc<'a>>,
-) -> Result<S::Out, AllocError>
+    table: Option<Tc>,
+    pen: &mut P,
+) -> Result<(), AllocError>
+    requires table { let t = table_of_intact intact.now in
+        IfSome table (λ x. table_of_node (node_of_tc x) ≡ t) }
+    requires roots { let nodes = nodes_of_intact intact.now in
+        option_map tc_roots table ≡ folder_table nodes Messages nid }
+    ensures put { let t = table_of_intact intact.now in let nodes = nodes_of_intact intact.now in
+        OnOk result (P.Puts pen.old pen.new (contents_data t nodes (lost_in lost.now) nid)) }
+    ensures kept { (base : P) → P.Keeps base pen.old → P.Keeps base pen.new }
+{
+    pen.first(alloc, "folder", b"{\"folder\":")?;
+    pen.leaf(alloc, &Leaf::Nid(Some(nid)))?;
+    pen.next(alloc, "messages", b",\"messages\":")?;
+    write_listing(alloc, intact, lost, table, pen)?;
+    pen.close(alloc)
+}
+
+// Its tree.
+fn table_doc(
+    alloc: Global,
+    intact: &Intact,
+    lost: &Lost,
+    nid: u32,
+    table: Option<Tc>,
+) -> Result<Doc, AllocError>
     requires table { let t = table_of_intact intact.now in
         IfSome table (λ x. table_of_node (node_of_tc x) ≡ t) }
     requires roots { let nodes = nodes_of_intact intact.now in
         option_map tc_roots table ≡ folder_table nodes Messages nid }
     ensures { let t = table_of_intact intact.now in let nodes = nodes_of_intact intact.now in
-        IfOk result (λ out. S.Shows out (contents_data t nodes (lost_in lost.now) nid)) }
+        IfOk result (λ d. view d ≡ contents_data t nodes (lost_in lost.now) nid) }
 {
-    let messages = ListedRows {
-        intact: *intact,
-        lost: *lost,
-        rows: rows_of(table),
-        index: new_indexes(alloc),
-    };
-    let parts = vec![in alloc;
-        Part::Value("folder", Made::Nid(Some(nid))),
-        Part::Rows("messages", messages),
-    ]?;
-    S::object(alloc, parts)
+    let mut docs = Vec::new(alloc);
+    write_contents(alloc, intact, lost, nid, table, &mut docs)?;
+    Ok(only(docs))
+}
+
+// Its line.
+#[tactic(auto, unfolding(pst_text::specs::Line::data_line))]
+fn table_line(
+    alloc: Global,
+    intact: &Intact,
+    lost: &Lost,
+    nid: u32,
+    table: Option<Tc>,
+) -> Result<Vec<u8>, AllocError>
+    requires table { let t = table_of_intact intact.now in
+        IfSome table (λ x. table_of_node (node_of_tc x) ≡ t) }
+    requires roots { let nodes = nodes_of_intact intact.now in
+        option_map tc_roots table ≡ folder_table nodes Messages nid }
+    ensures { let t = table_of_intact intact.now in let nodes = nodes_of_intact intact.now in
+        IfOk result (λ line.
+        line.items ≡ data_line (contents_data t nodes (lost_in lost.now) nid)) }
+{
+    let mut text = Vec::new(alloc);
+    write_contents(alloc, intact, lost, nid, table, &mut text)?;
+    end_line(text)
 }
 
 /// The messages of a folder among intact nodes as a JSON object: the identifier of the folder, and an array that has an object for
@@ -253,7 +215,7 @@ pub fn contents_doc<'a>(
         TellsDoc view result (contents_of t nodes (lost_in lost.now) nid) }
 {
     let table = contents_table(intact, lost, nid)?;
-    Ok(shown_contents::<Tree>(alloc, intact, lost, nid, table)?)
+    Ok(table_doc(alloc, intact, lost, nid, table)?)
 }
 
 /// The line that shows the messages of a folder: the compact text of their document, and a line feed; or why there is none. It is
@@ -269,5 +231,5 @@ pub fn contents_line<'a>(
         TellsDoc (λ t2. t2.items) result (line_of_contents t nodes (lost_in lost.now) nid) }
 {
     let table = contents_table(intact, lost, nid)?;
-    Ok(shown_contents::<Line>(alloc, intact, lost, nid, table)?)
+    Ok(table_line(alloc, intact, lost, nid, table)?)
 }

@@ -14,21 +14,16 @@ ghost use Rattle.pst_ndb.specs.NodeIndexes.{AreNodeIndexes, AreNodeIndexes-prop}
 ghost use Rattle.pst_json.specs.RowCounts.{AreCountsTrue, AreCountsTrue-prop};
 ghost use Rattle.pst_json.specs.RowIds.{AreRowIdsTrue, AreRowIdsTrue-prop, all_asked};
 
-use crate::folder_lines::put_folder;
-use crate::folders::folder_doc;
+use crate::folder::write_folder;
 use crate::row_counts::RowCounts;
 use crate::row_ids::RowIds;
 use pst_intact::{Intact, IntactFolder, IntactFolders};
 use pst_ndb::NodeIndexes;
 use pst_props::new_indexes;
-use pst_value_json::{Rows, put_comma};
+use pst_value_json::Pen;
 use pst_verify::{Reach, find_reach};
 use pst_whole::Lost;
-use serde_json::Value as Doc;
 use std::alloc::{AllocError, Global};
-
-// How many bytes the row of a folder takes, where its name and its path are short and it has no subfolders.
-const ROOM: usize = 128;
 
 // Whether a folder is among those that are reached, or among the others.
 fn is_wanted(reached: &[Reach], lone: bool, nid: u32) -> bool
@@ -95,13 +90,16 @@ pub(crate) struct FolderRows<'a> {
 }
 
 impl<'a> FolderRows<'a> {
-    ghost use Rattle.std.specs.Prelude.{◌≡◌, [], ◌∷◌, None, IfSome, MatchOption, map};
+    ghost use Rattle.std.specs.Prelude.{◌≡◌, [], ◌∷◌, None, IfSome, OnOk, MatchOption, map};
+    ghost use Rattle.serde_json.specs.Data.{array};
+    ghost use Rattle.serde_json.specs.View.{items_of};
     ghost use Rattle.pst_btree.specs.Order.{Rises};
     ghost use Rattle.pst_ndb.specs.NodeTable.{table_of_nodes, entries_of_nodes};
     ghost use Rattle.pst_intact.specs.View.{table_of_intact, nodes_of_intact, intact_beside, intact_roots};
     ghost use Rattle.pst_verify.specs.pst_reach.Levels.{reaches_of};
     ghost use Rattle.pst_verify.specs.pst_reach.Path.{reach_nid};
     ghost use Rattle.pst_whole.specs.View.{lost_in};
+    ghost use Rattle.pst_json.specs.Folders.{folder_data};
     ghost use Rattle.pst_json.specs.FolderRows.{all_rows, folder_rows, intact_of, lost_of_rows, reached_of, folder_rows_left};
 
     /// All folders among intact nodes, of which the root folder reaches these.
@@ -152,46 +150,27 @@ impl<'a> FolderRows<'a> {
         }
         next_of(&mut self.rest, self.reached, true)
     }
-}
 
-#[tactic(auto, using(crate::proofs::RowCountLemmas::counts_of, crate::proofs::RowIdsLemmas::ids_of_table, pst_ndb::proofs::NodeIndexesLemmas::last_of))]
-impl Rows for FolderRows<'_> {
-    ghost use Rattle.pst_json.specs.FolderRows.{folder_rows};
-
-    ghost left = { folder_rows };
-
-    fn next_doc(&mut self, alloc: Global) -> Result<Option<Doc>, AllocError> {
-        match self.next_folder() {
-            Some(folder) => {
-                let doc = folder_doc(
-                    alloc,
-                    folder,
-                    &self.lost,
-                    self.reached,
-                    &mut self.counts,
-                    &mut self.index,
-                )?;
-                Ok(Some(doc))
-            }
-            None => Ok(None),
-        }
-    }
-
-    // A folder goes to the text member by member, without a tree. Room is taken for all before the first.
-    fn put_next(
+    // Writes a folder of these, as an object.
+    #[tactic(auto, using(crate::proofs::RowCountLemmas::counts_of, crate::proofs::RowIdsLemmas::ids_of_table, pst_ndb::proofs::NodeIndexesLemmas::last_of))]
+    fn write<P: Pen>(
         &mut self,
         alloc: Global,
-        later: bool,
-        text: &mut Vec<u8>,
-    ) -> Result<bool, AllocError> {
-        let Some(folder) = self.next_folder() else {
-            return Ok(false);
-        };
-        if !later {
-            text.reserve(ROOM.saturating_mul(self.reached.len()))?;
-        }
-        put_comma(later, text)?;
-        put_folder(
+        folder: IntactFolder<'a>,
+        pen: &mut P,
+    ) -> Result<(), AllocError>
+        requires table { table_of_nodes (intact_beside folder) ≡ table_of_intact (intact_of self.old) }
+        requires nodes { entries_of_nodes (intact_beside folder)
+            ≡ nodes_of_intact (intact_of self.old) }
+        ensures rows { folder_rows self.new ≡ folder_rows self.old }
+        ensures left { folder_rows_left self.new ≡ folder_rows_left self.old }
+        ensures put { let intact = intact_of self.old in
+            let shown = folder_data (table_of_intact intact) (nodes_of_intact intact)
+            (lost_of_rows self.old) (reached_of self.old) (intact_roots folder.entry) in
+            OnOk result (P.Puts pen.old pen.new shown) }
+        ensures kept { (base : P) → P.Keeps base pen.old → P.Keeps base pen.new }
+    {
+        write_folder(
             alloc,
             folder,
             &self.lost,
@@ -199,8 +178,23 @@ impl Rows for FolderRows<'_> {
             &mut self.counts,
             &mut self.rows,
             &mut self.index,
-            text,
-        )?;
-        Ok(true)
+            pen,
+        )
+    }
+
+    /// Writes those that are left, as a list.
+    pub(crate) fn write_all<P: Pen>(&mut self, alloc: Global, pen: &mut P) -> Result<(), AllocError>
+        ensures put { OnOk result (P.Puts pen.old pen.new (array (items_of (folder_rows self.old)))) }
+        ensures kept { (base : P) → P.Keeps base pen.old → P.Keeps base pen.new }
+    {
+        pen.open_list(alloc)?;
+        let mut later = false;
+        while let Some(folder) = self.next_folder() {
+            pen.comma(later)?;
+            self.write(alloc, folder, pen)?;
+            pen.item(alloc)?;
+            later = true;
+        }
+        pen.close_list(later)
     }
 }

@@ -1,6 +1,6 @@
 //! The documents of a store, as JSON.
 //!
-//! Each is made once, of its parts, and has two calls: one gives it as a tree of JSON, the other its line, the compact text of
+//! Each is written once, with a pen, and has two calls: one gives it as a tree of JSON, the other its line, the compact text of
 //! that tree and a line feed, made row by row. Begin with `nodes_line`, whose tree is `nodes_doc`; `emit` writes a text.
 //! `property_at` lends one property, whose value `emit_value` writes from the file's own memory:
 //!
@@ -12,12 +12,11 @@
 
 mod check;
 mod contents;
-mod folder_lines;
+mod folder;
 mod folder_rows;
 mod folders;
 mod head;
-mod listed_lines;
-mod listed_rows;
+mod listed;
 mod listings;
 mod messages;
 mod nid_lists;

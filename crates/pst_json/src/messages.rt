@@ -13,11 +13,11 @@ ghost use Rattle.pst_json.specs.Messages.{time_property, number_property, summar
 ghost use Rattle.pst_json.specs.RowCounts.{AreCountsTrue, IsHeld};
 
 use crate::listings::{Listings, listings_of};
-use crate::nid_lists::put_nid_list;
+use crate::nid_lists::write_nids;
 use crate::row_counts::{Held, RowCounts};
 use pst_intact::Intact;
 use pst_ndb::NodeIndexes;
-use pst_props::{CLASS, SENDER, SUBJECT, lend_message, new_indexes, put_text_property};
+use pst_props::{CLASS, SENDER, SUBJECT, lend_message, new_indexes, write_text_property};
 use pst_value_json::{
     Pc, PropType, put_i32_or_null, put_natural, put_nid, put_null, put_time_or_null,
 };
@@ -83,9 +83,9 @@ fn put_shown(
     text.extend_from_slice(b"{\"attachments\":")?;
     put_natural(held.attachments, text)?;
     text.extend_from_slice(b",\"class\":")?;
-    put_text_property(alloc, &pc, CLASS, text)?;
+    write_text_property(alloc, &pc, CLASS, text)?;
     text.extend_from_slice(b",\"folders\":")?;
-    put_nid_list(folders, text)?;
+    write_nids(alloc, folders, text)?;
     text.extend_from_slice(b",\"nid\":")?;
     put_nid(message.nid(), text)?;
     text.extend_from_slice(b",\"received\":")?;
@@ -93,13 +93,13 @@ fn put_shown(
     text.extend_from_slice(b",\"recipients\":")?;
     put_natural(held.recipients, text)?;
     text.extend_from_slice(b",\"sender\":")?;
-    put_text_property(alloc, &pc, SENDER, text)?;
+    write_text_property(alloc, &pc, SENDER, text)?;
     text.extend_from_slice(b",\"sent\":")?;
     put_time_property(&pc, SENT, text)?;
     text.extend_from_slice(b",\"size\":")?;
     put_number_property(&pc, SIZE, text)?;
     text.extend_from_slice(b",\"subject\":")?;
-    put_text_property(alloc, &pc, SUBJECT, text)?;
+    write_text_property(alloc, &pc, SUBJECT, text)?;
     text.push(b'}')?;
     Ok(())
 }

@@ -10,16 +10,17 @@ ghost use Rattle.pst_verify.specs.pst_msg.View.{attachment_shown, node_of_attach
 ghost use Rattle.pst_props.specs.DocumentIndexes.{AreDocumentIndexes};
 ghost use Rattle.pst_props.specs.Node.{attachment_data, message_data, node_props_data};
 
-use crate::attachment::shown_attachment;
+use crate::attachment::write_attachment;
 use crate::document_indexes::DocumentIndexes;
 use crate::lent::lend_pc;
-use crate::node::{indexed_message, shown_node};
-use pst_value_json::{Filed, Line, NameMap, Pc};
+use crate::node::{write_message, write_node};
+use pst_value_json::{Filed, NameMap, Pc, end_line};
 use pst_verify::{Attachment, Message};
 use std::alloc::{AllocError, Global};
 
 /// The line that shows a message, whose headers, bodies and contents of attachments are told by the names of files. The indexes turn
 /// to what it has.
+#[tactic(auto, unfolding(pst_text::specs::Line::data_line))]
 pub fn message_line(
     alloc: Global,
     message: Message,
@@ -32,10 +33,13 @@ pub fn message_line(
         let shown = message_data told true false (table_of_node node) (roots_of node) (nid_of node) in
         IfOk result (λ text. text.items ≡ data_line shown) }
 {
-    indexed_message::<Line>(alloc, message, names, true, false, indexes)
+    let mut text = Vec::new(alloc);
+    write_message(alloc, message, names, true, false, indexes, &mut text)?;
+    end_line(text)
 }
 
 /// The line that shows an attachment, whose content is told by the name of a file. The indexes turn to what it has.
+#[tactic(auto, unfolding(pst_text::specs::Line::data_line))]
 pub fn attachment_line(
     alloc: Global,
     attachment: Attachment,
@@ -50,17 +54,22 @@ pub fn attachment_line(
         IfOk result (λ text.
         text.items ≡ data_line (attachment_data told (InAttachment None) false t shown)) }
 {
-    shown_attachment::<Line>(
+    let filed = Filed::Attachment(None);
+    let mut text = Vec::new(alloc);
+    write_attachment(
         alloc,
         attachment,
         names,
-        Filed::Attachment(None),
+        filed,
         false,
         &mut indexes.attachments,
-    )
+        &mut text,
+    )?;
+    end_line(text)
 }
 
 /// The line that shows the properties of a node that is no message. The indexes turn to what it has.
+#[tactic(auto, unfolding(pst_text::specs::Line::data_line))]
 pub fn node_line(
     alloc: Global,
     pc: Pc,
@@ -75,5 +84,7 @@ pub fn node_line(
 {
     indexes.shown.turn_at_once(alloc, pc.node())?;
     let lent = lend_pc(&indexes.shown, pc);
-    shown_node::<Line>(alloc, pc.node().nid(), &lent, names, false)
+    let mut text = Vec::new(alloc);
+    write_node(alloc, &lent, names, false, &mut text)?;
+    end_line(text)
 }

@@ -1,32 +1,32 @@
 //! The properties of a node as a document, and of a message also its attachments and recipients.
 
-ghost use Rattle.std.specs.Prelude.{◌≡◌, IfOk};
-ghost use Rattle.serde_json.specs.Data.{array};
-ghost use Rattle.serde_json.specs.View.{view, items_of};
+ghost use Rattle.std.specs.Prelude.{◌≡◌, IfOk, OnOk};
+ghost use Rattle.serde_json.specs.View.{view};
 ghost use Rattle.pst_ndb.specs.Roots.{subnode_of};
 ghost use Rattle.pst_ndb.specs.Views.{table_of_node, nid_of, roots_of};
 ghost use Rattle.pst_intact.specs.View.{table_of_intact, nodes_of_intact};
 ghost use Rattle.pst_value_json.specs.Props.{names_told};
 ghost use Rattle.pst_value_json.specs.pst_pc.View.{node_of_pc};
+ghost use Rattle.pst_value_json.specs.pst_text.Line.{data_line};
 ghost use Rattle.pst_verify.specs.pst_msg.View.{node_of_message};
 ghost use Rattle.pst_props.specs.DocumentIndexes.{AreDocumentIndexes};
 ghost use Rattle.pst_props.specs.Found.{node_of_found, place_of_found};
 ghost use Rattle.pst_ndb.specs.NodeIndexes.{AreNodeIndexes};
-ghost use Rattle.pst_props.specs.Lists.{list_left};
 ghost use Rattle.pst_props.specs.NamesIndex.{IsNamesIndex};
 ghost use Rattle.pst_props.specs.Node.{recipient_nid, recipients_there, filed_of_message, message_data, node_props_data, place_data, props_told, props_line as line_of_props};
 ghost use Rattle.pst_props.specs.Told.{TellsDoc};
 
-use crate::attachment::{AttachmentRows, shown_attachment};
+use crate::attachment::{write_attachment, write_attachments};
 use crate::document_indexes::DocumentIndexes;
 use crate::fault::DocFault;
 use crate::found::{Found, found_in, index_at};
 use crate::lent::{lend_message, lend_tc, new_indexes};
-use crate::lists::MessageRows;
 use crate::names::{NamesIndex, names_in};
 use pst_intact::Intact;
 use pst_ndb::NodeIndexes;
-use pst_value_json::{Filed, Line, Made, NameMap, Part, Pc, Sink, Tree, prop_rows, table_rows};
+use pst_value_json::{
+    Filed, Leaf, NameMap, Pc, Pen, end_line, only, write_nothing, write_props, write_table,
+};
 use pst_verify::Message;
 use serde_json::Value as Doc;
 use std::alloc::{AllocError, Global};
@@ -42,165 +42,180 @@ fn filed_of(files: bool) -> Filed
     }
 }
 
-// The document of a message whose recipients these are.
-#[tactic(auto, unfolding(crate::specs::Node::message_data))]
-fn shown_lists<'a, S: Sink>(
+// Writes the recipients of a message: the rows of their table, of none where it has no such table. The index turns to that.
+fn write_recipients<P: Pen>(
     alloc: Global,
-    nid: u32,
-    message: Message<'a>,
-    names: Option<NameMap<'a>>,
-    files: bool,
+    message: Message,
     places: bool,
-    kept: &'a NodeIndexes,
-    recipients: MessageRows<'a>,
-) -> Result<S::Out, AllocError>
-    requires known { AreNodeIndexes (table_of_node (node_of_message message)) kept.now }
-    requires recipients { let node = node_of_message message in
-        let t = table_of_node node in let r = roots_of node in
-        array (items_of (list_left recipients))
-        ≡ recipients_there places t (subnode_of t r recipient_nid) }
-    ensures { let node = node_of_message message.entry in let told = names_told names.entry in
-        IfOk result (λ out.
-        S.Shows out (message_data told files places (table_of_node node) (roots_of node) nid)) }
+    index: &mut NodeIndexes,
+    pen: &mut P,
+) -> Result<(), AllocError>
+    requires { AreNodeIndexes (table_of_node (node_of_message message)) index.old }
+    ensures known { AreNodeIndexes (table_of_node (node_of_message message.entry)) index.new }
+    ensures put { let node = node_of_message message.entry in let t = table_of_node node in
+        let shown = recipients_there places t (subnode_of t (roots_of node) recipient_nid) in
+        OnOk result (P.Puts pen.old pen.new shown) }
+    ensures kept { (base : P) → P.Keeps base pen.old → P.Keeps base pen.new }
 {
-    let attachments = MessageRows::Attachments(AttachmentRows {
-        attachments: message.attachments(),
-        names,
-        files,
-        places,
-        kept,
-        index: new_indexes(alloc),
-    });
-    let filed = filed_of(files);
-    let props = MessageRows::Props(prop_rows(&message.pc(), names, filed, places));
-    let parts = vec![in alloc;
-        Part::Rows("attachments", attachments),
-        Part::Value("nid", Made::Nid(Some(nid))),
-        Part::Rows("props", props),
-        Part::Rows("recipients", recipients),
-    ]?;
-    S::object(alloc, parts)
+    match message.recipients() {
+        Some(table) => {
+            index.turn_at_once(alloc, table.node())?;
+            write_table(alloc, &lend_tc(index, table), places, pen)
+        }
+        None => write_nothing(alloc, pen),
+    }
 }
 
-// The document of a message, under the identifier of its node. The index turns to its recipients; those that are kept of attachments
-// are lent to its own.
-#[tactic(auto, using(pst_ndb::proofs::NodeIndexesLemmas::last_of))]
-fn shown_message<S: Sink>(
+// Writes a message, as an object. The index turns to its recipients; those that are kept of attachments are lent to its own.
+#[tactic(auto, unfolding(crate::specs::Node::message_data))]
+fn write_lent_message<P: Pen>(
     alloc: Global,
-    nid: u32,
     message: Message,
     names: Option<NameMap>,
     files: bool,
     places: bool,
     kept: &NodeIndexes,
     index: &mut NodeIndexes,
-) -> Result<S::Out, AllocError>
+    pen: &mut P,
+) -> Result<(), AllocError>
     requires kept { AreNodeIndexes (table_of_node (node_of_message message)) kept.now }
     requires index { AreNodeIndexes (table_of_node (node_of_message message)) index.old }
     ensures known { AreNodeIndexes (table_of_node (node_of_message message.entry)) index.new }
-    ensures shown { let node = node_of_message message.entry in let told = names_told names.entry in
-        IfOk result (λ out.
-        S.Shows out (message_data told files places (table_of_node node) (roots_of node) nid)) }
+    ensures put { let node = node_of_message message.entry in let told = names_told names.entry in
+        OnOk result (P.Puts pen.old pen.new
+        (message_data told files places (table_of_node node) (roots_of node) (nid_of node))) }
+    ensures kept { (base : P) → P.Keeps base pen.old → P.Keeps base pen.new }
 {
-    match message.recipients() {
-        Some(table) => {
-            index.turn_at_once(alloc, table.node())?;
-            let rows = table_rows(alloc, &lend_tc(index, table), places)?;
-            shown_lists::<S>(
-                alloc,
-                nid,
-                message,
-                names,
-                files,
-                places,
-                kept,
-                MessageRows::Recipients(rows),
-            )
-        }
-        None => shown_lists::<S>(
-            alloc,
-            nid,
-            message,
-            names,
-            files,
-            places,
-            kept,
-            MessageRows::Nobody,
-        ),
-    }
+    pen.first(alloc, "attachments", b"{\"attachments\":")?;
+    write_attachments(alloc, message, names, files, places, kept, pen)?;
+    pen.next(alloc, "nid", b",\"nid\":")?;
+    pen.leaf(alloc, &Leaf::Nid(Some(message.nid())))?;
+    pen.next(alloc, "props", b",\"props\":")?;
+    write_props(alloc, &message.pc(), names, filed_of(files), places, pen)?;
+    pen.next(alloc, "recipients", b",\"recipients\":")?;
+    write_recipients(alloc, message, places, index, pen)?;
+    pen.close(alloc)
 }
 
-/// The same, of a message that has been lent no index yet. The indexes turn to what it has.
-pub(crate) fn indexed_message<S: Sink>(
+/// Writes a message, which has been lent no index yet, as an object: its attachments, its identifier, its properties, and its
+/// recipients. The indexes turn to what it has.
+pub(crate) fn write_message<P: Pen>(
     alloc: Global,
     message: Message,
     names: Option<NameMap>,
     files: bool,
     places: bool,
     indexes: &mut DocumentIndexes,
-) -> Result<S::Out, AllocError>
+    pen: &mut P,
+) -> Result<(), AllocError>
     requires { AreDocumentIndexes (table_of_node (node_of_message message)) indexes.old }
     ensures known { AreDocumentIndexes (table_of_node (node_of_message message.entry)) indexes.new }
-    ensures shown { let node = node_of_message message.entry in let told = names_told names.entry in
-        IfOk result (λ out. S.Shows out
+    ensures put { let node = node_of_message message.entry in let told = names_told names.entry in
+        OnOk result (P.Puts pen.old pen.new
         (message_data told files places (table_of_node node) (roots_of node) (nid_of node))) }
+    ensures kept { (base : P) → P.Keeps base pen.old → P.Keeps base pen.new }
 {
     indexes.shown.turn_at_once(alloc, message.node())?;
     let lent = lend_message(&indexes.shown, message);
-    shown_message::<S>(
+    write_lent_message(
         alloc,
-        message.nid(),
         lent,
         names,
         files,
         places,
         &indexes.attachments,
         &mut indexes.recipients,
+        pen,
     )
 }
 
-// The document of a node that is no message.
+/// Writes a node that is no message, as an object: its identifier and its properties.
 #[tactic(auto, unfolding(crate::specs::Node::node_props_data))]
-pub(crate) fn shown_node<'a, S: Sink>(
+pub(crate) fn write_node<P: Pen>(
     alloc: Global,
-    nid: u32,
-    pc: &Pc<'a>,
-    names: Option<NameMap<'a>>,
+    pc: &Pc,
+    names: Option<NameMap>,
     places: bool,
-) -> Result<S::Out, AllocError>
-    ensures { let node = node_of_pc pc.now in let told = names_told names.entry in
-        IfOk result (λ out.
-        S.Shows out (node_props_data told places (table_of_node node) (roots_of node) nid)) }
+    pen: &mut P,
+) -> Result<(), AllocError>
+    ensures put { let node = node_of_pc pc.now in let told = names_told names.entry in
+        OnOk result (P.Puts pen.old pen.new
+        (node_props_data told places (table_of_node node) (roots_of node) (nid_of node))) }
+    ensures kept { (base : P) → P.Keeps base pen.old → P.Keeps base pen.new }
 {
-    let parts = vec![in alloc;
-        Part::Value("nid", Made::Nid(Some(nid))),
-        Part::Rows("props", prop_rows(pc, names, Filed::Nothing, places)),
-    ]?;
-    S::object(alloc, parts)
+    pen.first(alloc, "nid", b"{\"nid\":")?;
+    pen.leaf(alloc, &Leaf::Nid(Some(pc.node().nid())))?;
+    pen.next(alloc, "props", b",\"props\":")?;
+    write_props(alloc, pc, names, Filed::Nothing, places, pen)?;
+    pen.close(alloc)
 }
 
-// The document of what has one.
-fn shown_found<'a, S: Sink>(
+// Writes what has properties.
+fn write_found<P: Pen>(
     alloc: Global,
-    found: Found<'a>,
-    names: Option<NameMap<'a>>,
+    found: Found,
+    names: Option<NameMap>,
     places: bool,
-) -> Result<S::Out, AllocError>
-    ensures { let t = table_of_node (node_of_found found.entry) in
+    pen: &mut P,
+) -> Result<(), AllocError>
+    ensures put { let t = table_of_node (node_of_found found.entry) in
         let told = names_told names.entry in
-        IfOk result (λ out. S.Shows out (place_data told places t (place_of_found found.entry))) }
+        OnOk result (P.Puts pen.old pen.new (place_data told places t (place_of_found found.entry))) }
+    ensures kept { (base : P) → P.Keeps base pen.old → P.Keeps base pen.new }
 {
     match found {
         Found::Message(message) => {
             let mut indexes = DocumentIndexes::new(alloc);
-            indexed_message::<S>(alloc, message, names, false, places, &mut indexes)
+            write_message(alloc, message, names, false, places, &mut indexes, pen)
         }
         Found::Attachment(attachment) => {
             let mut index = new_indexes(alloc);
-            shown_attachment::<S>(alloc, attachment, names, Filed::Nothing, places, &mut index)
+            write_attachment(
+                alloc,
+                attachment,
+                names,
+                Filed::Nothing,
+                places,
+                &mut index,
+                pen,
+            )
         }
-        Found::Pc(pc) => shown_node::<S>(alloc, pc.node().nid(), &pc, names, places),
+        Found::Pc(pc) => write_node(alloc, &pc, names, places, pen),
     }
+}
+
+// Its tree.
+fn found_doc(
+    alloc: Global,
+    found: Found,
+    names: Option<NameMap>,
+    places: bool,
+) -> Result<Doc, AllocError>
+    ensures { let t = table_of_node (node_of_found found.entry) in
+        let told = names_told names.entry in
+        IfOk result (λ d. view d ≡ place_data told places t (place_of_found found.entry)) }
+{
+    let mut docs = Vec::new(alloc);
+    write_found(alloc, found, names, places, &mut docs)?;
+    Ok(only(docs))
+}
+
+// Its line.
+#[tactic(auto, unfolding(pst_text::specs::Line::data_line))]
+fn found_line(
+    alloc: Global,
+    found: Found,
+    names: Option<NameMap>,
+    places: bool,
+) -> Result<Vec<u8>, AllocError>
+    ensures { let t = table_of_node (node_of_found found.entry) in
+        let told = names_told names.entry in
+        IfOk result (λ line.
+        line.items ≡ data_line (place_data told places t (place_of_found found.entry))) }
+{
+    let mut text = Vec::new(alloc);
+    write_found(alloc, found, names, places, &mut text)?;
+    end_line(text)
 }
 
 /// The properties of what a path leads to as a JSON object: the last identifier of the path, and the properties as `pc_doc` gives
@@ -225,7 +240,7 @@ pub fn props_doc<'a>(
 {
     let last = index_at(alloc, intact, path)?;
     let found = found_in(intact, path, Some(&last))?;
-    Ok(shown_found::<Tree>(alloc, found, names_in(intact, index), places)?)
+    Ok(found_doc(alloc, found, names_in(intact, index), places)?)
 }
 
 /// The line that shows the properties of what a path leads to: the compact text of their document, and a line feed; or why there is
@@ -246,5 +261,5 @@ pub fn props_line<'a>(
 {
     let last = index_at(alloc, intact, path)?;
     let found = found_in(intact, path, Some(&last))?;
-    Ok(shown_found::<Line>(alloc, found, names_in(intact, index), places)?)
+    Ok(found_line(alloc, found, names_in(intact, index), places)?)
 }

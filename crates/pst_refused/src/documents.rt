@@ -1,8 +1,5 @@
 //! The documents of a store: each as a tree, whose text is then its line.
 
-ghost use Rattle.std.specs.Prelude.{IfOk};
-ghost use Rattle.pst_value_json.specs.Rows.{PutsNext};
-
 use crate::refused::{Refused, holds};
 use crate::remains::{damaged, remains_of};
 use pst_bytes::Image;
@@ -16,7 +13,7 @@ use pst_json::{
     pc_doc, props_doc, props_line, reach_among, read_nodes, table_doc, text, text_of, value_doc,
     verify,
 };
-use pst_value_json::{Filed, Rows, prop_rows, table_rows};
+use pst_value_json::{Filed, NameMap, Pc, Tc, write_props, write_table};
 use pst_verify::Verified;
 use serde_json::Value as Doc;
 use std::alloc::Global;
@@ -158,31 +155,25 @@ pub(crate) fn archive_of_whole(alloc: Global, bytes: &[u8]) -> Result<(), Refuse
     is_archive(alloc, &export)
 }
 
-// Puts the next row behind a text; where memory is refused within the row, no byte of the text is lost.
-fn put_behind<R: Rows>(
-    alloc: Global,
-    rows: &mut R,
-    later: bool,
-    text: &mut Vec<u8>,
-) -> Result<bool, Refused>
-    ensures { IfOk result (λ more. PutsNext more later (R.left rows.old) (R.left rows.new)
-        text.old.items text.new.items) }
-{
-    let long = text.len();
-    let put = rows.put_next(alloc, later, text);
-    holds(text.len() >= long)?;
-    Ok(put?)
+// What stood before a text that more was written behind stands there still, also where memory was refused.
+fn stands(text: &[u8]) -> Result<(), Refused> {
+    holds(text.starts_with(b"behind "))
 }
 
-// Puts rows behind a text, one after another.
-fn put_all<R: Rows>(alloc: Global, rows: R) -> Result<(), Refused> {
-    let mut rows = rows;
-    let mut text = Vec::new(alloc);
-    let mut later = false;
-    while put_behind(alloc, &mut rows, later, &mut text)? {
-        later = true;
-    }
-    Ok(())
+// Writes properties behind a text.
+fn write_behind(alloc: Global, pc: &Pc, names: Option<NameMap>) -> Result<(), Refused> {
+    let mut text = Vec::from_slice(alloc, b"behind ")?;
+    let written = write_props(alloc, pc, names, Filed::Nothing, true, &mut text);
+    stands(&text)?;
+    Ok(written?)
+}
+
+// Writes rows behind a text.
+fn write_rows_behind(alloc: Global, table: &Tc) -> Result<(), Refused> {
+    let mut text = Vec::from_slice(alloc, b"behind ")?;
+    let written = write_table(alloc, table, true, &mut text);
+    stands(&text)?;
+    Ok(written?)
 }
 
 /// The values of the store's own properties, as documents and as text, and the rows of the root folder's table.
@@ -190,7 +181,7 @@ pub(crate) fn values(alloc: Global, bytes: &[u8]) -> Result<(), Refused> {
     let store = verify(alloc, bytes)?.store;
     let pc = store.props();
     let _all = pc_doc(alloc, &pc, store.names(), false)?;
-    put_all(alloc, prop_rows(&pc, store.names(), Filed::Nothing, true))?;
+    write_behind(alloc, &pc, store.names())?;
     for prop in pc.props() {
         let _shown = value_doc(alloc, prop.kind, prop.value)?;
         let _bytes = hex_doc(alloc, prop.value)?;
@@ -198,7 +189,7 @@ pub(crate) fn values(alloc: Global, bytes: &[u8]) -> Result<(), Refused> {
     }
     if let Some(table) = store.root().hierarchy() {
         let _rows = table_doc(alloc, &table, false)?;
-        put_all(alloc, table_rows(alloc, &table, true)?)?;
+        write_rows_behind(alloc, &table)?;
     }
     Ok(())
 }

@@ -2,9 +2,7 @@ pub mod CellLemmas
 pub mod ColumnLemmas
 pub mod DocLemmas
 pub mod MemberLemmas
-pub mod PartLemmas
 pub mod PenLemmas
 pub mod PlaceLemmas
 pub mod PropLemmas
-pub mod RowLemmas
 pub use Rattle.pst_text.proofs as pst_text

@@ -1,13 +1,10 @@
 -- An object whose text is put behind another, member by member.
-use Rattle.std.proofs.Common.{◌≡◌, ℕ, Bool, true, false, List, [], ◌∷◌, ◌++◌, refl, sym, ap, ◌∙◌, append_assoc, append-nil}
-use Rattle.std.specs.Prelude.{Option, Some, None}
+use Rattle.std.proofs.Common.{◌≡◌, ℕ, Bool, true, false, List, [], ◌∷◌, ◌++◌, refl, sym, ap, ◌∙◌, append_assoc}
 use Rattle.serde_json.specs.Data.{Data, string, object, Members, member, no_members}
 use Rattle.serde_json.specs.Written.{compact_text, members_text, comma_if}
 use Rattle.json.specs.Print.{escape}
 use Rattle.pst_text.specs.Quoted.{all_plain, key_text}
-use Rattle.pst_value_json.specs.Object.{if_member_text}
 use Rattle.pst_value_json.specs.Pen.{key_and_colon}
-use Rattle.pst_value_json.specs.Places.{member_if}
 use Rattle.pst_text.proofs.EscapeLemmas.{all_escaped}
 
 -- the object begins
@@ -23,13 +20,6 @@ pub member_put : (later : Bool) (k : List ℕ) (d : Data) (ms : Members) (text k
 member_put later k d ms text key put whole keyed is so_far =
     ap (λ l. l ++ members_text true ms) is ∙ append_assoc key (compact_text d) (members_text true ms) ∙ ap (λ l. l ++ (compact_text d ++ members_text true ms)) keyed
     ∙ shape text (comma_if later) (compact_text (string k)) (compact_text d) (members_text true ms) ∙ so_far
-
--- a member that may be there is put, behind others
-pub if_member_put : (k : List ℕ) (o : Option Data) (ms : Members) (text put whole : List ℕ) → put ≡ text ++ if_member_text k o
-    → text ++ members_text true (member_if k o ms) ≡ whole → put ++ members_text true ms ≡ whole
-if_member_put k None ms text put whole is so_far = ap (λ l. l ++ members_text true ms) (is ∙ append-nil text) ∙ so_far
-if_member_put k (Some d) ms text put whole is so_far =
-    member_put true k d ms text (text ++ key_text true k) put whole refl (is ∙ sym (append_assoc text (key_text true k) (compact_text d))) so_far
 
 -- the object ends
 pub closed : (text put whole : List ℕ) → put ≡ text ++ 125 ∷ [] → text ++ members_text true no_members ≡ whole → put ≡ whole

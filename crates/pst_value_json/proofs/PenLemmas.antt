@@ -1,9 +1,10 @@
 -- Objects that are written member by member.
-use Rattle.std.proofs.Common.{◌≡◌, ℕ, Bool, true, false, List, [], ◌∷◌, ◌++◌, Option, Some, None, Ordering, Less, Equal, Greater, nat_cmp, refl, sym, ap, ◌∙◌, append_assoc, append-nil}
+use Rattle.std.proofs.Common.{◌≡◌, ℕ, ◌+◌, ◌<◌, ◌≤◌, Bool, true, false, length, drop, get_or, map, List, [], ◌∷◌, ◌++◌, Option, Some, None, Ordering, Less, Equal, Greater, nat_cmp, refl, sym, ap, ◌∙◌, append_assoc, append-nil}
 use Rattle.std.specs.Prelude.{◌&&◌}
 use Rattle.std.specs.Cmp.Lexicographic.{slice_cmp}
 use Rattle.std.specs.Ordering.{match_ordering}
 use Rattle.std.proofs.lemmas.Bool.{and_parts}
+use Rattle.std.proofs.lemmas.List.{drop_more, drop_all}
 use Rattle.json.specs.Print.{escape}
 use Rattle.serde_json.specs.Data.{Data, object, array, Members, no_members, member, put}
 use Rattle.serde_json.specs.Written.{compact_text, items_text, members_text}
@@ -102,3 +103,25 @@ pub list_end : (base old now : List ℕ) (later : Bool) (done : List Data)
     → ((rest : List Data) → old ++ items_text later (items_of rest) ≡ base ++ compact_text (array (items_of (done ++ rest)))) → now ≡ old ++ 93 ∷ []
     → now ≡ base ++ compact_text (array (items_of done))
 list_end base old now later done so_far is = is ∙ so_far [] ∙ ap (λ ds. base ++ compact_text (array (items_of ds))) (append-nil done)
+
+-- ---- lists that are written item by item
+
+-- one more item stands there, the first of those that are left
+pub one_more : {X : Type 0} (shown : X → Data) (x : X) (left behind : List X) (done whole : List Data) → left ≡ x ∷ behind
+    → done ++ map shown left ≡ whole → (done ++ shown x ∷ []) ++ map shown behind ≡ whole
+one_more shown x left behind done whole is so_far =
+    append_assoc done (shown x ∷ []) (map shown behind) ∙ ap (λ l. done ++ map shown l) (sym is) ∙ so_far
+
+-- none is left
+pub none_left : {X : Type 0} (shown : X → Data) (left : List X) (done whole : List Data) → left ≡ [] → done ++ map shown left ≡ whole → done ≡ whole
+none_left shown left done whole is so_far = sym (append-nil done) ∙ ap (λ l. done ++ map shown l) (sym is) ∙ so_far
+
+-- the same of a slice, from the item with a number on
+pub next_of_slice : {X : Type 0} (shown : X → Data) (items : List X) (i : ℕ) (x : X) (done whole : List Data) → i < length items
+    → done ++ map shown (drop i items) ≡ whole → (done ++ shown (get_or items i x) ∷ []) ++ map shown (drop (i + 1) items) ≡ whole
+next_of_slice shown items i x done whole inside so_far =
+    one_more shown (get_or items i x) (drop i items) (drop (i + 1) items) done whole (drop_more items i x inside) so_far
+
+pub end_of_slice : {X : Type 0} (shown : X → Data) (items : List X) (i : ℕ) (done whole : List Data) → length items ≤ i
+    → done ++ map shown (drop i items) ≡ whole → done ≡ whole
+end_of_slice shown items i done whole past so_far = none_left shown (drop i items) done whole (drop_all i items past) so_far

@@ -1,17 +1,12 @@
 -- The rows of a table as a document, with the cells that they have ([MS-PST] 2.3.4).
-use Rattle.std.specs.Prelude.{ℕ, Bool, ◌%◌, List, [], ◌∷◌, ◌++◌, Option, Some, None, option_map, map, codes, if◌then◌else◌}
+use Rattle.std.specs.Prelude.{ℕ, Bool, ◌%◌, List, [], ◌∷◌, ◌++◌, Option, Some, None, option_map, codes, if◌then◌else◌}
 use Rattle.serde_json.specs.Data.{Data, string, object, Members, member, no_members}
 use Rattle.pst_bytes.specs.declared.span.Span.{Span}
 use Rattle.pst_block.specs.Table.{Table}
 use Rattle.pst_ndb.specs.Roots.{Roots}
-use Rattle.pst_ndb.specs.Views.{table_of_node, roots_of}
 use Rattle.pst_value.specs.Class.{cell_width_of}
 use Rattle.pst_tc.specs.Info.{has_width}
-use Rattle.pst_tc.specs.Left.{tc_left, tc_rows_left}
-use Rattle.pst_tc.specs.Tc.{node_of_tc}
-use Rattle.pst_tc.specs.View.{column_of}
 use Rattle.pst_tc.specs.Values.{ColumnParts, RowParts, tc_cell, tc_columns}
-use Rattle.pst_value_json.specs.declared.shown_rows.TableRows.{TableRows}
 use Rattle.pst_value_json.specs.Columns.{distinct_columns}
 use Rattle.pst_text.specs.Names.{nid_data, tag_text}
 use Rattle.pst_text.specs.Parts.{list_data}
@@ -80,9 +75,3 @@ row_data places t r columns x =
 -- a row of the table context of a node, with its cells in all columns that are shown
 abbrev pub table_row_data : Bool → Table → Roots → RowParts → Data
 table_row_data places t r = row_data places t r (distinct_columns (tc_columns t r))
-
--- the rows that are left, with the cells in the columns that are shown
-unfoldable pub table_rows_left : TableRows → List Data
-table_rows_left x =
-    let node = node_of_tc (tc_left x.rows) in
-    map (row_data x.places (table_of_node node) (roots_of node) (map column_of x.columns.items)) (tc_rows_left x.rows)

@@ -6,10 +6,7 @@ pub mod Props
 pub mod Columns
 pub mod Cells
 pub mod Laws
-pub mod Rows
 pub mod Leaf
-pub mod Made
-pub mod Object
 pub mod Pen
 pub use Rattle.pst_datatree.specs as pst_datatree
 pub use Rattle.pst_value.specs as pst_value

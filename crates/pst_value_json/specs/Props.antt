@@ -1,5 +1,5 @@
 -- The documents of properties.
-use Rattle.std.specs.Prelude.{ℕ, Bool, Option, Some, None, option_map, List, map, codes}
+use Rattle.std.specs.Prelude.{ℕ, Bool, Option, Some, None, option_map, List, codes}
 use Rattle.serde_json.specs.Data.{Data, null, string, object, member, no_members}
 use Rattle.pst_bytes.specs.declared.span.Span.{Span}
 use Rattle.pst_block.specs.Table.{Table}
@@ -8,11 +8,8 @@ use Rattle.pst_ndb.specs.Views.{table_of_node, roots_of}
 use Rattle.pst_names.specs.declared.name_map.NameMap.{NameMap}
 use Rattle.pst_names.specs.Name.{KindParts, by_number, by_text, NameParts, name_of_property}
 use Rattle.pst_names.specs.View.{node_of_names}
-use Rattle.pst_pc.specs.Left.{pc_left, rest_of}
 use Rattle.pst_pc.specs.Values.{Property, property_at, spans_in}
-use Rattle.pst_pc.specs.View.{node_of_pc}
 use Rattle.pst_value_json.specs.declared.filed.Filed.{Filed}
-use Rattle.pst_value_json.specs.declared.props.PropRows.{PropRows}
 use Rattle.pst_value_json.specs.Filed.{file_told}
 use Rattle.pst_text.specs.Names.{id_text}
 use Rattle.pst_text.specs.Parts.{natural}
@@ -80,9 +77,3 @@ record_data names filed places t r x =
 abbrev pub names_told : Option NameMap → ℕ → Option NameParts
 names_told None id = None
 names_told (Some map) id = name_of_property (table_of_node (node_of_names map)) (roots_of (node_of_names map)) id
-
--- the properties that are left
-unfoldable pub prop_rows_left : PropRows → List Data
-prop_rows_left rows =
-    let node = node_of_pc (pc_left rows.props) in
-    map (record_data (names_told rows.names) rows.filed rows.places (table_of_node node) (roots_of node)) (rest_of rows.props)

@@ -1,19 +1,20 @@
-//! The rows of a table as documents, with the cells that they have.
+//! The rows of a table with the cells that they have.
 
-ghost use Rattle.std.specs.Prelude.{◌≡◌, IfOk, map, option_map};
+ghost use Rattle.std.specs.Prelude.{◌≡◌, IfOk, OnOk, map, option_map};
 ghost use Rattle.serde_json.specs.View.{view};
 ghost use Rattle.pst_ndb.specs.Views.{table_of_node, roots_of};
 ghost use Rattle.pst_tc.specs.Left.{columns_left};
 ghost use Rattle.pst_tc.specs.Tc.{node_of_tc};
 ghost use Rattle.pst_tc.specs.Values.{IsFirstColumn, tc_rows};
 ghost use Rattle.pst_tc.specs.View.{column_of, row_parts, tc_of_row};
-ghost use Rattle.pst_value_json.specs.Cells.{cell_content, table_row_data, table_rows_left};
+ghost use Rattle.pst_value_json.specs.Cells.{cell_content, table_row_data};
 ghost use Rattle.pst_value_json.specs.Columns.{has_tag, distinct_columns};
 ghost use Rattle.pst_text.specs.Parts.{list_data};
 ghost use Rattle.pst_value_json.specs.Places.{content_in};
 
-use crate::listing::list_doc;
-use crate::shown_rows::TableRows;
+use crate::pens::Pen;
+use crate::trees::only;
+use crate::write_cells::write_row;
 use pst_datatree::Value;
 use pst_tc::{Column, Columns, Row, Tc};
 use serde_json::Value as Doc;
@@ -58,24 +59,39 @@ pub(crate) fn cell_at<'a>(row: Row<'a>, column: Column) -> Option<Value<'a>>
     row.cell_in(column)
 }
 
-/// All rows of a table; with the places of their cells where these are asked for.
-#[tactic(auto, unfolding(crate::specs::Cells::table_rows_left))]
-pub fn table_rows<'a>(alloc: Global, tc: &Tc<'a>, places: bool) -> Result<TableRows<'a>, AllocError>
-    ensures { let node = node_of_tc tc.now in let t = table_of_node node in let r = roots_of node in
-        IfOk result (λ rows.
-        table_rows_left rows ≡ map (table_row_data places t r) (tc_rows t r)) }
+/// Writes all rows of a table, as a list of objects, in order of their identifiers, each with its cells, in order of the columns,
+/// and its identifier. Cells that a row has not, and columns whose tag an earlier one has, are left out. A cell has the tag of its
+/// column, and its value, as `value_doc` gives it, or, in a column that has not the width of its type, its bytes in hexadecimal.
+/// With places, each has also a list of `[place,length]`, as the properties of `write_props` have.
+pub fn write_table<P: Pen>(
+    alloc: Global,
+    tc: &Tc,
+    places: bool,
+    pen: &mut P,
+) -> Result<(), AllocError>
+    ensures put { let node = node_of_tc tc.now in let t = table_of_node node in
+        let r = roots_of node in
+        OnOk result (P.Puts pen.old pen.new (list_data (table_row_data places t r) (tc_rows t r))) }
+    ensures kept { (base : P) → P.Keeps base pen.old → P.Keeps base pen.new }
 {
     let columns = shown_columns(alloc, tc.columns())?;
-    Ok(TableRows::of(tc.rows(), columns, places))
+    pen.open_list(alloc)?;
+    let mut later = false;
+    for row in tc.rows() {
+        pen.comma(later)?;
+        write_row(alloc, row, &columns, places, pen)?;
+        pen.item(alloc)?;
+        later = true;
+    }
+    pen.close_list(later)
 }
 
-/// The rows of a table as a JSON array of objects, in order of their identifiers, each with its cells, in order of the
-/// columns, and its identifier. Cells that a row has not, and columns whose tag an earlier one has, are left out. A cell
-/// has the tag of its column, and its value, as `value_doc` gives it, or, in a column that has not the width of its type,
-/// as `hex_doc` does. With places, each has also a list of `[place,length]`, as the properties of `pc_doc` have.
+/// The rows of a table as a JSON array, as `write_table` shows them.
 pub fn table_doc(alloc: Global, tc: &Tc, places: bool) -> Result<Doc, AllocError>
     ensures { let node = node_of_tc tc.now in let t = table_of_node node in let r = roots_of node in
         IfOk result (λ d. view d ≡ list_data (table_row_data places t r) (tc_rows t r)) }
 {
-    list_doc(alloc, table_rows(alloc, tc, places)?)
+    let mut docs = Vec::new(alloc);
+    write_table(alloc, tc, places, &mut docs)?;
+    Ok(only(docs))
 }

@@ -1,10 +1,5 @@
 //! Single values as they are shown.
 
-ghost use Rattle.std.specs.Prelude.{◌≡◌};
-ghost use Rattle.pst_value_json.specs.Leaf.{leaf_data};
-ghost use Rattle.pst_value_json.specs.Made.{made_data};
-
-use crate::parts::Made;
 use pst_datatree::Value;
 use uuid::Uuid;
 
@@ -37,16 +32,4 @@ pub enum Leaf<'a> {
     Text(&'a Value<'a>),
     /// Bytes, in lower-case hexadecimal.
     Hex(&'a Value<'a>),
-}
-
-/// A value that is made at once, as it is shown.
-pub(crate) fn leaf_of(made: &Made) -> Leaf<'static>
-    ensures { leaf_data result ≡ made_data made.now }
-{
-    match made {
-        Made::Natural(number) => Leaf::Natural(*number),
-        Made::Nid(nid) => Leaf::Nid(*nid),
-        Made::Word(word) => Leaf::Word(word),
-        Made::Digest(digest) => Leaf::Digest(*digest),
-    }
 }

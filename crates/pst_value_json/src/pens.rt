@@ -1,7 +1,7 @@
 //! What rows and values are written with: a pen writes a text, or makes a tree. Each row and each value is written once, for any pen.
 
-ghost use Rattle.std.specs.Prelude.{◌≡◌, true, false, Bool, ◌++◌, [], ◌∷◌, OnOk, List, ℕ};
-ghost use Rattle.serde_json.specs.Data.{Data, Members, no_members, member, object, array};
+ghost use Rattle.std.specs.Prelude.{◌≡◌, true, false, Bool, ◌++◌, [], ◌∷◌, IfOk, OnOk, List, ℕ};
+ghost use Rattle.serde_json.specs.Data.{Data, Members, no_members, member, object, array, no_items};
 ghost use Rattle.serde_json.specs.View.{items_of};
 ghost use Rattle.serde_json.specs.Written.{compact_text, members_text, items_text};
 ghost use Rattle.pst_text.specs.Kept.{BeginsWith};
@@ -167,4 +167,22 @@ impl Pen for Vec<u8> {
         self.push(b']')?;
         Ok(())
     }
+}
+
+/// Writes a list without items.
+pub fn write_nothing<P: Pen>(alloc: Global, pen: &mut P) -> Result<(), AllocError>
+    ensures put { OnOk result (P.Puts pen.old pen.new (array no_items)) }
+    ensures kept { (base : P) → P.Keeps base pen.old → P.Keeps base pen.new }
+{
+    pen.open_list(alloc)?;
+    pen.close_list(false)
+}
+
+/// The line of a text: a line feed behind it.
+pub fn end_line(text: Vec<u8>) -> Result<Vec<u8>, AllocError>
+    ensures { IfOk result (λ line. line.items ≡ text.items ++ 10 ∷ []) }
+{
+    let mut line = text;
+    line.push(b'\n')?;
+    Ok(line)
 }

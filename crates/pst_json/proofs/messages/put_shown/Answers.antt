@@ -31,14 +31,14 @@ returns c =
     let attachments : Members = member (codes "attachments") (natural c.args.held.attachments) class in
     let put : c.push.new.self.items ≡ c.args.text.now.items ++ compact_text (object attachments) =
     closed _ _ _ c.in_ok-push.ensures.items
-    (next_marked (codes "subject") (text_property t r SUBJECT) no_members _ _ _ _ refl c.in_ok-extend_from_slice-10.ensures.items c.in_ok-put_text_property-3.ensures.put
+    (next_marked (codes "subject") (text_property t r SUBJECT) no_members _ _ _ _ refl c.in_ok-extend_from_slice-10.ensures.items c.in_ok-write_text_property-3.ensures.put
     (next_marked (codes "size") (number_property t r SIZE) subject _ _ _ _ refl c.in_ok-extend_from_slice-9.ensures.items c.in_ok-put_number_property.ensures
     (next_marked (codes "sent") (time_property t r SENT) size _ _ _ _ refl c.in_ok-extend_from_slice-8.ensures.items c.in_ok-put_time_property-2.ensures
-    (next_marked (codes "sender") (text_property t r SENDER) sent _ _ _ _ refl c.in_ok-extend_from_slice-7.ensures.items c.in_ok-put_text_property-2.ensures.put
+    (next_marked (codes "sender") (text_property t r SENDER) sent _ _ _ _ refl c.in_ok-extend_from_slice-7.ensures.items c.in_ok-write_text_property-2.ensures.put
     (next_marked (codes "recipients") (natural c.args.held.recipients) sender _ _ _ _ refl c.in_ok-extend_from_slice-6.ensures.items c.in_ok-put_natural-2.ensures.put
     (next_marked (codes "received") (time_property t r RECEIVED) recipients _ _ _ _ refl c.in_ok-extend_from_slice-5.ensures.items c.in_ok-put_time_property.ensures
     (next_marked (codes "nid") (nid_data c.nid.result) received _ _ _ _ refl c.in_ok-extend_from_slice-4.ensures.items c.in_ok-put_nid.ensures.put
-    (next_marked (codes "folders") (list_data nid_data c.args.folders.now) nid _ _ _ _ refl c.in_ok-extend_from_slice-3.ensures.items c.in_ok-put_nid_list.ensures.put
-    (next_marked (codes "class") (text_property t r CLASS) folders _ _ _ _ refl c.in_ok-extend_from_slice-2.ensures.items c.in_ok-put_text_property.ensures.put
+    (next_marked (codes "folders") (list_data nid_data c.args.folders.now) nid _ _ _ _ refl c.in_ok-extend_from_slice-3.ensures.items c.in_ok-write_nids.ensures.put
+    (next_marked (codes "class") (text_property t r CLASS) folders _ _ _ _ refl c.in_ok-extend_from_slice-2.ensures.items c.in_ok-write_text_property.ensures.put
     (first_marked (codes "attachments") (natural c.args.held.attachments) class _ _ _ refl c.in_ok-extend_from_slice.ensures.items c.in_ok-put_natural.ensures.put)))))))))) in
     rw (c.requires.held.0, c.requires.held.1, c.nid.ensures, c.requires.nid, c.pc-pc.ensures) at put
