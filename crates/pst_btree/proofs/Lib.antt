@@ -12,4 +12,5 @@ pub mod SomeLemmas
 pub mod StretchLemmas
 pub mod TreeLaws
 pub mod UnitLemmas
+pub mod WalkedLemmas
 pub mod WalkLemmas

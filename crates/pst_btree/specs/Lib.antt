@@ -9,3 +9,4 @@ pub mod TreeProps
 pub mod Trees
 pub mod View
 pub mod Walk
+pub mod Walked

@@ -1,19 +1,13 @@
 //! The walks of the two B-trees.
 
-ghost use Rattle.std.specs.Prelude.{◌≡◌, ℕ, ◌+◌, ◌≤◌, length, map, Some, IfOk, IfErr, All};
+ghost use Rattle.std.specs.Prelude.{◌≡◌, ◌+◌, ◌≤◌, length, map, IfOk, All};
 ghost use Rattle.pst_bytes.specs.Image.{bytes_of};
-ghost use Rattle.pst_fault.specs.Fault.{no_memory};
 ghost use Rattle.pst_header.specs.Head.{Head};
-ghost use Rattle.pst_header.specs.Header.{end_of};
 ghost use Rattle.pst_page.specs.declared.kind.PageKind.TheVariants.{Bbt, Nbt};
 ghost use Rattle.pst_page.specs.Entry.{block_entry_at as block_at, node_entry_at as node_at};
-ghost use Rattle.pst_page.specs.Page.{level_at};
-ghost use Rattle.pst_space.specs.Claimed.{Claimed, claim_all, unit_total};
-ghost use Rattle.pst_space.specs.Step.{GivesStepBy, ClaimsSome};
-ghost use Rattle.pst_btree.specs.Tree.{Tree, IsTree, page_spans, page_spans_at};
+ghost use Rattle.pst_space.specs.Claimed.{unit_total};
 ghost use Rattle.pst_btree.specs.Trees.{block_view, block_entries, node_view, node_entries};
-ghost use Rattle.pst_btree.specs.View.{found_in, IsWalkedTree};
-ghost use Rattle.pst_btree.specs.Walk.{tree_walk};
+ghost use Rattle.pst_btree.specs.Walked.{IsWalkOf};
 
 use crate::block_tree::BlockTree;
 use crate::node_tree::NodeTree;
@@ -66,23 +60,10 @@ pub fn walk_blocks<'a>(
     requires units { length claims.old ≡ unit_total header.now }
     ensures same_units { length claims.new ≡ length claims.old }
 
-    // Whether there is a tree, what it is, and what is claimed; or which fault it is, and what is claimed by then.
-    ensures exact { GivesStepBy (λ x. found_in claims.new (block_view x.0)) result claims.new
-        (tree_walk Bbt (bytes_of image.entry) (end_of header.now) claims.old header.now.bbt) }
-
-    // What is answered is the tree that the file spells there, and its entries.
-    ensures walked { IfOk result (λ x. IsWalkedTree image.entry (end_of header.now) Bbt
-        header.now.bbt claims.old claims.new (block_view x.0)) }
+    // What a walk answers, and what is claimed then; and all entries of the tree.
+    ensures walk { IsWalkOf Bbt image.entry header.now claims.old claims.new
+        (λ x. block_view x.0) result }
     ensures entries { IfOk result (λ x. x.1.items ≡ block_entries x.0) }
-
-    // Whatever the answer, the pages from the first up to some one are claimed.
-    ensures some { ClaimsSome claims.old claims.new (page_spans_at Bbt
-        (bytes_of image.entry) (level_at (bytes_of image.entry) header.now.bbt.ib) header.now.bbt) }
-
-    // A tree whose pages can be claimed is answered, unless memory ran out.
-    ensures only { (level : ℕ) (tree : Tree) (new : Claimed) →
-        IsTree Bbt (bytes_of image.entry) (end_of header.now) header.now.bbt level tree →
-        claim_all claims.old (page_spans tree) ≡ Some new → IfErr result (λ f. f ≡ no_memory) }
 {
     let (view, places) = walk(alloc, image, header, PageKind::Bbt, header.bbt, claims)?;
     let entries = blocks_at(alloc, image, &places)?;
@@ -101,23 +82,10 @@ pub fn walk_nodes<'a>(
     requires units { length claims.old ≡ unit_total header.now }
     ensures same_units { length claims.new ≡ length claims.old }
 
-    // Whether there is a tree, what it is, and what is claimed; or which fault it is, and what is claimed by then.
-    ensures exact { GivesStepBy (λ x. found_in claims.new (node_view x.0)) result claims.new
-        (tree_walk Nbt (bytes_of image.entry) (end_of header.now) claims.old header.now.nbt) }
-
-    // What is answered is the tree that the file spells there, and its entries.
-    ensures walked { IfOk result (λ x. IsWalkedTree image.entry (end_of header.now) Nbt
-        header.now.nbt claims.old claims.new (node_view x.0)) }
+    // What a walk answers, and what is claimed then; and all entries of the tree.
+    ensures walk { IsWalkOf Nbt image.entry header.now claims.old claims.new
+        (λ x. node_view x.0) result }
     ensures entries { IfOk result (λ x. x.1.items ≡ node_entries x.0) }
-
-    // Whatever the answer, the pages from the first up to some one are claimed.
-    ensures some { ClaimsSome claims.old claims.new (page_spans_at Nbt
-        (bytes_of image.entry) (level_at (bytes_of image.entry) header.now.nbt.ib) header.now.nbt) }
-
-    // A tree whose pages can be claimed is answered, unless memory ran out.
-    ensures only { (level : ℕ) (tree : Tree) (new : Claimed) →
-        IsTree Nbt (bytes_of image.entry) (end_of header.now) header.now.nbt level tree →
-        claim_all claims.old (page_spans tree) ≡ Some new → IfErr result (λ f. f ≡ no_memory) }
 {
     let (view, places) = walk(alloc, image, header, PageKind::Nbt, header.nbt, claims)?;
     let entries = nodes_at(alloc, image, &places)?;
@@ -136,22 +104,8 @@ pub fn walk_node_tree<'a>(
     requires units { length claims.old ≡ unit_total header.now }
     ensures same_units { length claims.new ≡ length claims.old }
 
-    // Whether there is a tree, what it is, and what is claimed; or which fault it is, and what is claimed by then.
-    ensures exact { GivesStepBy (λ t. found_in claims.new (node_view t)) result claims.new
-        (tree_walk Nbt (bytes_of image.entry) (end_of header.now) claims.old header.now.nbt) }
-
-    // What is answered is the tree that the file spells there.
-    ensures walked { IfOk result (λ t. IsWalkedTree image.entry (end_of header.now) Nbt
-        header.now.nbt claims.old claims.new (node_view t)) }
-
-    // Whatever the answer, the pages from the first up to some one are claimed.
-    ensures some { ClaimsSome claims.old claims.new (page_spans_at Nbt
-        (bytes_of image.entry) (level_at (bytes_of image.entry) header.now.nbt.ib) header.now.nbt) }
-
-    // A tree whose pages can be claimed is answered, unless memory ran out.
-    ensures only { (level : ℕ) (tree : Tree) (new : Claimed) →
-        IsTree Nbt (bytes_of image.entry) (end_of header.now) header.now.nbt level tree →
-        claim_all claims.old (page_spans tree) ≡ Some new → IfErr result (λ f. f ≡ no_memory) }
+    // What a walk answers, and what is claimed then.
+    ensures walk { IsWalkOf Nbt image.entry header.now claims.old claims.new node_view result }
 {
     let (view, _) = walk(alloc, image, header, PageKind::Nbt, header.nbt, claims)?;
     Ok(NodeTree { view })
