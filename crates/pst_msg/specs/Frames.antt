@@ -1,5 +1,5 @@
 -- The stack of the messages that are being gone through: what is left of them, and what is known of each.
-use Rattle.std.specs.Prelude.{◌≡◌, ℕ, ◌+◌, ◌<◌, ◌≤◌, ◌⊎◌, Option, Some, None, IfSome, option_map, List, [], ◌∷◌}
+use Rattle.std.specs.Prelude.{◌≡◌, ℕ, ◌+◌, ◌<◌, ◌≤◌, ◌⊎◌, Option, Some, None, IfSome, IfNone, Result, IfOk, IfErr, option_map, List, [], ◌∷◌}
 use Rattle.std.specs.List.{Contains}
 use Rattle.pst_fault.specs.declared.fault.Fault.{Fault}
 use Rattle.pst_fault.specs.Each.{first_of}
@@ -23,7 +23,8 @@ use Rattle.pst_remembered.specs.declared.role.Role.TheVariants.{Properties, Reci
 use Rattle.pst_msg.specs.Counts.{HasMessage, HasAttachment}
 use Rattle.pst_mail.specs.Fault.{attachment_row_fault, held_fault, message_at, attachment_at, below_message}
 use Rattle.pst_mail.specs.Grammar.{IsAttachmentRow}
-use Rattle.pst_msg.specs.Known.{ContextIn, WholeIn, NamedIn}
+use Rattle.pst_msg.specs.Growth.{Grows}
+use Rattle.pst_msg.specs.Known.{ContextIn, WholeIn, NamedIn, IsTrueOf}
 use Rattle.pst_msg.specs.Steps.{frame_steps, message_steps, attachment_steps, row_steps, steps_below_message}
 use Rattle.pst_mail.specs.Values.{embedded_of}
 
@@ -109,6 +110,16 @@ abbrev pub WaitFor : Table → Frame → List Frame → Type 0
 WaitFor t last stack = (e : Fault) → IsFirst (message_at t last.limit (roots_of last.node)) e → AreBrokenBy t e stack
 
 -- ---- what the steps give
+
+-- What opening a message, an attachment or a row answers: what is known stays true, and grows by what counts; a fault is the first
+-- one; and where nothing is left to go through, it is whole, else what is opened is put on the stack.
+pub record IsOpening (t : Table) (old new : Known) (Counted : List NodeEntry → Type 0) (first : Option Fault) (Whole : Type 0)
+    (Opened : Frame → Type 0) (result : Result (Option Frame) Fault) : Type 0 where
+  pub known : IsTrueOf t new
+  pub grows : Grows t Counted old new
+  pub refused : IfErr result (IsFirst first)
+  pub done : IfOk result (λ o. IfNone o Whole)
+  pub opened : IfOk result (λ o. IfSome o Opened)
 
 -- a message is put on the stack: its first fault is that of the rows of its attachment table
 pub record IsMessageOpened (t : Table) (k : Known) (r : Roots) (limit : ℕ) (holder : Option Node) (f : Frame) : Type 0 where

@@ -165,8 +165,8 @@ fn check_all(ndb: &Ndb, known: &mut Known, listings: &mut Keys) -> Result<(), Fa
 ///     attachment has no such subnode, and that message, whole, by the same rules.
 ///
 /// What is found without fault is remembered, by the blocks of its data and of its subnodes, and passed over where it is met again:
-/// contexts in each role, the rows of folders' long tables, messages, attachments, and of a message all that its list of subnodes holds,
-/// by that list alone. The messages that are being gone through stand on a stack in memory, so they may nest in one another as deep
+/// contexts in each role, messages, attachments; the rows of folders' tables by the data alone, and of a message all that its list of
+/// subnodes holds, by that list alone. The messages that are being gone through stand on a stack in memory, so they may nest as deep
 /// as lists of subnodes do. NoMemory where memory is refused.
 pub fn check_messaging(alloc: Global, ndb: &Ndb, work: &mut Work) -> Result<(), Fault>
     // Which fault it is, and that there is none where it answers so.

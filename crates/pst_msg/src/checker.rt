@@ -12,8 +12,8 @@ use std::alloc::Global;
 
 /// Checks contexts and messages one after another, and remembers what it found without fault, so that this is looked at once,
 /// in whatever order it is asked. A fault ends no more than the call that answers it: what was known before stays known, and the
-/// checker may be asked about the next node. It is remembered, too, by the blocks of the data and of the subnodes of the context that
-/// has it, in each role; and where it is in what a message holds, by each list of subnodes in which a message holds what has it.
+/// checker may be asked about the next node. It is remembered, too, in each role, by the blocks of the data and of the subnodes of the
+/// context that has it, of a heap or a BTH by the data alone; and in what a message holds, by each list in which one holds what has it.
 /// So this is looked at once, and the fault told of each node that leads to it. All nodes that it is asked about have to be made of
 /// the same blocks.
 ///

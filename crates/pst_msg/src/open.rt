@@ -1,8 +1,7 @@
 //! What is found in a message, up to one that it embeds and that has to be gone through first.
 
-ghost use Rattle.std.specs.Prelude.{◌≡◌, None, Some, IfOk, IfErr, IfSome, IfNone};
+ghost use Rattle.std.specs.Prelude.{◌≡◌, None, Some, IfOk, IfErr};
 ghost use Rattle.pst_fault.specs.Fault.{no_memory};
-ghost use Rattle.pst_fault.specs.First.{IsFirst};
 ghost use Rattle.pst_subnode.specs.Tree.{sub_fault};
 ghost use Rattle.pst_ndb.specs.Views.{table_of_node, sub_bid_of, roots_of};
 ghost use Rattle.pst_tc.specs.Fault.{tc_fault};
@@ -10,9 +9,9 @@ ghost use Rattle.pst_tc.specs.Values.{tc_rows};
 ghost use Rattle.pst_remembered.specs.declared.role.Role.TheVariants.{Properties};
 ghost use Rattle.pst_msg.specs.Counts.{HasMessage, HasAttachment};
 ghost use Rattle.pst_mail.specs.Fault.{attachment_row_fault, held_fault, message_at, embedded_fault, attachment_at, below_message, below_attachment};
-ghost use Rattle.pst_msg.specs.Frames.{IsMessageOpened, EmbedsKnown, IsObjectOpened, AttachmentKnown, IsAttachmentOpened, IsRowKnown, IsRowOpened, HoldsAttachment, row_named};
+ghost use Rattle.pst_msg.specs.Frames.{IsOpening, IsMessageOpened, EmbedsKnown, IsObjectOpened, AttachmentKnown, IsAttachmentOpened, IsRowKnown, IsRowOpened, HoldsAttachment, row_named};
 ghost use Rattle.pst_msg.specs.Growth.{Grows};
-ghost use Rattle.pst_msg.specs.Known.{ContextIn, WholeIn, NamedIn, IsTrueOf};
+ghost use Rattle.pst_msg.specs.Known.{ContextIn, WholeIn, IsTrueOf};
 ghost use Rattle.pst_msg.specs.Rest.{rows_of_table_left, table_of_rest};
 ghost use Rattle.pst_mail.specs.Values.{embedded_of};
 
@@ -26,7 +25,7 @@ use pst_fault::{Fault, Kind};
 use pst_mail::{ATTACHMENT, ATTACHMENTS, Object, embedded, is_type, named};
 use pst_ndb::Node;
 use pst_pc::known_pc;
-use pst_remembered::{Role, RowName, key_of, key_of_list, part_of_list, told_of};
+use pst_remembered::{Role, RowName, key_of, key_of_list, part_of_list, retold};
 use pst_tc::known_tc;
 
 // The rows of an attachment table without fault.
@@ -59,14 +58,10 @@ fn open_held<'a>(
     requires sound { sub_fault (table_of_node node) limit (sub_bid_of node) ≡ None }
     requires known { IsTrueOf (table_of_node node) known.old }
     requires properties { ContextIn known.old Properties (roots_of node) }
-    ensures known { IsTrueOf (table_of_node node.entry) known.new }
-    ensures grows { let t = table_of_node node.entry in
-        Grows t (λ nodes. HasMessage t nodes (roots_of node.entry)) known.old known.new }
-    ensures refused { let t = table_of_node node.entry in
-        IfErr result (IsFirst (held_fault t (below_message t limit) (roots_of node.entry))) }
-    ensures done { IfOk result (λ o. IfNone o (WholeIn known.new.messages (roots_of node.entry))) }
-    ensures open { let t = table_of_node node.entry in
-        IfOk result (λ o. IfSome o (IsMessageOpened t known.new (roots_of node.entry) limit holder.entry)) }
+    ensures opening { let t = table_of_node node.entry in let r = roots_of node.entry in
+        IsOpening t known.old known.new (λ nodes. HasMessage t nodes r)
+        (held_fault t (below_message t limit) r) (WholeIn known.new.messages r)
+        (IsMessageOpened t known.new r limit holder.entry) result }
 {
     if let Err(fault) = check_recipients(node, known) {
         return Err(refuse_held(node, limit, fault, known));
@@ -102,23 +97,18 @@ fn open_list<'a>(
     requires sound { sub_fault (table_of_node node) limit (sub_bid_of node) ≡ None }
     requires known { IsTrueOf (table_of_node node) known.old }
     requires properties { ContextIn known.old Properties (roots_of node) }
-    ensures known { IsTrueOf (table_of_node node.entry) known.new }
-    ensures grows { let t = table_of_node node.entry in
-        Grows t (λ nodes. HasMessage t nodes (roots_of node.entry)) known.old known.new }
-    ensures refused { let t = table_of_node node.entry in
-        IfErr result (IsFirst (held_fault t (below_message t limit) (roots_of node.entry))) }
-    ensures done { IfOk result (λ o. IfNone o (WholeIn known.new.messages (roots_of node.entry))) }
-    ensures open { let t = table_of_node node.entry in
-        IfOk result (λ o. IfSome o (IsMessageOpened t known.new (roots_of node.entry) limit holder.entry)) }
+    ensures opening { let t = table_of_node node.entry in let r = roots_of node.entry in
+        IsOpening t known.old known.new (λ nodes. HasMessage t nodes r)
+        (held_fault t (below_message t limit) r) (WholeIn known.new.messages r)
+        (IsMessageOpened t known.new r limit holder.entry) result }
 {
     if let Some(fault) = known.broken_lists.get(part_of_list(node)) {
-        return Err(told_of(fault, node.top()));
+        return Err(retold(fault, node.top()));
     }
     open_held(node, limit, holder, known)
 }
 
 /// A message, which this attachment embeds if one does, unless it is remembered: up to the rows of its attachment table.
-#[tactic(auto, unfolding(pst_mail::specs::Fault::message_part), using(pst_mail::proofs::MessageLemmas::message_is))]
 pub(crate) fn open_message<'a>(
     node: Node<'a>,
     limit: u32,
@@ -127,14 +117,9 @@ pub(crate) fn open_message<'a>(
 ) -> Result<Option<Frame<'a>>, Fault>
     requires sound { sub_fault (table_of_node node) limit (sub_bid_of node) ≡ None }
     requires known { IsTrueOf (table_of_node node) known.old }
-    ensures known { IsTrueOf (table_of_node node.entry) known.new }
-    ensures grows { let t = table_of_node node.entry in
-        Grows t (λ nodes. HasMessage t nodes (roots_of node.entry)) known.old known.new }
-    ensures refused { let t = table_of_node node.entry in
-        IfErr result (IsFirst (message_at t limit (roots_of node.entry))) }
-    ensures done { IfOk result (λ o. IfNone o (WholeIn known.new.messages (roots_of node.entry))) }
-    ensures open { let t = table_of_node node.entry in
-        IfOk result (λ o. IfSome o (IsMessageOpened t known.new (roots_of node.entry) limit holder.entry)) }
+    ensures opening { let t = table_of_node node.entry in let r = roots_of node.entry in
+        IsOpening t known.old known.new (λ nodes. HasMessage t nodes r) (message_at t limit r)
+        (WholeIn known.new.messages r) (IsMessageOpened t known.new r limit holder.entry) result }
 {
     if known.messages.has(key_of(0, node)) {
         return Ok(None);
@@ -157,16 +142,12 @@ fn open_embedded<'a>(
 ) -> Result<Option<Frame<'a>>, Fault>
     requires sound { sub_fault (table_of_node node) limit (sub_bid_of node) ≡ None }
     requires known { IsTrueOf (table_of_node node) known.old }
-    ensures known { IsTrueOf (table_of_node node.entry) known.new }
-    ensures grows { let t = table_of_node node.entry in let r = roots_of node.entry in
-        Grows t (λ nodes. HasAttachment t nodes r × (embedded_of t r ≡ Some object))
-        known.old known.new }
-    ensures refused { let t = table_of_node node.entry in let below = below_attachment t limit in
-        IfErr result (IsFirst (embedded_fault t below (roots_of node.entry) object)) }
-    ensures done { let t = table_of_node node.entry in
-        IfOk result (λ o. IfNone o (EmbedsKnown t known.new (roots_of node.entry) object)) }
-    ensures open { let t = table_of_node node.entry in
-        IfOk result (λ o. IfSome o (IsObjectOpened t known.new node.entry limit object)) }
+    ensures opening { let t = table_of_node node.entry in let r = roots_of node.entry in
+        IsOpening t known.old known.new
+        (λ nodes. HasAttachment t nodes r × (embedded_of t r ≡ Some object))
+        (embedded_fault t (below_attachment t limit) r object)
+        (EmbedsKnown t known.new r object)
+        (IsObjectOpened t known.new node.entry limit object) result }
 {
     match known.index.subnode(node, object.nid) {
         Some(sub) => open_message(sub, limit - 1, Some(node), known),
@@ -175,19 +156,12 @@ fn open_embedded<'a>(
 }
 
 // An attachment that is not remembered.
-#[tactic(auto, unfolding(pst_mail::specs::Fault::attachment_part), using(pst_mail::proofs::MessageLemmas::attachment_is))]
 fn open_part<'a>(node: Node<'a>, limit: u32, known: &mut Known) -> Result<Option<Frame<'a>>, Fault>
     requires sound { sub_fault (table_of_node node) limit (sub_bid_of node) ≡ None }
     requires known { IsTrueOf (table_of_node node) known.old }
-    ensures known { IsTrueOf (table_of_node node.entry) known.new }
-    ensures grows { let t = table_of_node node.entry in
-        Grows t (λ nodes. HasAttachment t nodes (roots_of node.entry)) known.old known.new }
-    ensures refused { let t = table_of_node node.entry in
-        IfErr result (IsFirst (attachment_at t limit (roots_of node.entry))) }
-    ensures done { IfOk result (λ o.
-        IfNone o (AttachmentKnown (table_of_node node.entry) known.new (roots_of node.entry))) }
-    ensures open { let t = table_of_node node.entry in
-        IfOk result (λ o. IfSome o (IsAttachmentOpened t known.new node.entry limit)) }
+    ensures opening { let t = table_of_node node.entry in let r = roots_of node.entry in
+        IsOpening t known.old known.new (λ nodes. HasAttachment t nodes r) (attachment_at t limit r)
+        (AttachmentKnown t known.new r) (IsAttachmentOpened t known.new node.entry limit) result }
 {
     once(known, Role::Properties, node)?;
     match embedded(&known_pc(known.index.lend(node))) {
@@ -204,15 +178,9 @@ fn open_attachment<'a>(
 ) -> Result<Option<Frame<'a>>, Fault>
     requires sound { sub_fault (table_of_node node) limit (sub_bid_of node) ≡ None }
     requires known { IsTrueOf (table_of_node node) known.old }
-    ensures known { IsTrueOf (table_of_node node.entry) known.new }
-    ensures grows { let t = table_of_node node.entry in
-        Grows t (λ nodes. HasAttachment t nodes (roots_of node.entry)) known.old known.new }
-    ensures refused { let t = table_of_node node.entry in
-        IfErr result (IsFirst (attachment_at t limit (roots_of node.entry))) }
-    ensures done { IfOk result (λ o.
-        IfNone o (WholeIn known.new.attachments (roots_of node.entry))) }
-    ensures open { let t = table_of_node node.entry in
-        IfOk result (λ o. IfSome o (IsAttachmentOpened t known.new node.entry limit)) }
+    ensures opening { let t = table_of_node node.entry in let r = roots_of node.entry in
+        IsOpening t known.old known.new (λ nodes. HasAttachment t nodes r) (attachment_at t limit r)
+        (WholeIn known.new.attachments r) (IsAttachmentOpened t known.new node.entry limit) result }
 {
     if known.attachments.has(key_of(0, node)) {
         return Ok(None);
@@ -225,7 +193,7 @@ fn open_attachment<'a>(
 }
 
 /// A row of the attachment table of a message: the attachment that it names, up to a message that this embeds.
-#[tactic(auto, unfolding(pst_mail::specs::Fault::attachment_row_fault), using(pst_mail::proofs::SubnodeLemmas::found_limit, pst_mail::proofs::SubnodeLemmas::found_sound, pst_mail::proofs::MessageLemmas::below_message_is))]
+#[tactic(auto, unfolding(pst_mail::specs::Fault::attachment_row_fault))]
 pub(crate) fn open_row<'a>(
     node: Node<'a>,
     bid: u64,
@@ -235,15 +203,11 @@ pub(crate) fn open_row<'a>(
 ) -> Result<Option<Frame<'a>>, Fault>
     requires sound { sub_fault (table_of_node node) limit (sub_bid_of node) ≡ None }
     requires known { IsTrueOf (table_of_node node) known.old }
-    ensures known { IsTrueOf (table_of_node node.entry) known.new }
-    ensures grows { let t = table_of_node node.entry in
-        Grows t (λ nodes. HoldsAttachment t nodes (roots_of node.entry) row.id) known.old known.new }
-    ensures refused { let t = table_of_node node.entry in let r = roots_of node.entry in
-        IfErr result (IsFirst (attachment_row_fault t (below_message t limit) r bid (row_named row))) }
-    ensures done { let t = table_of_node node.entry in let r = roots_of node.entry in
-        IfOk result (λ o. IfNone o (IsRowKnown t known.new r limit bid (row_named row))) }
-    ensures open { let t = table_of_node node.entry in let r = roots_of node.entry in
-        IfOk result (λ o. IfSome o (IsRowOpened t known.new r limit bid (row_named row))) }
+    ensures opening { let t = table_of_node node.entry in let r = roots_of node.entry in
+        IsOpening t known.old known.new (λ nodes. HoldsAttachment t nodes r row.id)
+        (attachment_row_fault t (below_message t limit) r bid (row_named row))
+        (IsRowKnown t known.new r limit bid (row_named row))
+        (IsRowOpened t known.new r limit bid (row_named row)) result }
 {
     match known.indexes.subnode(node, row.id) {
         Some(sub) => {

@@ -71,7 +71,7 @@ pub fn is_alike(fault: Fault, nid: u32) -> bool
 }
 
 /// A fault of what a message holds, told of another node that has its list of subnodes.
-pub fn told_of(fault: Fault, nid: u32) -> Fault
+pub fn retold(fault: Fault, nid: u32) -> Fault
     ensures { result ≡ retold nid fault }
 {
     if is_of_a_context(fault) {

@@ -29,7 +29,7 @@ mod row_names;
 
 pub use asked::Asked;
 pub use broken::{
-    has_broken_data, is_alike, is_of_data, part_of, part_of_data, part_of_list, told_of,
+    has_broken_data, is_alike, is_of_data, part_of, part_of_data, part_of_list, retold,
 };
 pub use faults::{Faults, Part};
 pub use keys::{Key, Keys, cleared, key_of, key_of_data, key_of_list};

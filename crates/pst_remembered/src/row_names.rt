@@ -33,7 +33,7 @@ pub struct RowName {
 }
 
 /// What the rows of tables name, by the data of the tables: of a table that several nodes have, each under a list of subnodes of its
-/// own, the row index is gone through once, with all leaves in it that have no rows. At most 400,000 rows are kept, and those of
+/// own, the row index is counted and gone through once, with all leaves in it without rows. At most 400,000 rows are kept, and those of
 /// tables of at most 16 rows: what is kept stays, and a table for which there is no room is left out for good.
 #[derive(Drop)]
 pub struct RowNames {
@@ -122,8 +122,8 @@ impl RowNames {
     }
 
     /// How many rows a table has that has no fault, where its data lies in several blocks, or it has subnodes, one of which may have
-    /// its rows; None of another one, whose rows are gone through in less time, and of one that is left out. They are gone through
-    /// where it is asked about first, and then no more. NoMemory where memory is refused.
+    /// its rows; None of another one, whose rows are gone through in less time, and of one that is left out. They are counted, and then
+    /// gone through, where it is asked about first, and no more behind that. NoMemory where memory is refused.
     pub fn count(&mut self, table: Node) -> Result<Option<usize>, Fault>
         requires sound { tc_fault (table_of_node table) (roots_of table) ≡ None }
         requires known { AreRowNames (table_of_node table) self.old }

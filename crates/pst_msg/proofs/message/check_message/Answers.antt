@@ -12,9 +12,9 @@ use Rattle.pst_msg.proofs.message.check_message.Goals as goal
 
 pub loop-stack-init : goal.loop-stack-init
 loop-stack-init c = record {
-  known = c.open_message.ensures.known;
-  grows = c.open_message.ensures.grows;
-  stack = stack_begun (table_of_node c.args.node) c.open_message.new.known (roots_of c.args.node) c.new-stack.result.items c.in-Some.first c.new-stack.ensures.items (rw c.in-Some.is at c.in_ok-first.ensures.open);
+  known = c.open_message.ensures.opening.known;
+  grows = c.open_message.ensures.opening.grows;
+  stack = stack_begun (table_of_node c.args.node) c.open_message.new.known (roots_of c.args.node) c.new-stack.result.items c.in-Some.first c.new-stack.ensures.items (rw c.in-Some.is at c.in_ok-first.ensures.opening.opened);
 }
 
 -- ---- the message that is gone on with
