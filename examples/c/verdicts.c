@@ -11,6 +11,7 @@
 #include <stdio.h>
 #include <stdlib.h>
 #include <string.h>
+#include <sys/stat.h>
 #include <unistd.h>
 
 enum { MOST_THREADS = 64 };
@@ -29,9 +30,8 @@ static int note(const char *path, const struct stat *about, int kind, struct FTW
 {
     const char *end = strrchr(path, '.');
 
-    (void)about;
     (void)place;
-    if (kind != FTW_F || end == NULL || strcmp(end, ".pst") != 0)
+    if (kind != FTW_F || !S_ISREG(about->st_mode) || end == NULL || strcmp(end, ".pst") != 0)
         return 0;
     if (count == room) {
         room = room == 0 ? 64 : 2 * room;

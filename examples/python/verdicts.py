@@ -16,7 +16,7 @@ def paths_below(folder):
     found = []
     for above, _, names in os.walk(folder, onerror=print):
         found += [os.path.join(above, name) for name in names if name.endswith(".pst")]
-    return sorted((path for path in found if not os.path.islink(path)), key=os.fsencode)
+    return sorted((path for path in found if os.path.isfile(path) and not os.path.islink(path)), key=os.fsencode)
 
 
 def verdict(path):

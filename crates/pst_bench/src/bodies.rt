@@ -170,7 +170,7 @@ fn long_message(
     })
 }
 
-/// A store of so many messages, some 65 KB each.
+/// A store of so many messages, some 64 KB each.
 pub(crate) fn long_mail(alloc: Global, seed: u64, count: u32) -> Result<Vec<u8>, AllocError> {
     let mut chance = Chance::new(seed);
     let stock = Stock::new(alloc, &mut chance)?;

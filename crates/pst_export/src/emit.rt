@@ -143,8 +143,8 @@ fn fits(number: u64)
     ensures { number < 2 ^ 64 }
 {}
 
-/// Writes the archive. Memory is taken for one document at a time, and none for values. After a fault the writer holds a front of it.
-/// One that is written to its end gives, read by the rules of tar, exactly its files, in order.
+/// Writes the archive. Memory is taken for one document at a time, for indexes of lists, and none for values. After a fault the writer
+/// holds a front of it. One that is written to its end gives, read by the rules of tar, exactly its files, in order.
 pub fn emit_export<W: Write>(alloc: Global, export: &Export, out: &mut W) -> Result<(), ExportFault>
     ensures all { OnOk result (Appends (W.contents out.old) (W.contents out.new)
         (archive_in export.now)) }

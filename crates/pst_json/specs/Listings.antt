@@ -9,7 +9,7 @@ use Rattle.pst_verify.specs.pst_msg.Values.{is_message}
 use Rattle.pst_verify.specs.pst_store.Kind.{node_of_kind}
 use Rattle.pst_json.specs.declared.listings.Listings.{Listings}
 
--- the folders that are noted_folders
+-- the folders that are noted
 abbrev pub noted_folders : Option (Vec ℕ) → List ℕ
 noted_folders None = []
 noted_folders (Some folders) = folders.items

@@ -1,4 +1,4 @@
--- How many rows the tables of messages have, as far as they were counted: only what is true is known. So what is known of one
+-- How many rows tables have, as far as they were counted: only what is true is known. So what is known of one
 -- message is so of each that names the same list of subnodes, and what is known of one table of each with the same data.
 use Rattle.std.specs.Prelude.{◌≡◌, ℕ, Some, length}
 use Rattle.std.specs.BTreeMap.{get}

@@ -60,7 +60,8 @@ fn write_report<P: Pen>(
     digest: Option<[u8; 32]>,
     pen: &mut P,
 ) -> Result<(), AllocError>
-    ensures put { OnOk result (P.Puts pen.old pen.new (check_data (report_parts report.now) digest)) }
+    ensures put { OnOk result
+        (P.Puts pen.old pen.new (check_data (report_parts report.now) digest)) }
     ensures kept { (base : P) → P.Keeps base pen.old → P.Keeps base pen.new }
 {
     pen.first(alloc, "blocks", b"{\"blocks\":")?;

@@ -219,7 +219,7 @@ pub fn contents_doc<'a>(
 }
 
 /// The line that shows the messages of a folder: the compact text of their document, and a line feed; or why there is none. It is
-/// made message by message: beside the text, memory is taken for one at a time.
+/// made message by message: beside the text, memory is taken for one at a time, and for indexes of lists.
 #[tactic(auto, using(pst_props::proofs::FoundLemmas::lined_fault), unfolding(crate::specs::Contents::contents_line))]
 pub fn contents_line<'a>(
     alloc: Global,

@@ -74,7 +74,7 @@ pub(crate) struct FolderRows<'a> {
     counts: RowCounts,
     // The rows of tables that several folders have.
     rows: RowIds,
-    // The index of the list that they ask.
+    // The indexes of the lists and the data that they ask.
     index: NodeIndexes,
     ghost table: { table_of_nodes (folders_beside rest) ≡ table_of_intact intact },
     ghost nodes: { entries_of_nodes (folders_beside rest) ≡ nodes_of_intact intact },
@@ -159,7 +159,8 @@ impl<'a> FolderRows<'a> {
         folder: IntactFolder<'a>,
         pen: &mut P,
     ) -> Result<(), AllocError>
-        requires table { table_of_nodes (intact_beside folder) ≡ table_of_intact (intact_of self.old) }
+        requires table { table_of_nodes (intact_beside folder)
+            ≡ table_of_intact (intact_of self.old) }
         requires nodes { entries_of_nodes (intact_beside folder)
             ≡ nodes_of_intact (intact_of self.old) }
         ensures rows { folder_rows self.new ≡ folder_rows self.old }
@@ -184,7 +185,8 @@ impl<'a> FolderRows<'a> {
 
     /// Writes those that are left, as a list.
     pub(crate) fn write_all<P: Pen>(&mut self, alloc: Global, pen: &mut P) -> Result<(), AllocError>
-        ensures put { OnOk result (P.Puts pen.old pen.new (array (items_of (folder_rows self.old)))) }
+        ensures put { OnOk result
+            (P.Puts pen.old pen.new (array (items_of (folder_rows self.old)))) }
         ensures kept { (base : P) → P.Keeps base pen.old → P.Keeps base pen.new }
     {
         pen.open_list(alloc)?;

@@ -65,9 +65,9 @@ pub fn folders_doc<'a>(
 }
 
 /// The line that shows the folders: the compact text of their document, and a line feed. It is made folder by folder: beside the
-/// text, memory is taken for one folder at a time; some 40 bytes for each table of messages of more than 2,048 bytes; and for the
-/// index of one list. Room for those that are reached is taken at the start, so that a text whose names and paths are short need
-/// not be moved while it grows.
+/// text, memory is taken for one folder at a time; some 40 bytes for each table of more than 2,048 bytes, and up to 8 for each row of
+/// such a table of subfolders that several have; and for indexes of lists. Room for those that are reached is taken at the start, so
+/// that a text whose names and paths are short need not be moved while it grows.
 #[tactic(auto, unfolding(crate::specs::Folders::folders_line, pst_text::specs::Line::data_line))]
 pub fn folders_line<'a>(
     alloc: Global,

@@ -1,7 +1,8 @@
 //! The documents of a store, as JSON.
 //!
-//! Each is written once, with a pen, and has two calls: one gives it as a tree of JSON, the other its line, the compact text of
-//! that tree and a line feed, made row by row. Begin with `nodes_line`, whose tree is `nodes_doc`; `emit` writes a text.
+//! All but `messages`, a text alone, have two calls: one gives the document as a tree of JSON, the other its line, the compact text of
+//! that tree and a line feed. Begin with `nodes_line`, whose tree is `nodes_doc`; both are written by one function, with a pen. `emit`
+//! writes a text.
 //! `property_at` lends one property, whose value `emit_value` writes from the file's own memory:
 //!
 //! ```text

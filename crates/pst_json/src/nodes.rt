@@ -30,7 +30,8 @@ fn write_node<P: Pen>(alloc: Global, entry: &NodeEntry, pen: &mut P) -> Result<(
 
 // Writes the nodes, as a list.
 fn write_entries<P: Pen>(alloc: Global, tree: &NodeTree, pen: &mut P) -> Result<(), AllocError>
-    ensures put { OnOk result (P.Puts pen.old pen.new (list_data node_data (node_entries tree.now))) }
+    ensures put { OnOk result
+        (P.Puts pen.old pen.new (list_data node_data (node_entries tree.now))) }
     ensures kept { (base : P) → P.Keeps base pen.old → P.Keeps base pen.new }
 {
     pen.open_list(alloc)?;

@@ -5,7 +5,7 @@
 //!
 //! ```text
 //! let told = plain(alloc, &mut bytes)?;
-//! let answer = verify(alloc, Image::new(&bytes));
+//! let answer = verify(alloc, &bytes);
 //! ```
 //!
 //! Its parts are there for a file that is damaged, of which other blocks are decoded: `method_of`, `set_method` and `decode_data`.

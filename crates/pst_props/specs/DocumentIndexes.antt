@@ -3,7 +3,7 @@ use Rattle.pst_block.specs.Table.{Table}
 use Rattle.pst_props.specs.declared.document_indexes.DocumentIndexes.{DocumentIndexes}
 use Rattle.pst_ndb.specs.NodeIndexes.{AreNodeIndexes}
 
--- among these blocks each is one of what it was asked for last
+-- among these blocks each index that they keep is one of its list, or of its data
 pub record AreDocumentIndexes (t : Table) (i : DocumentIndexes) : Type 0 where
   pub shown : AreNodeIndexes t i.shown
   pub recipients : AreNodeIndexes t i.recipients

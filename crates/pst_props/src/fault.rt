@@ -16,7 +16,7 @@ pub enum DocFault {
     NoFolder,
     /// The store has no node with the identifier, or a path leads nowhere.
     NoNode,
-    /// The node is neither a message nor a property context: its first fault as one.
+    /// The first fault as a property context of a node that is neither this nor a message; or what is told of a node that is broken.
     Bad(Fault),
     /// What a path leads to has no property with this identifier.
     NoProperty(u16),

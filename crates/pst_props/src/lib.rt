@@ -5,8 +5,7 @@
 //!
 //! ```text
 //! let index = names_index(alloc, &intact)?;
-//! let names = names_in(&intact, &index);
-//! let line = props_line(alloc, &intact, &path, names, false)?;
+//! let line = props_line(alloc, &intact, &index, &path, false)?;
 //! ```
 //!
 //! `message_line`, `attachment_line` and `node_line` show what is at hand already, and keep `DocumentIndexes`. Whoever goes through

@@ -244,7 +244,7 @@ pub fn props_doc<'a>(
 }
 
 /// The line that shows the properties of what a path leads to: the compact text of their document, and a line feed; or why there is
-/// none. It is made property by property, and row by row: beside the text, memory is taken for one at a time.
+/// none. It is made property by property, and row by row: beside the text, memory is taken for one at a time, and for indexes of lists.
 #[tactic(auto, using(crate::proofs::FoundLemmas::line_found, crate::proofs::FoundLemmas::line_refused), unfolding(crate::specs::Node::props_line, crate::specs::Node::props_told))]
 pub fn props_line<'a>(
     alloc: Global,

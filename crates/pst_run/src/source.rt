@@ -2,7 +2,7 @@
 
 use crate::input::{MOST_BYTES, MOST_READS, Reads};
 use crate::progress::Progress;
-use std::alloc::Global;
+use std::alloc::{AllocError, Global};
 use std::fs::File;
 use std::io::{ErrorKind, Read, Stdin, Write};
 use std::{fs, io};
@@ -152,11 +152,33 @@ fn without_number(text: &str) -> &str {
     }
 }
 
-/// Says below the line of a refusal why the bytes of a file of this name did not come. A line that cannot be written
-/// changes nothing.
+// A name as it is said: a character that would move a terminal's cursor, or ring its bell, as an escape.
+fn name_said(alloc: Global, name: &str) -> Result<String, AllocError> {
+    let mut text = String::new(alloc);
+    for c in name.chars() {
+        if c.is_control() {
+            for part in c.escape_default() {
+                text.push(part)?;
+            }
+        } else {
+            text.push(c)?;
+        }
+    }
+    Ok(text)
+}
+
+// The name and why its bytes did not come.
+fn cause_of(alloc: Global, name: &str, error: &io::Error) -> Result<String, AllocError> {
+    let name = name_said(alloc, name)?;
+    let text = format!(in alloc; "{error}")?;
+    format!(in alloc; "  {name}: {}", without_number(text.as_str()))
+}
+
+/// Says below the line of a refusal why the bytes of a file of this name did not come: control characters of the name stand as
+/// escapes. Where memory is refused for that, the reason stands alone. A line that cannot be written changes nothing.
 pub fn say_cause<E: Write>(alloc: Global, name: &str, error: io::Error, err: &mut E) {
-    let _ = match format!(in alloc; "{error}") {
-        Ok(text) => writeln!(err, "  {name}: {}", without_number(text.as_str())),
-        Err(_) => writeln!(err, "  {name}: {error}"),
+    let _ = match cause_of(alloc, name, &error) {
+        Ok(text) => writeln!(err, "{text}"),
+        Err(_) => writeln!(err, "  {error}"),
     };
 }

@@ -1,8 +1,8 @@
-//! Values as JSON: of properties and of cells, the lists of both, and the sinks that longer documents go to.
+//! Values as JSON: of properties and of cells, the lists of both, and the pen that documents are written with.
 //!
-//! What is shown is written with a pen (`Pen`), once for all that it may become: a pen puts a text behind what a text has, or makes a
-//! tree. `write_props` writes the properties of a property context, `write_table` the rows of a table. A longer document is an object
-//! of these, key by key, and each key is handed over with the marks around it, too:
+//! Begin with `write_props`, which writes the properties of a property context; `write_table` writes the rows of a table. What is
+//! shown is written with a pen (`Pen`), once for all that it may become: a text behind what a text has, or a tree. A longer document
+//! is an object of these, key by key, and each key is handed over with the marks around it, too:
 //!
 //! ```text
 //! fn write_node<P: Pen>(

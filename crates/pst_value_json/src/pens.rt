@@ -1,4 +1,4 @@
-//! What rows and values are written with: a pen writes a text, or makes a tree. Each row and each value is written once, for any pen.
+//! What documents are written with: a pen writes a text, or makes a tree. Each object, list and value is written once, for any pen.
 
 ghost use Rattle.std.specs.Prelude.{◌≡◌, true, false, Bool, ◌++◌, [], ◌∷◌, IfOk, OnOk, List, ℕ};
 ghost use Rattle.serde_json.specs.Data.{Data, Members, no_members, member, object, array, no_items};
@@ -13,7 +13,7 @@ use crate::leaf::Leaf;
 use crate::put_values::put_leaf;
 use std::alloc::{AllocError, Global};
 
-/// What rows and values are written with. An object is the key of its first member and its value, the key of each other one and its
+/// What documents are written with. An object is the key of its first member and its value, the key of each other one and its
 /// value, and the end; a list its begin, and for each item a comma, the item, and that it stands there, and the end.
 pub trait Pen {
     /// That a value is put behind what stands there.

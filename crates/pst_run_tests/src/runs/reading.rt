@@ -208,6 +208,17 @@ fn the_error_of_a_read_is_remembered(rt: HostRuntime) -> Result<(), Fail> {
     Ok(())
 }
 
+// No name of a file moves a terminal's cursor.
+#[test]
+fn control_characters_of_a_name_are_escaped(rt: HostRuntime) -> Result<(), Fail> {
+    let mut said = Vec::new(rt.alloc());
+    let error = io::Error::from_raw_os_error(2);
+    say_cause(rt.alloc(), "a\u{1b}[31m\n\u{7}\u{e4}.pst", error, &mut said);
+    let line = "  a\\u{1b}[31m\\n\\u{7}\u{e4}.pst: No such file or directory\n";
+    is(&rt, said.as_slice(), line.as_bytes());
+    Ok(())
+}
+
 #[test]
 fn a_word_names_what_is_read(rt: HostRuntime) -> Result<(), Fail> {
     holds(&rt, matches!(Source::named(&rt, "-"), Source::Input(_)));
