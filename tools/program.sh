@@ -213,7 +213,7 @@ note_proved() {
 build() {
     command -v rt >/dev/null 2>&1 ||
         fail "$1 has to be proved and built, and the command rt of the Rattle kit is not on the PATH (docs/INSTALL.md)"
-    say "$1 is proved and built first, which takes from 25 minutes to an hour; $log tells of it"
+    say "$1 is proved and built first, which takes one to two hours, by the machine; $log tells of it"
     : >"$log"
     "$3" >"$log" 2>&1 &
     builder=$!

@@ -14,7 +14,8 @@ ABOUT = ("What pst_show answers is proved of all bytes that a file may have; thi
 def beside(program):
     """The lines of the text that is kept beside the program and says what it was made from, where it is of this program."""
     place = os.path.dirname(os.path.abspath(program.path))
-    for path in (program.path + ".txt", os.path.join(place, "..", "share", "doc", "pst_show", "pst_show.txt")):
+    about = [os.path.join(place, "..", "share", "doc", name, "pst_show.txt") for name in ("pst_show", "pst-show")]  # the latter Debian's
+    for path in (program.path + ".txt", *about):
         if os.path.isfile(path):
             with open(path, encoding="utf-8") as file:
                 lines = dict(line.rstrip("\n").split(": ", 1) for line in file if ": " in line)

@@ -66,6 +66,8 @@ class Table:
             document = json.loads(said) if status in ("0", "1") and said[:1] == "{" else None
         except ValueError:
             raise self.refused(f"the answer in line {number} is no JSON") from None
+        if document is not None and not {"lost", "verdict"} <= set(document):
+            raise self.refused(f"the answer in line {number} is none of check")
         fault = Fault.of_line(said) if status == "1" and document is None else None
         return Line(path, int(status), document, fault, said, length_of(path))
 

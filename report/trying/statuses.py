@@ -48,6 +48,10 @@ def what_cannot_be_read_is_told(program, room):
     yield from refused(3, "cannot read the file", run([room], program))
     yield from refused(3, "Not a regular file", run(["/dev/null"], program))
     yield from refused(3, "line 1 is not a status", run(["--many", sample("mail")(room)], program))
+    damages = os.path.join(room, "damages.tsv")
+    with open(damages, "w", encoding="utf-8") as file:
+        file.write('1\tx.pst\t{"blocks":[],"pages":[]}\n')
+    yield from refused(3, "line 1 is none of check", run(["--many", damages], program))
 
 
 def a_name_may_begin_with_a_hyphen(program, room):
