@@ -12,6 +12,10 @@ import os
 import re
 import sys
 
+sys.dont_write_bytecode = True
+
+from write_version import PLACES, version_in  # noqa: E402
+
 ROOT = os.path.dirname(os.path.dirname(os.path.abspath(__file__)))
 WORDS = 2000
 PATH = re.compile(r"(?<![\w/.~-])((?:README|CHANGELOG|CONTRIBUTING|NOTICE|LICENSE-[A-Z]+)(?:\.md)?|(?:docs|crates|tools|bench|samples|examples|bindings|"
@@ -28,16 +32,6 @@ FACTS = [
     ("docs/INSTALL.md", r"`rt version`: (rattle-kit-\S+ logic \w+)", "built/pst_show.txt", r"^kit: (.*)$"),
     ("docs/LIBRARY.md", r"Python ([\d.]+) or newer", "bindings/python/pyproject.toml", r'requires-python = ">=([\d.]+)"'),
     ("docs/LIBRARY.md", r"Rust ([\d.]+) or newer", "bindings/rust/Cargo.toml", r'rust-version = "([\d.]+)"'),
-]
-VERSIONS = [
-    ("man/pst_show.1", r'"pst_show ([\d.]+)"'),
-    ("include/pst.h", r'#define PST_VERSION "([\d.]+)"'),
-    ("bindings/python/pyproject.toml", r'^version = "([\d.]+)"'),
-    ("bindings/rust/Cargo.toml", r'^version = "([\d.]+)"'),
-    ("CHANGELOG.md", r"^## ([\d.]+)"),
-    ("docs/EVIDENCE.md", r"`, pst_show ([\d.]+) \("),
-    ("docs/INSTALL.md", r"pst-show_([\d.]+)_amd64"),
-    ("built/libpst.txt", r"^version: ([\d.]+)"),
 ]
 
 
@@ -76,9 +70,11 @@ def numbers():
         if found(page, said) is None or found(page, said) != found(source, told):
             yield f"{page} says {found(page, said)}, {source} {found(source, told)}: {said}"
     version = found("built/pst_show.txt", r"^version: pst_show ([\d.]+)")
-    for name, pattern in VERSIONS:
-        if found(name, pattern) != version:
-            yield f"{name} is of version {found(name, pattern)}, built/pst_show of {version}"
+    for name, about in [*PLACES, ("built/libpst.txt", "version: {}\n")]:
+        if version_in(name, about) != version:
+            yield f"{name} is of version {version_in(name, about)}, built/pst_show of {version}"
+    if found("CHANGELOG.md", r"^## ([\d.]+)") != version:
+        yield f"CHANGELOG.md begins with version {found('CHANGELOG.md', r'^## ([^ ,]+)')}, built/pst_show is of {version}"
     count = len(read("README.md").split())
     if count > WORDS:
         yield f"README.md has {count} words, and not {WORDS} at most"

@@ -1,33 +1,47 @@
-"""Tries the must-fail edits of a crate several at a time.
+"""Tries the must-fail edits of a crate several at a time, each by a check of the functions that it changes.
 
 A function is proved by its own body and by the contracts of what it calls. So edits that change nothing but the bodies of
-different functions do not meet: what the prover says of one of these functions is the same whether or not the others are edited. An
-edit is refused here where the prover tells, of a place in a function that this edit alone has changed, or of the answers that are
-written for it, that something is not proved there; of a function that is not proved only because it calls one that is not, no such
-place is told. The only edit of a crate, for which rt makes no folder to begin with, is tried by a check of the module that it
-changes and of what that calls, in place of one of the whole crate from nothing. All else (an edit that changes more than a body, two
-of one function, one of which nothing is told, or that a proof names what it took away, a check that comes to no verdict) is tried
-alone, as rt does.
+different functions do not meet: what the prover says of one of these functions is the same whether or not the others are edited, and
+nothing else of the crate need be looked at. An edit is refused here where the prover tells, of a place in the function that this edit
+alone has changed, or of the answers that are written for it, that something is not proved there; of a function that is not proved
+only because it calls one that is not, no such place is told. Those of which nothing is told, as of a function that calls one without
+a proof, are tried together again, without the others. The only edit of a crate, for which rt makes no folder to begin with, is tried
+by a check of the module that it changes and of what that calls, in place of one of the whole crate from nothing. All else (an edit
+that changes more than a body, one of which nothing is told when no other is tried beside it, or that a proof names what it took away,
+a check that comes to no verdict) is tried as rt does, alone and by a check of the whole crate.
 """
+import contextlib
 import os
 import re
 import shutil
+import tempfile
 import threading
 
 # How many edits are tried in one check at most: a check has one processor, and others want work, too.
 MOST = 16
+ROOTS = ("src/lib.rt", "src/main.rt")
 BEGIN = re.compile(r"( *)(pub(\([a-z]+\))? )?(const )?fn (?P<name>\w+)")
-PLACE = re.compile(r"note: (?:\./)?(?P<file>src/\S+?\.rt):(?P<line>\d+):\d+: it is not proved ")
+ARGUMENTS = re.compile(r"<[^<>]*>")
+IMPL = re.compile(r"impl ((\w+::)*(?P<of>\w+) for )?(?P<type>\w+)( \{| where|$)")
+PLACE = re.compile(r"note: (?:\./)?(?P<file>src/\S+?\.rt):(?P<line>\d+):\d+: (?:it is not proved|`search` found no proof) ")
 ANSWER = re.compile(r"(?:\./)?proofs/(?P<of>\S+)/Answers\.antt:\d+:\d+: error: (?!.*(has no field|is not in scope|has no `|was not admitted))")
 
 
 class Function:
-    """A function of a source: its file and name, and the numbers of its first line, which is that of its first attribute where it has
-    any, of that with the brace before its body, and of the last, from 1 on."""
+    """A function of a source: its file and name, the type and the trait whose it is, empty where it is of none, and the numbers of its
+    first line, which is that of its first attribute where it has any, of that with the brace before its body, and of the last, from 1
+    on; and whether another function of its file has its type and its name."""
 
-    def __init__(self, file, name, first, opens, last):
+    def __init__(self, file, name, lines, first, opens, last):
         self.file, self.name, self.first, self.opens, self.last = file, name, first, opens, last
-        self.key = file, first
+        self.key, self.has_twin = (file, first), False
+        self.module = [] if file in ROOTS else file[len("src/") : -len(".rt")].split("/")
+        self.type, self.trait = type_of(lines[:first]) if lines[first - 1].startswith(" ") else ("", "")
+
+    def path(self):
+        """Its path below the crate, as rattle takes it, or that of its module where it has a twin."""
+        own = [] if self.has_twin or self.type is None else [it for it in (self.type + self.trait, self.name) if it]
+        return "::".join([*self.module, *own])
 
     def is_told(self, line):
         """Whether a line of what the prover says tells that something of it is not proved: of a place in it, or of its answers."""
@@ -37,14 +51,14 @@ class Function:
         return bool(answer) and self.is_answered_by(answer["of"].split("/"))
 
     def is_answered_by(self, folders):
-        """Whether its answers stand in these folders: those of its module, of its type where it has one, and of its name."""
+        """Whether its answers stand in these folders: those of its module, of its type where it has one, and of its name, which has a
+        plus before it where the function calls itself."""
         *of, name = folders
-        module = self.file[len("src/") : -len(".rt")].split("/")
-        return name == self.name and (of == module or of[:-1] == module and of[-1][0].isupper())
+        return not self.has_twin and "::".join([*of, name.removeprefix("+")]) == self.path()
 
 
 def functions_of(file, text):
-    """The functions of a source. One whose name another has, too, has none."""
+    """The functions of a source."""
     lines, found = text.split("\n"), []
     for at, line in enumerate(lines, 1):
         begins = BEGIN.match(line)
@@ -54,14 +68,27 @@ def functions_of(file, text):
         first = at
         while first > 1 and lines[first - 2].startswith(margin + "#["):
             first -= 1
-        opens = next((i for i, it in enumerate(lines[at - 1 :], at) if opens_body(it, margin, i == at)), None)
+        opens = next((i for i, it in enumerate(lines[at - 1 :], at) if it == margin + "{}" or opens_body(it, margin, i == at)), None)
         ends = next((i for i, it in enumerate(lines[at:], at + 1) if it == margin + "}"), None)
-        if opens and ends and opens < ends:
-            found.append(Function(file, begins["name"], first, opens, ends))
-    names = [it.name for it in found]
+        if opens and ends and opens < ends and lines[opens - 1] != margin + "{}":
+            found.append(Function(file, begins["name"], lines, first, opens, ends))
+    names = [(it.type, it.name) for it in found]
     for it in found:
-        it.name = it.name if names.count(it.name) == 1 else None
+        it.has_twin = names.count((it.type, it.name)) > 1
     return found
+
+
+def type_of(lines):
+    """The type of the last `impl` of these lines, and the trait, empty where it is of none; no type where it is of one that has
+    others as its arguments."""
+    begin = next((it for it in reversed(lines) if it.startswith("impl")), "")
+    bare = begin
+    while ARGUMENTS.search(bare):
+        bare = ARGUMENTS.sub("", bare)
+    told = IMPL.match(bare)
+    if not told or re.search(rf"\b{told['type']}<[^']", begin):
+        return None, ""
+    return told["type"], told["of"] or ""
 
 
 def opens_body(line, margin, is_first):
@@ -94,14 +121,14 @@ class Edit:
         return texts
 
     def functions(self, texts):
-        """The functions whose bodies it changes; nothing where it changes more than that."""
+        """The functions whose bodies it changes, or by which tactics they are proved; nothing where it changes more than that."""
         found = {}
         for file, old, _ in self.changes:
             text = texts.get(file, "")
             if not old or text.count(old) != 1:
                 return None
-            line = text.count("\n", 0, text.index(old)) + 1
-            of = [it for it in functions_of(file, text) if it.opens < line < it.last]
+            line, is_tactic = text.count("\n", 0, text.index(old)) + 1, old.strip().startswith("#[tactic(")
+            of = [it for it in functions_of(file, text) if (it.first if is_tactic else it.opens + 1) <= line < it.last]
             if len(of) != 1:
                 return None
             found[of[0].key] = of[0]
@@ -112,15 +139,12 @@ class Group:
     """Edits of a crate that change different functions, each with those that it changes."""
 
     def __init__(self):
-        self.edits, self.keys, self.came, self.trying = [], set(), None, threading.Lock()
+        self.edits, self.came, self.trying = [], None, threading.Lock()
 
     def takes(self, functions):
         """Whether there is room for another one, which changes these functions."""
-        return len(self.edits) < MOST and self.keys.isdisjoint(functions)
-
-    def put(self, edit, functions):
-        self.edits.append((edit, functions.values()))
-        self.keys.update(functions)
+        mine = {it.key for _, them in self.edits for it in them}
+        return len(self.edits) < MOST and mine.isdisjoint(it.key for it in functions)
 
 
 class Together:
@@ -130,23 +154,36 @@ class Together:
         self.rt, self.of, self.only = rt, {}, set()
 
     def groups(self, crate, paths):
-        """The paths of the edits of a crate that are tried in one check, two or more each. An only one is noted."""
+        """The edits of a crate that are tried in one check each: groups that have one at least. An only one is noted."""
         texts, groups = sources(crate.folder), []
         self.only.update(paths if len(paths) == 1 else ())
         for edit in map(Edit, paths):
-            functions = edit.functions(texts)
+            functions = list((edit.functions(texts) or {}).values())
             if functions:
                 fitting = next((it for it in groups if it.takes(functions)), None)
                 if not fitting:
                     fitting = Group()
                     groups.append(fitting)
-                fitting.put(edit, functions)
-        groups = [it for it in groups if len(it.edits) > 1]
-        self.of.update((edit.path, it) for it in groups for edit, _ in it.edits)
-        return [[edit.path for edit, _ in it.edits] for it in groups]
+                fitting.edits.append((edit, functions))
+        return groups
+
+    def in_turn(self, crate, paths, flags, kept):
+        """Those edits of a crate that are refused, by their paths, over what was proved of it: none where the functions that they
+        change are not proved there as they stand."""
+        groups = self.groups(crate, paths)
+        edits = [it for group in groups for it in group.edits]
+        if not edits or self.rt.checked(crate, {}, [*flags, *only(edits)], kept).returncode:
+            return {}
+        return {path: it for group in groups for path, it in self.refused(crate, group.edits, flags, kept).items()}
+
+    def as_tasks(self, crate, paths):
+        """The paths of the edits of a crate that are tried in one check each, the first of them that is asked for with all others."""
+        groups = self.groups(crate, paths)
+        self.of.update((edit.path, group) for group in groups for edit, _ in group.edits)
+        return [[edit.path for edit, _ in group.edits] for group in groups]
 
     def must_fail(self, made):
-        """How an edit is tried: the first of a group that is asked for with all others of it."""
+        """How an edit is tried: as one of a group where it is in one, the only one of a crate by its module, else as rt does."""
 
         def must_fail(crate, path, flags, kept=None):
             group = self.of.get(path)
@@ -161,28 +198,30 @@ class Together:
 
         return must_fail
 
-    def refused(self, crate, group, flags, kept):
-        """Tries edits in one check, over what was proved, and gives those that are refused, as rt tells it of one. Where rt tries a
-        crate's edits side by side it is over a copy, and where it tries them in turn over what the checks before it left."""
-        texts, linked = sources(crate.folder), getattr(self.rt, "linked", None)
-        for edit, _ in group:
+    def refused(self, crate, edits, flags, kept):
+        """Tries edits with those functions that they change, and those again of which nothing is told, as long as there are fewer of
+        them; gives those that are refused."""
+        found = self.refused_together(crate, edits, flags, kept)
+        left = [it for it in edits if it[0].path not in found]
+        return {**found, **self.refused(crate, left, flags, kept)} if found and left else found
+
+    def refused_together(self, crate, edits, flags, kept):
+        """Tries edits in one check of the functions that they change, over a copy of what was proved, and gives those that are
+        refused, as rt tells it of one."""
+        texts = sources(crate.folder)
+        for edit, _ in edits:
             # (one whose words another has written, too, is left out, so that nothing is told of it)
             texts = edit.applied(texts) or texts
-        changed = {file: texts[file] for edit, _ in group for file, _, _ in edit.changes}
-        over = f"{kept}-together" if linked else kept
+        changed = {file: texts[file] for edit, _ in edits for file, _, _ in edit.changes}
         try:
-            if linked:
-                linked(kept, over)
-            ran = self.rt.checked(crate, changed, flags, over)
+            with copied(self.rt, kept) as over:
+                ran = self.rt.checked(crate, changed, [*flags, *only(edits)], over)
         except (OSError, shutil.Error):
             return {}
-        finally:
-            if linked:
-                shutil.rmtree(over, ignore_errors=True)
         lines = ran.stdout.rstrip("\n").split("\n")
-        if ran.returncode != 1 or not lines[-1].startswith("logic=not-proved"):
+        if ran.returncode != 1 or not lines[-1].startswith("only="):
             return {}
-        came = {edit.path: self.told_of(crate, edit, functions, lines) for edit, functions in group}
+        came = {edit.path: self.told_of(crate, edit, functions, lines) for edit, functions in edits}
         return {path: it for path, it in came.items() if it}
 
     def refused_in_module(self, crate, path, flags):
@@ -190,7 +229,7 @@ class Together:
         texts, edit = sources(crate.folder), Edit(path)
         functions = (edit.functions(texts) or {}).values()
         files = {it.file for it in functions}
-        if len(files) != 1 or files <= {"src/lib.rt", "src/main.rt"}:
+        if len(files) != 1 or files <= {*ROOTS}:
             return None
         [file] = files
         changed = edit.applied(texts)
@@ -210,6 +249,21 @@ class Together:
             return None
         label = f"must-fail {crate.name}/{os.path.basename(edit.path)}"
         return getattr(self.rt, "REFUSED", True), f"{label}: refused, as it must be: {told[:160]}"
+
+
+def only(edits):
+    """The words by which rattle checks the functions of these edits, and those that they call, and no others."""
+    paths = {it.path() for _, functions in edits for it in functions}
+    return [word for path in sorted(paths) for word in ("--only", path)]
+
+
+@contextlib.contextmanager
+def copied(rt, kept):
+    """A copy of a folder of kept work, which is gone afterwards."""
+    with tempfile.TemporaryDirectory(prefix=f"{os.path.basename(kept)}-", dir=os.path.dirname(kept)) as room:
+        over = os.path.join(room, "kept")
+        getattr(rt, "linked", shutil.copytree)(kept, over)
+        yield over
 
 
 def sources(folder):

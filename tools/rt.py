@@ -10,11 +10,13 @@ remembered, since crates.txt does not change while rt runs, and a sum as long as
 
 `rt ci` proves a library, and begins its edits with another proof of it, a fifth of the whole gate. Here the library is proved by
 `rattle check -o` and built from that, as rt does with programs, and the edits begin over what it holds of this proof, which may be
-an earlier run's: the modules that were checked, laid where rattle keeps its work between two checks. Behind the edits rt has the
-crate itself proved over that folder; where it is not, each edit is tried again from nothing.
+an earlier run's: the modules that were checked, laid where rattle keeps its work between two checks. Before the edits the functions
+that they change are proved over that folder as they stand, and before one that is tried by a check of the whole crate all of it is;
+where they are not, each edit is tried from nothing.
 
-Each edit is a check of the whole crate, half of which goes by before its function is looked at. Here those edits of a crate that
-change the bodies of different functions are tried in one check (tools/edits_together.py).
+Each edit is a check of the whole crate, over what those before it left, so that what they had changed is proved again. Here those
+edits of a crate that change the bodies of different functions are tried in one check of these functions, over a copy of what was
+proved (tools/edits_together.py).
 
 Each proof, test and program is judged by the kit's own code, and each edit by what the kit's prover says of its function. Where this
 rt is made otherwise, it is run as it is.
@@ -32,7 +34,7 @@ import tempfile
 
 sys.dont_write_bytecode = True  # nothing is written beside the sources
 
-from edits_together import Together  # noqa: E402
+from edits_together import Together, copied  # noqa: E402
 
 # The kit's calls on which this stands: how a crate is proved, how its edits are tried, and how one is checked; and the sum of their
 # text. With the first kit the edits of a crate are one call, with the second each is a task among others.
@@ -169,17 +171,24 @@ def lay(rt, proved, kept):
 
 
 def edits_tried(rt, together, made):
-    """How `rt ci` tries a crate's edits, over what its library holds of its proof where there is one, and several in one check."""
+    """How `rt ci` tries a crate's edits, over what its library holds of its proof where there is one: several in one check, over a
+    copy each, and those that are not refused so as rt does, where the whole crate is proved over that, too."""
 
     def must_fail_all(crate, edits, flags):
         if not edits or not os.path.isdir(held_by(crate)):
-            return made(crate, edits, flags)
-        with tempfile.TemporaryDirectory(prefix="rt-edits-") as kept:
-            lay(rt, held_by(crate), kept)
             together.groups(crate, edits)
-            tried = [rt.must_fail(crate, edit, flags, kept) for edit in edits]
-            is_sound = not rt.checked(crate, {}, flags, kept).returncode
-        return [it if is_sound and it[0] else rt.must_fail(crate, edit, flags) for edit, it in zip(edits, tried)]
+            return made(crate, edits, flags)
+        with tempfile.TemporaryDirectory(prefix="rt-edits-") as room:
+            kept = os.path.join(room, "kept")
+            os.mkdir(kept)
+            lay(rt, held_by(crate), kept)
+            found = together.in_turn(crate, edits, flags, kept)
+            left = [it for it in edits if it not in found]
+            if left and not rt.checked(crate, {}, flags, kept).returncode:
+                for edit in left:
+                    with copied(rt, kept) as over:
+                        found[edit] = rt.must_fail(crate, edit, flags, over)
+        return [found[it] if found.get(it, [False])[0] else rt.must_fail(crate, it, flags) for it in edits]
 
     return must_fail_all
 
@@ -205,7 +214,7 @@ def edits_added(together, made):
 
     def add_edits(tasks, crate, edits, *words, **named):
         results = made(tasks, crate, edits, *words, **named)
-        for group in together.groups(crate, edits):
+        for group in together.as_tasks(crate, edits):
             for edit in group[1:]:
                 key = crate.name, "edits", edits.index(edit)
                 waits, *rest = tasks[key]
