@@ -28,7 +28,7 @@ extern "C" {
 
 /* The version of this header. A library of the same first two numbers (before 1.0.0; later: of the same first number) is
  * called alike. That of the library is the answer to the word "--version". */
-#define PST_VERSION "1.0.3"
+#define PST_VERSION "1.0.4"
 
 /* The statuses, which are those of the program. */
 enum pst_status {

@@ -152,6 +152,9 @@ class Together:
 
     def __init__(self, rt):
         self.rt, self.of, self.only = rt, {}, set()
+        # Of each crate the groups; the folder over which the functions that its edits change are proved as they stand; and whether an
+        # edit was tried over it by a check of the whole crate.
+        self.groups_of, self.proved, self.whole = {}, {}, set()
 
     def groups(self, crate, paths):
         """The edits of a crate that are tried in one check each: groups that have one at least. An only one is noted."""
@@ -179,8 +182,22 @@ class Together:
     def as_tasks(self, crate, paths):
         """The paths of the edits of a crate that are tried in one check each, the first of them that is asked for with all others."""
         groups = self.groups(crate, paths)
+        self.groups_of[crate.name] = groups
         self.of.update((edit.path, group) for group in groups for edit, _ in group.edits)
         return [[edit.path for edit, _ in group.edits] for group in groups]
+
+    def begin(self, crate, flags, kept):
+        """Checks the functions that a crate's edits change, as they stand, over the folder that its edits begin with: what such a check
+        leaves there spares each of those behind it as much. Where they are not proved there, no edit is tried with others."""
+        edits = [it for group in self.groups_of.get(crate.name, ()) for it in group.edits]
+        if edits and not self.rt.checked(crate, {}, [*flags, *only(edits)], kept).returncode:
+            self.proved[crate.name] = kept
+        else:
+            self.of = {path: group for path, group in self.of.items() if path not in {edit.path for edit, _ in edits}}
+
+    def stands(self, crate, kept):
+        """Whether what a crate's edits were tried by is proved as it stands, over the folder that they began with."""
+        return self.proved.get(crate.name) == kept and crate.name not in self.whole
 
     def must_fail(self, made):
         """How an edit is tried: as one of a group where it is in one, the only one of a crate by its module, else as rt does."""
@@ -190,10 +207,13 @@ class Together:
             if path in self.only and not kept:
                 return self.refused_in_module(crate, path, flags) or made(crate, path, flags, kept)
             if not kept or not group:
+                self.whole.update([crate.name] if kept else ())
                 return made(crate, path, flags, kept)
             with group.trying:
                 if group.came is None:
                     group.came = self.refused(crate, group.edits, flags, kept)
+            if path not in group.came:
+                self.whole.add(crate.name)
             return group.came.get(path) or made(crate, path, flags, kept)
 
         return must_fail

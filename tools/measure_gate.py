@@ -34,7 +34,7 @@ ROOT = os.path.dirname(os.path.dirname(os.path.abspath(__file__)))
 TICKS = os.sysconf("SC_CLK_TCK")
 PAUSE = 0.2
 SLOW = 15
-OVER = re.compile(r"/rt-edits-[^/]*(?:/(\w+)(-together)?)?$")
+OVER = re.compile(r"/rt-edits-[^/]*(?:/(\w+)(-[^/]+/kept)?)?$")
 CHECKED = re.compile(r"checked (\S+), \d+ of \d+$")
 
 

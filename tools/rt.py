@@ -193,8 +193,9 @@ def edits_tried(rt, together, made):
     return must_fail_all
 
 
-def seeds_of_proofs(rt, made):
-    """How the folder is made that a crate's edits begin with: of what its library holds of its proof, where there is one."""
+def seeds_of_proofs(rt, together, made):
+    """How the folder is made that a crate's edits begin with: of what its library holds of its proof, where there is one; over which the
+    functions that they change are checked as they stand."""
 
     def seeded(crate, flags, start=None):
         if start or not os.path.isdir(held_by(crate)):
@@ -203,9 +204,21 @@ def seeds_of_proofs(rt, made):
         rt.SEEDS.append(room)
         os.mkdir(os.path.join(room, "seed"))
         lay(rt, held_by(crate), os.path.join(room, "seed"))
+        together.begin(crate, flags, os.path.join(room, "seed"))
         return room
 
     return seeded
+
+
+def checked_once(together, made):
+    """How a crate is checked: not once more as it stands over what its edits began with, where no edit was tried by a check of all of it."""
+
+    def checked(crate, texts, flags, kept):
+        if kept and not texts and together.stands(crate, kept):
+            return subprocess.CompletedProcess([], 0, "")
+        return made(crate, texts, flags, kept)
+
+    return checked
 
 
 def edits_added(together, made):
@@ -242,7 +255,8 @@ def main(words):
     if known is CALLS_OF_ONE:
         rt.must_fail_all = edits_tried(rt, together, rt.must_fail_all)
     elif known is CALLS_OF_TASKS:
-        rt.seeded = seeds_of_proofs(rt, rt.seeded)
+        rt.seeded = seeds_of_proofs(rt, together, rt.seeded)
+        rt.checked = checked_once(together, rt.checked)
         rt.add_edits = edits_added(together, rt.add_edits)
     status = rt.main(words)
     sys.stdout.flush()

@@ -30,7 +30,7 @@ from ._values import (
     time_of,
 )
 
-__version__ = "1.0.3"
+__version__ = "1.0.4"
 
 __all__ = [
     "Attachment",

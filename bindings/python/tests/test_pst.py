@@ -137,7 +137,7 @@ class Refusals(unittest.TestCase):
 
     def test_words(self):
         self.assertEqual(pst.answer([], b"")[:2], (2, b""))
-        self.assertEqual(pst.answer(["--version"], b""), (0, b"pst_show 1.0.3\n", b""))
+        self.assertEqual(pst.answer(["--version"], b""), (0, b"pst_show 1.0.4\n", b""))
         self.assertEqual(pst.answer(["explain", "none"], b""), (2, b"", b"bad kind\n"))
 
     def test_no_file(self):

@@ -15,7 +15,7 @@ use clap::{Arg, ArgAction, ArgMatches, Command, Error};
 use std::alloc::{AllocError, AllocFailed, Global};
 
 // What `--version` prints after the program's name.
-const VERSION: &str = "1.0.3";
+const VERSION: &str = "1.0.4";
 
 // What the flag of a digest is for.
 const DIGEST: &str = "Adds the SHA-256 of the file as it is stored";

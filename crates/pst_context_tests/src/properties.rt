@@ -85,7 +85,7 @@ fn line_lent<R: Abort>(rt: &R, alloc: Global, node: Node, index: &SubIndex) -> S
 fn line_with<R: Abort>(rt: &R, alloc: Global, node: Node, index: &SubIndex) -> String
     requires { IsIndexedBy node index.now }
 {
-    let mut maps = Maps::new(alloc);
+    let mut maps = PageMaps::new(alloc);
     line_of(rt, alloc, check_pc_with(node.indexed(index), &mut maps))
 }
 

@@ -10,7 +10,7 @@ use crate::opened::{line_of_fault, node_in};
 use crate::told::{holds_at, is, is_line};
 use pst_datatree::Value;
 use pst_fault::Fault;
-use pst_heap::Maps;
+use pst_heap::PageMaps;
 use pst_ndb::{Node, SubIndex};
 use pst_tc::*;
 use std::alloc::Global;
@@ -94,7 +94,7 @@ fn line_lent<R: Abort>(rt: &R, alloc: Global, node: Node, index: &SubIndex) -> S
 fn line_with<R: Abort>(rt: &R, alloc: Global, node: Node, index: &SubIndex) -> String
     requires { IsIndexedBy node index.now }
 {
-    let mut maps = Maps::new(alloc);
+    let mut maps = PageMaps::new(alloc);
     line_of(rt, alloc, check_tc_with(node.indexed(index), &mut maps))
 }
 

@@ -12,7 +12,7 @@ ghost use Rattle.pst_damage.specs.Nodes.{node_damage};
 
 use crate::broken::found;
 use crate::folder::check_folder;
-use crate::known::Known;
+use crate::known::JudgedParts;
 use crate::left::{Left, node_of};
 use pst_btree::NodeEntry;
 use pst_fault::Fault;
@@ -21,7 +21,7 @@ use pst_ndb::Node;
 
 // What is asked of a sound node, by its identifier.
 #[tactic(auto, unfolding(crate::specs::Folder::asked_damage))]
-fn check_asked(left: &Left, node: Node, known: &mut Known) -> Result<(), Fault>
+fn check_asked(left: &Left, node: Node, known: &mut JudgedParts) -> Result<(), Fault>
     requires table { table_of_node node ≡ left_table left.now }
     requires known { let nodes = left_nodes left.now in
         IsKnownOf (left_table left.now) nodes (left_pages left.now) known.old }
@@ -57,7 +57,7 @@ pub(crate) fn fault_of(
     left: &Left,
     entry: NodeEntry,
     own: Option<Fault>,
-    known: &mut Known,
+    known: &mut JudgedParts,
 ) -> Result<Option<Fault>, Fault>
     requires own { own ≡ node_fault (left_table left.now) entry }
     requires known { let nodes = left_nodes left.now in

@@ -18,7 +18,7 @@ ghost use Rattle.pst_damage.specs.Rows.{as_it_is, rows_part};
 ghost use Rattle.pst_msg.specs.Checker.{IsCheckerOf};
 ghost use Rattle.pst_msg.specs.Faults.{AreFaultsOf};
 
-use crate::known::Known;
+use crate::known::JudgedParts;
 use crate::left::{Left, node_of};
 use crate::listings::{Listings, number_of};
 use pst_btree::NodeEntry;
@@ -170,7 +170,12 @@ fn check_lent(
 
 // The table of an entry: its context, then its rows.
 #[tactic(auto, unfolding(crate::specs::Folder::items_damage))]
-fn check_items(left: &Left, items: Items, entry: NodeEntry, known: &mut Known) -> Result<(), Fault>
+fn check_items(
+    left: &Left,
+    items: Items,
+    entry: NodeEntry,
+    known: &mut JudgedParts,
+) -> Result<(), Fault>
     requires sound { node_fault (left_table left.now) entry ≡ None }
     requires known { let nodes = left_nodes left.now in
         IsKnownOf (left_table left.now) nodes (left_pages left.now) known.old }
@@ -195,7 +200,7 @@ fn check_items(left: &Left, items: Items, entry: NodeEntry, known: &mut Known) -
 
 // A table of a folder, where its node is sound.
 #[tactic(auto, unfolding(crate::specs::Folder::table_damage, pst_ndb::specs::Roots::node_in), using(crate::proofs::SoundLemmas::found_none))]
-fn check_table(left: &Left, items: Items, nid: u32, known: &mut Known) -> Result<(), Fault>
+fn check_table(left: &Left, items: Items, nid: u32, known: &mut JudgedParts) -> Result<(), Fault>
     requires known { let nodes = left_nodes left.now in
         IsKnownOf (left_table left.now) nodes (left_pages left.now) known.old }
     ensures known { let nodes = left_nodes left.now in
@@ -211,7 +216,7 @@ fn check_table(left: &Left, items: Items, nid: u32, known: &mut Known) -> Result
 
 /// A folder: its properties, then its three tables, each with its rows.
 #[tactic(auto, unfolding(crate::specs::Folder::folder_damage))]
-pub(crate) fn check_folder(left: &Left, node: Node, known: &mut Known) -> Result<(), Fault>
+pub(crate) fn check_folder(left: &Left, node: Node, known: &mut JudgedParts) -> Result<(), Fault>
     requires table { table_of_node node ≡ left_table left.now }
     requires known { let nodes = left_nodes left.now in
         IsKnownOf (left_table left.now) nodes (left_pages left.now) known.old }

@@ -11,7 +11,7 @@ ghost use Rattle.pst_damage.specs.Nodes.{node_damage, with_required as with_miss
 use crate::asked::fault_of;
 use crate::broken::{BrokenNode, push_told, take_told};
 use crate::broken_pages::BrokenPages;
-use crate::known::Known;
+use crate::known::JudgedParts;
 use crate::left::Left;
 use crate::order::put_in;
 use crate::trees::judge_trees;
@@ -38,7 +38,7 @@ fn judge_each(alloc: Global, left: &Left) -> Result<Vec<BrokenNode>, Fault>
         IfOk result (λ v. v.items ≡ broken_by (node_damage t nodes (left_pages left.now)) nodes) }
     ensures err { IfErr result (λ f. f ≡ no_memory) }
 {
-    let mut known = Known::new(alloc);
+    let mut known = JudgedParts::new(alloc);
     let mut told = Vec::new(alloc);
     let mut next = 0;
     left.nodes.nids_rise();

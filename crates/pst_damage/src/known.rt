@@ -6,7 +6,7 @@ use std::alloc::Global;
 
 /// What was found without fault, and is passed over where it is met again; and the faults of what was broken.
 #[derive(Drop)]
-pub(crate) struct Known {
+pub(crate) struct JudgedParts {
     /// The contexts and messages.
     pub(crate) contexts: Checker,
     /// The rows of long tables of folders.
@@ -15,7 +15,7 @@ pub(crate) struct Known {
     pub(crate) rows: Faults,
 }
 
-impl Known {
+impl JudgedParts {
     ghost use Rattle.std.specs.Prelude.{List};
     ghost use Rattle.pst_page.specs.declared.entry.NodeEntry.{NodeEntry};
     ghost use Rattle.pst_block.specs.Table.{Table};
@@ -23,11 +23,11 @@ impl Known {
     ghost use Rattle.pst_damage.specs.Known.{IsKnownOf};
 
     /// Nothing yet. No memory is taken.
-    pub(crate) fn new(alloc: Global) -> Known
+    pub(crate) fn new(alloc: Global) -> JudgedParts
         ensures { (t : Table) (nodes : List NodeEntry) (broken : List Broken) →
             IsKnownOf t nodes broken result }
     {
-        Known {
+        JudgedParts {
             contexts: Checker::new(alloc),
             listings: Listings::new(alloc),
             rows: Faults::new(alloc),

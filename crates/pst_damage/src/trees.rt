@@ -23,22 +23,22 @@ use std::alloc::Global;
 // What is known of the trees that were looked at. What has no fault is passed over where it is met again; of the data of a node,
 // and of each list and data below it, that have one it is remembered.
 #[derive(Drop)]
-struct Known {
+struct JudgedTrees {
     seen: Seen,
     heights: Heights,
     content: Faults,
     below: SubFaults,
 }
 
-impl Known {
+impl JudgedTrees {
     ghost use Rattle.pst_block.specs.Table.{Table};
     ghost use Rattle.pst_damage.specs.Trees.{AreTreesKnown};
 
     // Nothing yet.
-    fn new(alloc: Global) -> Known
+    fn new(alloc: Global) -> JudgedTrees
         ensures { (t : Table) → AreTreesKnown t result }
     {
-        Known {
+        JudgedTrees {
             seen: Seen::new(alloc),
             heights: Heights::new(alloc),
             content: Faults::new(alloc),
@@ -52,7 +52,7 @@ fn check_content(
     alloc: Global,
     blocks: &Blocks,
     entry: NodeEntry,
-    known: &mut Known,
+    known: &mut JudgedTrees,
 ) -> Result<(), Fault>
     requires { AreTreesKnown (table_of blocks.now) known.old }
     ensures known { AreTreesKnown (table_of blocks.now) known.new }
@@ -72,7 +72,7 @@ fn check_subs(
     alloc: Global,
     blocks: &Blocks,
     entry: NodeEntry,
-    known: &mut Known,
+    known: &mut JudgedTrees,
 ) -> Result<(), Fault>
     requires { AreTreesKnown (table_of blocks.now) known.old }
     ensures known { AreTreesKnown (table_of blocks.now) known.new }
@@ -97,7 +97,7 @@ fn check_trees(
     alloc: Global,
     blocks: &Blocks,
     entry: NodeEntry,
-    known: &mut Known,
+    known: &mut JudgedTrees,
 ) -> Result<(), Fault>
     requires { AreTreesKnown (table_of blocks.now) known.old }
     ensures known { AreTreesKnown (table_of blocks.now) known.new }
@@ -118,7 +118,7 @@ pub(crate) fn judge_trees(
         v.items ≡ broken_by (node_fault (table_of blocks.now)) nodes.now) }
     ensures err { IfErr result (λ f. f ≡ no_memory) }
 {
-    let mut known = Known::new(alloc);
+    let mut known = JudgedTrees::new(alloc);
     let mut broken = Vec::new(alloc);
     for entry in nodes {
         let fault = found(check_trees(alloc, blocks, *entry, &mut known))?;

@@ -31,7 +31,7 @@ words_of HeaderCheck = words (codes "a check value of the header does not fit it
 words_of Root = words (codes "at 0xb8: the file is shorter than its header says, as when it was cut off; at 0xc0: the last allocation map is said to lie where none can") (codes "0xb8 or 0xc0, where the number stands") (codes "0x0, nothing") (codes "0x0, nothing")
     (codes "With 0xb8 look whether the file was copied whole; else take it from a backup; damage lists what is broken, and messages --whole and export --whole give what is whole") (codes "2.2.2.5")
 words_of MapsInvalid = words (codes "the header marks the allocation maps as invalid") (codes "0xf8, where the mark stands") (codes "0x0, nothing") (codes "0x0, nothing")
-    (codes "It is outside the profile, and not said to be damaged: Outlook builds the maps anew when it next opens the store; where nothing may change it, damage lists what is broken else, and messages --whole and export --whole show what is whole") (codes "2.2.2.5")
+    (codes "It is outside the profile, and not said to be damaged: Outlook builds the maps anew when it next opens the store; where nothing may change it, damage lists what else is broken, and messages --whole and export --whole show what is whole") (codes "2.2.2.5")
 words_of PagePlace = words (codes "a page is said to lie where none can") (codes "the page, where it is said to lie") (codes "that of the reference to the page") (codes "0x0, nothing")
     (codes "An index tree is broken: take the file from a backup; damage lists what is broken, and messages --whole and export --whole give what is whole") (codes "2.2.2.7")
 words_of PageTrailer = words (codes "the last 16 bytes of a page do not fit the page and the reference to it: one of these is damaged or overwritten") (codes "the page") (codes "that of the reference to the page") (codes "0x0, nothing")

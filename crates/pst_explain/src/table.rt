@@ -59,7 +59,7 @@ macro_rules! table {
                 "0xf8, where the mark stands",
                 "0x0, nothing",
                 "0x0, nothing",
-                "It is outside the profile, and not said to be damaged: Outlook builds the maps anew when it next opens the store; where nothing may change it, damage lists what is broken else, and messages --whole and export --whole show what is whole",
+                "It is outside the profile, and not said to be damaged: Outlook builds the maps anew when it next opens the store; where nothing may change it, damage lists what else is broken, and messages --whole and export --whole show what is whole",
                 "2.2.2.5";
             [Kind::PagePlace] "8" "PagePlace"
                 "a page is said to lie where none can",

@@ -17,15 +17,15 @@ use Rattle.pst_datatree.specs.Parts.{part_count, part_in, part_spans, HasParts}
 use Rattle.pst_datatree.proofs.SeenLemmas.{only_new}
 use Rattle.pst_ndb.specs.pst_block.Table.{Table}
 use Rattle.pst_heap.specs.declared.check.TheConstants.{SPANS}
-use Rattle.pst_heap.specs.declared.maps.Maps.{Maps}
+use Rattle.pst_heap.specs.declared.maps.PageMaps.{PageMaps}
 use Rattle.pst_heap.specs.Values.{HeapData}
 use Rattle.pst_heap.specs.Fault.{extra_fault, front_fault, page_map_fault, heap_fault}
-use Rattle.pst_heap.specs.Maps.{page_maps_fault, broken_of, knows_maps, AreMapsTrue, start_fault}
+use Rattle.pst_heap.specs.PageMaps.{page_maps_fault, broken_of, knows_maps, AreMapsTrue, start_fault}
 
 -- ---- what is remembered
 
 -- nothing is known
-pub nothing_true : (t : Table) (m : Maps) → HasNone m.trees → IsEmpty m.broken → AreMapsTrue t m
+pub nothing_true : (t : Table) (m : PageMaps) → HasNone m.trees → IsEmpty m.broken → AreMapsTrue t m
 unfolding knows_maps broken_of
 nothing_true t m trees broken = record {
   holds = λ bid known. let bad : false ≡ true = (rw trees at known) in cc;
@@ -33,7 +33,7 @@ nothing_true t m trees broken = record {
 }
 
 -- one more is known
-pub put_true : (t : Table) (old new : Maps) (bid : ℕ) → ((q : ℕ) → contains nat_cmp new.trees q ≡ cond (is_at (nat_cmp bid) q) true (contains nat_cmp old.trees q)) → new.broken ≡ old.broken → page_maps_fault t bid ≡ None → AreMapsTrue t old → AreMapsTrue t new
+pub put_true : (t : Table) (old new : PageMaps) (bid : ℕ) → ((q : ℕ) → contains nat_cmp new.trees q ≡ cond (is_at (nat_cmp bid) q) true (contains nat_cmp old.trees q)) → new.broken ≡ old.broken → page_maps_fault t bid ≡ None → AreMapsTrue t old → AreMapsTrue t new
 unfolding knows_maps broken_of
 put_true t old new bid more same none true_of = record { holds = each; broken = λ q f known. true_of.broken q f (rw same at known) }
   where
@@ -41,7 +41,7 @@ put_true t old new bid more same none true_of = record { holds = each; broken = 
     each q known = elim (only_new old.trees new.trees bid more q known) [ inl was ↦ true_of.holds q was | inr same ↦ rw (← same) none ]
 
 -- one fault more
-pub broken_put : (t : Table) (old new : Maps) (bid : ℕ) (f : Fault) → ((q : ℕ) → get nat_cmp new.broken q ≡ cond (eq_by_cmp nat_cmp bid q) (Some f) (get nat_cmp old.broken q)) → new.trees ≡ old.trees → page_maps_fault t bid ≡ Some f → AreMapsTrue t old → AreMapsTrue t new
+pub broken_put : (t : Table) (old new : PageMaps) (bid : ℕ) (f : Fault) → ((q : ℕ) → get nat_cmp new.broken q ≡ cond (eq_by_cmp nat_cmp bid q) (Some f) (get nat_cmp old.broken q)) → new.trees ≡ old.trees → page_maps_fault t bid ≡ Some f → AreMapsTrue t old → AreMapsTrue t new
 unfolding knows_maps broken_of
 broken_put t old new bid f put same is true_of = record {
   holds = λ q known. true_of.holds q (rw same at known);
@@ -56,7 +56,7 @@ broken_put t old new bid f put same is true_of = record {
     by_test q g false here found = true_of.broken q g found
 
 -- memory was refused, and the same is remembered
-pub broken_same : (t : Table) (old new : Maps) → IsUnchanged old.broken new.broken → new.trees ≡ old.trees → AreMapsTrue t old → AreMapsTrue t new
+pub broken_same : (t : Table) (old new : PageMaps) → IsUnchanged old.broken new.broken → new.trees ≡ old.trees → AreMapsTrue t old → AreMapsTrue t new
 unfolding knows_maps broken_of
 broken_same t old new broken same true_of = record {
   holds = λ q known. true_of.holds q (rw same at known);

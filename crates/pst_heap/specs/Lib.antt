@@ -2,7 +2,7 @@ pub mod PageMap
 pub mod Values
 pub mod Grammar
 pub mod Fault
-pub mod Maps
+pub mod PageMaps
 pub mod View
 pub mod Items
 pub mod Laws

@@ -10,13 +10,13 @@ ghost use Rattle.pst_datatree.specs.Spans.{first_span};
 ghost use Rattle.pst_ndb.specs.Views.{table_of_node, image_of_node, data_bid_of};
 ghost use Rattle.pst_heap.specs.Values.{data_of_node};
 ghost use Rattle.pst_heap.specs.Fault.{page_map_fault, heap_fault, told_of as told};
-ghost use Rattle.pst_heap.specs.Maps.{page_maps_fault, start_fault, AreMapsTrue};
+ghost use Rattle.pst_heap.specs.PageMaps.{page_maps_fault, start_fault, AreMapsTrue};
 ghost use Rattle.pst_heap.specs.View.{node_of};
 
 use crate::alone::{heap_alone, only_span};
 use crate::check::{check_few, check_front, check_spans};
 use crate::heap::Heap;
-use crate::maps::Maps;
+use crate::maps::PageMaps;
 use crate::told::told_of;
 use pst_bytes::Span;
 use pst_datatree::Parts;
@@ -48,7 +48,7 @@ fn check_all_maps(node: &Node) -> Result<(), Fault>
 }
 
 // The page maps of a part of a node's data, unless they are known, or their fault is.
-fn check_part(node: &Node, parts: Parts, i: u16, maps: &mut Maps) -> Result<(), Fault>
+fn check_part(node: &Node, parts: Parts, i: u16, maps: &mut PageMaps) -> Result<(), Fault>
     requires below { i < part_count (table_of_parts parts) (tree_of_parts parts) }
     requires table { table_of_parts parts ≡ table_of_node node.now }
     requires image { image_of_parts parts ≡ image_of_node node.now }
@@ -73,7 +73,7 @@ fn check_part(node: &Node, parts: Parts, i: u16, maps: &mut Maps) -> Result<(), 
 }
 
 // The page maps of all parts, in order.
-fn check_parts(node: &Node, maps: &mut Maps) -> Result<(), Fault>
+fn check_parts(node: &Node, maps: &mut PageMaps) -> Result<(), Fault>
     requires known { AreMapsTrue (table_of_node node.now) maps.old }
     ensures known { AreMapsTrue (table_of_node node.now) maps.new }
     ensures exact { let t = table_of_node node.now in
@@ -88,7 +88,7 @@ fn check_parts(node: &Node, maps: &mut Maps) -> Result<(), Fault>
 }
 
 // The page maps, of more than a few spans by their parts.
-fn check_maps_with(node: &Node, maps: &mut Maps) -> Result<(), Fault>
+fn check_maps_with(node: &Node, maps: &mut PageMaps) -> Result<(), Fault>
     requires known { AreMapsTrue (table_of_node node.now) maps.old }
     ensures known { AreMapsTrue (table_of_node node.now) maps.new }
     ensures exact { let t = table_of_node node.now in
@@ -103,7 +103,7 @@ fn check_maps_with(node: &Node, maps: &mut Maps) -> Result<(), Fault>
 /// Checks that the data of a node is a heap, as `check_heap` does, by what is known of page maps. Of a heap of more than 16 spans
 /// the XBLOCKs that an XXBLOCK names, or else the whole data, are remembered once their page maps were gone through; where they are
 /// met again, each costs a look-up or two. NoMemory where memory is refused to one whose page maps are good.
-pub fn check_heap_with<'a>(node: Node<'a>, maps: &mut Maps) -> Result<Heap<'a>, Fault>
+pub fn check_heap_with<'a>(node: Node<'a>, maps: &mut PageMaps) -> Result<Heap<'a>, Fault>
     // What is known is true, and stays so.
     requires known { AreMapsTrue (table_of_node node) maps.old }
     ensures known { AreMapsTrue (table_of_node node.entry) maps.new }

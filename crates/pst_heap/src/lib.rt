@@ -24,6 +24,6 @@ pub use check_with::check_heap_with;
 pub use heap::Heap;
 pub use items::Items;
 pub use laws::{heap_decides, items_lie_in_spans};
-pub use maps::Maps;
+pub use maps::PageMaps;
 pub use pst_ndb::check_ndb;
 pub use told::told_of;

@@ -8,32 +8,32 @@ use std::collections::{BTreeMap, BTreeSet};
 /// that is given this passes the former over, and tells the latter, so what heaps share is looked at once. Where memory is refused
 /// to a fault it is not remembered, and no answer depends on that.
 #[derive(Drop)]
-pub struct Maps {
+pub struct PageMaps {
     // The block identifiers of those that are good, as they were written where they were met.
     trees: BTreeSet<u64>,
     // By those of the others, their first faults, of no context.
     broken: BTreeMap<u64, Fault>,
 }
 
-impl Maps {
+impl PageMaps {
     ghost use Rattle.std.specs.Prelude.{◌≡◌, Some, None, IfErr};
     ghost use Rattle.pst_fault.specs.Fault.{no_memory};
     ghost use Rattle.pst_ndb.specs.pst_block.Table.{Table};
-    ghost use Rattle.pst_heap.specs.Maps.{page_maps_fault, broken_of, knows_maps, AreMapsTrue};
+    ghost use Rattle.pst_heap.specs.PageMaps.{page_maps_fault, broken_of, knows_maps, AreMapsTrue};
 
     /// Nothing is known. No memory is taken.
     #[tactic(auto, using(crate::proofs::KnownLemmas::nothing_true))]
-    pub fn new(alloc: Global) -> Maps
+    pub fn new(alloc: Global) -> PageMaps
         ensures { (t : Table) → AreMapsTrue t result }
     {
-        Maps {
+        PageMaps {
             trees: BTreeSet::new(alloc),
             broken: BTreeMap::new(alloc),
         }
     }
 
     // Whether the page maps of a data tree are known to be good.
-    #[tactic(auto, unfolding(crate::specs::Maps::knows_maps))]
+    #[tactic(auto, unfolding(crate::specs::PageMaps::knows_maps))]
     pub(crate) fn knows(&self, bid: u64) -> bool
         ensures { result ≡ knows_maps self.now bid }
     {
@@ -52,7 +52,7 @@ impl Maps {
     }
 
     // The first fault of the page maps of a data tree, if it is remembered.
-    #[tactic(auto, unfolding(crate::specs::Maps::broken_of))]
+    #[tactic(auto, unfolding(crate::specs::PageMaps::broken_of))]
     pub(crate) fn fault(&self, bid: u64) -> Option<Fault>
         ensures { result ≡ broken_of self.now bid }
     {

@@ -30,7 +30,7 @@ impl<'a> IntactFolder<'a> {
     ghost use Rattle.pst_ndb.specs.Views.{image_of_node, table_of_node, top_of, nid_of, roots_of};
     ghost use Rattle.pst_tc.specs.Tc.{node_of_tc};
     ghost use Rattle.pst_store.specs.pst_msg.pst_pc.View.{node_of_pc};
-    ghost use Rattle.pst_store.specs.pst_msg.pst_mail.declared.items.Items.TheVariants.{Subfolders, Messages, Associated};
+    ghost use Rattle.pst_store.specs.pst_msg.pst_mail.declared.items.Items.TheVariants.{Subfolders, Messages};
     ghost use Rattle.pst_store.specs.pst_msg.Shown.{folder_table};
     ghost use Rattle.pst_store.specs.pst_msg.Values.{is_folder};
     ghost use Rattle.pst_store.specs.pst_msg.View.{tc_roots};
@@ -122,18 +122,5 @@ impl<'a> IntactFolder<'a> {
             image_of_node (node_of_tc x) ≡ image_of_nodes (intact_beside self.now)) }
     {
         self.table(Items::Messages)
-    }
-
-    /// The table of the messages that belong to the folder itself.
-    pub fn associated(&self) -> Option<Tc<'a>>
-        ensures roots { let nodes = entries_of_nodes (intact_beside self.now) in
-            let nid = top_of (intact_node self.now) in
-            option_map tc_roots result ≡ folder_table nodes Associated nid }
-        ensures table { IfSome result (λ x.
-            table_of_node (node_of_tc x) ≡ table_of_nodes (intact_beside self.now)) }
-        ensures image { IfSome result (λ x.
-            image_of_node (node_of_tc x) ≡ image_of_nodes (intact_beside self.now)) }
-    {
-        self.table(Items::Associated)
     }
 }

@@ -1,14 +1,14 @@
 -- What is known stays true with other indexes, more page maps, more that was asked, more faults, and more that was counted.
 use Rattle.pst_fault.specs.Fault.{at_node}
 use Rattle.pst_block.specs.Table.{Table}
-use Rattle.pst_pc.specs.pst_heap.declared.maps.Maps.{Maps}
-use Rattle.pst_pc.specs.pst_heap.Maps.{AreMapsTrue}
+use Rattle.pst_pc.specs.pst_heap.declared.maps.PageMaps.{PageMaps}
+use Rattle.pst_pc.specs.pst_heap.PageMaps.{AreMapsTrue}
 use Rattle.pst_ndb.specs.declared.node_indexes.NodeIndexes.{NodeIndexes}
 use Rattle.pst_ndb.specs.NodeIndexes.{AreNodeIndexes}
-use Rattle.pst_remembered.specs.declared.asked.Asked.{Asked}
+use Rattle.pst_remembered.specs.declared.asked.KnownAsks.{KnownAsks}
 use Rattle.pst_remembered.specs.declared.faults.Faults.{Faults}
 use Rattle.pst_msg.specs.declared.indexes.Indexes.{Indexes}
-use Rattle.pst_msg.specs.declared.known.Known.{Known}
+use Rattle.pst_msg.specs.declared.known.KnownParts.{KnownParts}
 use Rattle.pst_remembered.specs.declared.row_counts.RowCounts.{RowCounts}
 use Rattle.pst_remembered.specs.declared.row_names.RowNames.{RowNames}
 use Rattle.pst_remembered.specs.Asked.{AreAskedTrue}
@@ -21,7 +21,7 @@ use Rattle.pst_remembered.specs.RowNames.{AreRowNames}
 use Rattle.pst_msg.proofs.KnownLemmas.{held_later, message_later, attachment_later}
 
 -- those of a context, and its faults
-pub aids_turned : (t : Table) (k : Known) (index : NodeIndexes) (maps : Maps) (asked : Asked) (broken : Faults) → IsTrueOf t k → AreNodeIndexes t index → AreMapsTrue t maps → AreAskedTrue t asked → AreFaultsOf at_node (context_part t) broken → IsTrueOf t (record k { index = index; maps = maps; asked = asked; broken = broken })
+pub aids_turned : (t : Table) (k : KnownParts) (index : NodeIndexes) (maps : PageMaps) (asked : KnownAsks) (broken : Faults) → IsTrueOf t k → AreNodeIndexes t index → AreMapsTrue t maps → AreAskedTrue t asked → AreFaultsOf at_node (context_part t) broken → IsTrueOf t (record k { index = index; maps = maps; asked = asked; broken = broken })
 aids_turned t k index maps asked broken is turned more kept faults = record {
   contexts = is.contexts;
   messages = is.messages;
@@ -41,7 +41,7 @@ aids_turned t k index maps asked broken is turned more kept faults = record {
 }
 
 -- indexes of the lists of messages
-pub indexes_turned : (t : Table) (k : Known) (indexes : Indexes) → IsTrueOf t k → AreIndexes t indexes → IsTrueOf t (record k { indexes = indexes })
+pub indexes_turned : (t : Table) (k : KnownParts) (indexes : Indexes) → IsTrueOf t k → AreIndexes t indexes → IsTrueOf t (record k { indexes = indexes })
 indexes_turned t k indexes is turned = record {
   contexts = is.contexts;
   messages = is.messages;
@@ -61,7 +61,7 @@ indexes_turned t k indexes is turned = record {
 }
 
 -- what rows name
-pub names_turned : (t : Table) (k : Known) (row_names : RowNames) → IsTrueOf t k → AreRowNames t row_names → IsTrueOf t (record k { row_names = row_names })
+pub names_turned : (t : Table) (k : KnownParts) (row_names : RowNames) → IsTrueOf t k → AreRowNames t row_names → IsTrueOf t (record k { row_names = row_names })
 names_turned t k row_names is turned = record {
   contexts = is.contexts;
   messages = is.messages;
@@ -81,7 +81,7 @@ names_turned t k row_names is turned = record {
 }
 
 -- how many rows there are
-pub counts_turned : (t : Table) (k : Known) (row_counts : RowCounts) → IsTrueOf t k → AreRowCounts t row_counts → IsTrueOf t (record k { row_counts = row_counts })
+pub counts_turned : (t : Table) (k : KnownParts) (row_counts : RowCounts) → IsTrueOf t k → AreRowCounts t row_counts → IsTrueOf t (record k { row_counts = row_counts })
 counts_turned t k row_counts is turned = record {
   contexts = is.contexts;
   messages = is.messages;

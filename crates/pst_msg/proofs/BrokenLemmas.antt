@@ -12,7 +12,7 @@ use Rattle.pst_ndb.specs.declared.node.Node.{Node}
 use Rattle.pst_ndb.specs.Roots.{Roots}
 use Rattle.pst_ndb.specs.Views.{table_of_node, roots_of}
 use Rattle.pst_msg.specs.declared.frame.Frame.{Frame}
-use Rattle.pst_msg.specs.declared.known.Known.{Known}
+use Rattle.pst_msg.specs.declared.known.KnownParts.{KnownParts}
 use Rattle.pst_remembered.specs.declared.role.Role.TheVariants.{Properties}
 use Rattle.pst_mail.specs.Fault.{held_fault, message_at, below_message}
 use Rattle.pst_msg.specs.Known.{IsTrueOf}
@@ -28,10 +28,10 @@ whole_first t limit node e same sound first =
     rw (held_limit t limit LISTS (roots_of node) sound all) at first
 
 -- what each of them holds has it, too
-broken_here : (t : Table) (k : Known) (now : Option Fault) (waits : Option Roots) (f : Frame) (e : Fault) → IsTrueOf t k → IsFirst now e → IsFrame t k now waits f → IsBrokenBy t e f
+broken_here : (t : Table) (k : KnownParts) (now : Option Fault) (waits : Option Roots) (f : Frame) (e : Fault) → IsTrueOf t k → IsFirst now e → IsFrame t k now waits f → IsBrokenBy t e f
 broken_here t k now waits f e known refused is = (is.table, whole_first t f.limit f.node e is.table is.sound (rw is.first (is_first_then now (left_of t f) e refused)))
 
-below_broken : (t : Table) (root : Roots) (k : Known) (r : Roots) (limit : ℕ) (waits : Option Roots) (below : List Frame) (e : Fault) → IsTrueOf t k → IsFirst (message_at t limit r) e → IsBelowMessage t root k r limit waits below → AreBrokenBy t e below
+below_broken : (t : Table) (root : Roots) (k : KnownParts) (r : Roots) (limit : ℕ) (waits : Option Roots) (below : List Frame) (e : Fault) → IsTrueOf t k → IsFirst (message_at t limit r) e → IsBelowMessage t root k r limit waits below → AreBrokenBy t e below
 unfolding IsBelowMessage
 below_broken t root k r limit waits [] e known refused is g within = absurd (omega (arith, within.1))
 below_broken t root k r limit waits (f ∷ below) e known refused is g within =
@@ -50,12 +50,12 @@ in_reverse xs x w =
     let lt : length xs - 1 - w.0 < length xs = omega (arith, w.1) in
     (length xs - 1 - w.0, rw length-reverse lt, get_or-reverse xs (length xs - 1 - w.0) x lt ∙ ap (λ (k : ℕ). get_or xs k x) back ∙ w.2)
 
-pub stack_waits : (t : Table) (root : Roots) (k : Known) (f : Frame) (all : List Frame) → IsTrueOf t k → IsStack t root k (f ∷ reverse all) → WaitFor t f all
+pub stack_waits : (t : Table) (root : Roots) (k : KnownParts) (f : Frame) (all : List Frame) → IsTrueOf t k → IsStack t root k (f ∷ reverse all) → WaitFor t f all
 unfolding IsStack
 stack_waits t root k f all known is e refused g within = below_broken t root k (roots_of f.node) f.limit (holder_of f) (reverse all) e known refused is.3 g (in_reverse all g within)
 
 -- and what it holds itself
-pub broken_held : (t : Table) (k : Known) (f : Frame) (e : Fault) → IsTrueOf t k → IsFrame t k None None f → IsFirst (message_at t f.limit (roots_of f.node)) e → IsFirst (held_fault t (below_message t LISTS) (roots_of f.node)) e
+pub broken_held : (t : Table) (k : KnownParts) (f : Frame) (e : Fault) → IsTrueOf t k → IsFrame t k None None f → IsFirst (message_at t f.limit (roots_of f.node)) e → IsFirst (held_fault t (below_message t LISTS) (roots_of f.node)) e
 broken_held t k f e known is refused =
     let held : IsFirst (held_fault t (below_message t f.limit) (roots_of f.node)) e = rw (message_held t f.limit (roots_of f.node) (known.contexts Properties (roots_of f.node) is.properties)) at refused in
     whole_first t f.limit f.node e is.table is.sound held

@@ -3,13 +3,13 @@ use Rattle.std.proofs.Common.{◌≡◌, ℕ, ◌+◌, ◌-◌, ◌^◌, List, a
 use Rattle.std.specs.Prelude.{min}
 use Rattle.pst_page.specs.declared.entry.NodeEntry.{NodeEntry}
 use Rattle.pst_block.specs.Table.{Table}
-use Rattle.pst_msg.specs.declared.known.Known.{Known}
+use Rattle.pst_msg.specs.declared.known.KnownParts.{KnownParts}
 use Rattle.pst_ndb.specs.Counts.{capped}
 use Rattle.pst_msg.specs.Growth.{Grows}
 
 -- ---- steps one after another
 
-pub grows_same : (t : Table) (H : List NodeEntry → Type 0) (a : Known) → Grows t H a a
+pub grows_same : (t : Table) (H : List NodeEntry → Type 0) (a : KnownParts) → Grows t H a a
 grows_same t H a = record {
   contexts = λ q is. is;
   messages = λ q is. is;
@@ -20,7 +20,7 @@ grows_same t H a = record {
   named = λ nodes held are. are;
 }
 
-pub grows_then : (t : Table) (H : List NodeEntry → Type 0) (a b c : Known) → Grows t H a b → Grows t H b c → Grows t H a c
+pub grows_then : (t : Table) (H : List NodeEntry → Type 0) (a b c : KnownParts) → Grows t H a b → Grows t H b c → Grows t H a c
 grows_then t H a b c g h = record {
   contexts = λ q is. h.contexts q (g.contexts q is);
   messages = λ q is. h.messages q (g.messages q is);
@@ -31,7 +31,7 @@ grows_then t H a b c g h = record {
   named = λ nodes held are. h.named nodes held (g.named nodes held are);
 }
 
-pub grows_of : (t : Table) (H K : List NodeEntry → Type 0) (a b : Known) → ((nodes : List NodeEntry) → K nodes → H nodes) → Grows t H a b → Grows t K a b
+pub grows_of : (t : Table) (H K : List NodeEntry → Type 0) (a b : KnownParts) → ((nodes : List NodeEntry) → K nodes → H nodes) → Grows t H a b → Grows t K a b
 grows_of t H K a b of g = record {
   contexts = g.contexts;
   messages = g.messages;

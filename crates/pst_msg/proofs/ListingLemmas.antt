@@ -12,7 +12,7 @@ use Rattle.pst_tc.specs.Values.{info_of, tc_records, row_parts_at, tc_rows}
 use Rattle.pst_tc.proofs.AlikeLaws.{rows_alike}
 use Rattle.pst_mail.specs.declared.items.Items.{Items}
 use Rattle.pst_mail.specs.declared.items.Items.TheVariants.{Subfolders}
-use Rattle.pst_remembered.specs.declared.keys.Keys.{Keys}
+use Rattle.pst_remembered.specs.declared.keys.NodeSet.{NodeSet}
 use Rattle.pst_remembered.specs.declared.role.Role.{Role}
 use Rattle.pst_remembered.specs.declared.role.Role.TheVariants.{Properties, Listed, Recipients, Attachments}
 use Rattle.pst_mail.specs.Fault.{listed_item_fault}
@@ -69,7 +69,7 @@ items_in Recipients = Subfolders
 items_in Attachments = Subfolders
 
 -- none is remembered
-pub none_listed : (t : Table) (nodes : List NodeEntry) (keys : Keys) → ((q : Key) → holds keys q ≡ false) → ListingsAreTrue t nodes keys
+pub none_listed : (t : Table) (nodes : List NodeEntry) (keys : NodeSet) → ((q : Key) → holds keys q ≡ false) → ListingsAreTrue t nodes keys
 none_listed t nodes keys none items s is = absurd (no_both _ (none (data_key (role_number (Listed items)) s)) is)
   where
     no_both : (b : Bool) → b ≡ false → b ≡ true → ⊥
@@ -77,7 +77,7 @@ none_listed t nodes keys none items s is = absurd (no_both _ (none (data_key (ro
     no_both false e f = cc
 
 -- one more is remembered
-pub listing_remembered : (t : Table) (nodes : List NodeEntry) (items : Items) (r : Roots) (old new : Keys) → ListingsAreTrue t nodes old → first_of (listed_item_fault nodes items r.bid_data) (tc_rows t r) ≡ None → OneMore old new (data_key (role_number (Listed items)) r) → ListingsAreTrue t nodes new
+pub listing_remembered : (t : Table) (nodes : List NodeEntry) (items : Items) (r : Roots) (old new : NodeSet) → ListingsAreTrue t nodes old → first_of (listed_item_fault nodes items r.bid_data) (tc_rows t r) ≡ None → OneMore old new (data_key (role_number (Listed items)) r) → ListingsAreTrue t nodes new
 unfolding items_in
 listing_remembered t nodes items r old new are none more other s in_new = elim (more (data_key (role_number (Listed other)) s) in_new) [
   | inl was ↦ are other s was
@@ -88,11 +88,11 @@ listing_remembered t nodes items r old new are none more other s in_new = elim (
 ]
 
 -- a table that is remembered has rows without fault
-pub listed : (t u : Table) (nodes : List NodeEntry) (items : Items) (r : Roots) (keys : Keys) (q : Key) → u ≡ t → ListingsAreTrue t nodes keys → q ≡ data_key (role_number (Listed items)) r → holds keys q ≡ true → first_of (listed_item_fault nodes items r.bid_data) (tc_rows u r) ≡ None
+pub listed : (t u : Table) (nodes : List NodeEntry) (items : Items) (r : Roots) (keys : NodeSet) (q : Key) → u ≡ t → ListingsAreTrue t nodes keys → q ≡ data_key (role_number (Listed items)) r → holds keys q ≡ true → first_of (listed_item_fault nodes items r.bid_data) (tc_rows u r) ≡ None
 listed t u nodes items r keys q same are named there = rw same (are items r (rw (← named) there))
 
 -- a table whose rows have no fault is remembered
-pub one_listed : (t u : Table) (nodes : List NodeEntry) (items : Items) (r v : Roots) (bid : ℕ) (old new : Keys) (q : Key) → u ≡ t → v ≡ r → bid ≡ r.bid_data → ListingsAreTrue t nodes old → first_of (listed_item_fault nodes items bid) (tc_rows u v) ≡ None → q ≡ data_key (role_number (Listed items)) r → OneMore old new q → ListingsAreTrue t nodes new
+pub one_listed : (t u : Table) (nodes : List NodeEntry) (items : Items) (r v : Roots) (bid : ℕ) (old new : NodeSet) (q : Key) → u ≡ t → v ≡ r → bid ≡ r.bid_data → ListingsAreTrue t nodes old → first_of (listed_item_fault nodes items bid) (tc_rows u v) ≡ None → q ≡ data_key (role_number (Listed items)) r → OneMore old new q → ListingsAreTrue t nodes new
 one_listed t u nodes items r v bid old new q same is bids are none named more =
     let rows : first_of (listed_item_fault nodes items r.bid_data) (tc_rows t r) ≡ None = rw (bids, is, same) at none in
     listing_remembered t nodes items r old new are rows (rw (← named) more)

@@ -19,7 +19,7 @@ use Rattle.pst_tc.specs.Fault.{tc_fault}
 use Rattle.pst_msg.specs.Rest.{rows_of_table_left, table_of_rest}
 use Rattle.pst_tc.specs.Values.{RowParts, tc_rows}
 use Rattle.pst_msg.specs.declared.frame.Frame.{Frame}
-use Rattle.pst_msg.specs.declared.known.Known.{Known}
+use Rattle.pst_msg.specs.declared.known.KnownParts.{KnownParts}
 use Rattle.pst_mail.specs.declared.nid.TheConstants.{ATTACHMENT, ATTACHMENTS, RECIPIENTS}
 use Rattle.pst_mail.specs.declared.object.Object.{Object}
 use Rattle.pst_remembered.specs.declared.role.Role.TheVariants.{Properties, Recipients, Attachments}
@@ -68,16 +68,16 @@ whole_message t r properties none = message_held t LISTS r properties ∙ none
 -- ---- growth
 
 -- what adds no context adds only what is named, whatever holds
-pub grows_any : (t : Table) (H : List NodeEntry → Type 0) (a b : Known) → Grows t (λ nodes. Unit {0}) a b → Grows t H a b
+pub grows_any : (t : Table) (H : List NodeEntry → Type 0) (a b : KnownParts) → Grows t (λ nodes. Unit {0}) a b → Grows t H a b
 grows_any t H a b g = grows_of t (λ nodes. Unit {0}) H a b (λ nodes held. tt) g
 
 -- so does a step that adds something, and one behind it that adds no context
-pub grown : (t : Table) (H : List NodeEntry → Type 0) (a b c : Known) → Grows t H a b → Grows t (λ nodes. Unit {0}) b c → Grows t H a c
+pub grown : (t : Table) (H : List NodeEntry → Type 0) (a b c : KnownParts) → Grows t H a b → Grows t (λ nodes. Unit {0}) b c → Grows t H a c
 grown t H a b c g h = grows_then t H a b c g (grows_any t H b c h)
 
 -- ---- what opening a node answers
 
-module _ {t : Table} {a b : Known} {H : List NodeEntry → Type 0} {first : Option Fault} {W : Type 0} {O : Frame → Type 0} where
+module _ {t : Table} {a b : KnownParts} {H : List NodeEntry → Type 0} {first : Option Fault} {W : Type 0} {O : Frame → Type 0} where
   -- a fault
   pub opening_refused : {e : Fault} → IsTrueOf t b → Grows t H a b → IsFirst first e → IsOpening t a b H first W O (Err e)
   opening_refused known grows is = record { known = known; grows = grows; refused = is; done = tt; opened = tt }
@@ -96,7 +96,7 @@ module _ {t : Table} {a b : Known} {H : List NodeEntry → Type 0} {first : Opti
   opening_frame known grows is = record { known = known; grows = grows; refused = tt; done = tt; opened = is }
 
   -- what another step answers, behind one that adds what is named
-  pub opening_after : {c : Known} {result : Result (Option Frame) Fault} → Grows t H a b → IsOpening t b c H first W O result → IsOpening t a c H first W O result
+  pub opening_after : {c : KnownParts} {result : Result (Option Frame) Fault} → Grows t H a b → IsOpening t b c H first W O result → IsOpening t a c H first W O result
   opening_after {c} before is = record { known = is.known; grows = grows_then t H a b c before is.grows; refused = is.refused; done = is.done; opened = is.opened }
 
 -- what is said of a fault, of none and of a message for the stack, where it says another
@@ -115,7 +115,7 @@ some_map (Ok (Some f)) P Q h is = h f is
 some_map (Err e) P Q h is = tt
 
 -- what opening another node answers, which says this of the node
-opening_of : (t u : Table) (a b : Known) (H K : List NodeEntry → Type 0) (first second : Option Fault) (V W : Type 0) (O P : Frame → Type 0) (result : Result (Option Frame) Fault) →
+opening_of : (t u : Table) (a b : KnownParts) (H K : List NodeEntry → Type 0) (first second : Option Fault) (V W : Type 0) (O P : Frame → Type 0) (result : Result (Option Frame) Fault) →
     u ≡ t → (Grows u H a b → Grows t K a b) → ((e : Fault) → IsFirst first e → IsFirst second e) → (V → W) → ((f : Frame) → O f → P f) →
     IsOpening u a b H first V O result → IsOpening t a b K second W P result
 opening_of t u a b H K first second V W O P result same grows refused done opened is = record {
@@ -142,7 +142,7 @@ held_without t below r recipients is =
     then_none (if_there (tc_fault t) (subnode_of t r RECIPIENTS)) (if_there (attachments_fault t below r) (subnode_of t r ATTACHMENTS)) recipients
     ∙ ap (λ o. if_there (attachments_fault t below r) o) (sym is)
 
-pub opened : (t : Table) (k : Known) (f : Frame) (table : Roots) → table_of_node f.node ≡ t → sub_fault t f.limit (sub_bid_of f.node) ≡ None → if_there (tc_fault t) (subnode_of t (roots_of f.node) RECIPIENTS) ≡ None → subnode_of t (roots_of f.node) ATTACHMENTS ≡ Some table → tc_fault t table ≡ None → f.bid ≡ table.bid_data → table_of_rest f.rest ≡ t → rows_of_table_left f.rest ≡ tc_rows t table → ContextIn k Properties (roots_of f.node) → ((s : Roots) → subnode_of t (roots_of f.node) RECIPIENTS ≡ Some s → ContextIn k Recipients s) → ContextIn k Attachments table → IsMessageOpened t k (roots_of f.node) f.limit f.holder f
+pub opened : (t : Table) (k : KnownParts) (f : Frame) (table : Roots) → table_of_node f.node ≡ t → sub_fault t f.limit (sub_bid_of f.node) ≡ None → if_there (tc_fault t) (subnode_of t (roots_of f.node) RECIPIENTS) ≡ None → subnode_of t (roots_of f.node) ATTACHMENTS ≡ Some table → tc_fault t table ≡ None → f.bid ≡ table.bid_data → table_of_rest f.rest ≡ t → rows_of_table_left f.rest ≡ tc_rows t table → ContextIn k Properties (roots_of f.node) → ((s : Roots) → subnode_of t (roots_of f.node) RECIPIENTS ≡ Some s → ContextIn k Recipients s) → ContextIn k Attachments table → IsMessageOpened t k (roots_of f.node) f.limit f.holder f
 opened t k f table same sound recipients is none bid made rows properties recipients_in there =
     let part = λ (b : ℕ). attachment_row_fault t (below_message t f.limit) (roots_of f.node) b in
     record {
@@ -166,7 +166,7 @@ opened t k f table same sound recipients is none bid made rows properties recipi
 -- ---- an attachment
 
 -- one whose properties are remembered, and the message that it embeds, has no fault
-pub attachment_known : (t : Table) (k : Known) (node : Node) → table_of_node node ≡ t → IsTrueOf t k → AttachmentKnown t k (roots_of node) → attachment_fault t (roots_of node) ≡ None
+pub attachment_known : (t : Table) (k : KnownParts) (node : Node) → table_of_node node ≡ t → IsTrueOf t k → AttachmentKnown t k (roots_of node) → attachment_fault t (roots_of node) ≡ None
 unfolding attachment_part embedded_fault
 attachment_known t k node same known is =
     let a : Roots = roots_of node in
@@ -190,7 +190,7 @@ unfolding embedded_fault
 object_refused t u limit r o s e same some found is = rw (← found, below_attachment_is t limit s some, ← same) is
 
 -- the message that an object names is put on the stack
-object_opened : (t u : Table) (k : Known) (a sub : Node) (limit : ℕ) (o : Object) (f : Frame) → u ≡ t → 0 < limit → Some (roots_of sub) ≡ subnode_of t (roots_of a) o.nid → IsMessageOpened u k (roots_of sub) (limit - 1) (Some a) f → IsObjectOpened t k a limit o f
+object_opened : (t u : Table) (k : KnownParts) (a sub : Node) (limit : ℕ) (o : Object) (f : Frame) → u ≡ t → 0 < limit → Some (roots_of sub) ≡ subnode_of t (roots_of a) o.nid → IsMessageOpened u k (roots_of sub) (limit - 1) (Some a) f → IsObjectOpened t k a limit o f
 object_opened t u k a sub limit o f same some found of_u =
     let is : IsMessageOpened t k (roots_of sub) (limit - 1) (Some a) f = rw (← same) of_u in
     let steps : message_steps t f.limit (roots_of f.node) ≡ message_steps t (limit - 1) (roots_of sub) = rw (is.nests, is.roots) refl in
@@ -203,7 +203,7 @@ object_opened t u k a sub limit o f same some found of_u =
     }
 
 -- what opening the message answers that an object names is answered of the object
-pub object_opening : (t : Table) (a b : Known) (node sub : Node) (limit : ℕ) (o : Object) (result : Result (Option Frame) Fault) →
+pub object_opening : (t : Table) (a b : KnownParts) (node sub : Node) (limit : ℕ) (o : Object) (result : Result (Option Frame) Fault) →
     table_of_node sub ≡ t → sub_fault t limit (sub_bid_of node) ≡ None → Some (roots_of sub) ≡ subnode_of t (roots_of node) o.nid →
     IsOpening (table_of_node sub) a b (λ nodes. HasMessage (table_of_node sub) nodes (roots_of sub)) (message_at (table_of_node sub) (limit - 1) (roots_of sub))
     (WholeIn b.messages (roots_of sub)) (IsMessageOpened (table_of_node sub) b (roots_of sub) (limit - 1) (Some node)) result →
@@ -233,7 +233,7 @@ attachment_first t limit a s o properties some embeds found =
     ∙ ap (λ e. there_or (named NodeMissing o.at a.bid_data o.nid) (below_attachment t limit) e) found
     ∙ below_attachment_is t limit s some
 
-attachment_opened : (t : Table) (k : Known) (a : Node) (limit : ℕ) (o : Object) (f : Frame) → table_of_node a ≡ t → IsTrueOf t k → ContextIn k Properties (roots_of a) → embedded_of t (roots_of a) ≡ Some o → IsObjectOpened t k a limit o f → IsAttachmentOpened t k a limit f
+attachment_opened : (t : Table) (k : KnownParts) (a : Node) (limit : ℕ) (o : Object) (f : Frame) → table_of_node a ≡ t → IsTrueOf t k → ContextIn k Properties (roots_of a) → embedded_of t (roots_of a) ≡ Some o → IsObjectOpened t k a limit o f → IsAttachmentOpened t k a limit f
 attachment_opened t k a limit o f same known properties embeds is =
     let less : limit - 1 ≡ f.limit = omega (arith, is.nests) in
     let some : 0 < limit = omega (arith, is.nests) in
@@ -247,14 +247,14 @@ attachment_opened t k a limit o f same known properties embeds is =
     }
 
 -- an attachment that embeds no message, and one whose message is remembered
-pub attachment_alone : (t : Table) (k : Known) (r : Roots) → ContextIn k Properties r → embedded_of t r ≡ None → AttachmentKnown t k r
+pub attachment_alone : (t : Table) (k : KnownParts) (r : Roots) → ContextIn k Properties r → embedded_of t r ≡ None → AttachmentKnown t k r
 attachment_alone t k r properties none = record { properties = properties; messages = λ o e. let both : None ≡ Some o = sym none ∙ e in cc }
 
-attachment_whole : (t : Table) (k : Known) (r : Roots) (o : Object) → ContextIn k Properties r → embedded_of t r ≡ Some o → EmbedsKnown t k r o → AttachmentKnown t k r
+attachment_whole : (t : Table) (k : KnownParts) (r : Roots) (o : Object) → ContextIn k Properties r → embedded_of t r ≡ Some o → EmbedsKnown t k r o → AttachmentKnown t k r
 attachment_whole t k r o properties embeds is = record { properties = properties; messages = λ p e. let one : o ≡ p = cc in rw (← one) is }
 
 -- what opening the object that it embeds answers, once its properties are remembered, is answered of the attachment
-pub part_opening : (t : Table) (a b c : Known) (node : Node) (limit : ℕ) (o : Object) (result : Result (Option Frame) Fault) →
+pub part_opening : (t : Table) (a b c : KnownParts) (node : Node) (limit : ℕ) (o : Object) (result : Result (Option Frame) Fault) →
     table_of_node node ≡ t → ContextIn b Properties (roots_of node) → embedded_of t (roots_of node) ≡ Some o →
     Grows t (λ nodes. HasAttachment t nodes (roots_of node)) a b →
     IsOpening t b c (λ nodes. HasAttachment t nodes (roots_of node) × (embedded_of t (roots_of node) ≡ Some o))
@@ -282,14 +282,14 @@ row_is t limit bid r x s some found kind = rw (← found, kind) (below_message_i
 row_refused : (t u : Table) (limit bid : ℕ) (r : Roots) (x : RowParts) (s : Roots) (e : Fault) → u ≡ t → 0 < limit → Some s ≡ subnode_of t r x.id → is_type ATTACHMENT x.id ≡ true → IsFirst (attachment_at u (limit - 1) s) e → IsFirst (attachment_row_fault t (below_message t limit) r bid x) e
 row_refused t u limit bid r x s e same some found kind is = rw (row_is t limit bid r x s some found kind, ← same) is
 
-row_known : (t u : Table) (k : Known) (limit bid : ℕ) (r : Roots) (x : RowParts) (s : Node) → u ≡ t → table_of_node s ≡ t → IsTrueOf u k → 0 < limit → sub_fault t (limit - 1) (sub_bid_of s) ≡ None → Some (roots_of s) ≡ subnode_of t r x.id → is_type ATTACHMENT x.id ≡ true → WholeIn k.attachments (roots_of s) → IsRowKnown t k r limit bid x
+row_known : (t u : Table) (k : KnownParts) (limit bid : ℕ) (r : Roots) (x : RowParts) (s : Node) → u ≡ t → table_of_node s ≡ t → IsTrueOf u k → 0 < limit → sub_fault t (limit - 1) (sub_bid_of s) ≡ None → Some (roots_of s) ≡ subnode_of t r x.id → is_type ATTACHMENT x.id ≡ true → WholeIn k.attachments (roots_of s) → IsRowKnown t k r limit bid x
 row_known t u k limit bid r x s same table known some sound found kind is =
     record {
       first = row_is t limit bid r x (roots_of s) some found kind ∙ known_attachment t k.attachments (limit - 1) s table (rw same at known).attachments is sound;
       there = λ y e. let one : roots_of s ≡ y = cc in rw (← one) is;
     }
 
-row_opened : (t u : Table) (k : Known) (limit bid : ℕ) (r : Roots) (x : RowParts) (s : Node) (f : Frame) → u ≡ t → 0 < limit → Some (roots_of s) ≡ subnode_of t r x.id → is_type ATTACHMENT x.id ≡ true → IsAttachmentOpened u k s (limit - 1) f → IsRowOpened t k r limit bid x f
+row_opened : (t u : Table) (k : KnownParts) (limit bid : ℕ) (r : Roots) (x : RowParts) (s : Node) (f : Frame) → u ≡ t → 0 < limit → Some (roots_of s) ≡ subnode_of t r x.id → is_type ATTACHMENT x.id ≡ true → IsAttachmentOpened u k s (limit - 1) f → IsRowOpened t k r limit bid x f
 row_opened t u k limit bid r x s f same some found kind of_u =
     let is : IsAttachmentOpened t k s (limit - 1) f = rw (← same) of_u in
     record {
@@ -304,7 +304,7 @@ row_opened t u k limit bid r x s f same some found kind of_u =
     }
 
 -- what opening the attachment answers that a row names is answered of the row
-pub row_opening : (t : Table) (a b : Known) (node sub : Node) (limit bid : ℕ) (x : RowParts) (result : Result (Option Frame) Fault) →
+pub row_opening : (t : Table) (a b : KnownParts) (node sub : Node) (limit bid : ℕ) (x : RowParts) (result : Result (Option Frame) Fault) →
     table_of_node sub ≡ t → sub_fault t limit (sub_bid_of node) ≡ None → Some (roots_of sub) ≡ subnode_of t (roots_of node) x.id → is_type ATTACHMENT x.id ≡ true →
     IsOpening (table_of_node sub) a b (λ nodes. HasAttachment (table_of_node sub) nodes (roots_of sub)) (attachment_at (table_of_node sub) (limit - 1) (roots_of sub))
     (WholeIn b.attachments (roots_of sub)) (IsAttachmentOpened (table_of_node sub) b sub (limit - 1)) result →

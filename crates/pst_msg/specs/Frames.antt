@@ -16,7 +16,7 @@ use Rattle.pst_msg.specs.Rest.{rows_of_table_left, table_of_rest}
 use Rattle.pst_remembered.specs.declared.row_names.RowName.{RowName}
 use Rattle.pst_tc.specs.Values.{RowParts}
 use Rattle.pst_msg.specs.declared.frame.Frame.{Frame}
-use Rattle.pst_msg.specs.declared.known.Known.{Known}
+use Rattle.pst_msg.specs.declared.known.KnownParts.{KnownParts}
 use Rattle.pst_mail.specs.declared.nid.TheConstants.{ATTACHMENTS, RECIPIENTS}
 use Rattle.pst_mail.specs.declared.object.Object.{Object}
 use Rattle.pst_remembered.specs.declared.role.Role.TheVariants.{Properties, Recipients, Attachments}
@@ -45,7 +45,7 @@ IsWaited (Some a) t r x = subnode_of t r x.id ≡ Some a
 
 -- What is known of a message on the stack, below what has this first fault, and that is in an attachment which is waited for;
 -- nothing has where the message is the last.
-pub record IsFrame (t : Table) (k : Known) (now : Option Fault) (waits : Option Roots) (f : Frame) : Type 0 where
+pub record IsFrame (t : Table) (k : KnownParts) (now : Option Fault) (waits : Option Roots) (f : Frame) : Type 0 where
   pub table : table_of_node f.node ≡ t
   pub sound : sub_fault t f.limit (sub_bid_of f.node) ≡ None
   pub rows : table_of_rest f.rest ≡ t
@@ -60,18 +60,18 @@ pub record IsFrame (t : Table) (k : Known) (now : Option Fault) (waits : Option 
       NamedIn t k.attachments (roots_of f.node) x ⊎ (IsWaited waits t (roots_of f.node) x ⊎ Contains (rows_of_table_left f.rest) x)
 
 -- an attachment embeds this message, and its own properties are remembered
-pub record IsHolder (t : Table) (k : Known) (r : Roots) (a : Node) : Type 0 where
+pub record IsHolder (t : Table) (k : KnownParts) (r : Roots) (a : Node) : Type 0 where
   pub table : table_of_node a ≡ t
   pub properties : ContextIn k Properties (roots_of a)
   pub object : Object
   pub embeds : embedded_of t (roots_of a) ≡ Some object
   pub found : subnode_of t (roots_of a) object.nid ≡ Some r
 
-abbrev pub HasHolder : Table → Known → Frame → Type 0
+abbrev pub HasHolder : Table → KnownParts → Frame → Type 0
 HasHolder t k f = IfSome f.holder (IsHolder t k (roots_of f.node))
 
 -- the attachment that embeds a message is remembered
-abbrev pub HolderIn : Known → Frame → Type 0
+abbrev pub HolderIn : KnownParts → Frame → Type 0
 HolderIn k f = IfSome f.holder (λ a. WholeIn k.attachments (roots_of a))
 
 -- where a store has the one message, it has the other
@@ -81,7 +81,7 @@ ComesWith t root r = (nodes : List NodeEntry) → HasMessage t nodes root → Ha
 -- ---- all of them, the last one first
 
 -- those below a message of these roots, of this limit and in this attachment
-unfoldable pub IsBelowMessage : Table → Roots → Known → Roots → ℕ → Option Roots → List Frame → Type 0
+unfoldable pub IsBelowMessage : Table → Roots → KnownParts → Roots → ℕ → Option Roots → List Frame → Type 0
 IsBelowMessage t root k r limit waits [] = (r ≡ root) × (limit ≡ LISTS)
 IsBelowMessage t root k r limit waits (f ∷ below) =
     IsFrame t k (message_at t limit r) waits f
@@ -90,7 +90,7 @@ IsBelowMessage t root k r limit waits (f ∷ below) =
     × IsBelowMessage t root k (roots_of f.node) f.limit (holder_of f) below
 
 -- Where none is left, the message at the bottom is remembered.
-unfoldable pub IsStack : Table → Roots → Known → List Frame → Type 0
+unfoldable pub IsStack : Table → Roots → KnownParts → List Frame → Type 0
 IsStack t root k [] = WholeIn k.messages root
 IsStack t root k (f ∷ below) =
     IsFrame t k None None f
@@ -113,7 +113,7 @@ WaitFor t last stack = (e : Fault) → IsFirst (message_at t last.limit (roots_o
 
 -- What opening a message, an attachment or a row answers: what is known stays true, and grows by what counts; a fault is the first
 -- one; and where nothing is left to go through, it is whole, else what is opened is put on the stack.
-pub record IsOpening (t : Table) (old new : Known) (Counted : List NodeEntry → Type 0) (first : Option Fault) (Whole : Type 0)
+pub record IsOpening (t : Table) (old new : KnownParts) (Counted : List NodeEntry → Type 0) (first : Option Fault) (Whole : Type 0)
     (Opened : Frame → Type 0) (result : Result (Option Frame) Fault) : Type 0 where
   pub known : IsTrueOf t new
   pub grows : Grows t Counted old new
@@ -122,7 +122,7 @@ pub record IsOpening (t : Table) (old new : Known) (Counted : List NodeEntry →
   pub opened : IfOk result (λ o. IfSome o Opened)
 
 -- a message is put on the stack: its first fault is that of the rows of its attachment table
-pub record IsMessageOpened (t : Table) (k : Known) (r : Roots) (limit : ℕ) (holder : Option Node) (f : Frame) : Type 0 where
+pub record IsMessageOpened (t : Table) (k : KnownParts) (r : Roots) (limit : ℕ) (holder : Option Node) (f : Frame) : Type 0 where
   pub roots : roots_of f.node ≡ r
   pub nests : f.limit ≡ limit
   pub in_holder : f.holder ≡ holder
@@ -130,11 +130,11 @@ pub record IsMessageOpened (t : Table) (k : Known) (r : Roots) (limit : ℕ) (ho
   pub steps : frame_steps t f ≤ message_steps t limit r
 
 -- the message that an attachment embeds is remembered
-abbrev pub EmbedsKnown : Table → Known → Roots → Object → Type 0
+abbrev pub EmbedsKnown : Table → KnownParts → Roots → Object → Type 0
 EmbedsKnown t k r o = (s : Roots) × (subnode_of t r o.nid ≡ Some s) × WholeIn k.messages s
 
 -- the message that an object names is put on the stack
-pub record IsObjectOpened (t : Table) (k : Known) (a : Node) (limit : ℕ) (o : Object) (f : Frame) : Type 0 where
+pub record IsObjectOpened (t : Table) (k : KnownParts) (a : Node) (limit : ℕ) (o : Object) (f : Frame) : Type 0 where
   pub found : subnode_of t (roots_of a) o.nid ≡ Some (roots_of f.node)
   pub nests : f.limit + 1 ≡ limit
   pub holder : f.holder ≡ Some a
@@ -142,12 +142,12 @@ pub record IsObjectOpened (t : Table) (k : Known) (a : Node) (limit : ℕ) (o : 
   pub steps : frame_steps t f ≤ message_steps t f.limit (roots_of f.node)
 
 -- an attachment whose properties are remembered has no more than that, or embeds a message that is remembered
-pub record AttachmentKnown (t : Table) (k : Known) (r : Roots) : Type 0 where
+pub record AttachmentKnown (t : Table) (k : KnownParts) (r : Roots) : Type 0 where
   pub properties : ContextIn k Properties r
   pub messages : (o : Object) → embedded_of t r ≡ Some o → EmbedsKnown t k r o
 
 -- the message that an attachment embeds is: its first fault is that of the attachment
-pub record IsAttachmentOpened (t : Table) (k : Known) (a : Node) (limit : ℕ) (f : Frame) : Type 0 where
+pub record IsAttachmentOpened (t : Table) (k : KnownParts) (a : Node) (limit : ℕ) (f : Frame) : Type 0 where
   pub first : attachment_at t limit (roots_of a) ≡ message_at t f.limit (roots_of f.node)
   pub holder : f.holder ≡ Some a
   pub held : IsHolder t k (roots_of f.node) a
@@ -164,12 +164,12 @@ abbrev pub HoldsAttachment : Table → List NodeEntry → Roots → ℕ → Type
 HoldsAttachment t nodes r nid = (s : Roots) → subnode_of t r nid ≡ Some s → HasAttachment t nodes s
 
 -- the attachment that a row names is remembered, and has no fault
-pub record IsRowKnown (t : Table) (k : Known) (r : Roots) (limit : ℕ) (bid : ℕ) (x : RowParts) : Type 0 where
+pub record IsRowKnown (t : Table) (k : KnownParts) (r : Roots) (limit : ℕ) (bid : ℕ) (x : RowParts) : Type 0 where
   pub first : attachment_row_fault t (below_message t limit) r bid x ≡ None
   pub there : NamedIn t k.attachments r x
 
 -- the message in the attachment that a row names is: its first fault is that of the row
-pub record IsRowOpened (t : Table) (k : Known) (r : Roots) (limit : ℕ) (bid : ℕ) (x : RowParts) (f : Frame) : Type 0 where
+pub record IsRowOpened (t : Table) (k : KnownParts) (r : Roots) (limit : ℕ) (bid : ℕ) (x : RowParts) (f : Frame) : Type 0 where
   pub first : attachment_row_fault t (below_message t limit) r bid x ≡ message_at t f.limit (roots_of f.node)
   pub attachment : Roots
   pub found : subnode_of t r x.id ≡ Some attachment
@@ -184,7 +184,7 @@ abbrev pub with_rest : Frame → Rest → Frame
 with_rest f rest = record f { rest = rest }
 
 -- A message is gone on with, up to one in it that is put above it: what was left of it is what is left of both.
-pub record IsWentOn (t : Table) (k : Known) (old f above : Frame) : Type 0 where
+pub record IsWentOn (t : Table) (k : KnownParts) (old f above : Frame) : Type 0 where
   pub roots : roots_of f.node ≡ roots_of old.node
   pub limit : f.limit ≡ old.limit
   pub holder : f.holder ≡ old.holder

@@ -10,11 +10,11 @@ use Rattle.pst_subnode.specs.declared.check.TheConstants.{LISTS}
 use Rattle.pst_subnode.specs.Tree.{sub_fault}
 use Rattle.pst_ndb.specs.NodeIndexes.{AreNodeIndexes}
 use Rattle.pst_ndb.specs.Roots.{Roots, subnode_of}
-use Rattle.pst_pc.specs.pst_heap.Maps.{AreMapsTrue}
+use Rattle.pst_pc.specs.pst_heap.PageMaps.{AreMapsTrue}
 use Rattle.pst_tc.specs.Values.{RowParts, tc_rows}
 use Rattle.pst_mail.specs.declared.items.Items.{Items}
-use Rattle.pst_remembered.specs.declared.keys.Keys.{Keys}
-use Rattle.pst_msg.specs.declared.known.Known.{Known}
+use Rattle.pst_remembered.specs.declared.keys.NodeSet.{NodeSet}
+use Rattle.pst_msg.specs.declared.known.KnownParts.{KnownParts}
 use Rattle.pst_mail.specs.declared.nid.TheConstants.{ATTACHMENTS, RECIPIENTS}
 use Rattle.pst_mail.specs.declared.object.Object.{Object}
 use Rattle.pst_remembered.specs.declared.role.Role.{Role}
@@ -32,31 +32,31 @@ use Rattle.pst_mail.specs.Fault.{held_fault, below_message, message_fault, attac
 use Rattle.pst_mail.specs.Grammar.{IsAttachmentRow}
 
 -- a context is remembered in a role; a message, an attachment is remembered, whole; what a message holds is, by its list alone
-abbrev pub ContextIn : Known → Role → Roots → Type 0
+abbrev pub ContextIn : KnownParts → Role → Roots → Type 0
 ContextIn k role s = has k.contexts (role_number role) s ≡ true
 
-abbrev pub WholeIn : Keys → Roots → Type 0
+abbrev pub WholeIn : NodeSet → Roots → Type 0
 WholeIn keys s = has keys 0 s ≡ true
 
-abbrev pub ListIn : Keys → Roots → Type 0
+abbrev pub ListIn : NodeSet → Roots → Type 0
 ListIn keys s = holds keys (list_key s) ≡ true
 
-abbrev pub ContextsAreTrue : Table → Known → Type 0
+abbrev pub ContextsAreTrue : Table → KnownParts → Type 0
 ContextsAreTrue t k = (role : Role) (s : Roots) → ContextIn k role s → role_fault t role s ≡ None
 
-abbrev pub MessagesAreTrue : Table → Keys → Type 0
+abbrev pub MessagesAreTrue : Table → NodeSet → Type 0
 MessagesAreTrue t keys = (s : Roots) → WholeIn keys s → sub_fault t LISTS s.bid_sub ≡ None → message_fault t s ≡ None
 
-abbrev pub AttachmentsAreTrue : Table → Keys → Type 0
+abbrev pub AttachmentsAreTrue : Table → NodeSet → Type 0
 AttachmentsAreTrue t keys = (s : Roots) → WholeIn keys s → sub_fault t LISTS s.bid_sub ≡ None → attachment_fault t s ≡ None
 
-abbrev pub ListsAreTrue : Table → Keys → Type 0
+abbrev pub ListsAreTrue : Table → NodeSet → Type 0
 ListsAreTrue t keys =
     (s : Roots) → ListIn keys s → sub_fault t LISTS s.bid_sub ≡ None → held_fault t (below_message t LISTS) s ≡ None
 
 -- Of the tables of folders, the rows: all of them name nodes that belong there. They are remembered apart, since this depends on
 -- the nodes of the file; and by the data of the table alone, in which all that the rows name stands.
-abbrev pub ListingsAreTrue : Table → List NodeEntry → Keys → Type 0
+abbrev pub ListingsAreTrue : Table → List NodeEntry → NodeSet → Type 0
 ListingsAreTrue t nodes keys =
     (items : Items) (s : Roots) → holds keys (data_key (role_number (Listed items)) s) ≡ true →
     first_of (listed_item_fault nodes items s.bid_data) (tc_rows t s) ≡ None
@@ -64,26 +64,26 @@ ListingsAreTrue t nodes keys =
 -- ---- all that lies one step below a message, and below an attachment
 
 -- the subnode that a row, or a value, names is remembered
-abbrev pub NamedIn : Table → Keys → Roots → RowParts → Type 0
+abbrev pub NamedIn : Table → NodeSet → Roots → RowParts → Type 0
 NamedIn t keys r x = (s : Roots) → subnode_of t r x.id ≡ Some s → WholeIn keys s
 
-abbrev pub ObjectIn : Table → Keys → Roots → Object → Type 0
+abbrev pub ObjectIn : Table → NodeSet → Roots → Object → Type 0
 ObjectIn t keys r o = (s : Roots) → subnode_of t r o.nid ≡ Some s → WholeIn keys s
 
-pub record HeldIn (t : Table) (k : Known) (r : Roots) : Type 0 where
+pub record HeldIn (t : Table) (k : KnownParts) (r : Roots) : Type 0 where
   pub recipients : (s : Roots) → subnode_of t r RECIPIENTS ≡ Some s → ContextIn k Recipients s
   pub tables : (s : Roots) → subnode_of t r ATTACHMENTS ≡ Some s → ContextIn k Attachments s
   pub attachments : (x : RowParts) → IsAttachmentRow t r x → NamedIn t k.attachments r x
 
-pub record MessageIn (t : Table) (k : Known) (r : Roots) : Type 0 where
+pub record MessageIn (t : Table) (k : KnownParts) (r : Roots) : Type 0 where
   pub properties : ContextIn k Properties r
   pub held : HeldIn t k r
 
-pub record AttachmentIn (t : Table) (k : Known) (r : Roots) : Type 0 where
+pub record AttachmentIn (t : Table) (k : KnownParts) (r : Roots) : Type 0 where
   pub properties : ContextIn k Properties r
   pub messages : (o : Object) → embedded_of t r ≡ Some o → ObjectIn t k.messages r o
 
-pub record IsTrueOf (t : Table) (k : Known) : Type 0 where
+pub record IsTrueOf (t : Table) (k : KnownParts) : Type 0 where
   pub contexts : ContextsAreTrue t k
   pub messages : MessagesAreTrue t k.messages
   pub attachments : AttachmentsAreTrue t k.attachments

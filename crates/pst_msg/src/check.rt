@@ -17,19 +17,19 @@ ghost use Rattle.pst_msg.specs.Known.{ContextIn, ListingsAreTrue, IsTrueOf};
 
 use crate::context::once;
 use crate::folder::check_folder;
-use crate::known::Known;
+use crate::known::KnownParts;
 use crate::message::check_message;
 use pst_fault::{Fault, Kind};
 use pst_mail::{FOLDER, ROOT, SEARCH_FOLDER, STORE, is_message, is_type, named};
 use pst_names::{NAME_MAP, check_names};
 use pst_ndb::{Ndb, Node, Work};
 use pst_pc::known_pc;
-use pst_remembered::{Keys, Role};
+use pst_remembered::{NodeSet, Role};
 use std::alloc::Global;
 
 // A node that every store has.
 #[tactic(auto, unfolding(pst_mail::specs::Fault::required_fault))]
-fn check_required(ndb: &Ndb, nid: u32, known: &mut Known) -> Result<(), Fault>
+fn check_required(ndb: &Ndb, nid: u32, known: &mut KnownParts) -> Result<(), Fault>
     requires { IsTrueOf (table_of_ndb ndb.now) known.old }
     ensures known { IsTrueOf (table_of_ndb ndb.now) known.new }
     ensures grows { let t = table_of_ndb ndb.now in let N = nodes_of ndb.now in
@@ -50,7 +50,7 @@ fn check_required(ndb: &Ndb, nid: u32, known: &mut Known) -> Result<(), Fault>
 
 /// Checks the name map of a node: its properties, then what they say.
 #[tactic(auto, unfolding(pst_mail::specs::Fault::name_map_fault))]
-pub(crate) fn check_map(node: Node, known: &mut Known) -> Result<(), Fault>
+pub(crate) fn check_map(node: Node, known: &mut KnownParts) -> Result<(), Fault>
     requires { IsTrueOf (table_of_node node) known.old }
     ensures known { IsTrueOf (table_of_node node.entry) known.new }
     ensures grows { let t = table_of_node node.entry in
@@ -65,7 +65,7 @@ pub(crate) fn check_map(node: Node, known: &mut Known) -> Result<(), Fault>
 }
 
 // The name map, where its node is there.
-fn check_name_map(ndb: &Ndb, known: &mut Known) -> Result<(), Fault>
+fn check_name_map(ndb: &Ndb, known: &mut KnownParts) -> Result<(), Fault>
     requires { IsTrueOf (table_of_ndb ndb.now) known.old }
     ensures known { IsTrueOf (table_of_ndb ndb.now) known.new }
     ensures grows { let t = table_of_ndb ndb.now in let N = nodes_of ndb.now in
@@ -84,7 +84,12 @@ fn check_name_map(ndb: &Ndb, known: &mut Known) -> Result<(), Fault>
 
 // A node, by its type.
 #[tactic(auto, unfolding(pst_mail::specs::Fault::typed_node_fault))]
-fn check_node(ndb: &Ndb, node: Node, known: &mut Known, listings: &mut Keys) -> Result<(), Fault>
+fn check_node(
+    ndb: &Ndb,
+    node: Node,
+    known: &mut KnownParts,
+    listings: &mut NodeSet,
+) -> Result<(), Fault>
     requires table { table_of_node node ≡ table_of_ndb ndb.now }
     requires known { IsTrueOf (table_of_ndb ndb.now) known.old }
     requires listings { ListingsAreTrue (table_of_ndb ndb.now) (nodes_of ndb.now) listings.old }
@@ -112,7 +117,7 @@ fn check_node(ndb: &Ndb, node: Node, known: &mut Known, listings: &mut Keys) -> 
 }
 
 // All nodes, in order.
-fn check_nodes(ndb: &Ndb, known: &mut Known, listings: &mut Keys) -> Result<(), Fault>
+fn check_nodes(ndb: &Ndb, known: &mut KnownParts, listings: &mut NodeSet) -> Result<(), Fault>
     requires known { IsTrueOf (table_of_ndb ndb.now) known.old }
     requires listings { ListingsAreTrue (table_of_ndb ndb.now) (nodes_of ndb.now) listings.old }
     ensures known { IsTrueOf (table_of_ndb ndb.now) known.new }
@@ -132,7 +137,7 @@ fn check_nodes(ndb: &Ndb, known: &mut Known, listings: &mut Keys) -> Result<(), 
 
 // The check, with the fault that it gives.
 #[tactic(auto, unfolding(pst_mail::specs::Fault::messaging_fault))]
-fn check_all(ndb: &Ndb, known: &mut Known, listings: &mut Keys) -> Result<(), Fault>
+fn check_all(ndb: &Ndb, known: &mut KnownParts, listings: &mut NodeSet) -> Result<(), Fault>
     requires known { IsTrueOf (table_of_ndb ndb.now) known.old }
     requires listings { ListingsAreTrue (table_of_ndb ndb.now) (nodes_of ndb.now) listings.old }
     ensures known { IsTrueOf (table_of_ndb ndb.now) known.new }
@@ -187,8 +192,8 @@ pub fn check_messaging(alloc: Global, ndb: &Ndb, work: &mut Work) -> Result<(), 
     ensures expansions { work.new.expansions ≡ work.old.expansions }
     ensures walked { work.new.walked ≡ work.old.walked }
 {
-    let mut known = Known::new(alloc, work.contexts);
-    let mut listings = Keys::new(alloc);
+    let mut known = KnownParts::new(alloc, work.contexts);
+    let mut listings = NodeSet::new(alloc);
     let answer = check_all(ndb, &mut known, &mut listings);
     known.contexts.are_sorted();
     ndb.is_sound();

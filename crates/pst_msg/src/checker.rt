@@ -2,7 +2,7 @@
 
 use crate::check::check_map;
 use crate::context::once;
-use crate::known::Known;
+use crate::known::KnownParts;
 use crate::message::check_message;
 use pst_fault::Fault;
 use pst_mail::Items;
@@ -21,7 +21,7 @@ use std::alloc::Global;
 /// NoMemory where memory is refused.
 #[derive(Drop)]
 pub struct Checker {
-    known: Known,
+    known: KnownParts,
 }
 
 impl Checker {
@@ -39,7 +39,7 @@ impl Checker {
         ensures { (t : Table) → IsCheckerOf t result }
     {
         Checker {
-            known: Known::new(alloc, 0),
+            known: KnownParts::new(alloc, 0),
         }
     }
 

@@ -6,7 +6,7 @@ ghost use Rattle.pst_fault.specs.Fault.{at_node, no_memory};
 ghost use Rattle.pst_fault.specs.First.{Tells};
 ghost use Rattle.pst_ndb.specs.NodeIndexes.{AreNodeIndexes};
 ghost use Rattle.pst_ndb.specs.Views.{table_of_node, roots_of};
-ghost use Rattle.pst_pc.specs.pst_heap.Maps.{AreMapsTrue};
+ghost use Rattle.pst_pc.specs.pst_heap.PageMaps.{AreMapsTrue};
 ghost use Rattle.pst_remembered.specs.Asked.{AreAskedTrue};
 ghost use Rattle.pst_remembered.specs.Broken.{context_part};
 ghost use Rattle.pst_remembered.specs.Faults.{AreFaultsOf};
@@ -15,12 +15,12 @@ ghost use Rattle.pst_msg.specs.Known.{ContextIn, IsTrueOf};
 ghost use Rattle.pst_msg.specs.Counts.{Names};
 ghost use Rattle.pst_msg.specs.Growth.{Grows};
 
-use crate::known::Known;
+use crate::known::KnownParts;
 use pst_fault::Fault;
 use pst_ndb::{Node, NodeIndexes, most_values};
-use pst_pc::Maps;
+use pst_pc::PageMaps;
 use pst_remembered::{
-    Asked, Faults, Key, Role, check_context, has_broken_data, is_of_data, key_of, part_of,
+    Faults, Key, KnownAsks, Role, check_context, has_broken_data, is_of_data, key_of, part_of,
     part_of_data, role_number,
 };
 use std::alloc::Global;
@@ -42,7 +42,7 @@ fn answers_by(
     role: Role,
     node: Node,
     index: &mut NodeIndexes,
-    asked: &Asked,
+    asked: &KnownAsks,
 ) -> Result<bool, Fault>
     requires block { key.0.0 ≡ bid_key (roots_of node).bid_data }
     requires role { key.1 ≡ number_of role }
@@ -65,8 +65,8 @@ fn check_by(
     role: Role,
     node: Node,
     index: &mut NodeIndexes,
-    maps: &mut Maps,
-    asked: &mut Asked,
+    maps: &mut PageMaps,
+    asked: &mut KnownAsks,
 ) -> Result<(), Fault>
     requires index { AreNodeIndexes (table_of_node node) index.old }
     requires maps { AreMapsTrue (table_of_node node) maps.old }
@@ -110,8 +110,8 @@ fn check_anew(
     role: Role,
     node: Node,
     index: &mut NodeIndexes,
-    maps: &mut Maps,
-    asked: &mut Asked,
+    maps: &mut PageMaps,
+    asked: &mut KnownAsks,
     broken: &mut Faults,
 ) -> Result<(), Fault>
     requires index { AreNodeIndexes (table_of_node node) index.old }
@@ -136,7 +136,7 @@ fn check_anew(
 }
 
 /// Checks the context of a node in a role, and counts it, unless it is remembered in that role.
-pub(crate) fn once(known: &mut Known, role: Role, node: Node) -> Result<(), Fault>
+pub(crate) fn once(known: &mut KnownParts, role: Role, node: Node) -> Result<(), Fault>
     requires { IsTrueOf (table_of_node node) known.old }
     ensures known { IsTrueOf (table_of_node node.entry) known.new }
     ensures exact { let t = table_of_node node.entry in

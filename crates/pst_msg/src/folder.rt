@@ -18,11 +18,11 @@ ghost use Rattle.pst_msg.specs.Known.{ContextIn, ListingsAreTrue, IsTrueOf};
 ghost use Rattle.pst_mail.specs.Values.{listing_of};
 
 use crate::context::once;
-use crate::known::Known;
+use crate::known::KnownParts;
 use pst_fault::{Fault, Kind};
 use pst_mail::{Items, listing_nid, may_list, named};
 use pst_ndb::{Ndb, Node};
-use pst_remembered::{Keys, Role, key_of_data, role_number};
+use pst_remembered::{NodeSet, Role, key_of_data, role_number};
 use pst_tc::{Row, Tc, known_tc};
 
 // A row of a folder's table.
@@ -56,7 +56,7 @@ fn check_items(ndb: &Ndb, items: Items, bid: u64, table: Tc) -> Result<(), Fault
 }
 
 // All rows of a table, unless they are remembered: by its data, whatever its list, since no row is named there.
-fn check_rows(ndb: &Ndb, items: Items, table: Node, listings: &mut Keys) -> Result<(), Fault>
+fn check_rows(ndb: &Ndb, items: Items, table: Node, listings: &mut NodeSet) -> Result<(), Fault>
     requires table { table_of_node table ≡ table_of_ndb ndb.now }
     requires sound { tc_fault (table_of_node table) (roots_of table) ≡ None }
     requires listings { ListingsAreTrue (table_of_ndb ndb.now) (nodes_of ndb.now) listings.old }
@@ -80,8 +80,8 @@ fn check_table(
     ndb: &Ndb,
     items: Items,
     nid: u32,
-    known: &mut Known,
-    listings: &mut Keys,
+    known: &mut KnownParts,
+    listings: &mut NodeSet,
 ) -> Result<(), Fault>
     requires known { IsTrueOf (table_of_ndb ndb.now) known.old }
     requires listings { ListingsAreTrue (table_of_ndb ndb.now) (nodes_of ndb.now) listings.old }
@@ -112,8 +112,8 @@ fn check_table(
 pub(crate) fn check_folder(
     ndb: &Ndb,
     node: Node,
-    known: &mut Known,
-    listings: &mut Keys,
+    known: &mut KnownParts,
+    listings: &mut NodeSet,
 ) -> Result<(), Fault>
     requires table { table_of_node node ≡ table_of_ndb ndb.now }
     requires known { IsTrueOf (table_of_ndb ndb.now) known.old }

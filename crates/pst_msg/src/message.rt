@@ -15,7 +15,7 @@ ghost use Rattle.pst_msg.specs.Known.{WholeIn, IsTrueOf};
 ghost use Rattle.pst_msg.specs.Rest.{IsNextRow, AreNoRows, rows_of_table_left, table_of_rest};
 
 use crate::frame::Frame;
-use crate::known::Known;
+use crate::known::KnownParts;
 use crate::open::{open_message, open_row};
 use crate::remember::{remember_attachment, remember_broken, remember_held};
 use pst_fault::Fault;
@@ -24,7 +24,7 @@ use pst_remembered::RowName;
 use pst_subnode::LISTS;
 
 // A message of which no row is left, and the attachment that embeds it, are remembered.
-fn finish(frame: &Frame, known: &mut Known) -> Result<(), Fault>
+fn finish(frame: &Frame, known: &mut KnownParts) -> Result<(), Fault>
     requires known { IsTrueOf (table_of_node frame.now.node) known.old }
     requires frame { IsFrame (table_of_node frame.now.node) known.old None None frame.now }
     requires holder { HasHolder (table_of_node frame.now.node) known.old frame.now }
@@ -44,7 +44,7 @@ fn finish(frame: &Frame, known: &mut Known) -> Result<(), Fault>
 
 // The index of a message's list is made, where many rows are left behind the one that is come to, and one was gone through: so of a
 // message with one row neither its rows nor its list are looked at for this.
-fn turn_to(frame: &Frame, gone: u32, known: &mut Known) -> Result<(), Fault>
+fn turn_to(frame: &Frame, gone: u32, known: &mut KnownParts) -> Result<(), Fault>
     requires { IsTrueOf (table_of_node frame.now.node) known.old }
     ensures known { IsTrueOf (table_of_node frame.now.node) known.new }
     ensures grows { Grows (table_of_node frame.now.node) (λ nodes. Unit {0}) known.old known.new }
@@ -57,7 +57,7 @@ fn turn_to(frame: &Frame, gone: u32, known: &mut Known) -> Result<(), Fault>
 }
 
 // What the next row of a message's attachment table names; or memory is refused.
-fn next_row(frame: &mut Frame, known: &mut Known) -> Result<Option<RowName>, Fault>
+fn next_row(frame: &mut Frame, known: &mut KnownParts) -> Result<Option<RowName>, Fault>
     requires known { IsTrueOf (table_of_node frame.old.node) known.old }
     requires table { table_of_rest frame.old.rest ≡ table_of_node frame.old.node }
     ensures known { IsTrueOf (table_of_node frame.old.node) known.new }
@@ -74,7 +74,12 @@ fn next_row(frame: &mut Frame, known: &mut Known) -> Result<Option<RowName>, Fau
 }
 
 // A fault in what a message holds is that of those which wait for it, too: it is known from then on of each.
-fn remember_all(node: Node, stack: &[Frame], fault: Fault, known: &mut Known) -> Result<(), Fault>
+fn remember_all(
+    node: Node,
+    stack: &[Frame],
+    fault: Fault,
+    known: &mut KnownParts,
+) -> Result<(), Fault>
     requires known { IsTrueOf (table_of_node node) known.old }
     requires first { let t = table_of_node node in
         IsFirst (held_fault t (below_message t LISTS) (roots_of node)) fault }
@@ -93,7 +98,7 @@ fn remember_all(node: Node, stack: &[Frame], fault: Fault, known: &mut Known) ->
 // A fault in what a message holds, which is known from then on and handed on. A whole store has none, so this stands apart.
 #[cold]
 #[inline(never)]
-fn refuse_all(node: Node, stack: &[Frame], fault: Fault, known: &mut Known) -> Fault
+fn refuse_all(node: Node, stack: &[Frame], fault: Fault, known: &mut KnownParts) -> Fault
     requires known { IsTrueOf (table_of_node node) known.old }
     requires first { let t = table_of_node node in
         IsFirst (held_fault t (below_message t LISTS) (roots_of node)) fault }
@@ -115,7 +120,7 @@ fn go_on<'a>(
     frame: &mut Frame<'a>,
     before: u32,
     stack: &[Frame<'a>],
-    known: &mut Known,
+    known: &mut KnownParts,
 ) -> Result<Option<Frame<'a>>, Fault>
     requires known { IsTrueOf (table_of_node frame.old.node) known.old }
     requires frame { IsFrame (table_of_node frame.old.node) known.old None None frame.old }
@@ -147,7 +152,7 @@ fn go_on<'a>(
 
 /// Checks a message of a checked file, and all that it holds. What is found without fault is remembered, and passed over
 /// where it is met again; so is a fault of what one of them holds, where it is the same in each that has its list of subnodes.
-pub(crate) fn check_message(node: Node, known: &mut Known) -> Result<(), Fault>
+pub(crate) fn check_message(node: Node, known: &mut KnownParts) -> Result<(), Fault>
     requires { IsTrueOf (table_of_node node) known.old }
     ensures known { IsTrueOf (table_of_node node.entry) known.new }
     ensures grows { let t = table_of_node node.entry in

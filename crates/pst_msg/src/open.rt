@@ -17,7 +17,7 @@ ghost use Rattle.pst_mail.specs.Values.{embedded_of};
 
 use crate::context::once;
 use crate::frame::Frame;
-use crate::known::Known;
+use crate::known::KnownParts;
 use crate::recipients::check_recipients;
 use crate::remember::{refuse_held, remember_attachment, remember_held, remember_message};
 use crate::rest::{CountedRows, NumberedRows, Rest};
@@ -29,7 +29,7 @@ use pst_remembered::{Role, RowName, key_of, key_of_list, part_of_list, retold};
 use pst_tc::known_tc;
 
 // The rows of an attachment table without fault.
-fn rows_of<'a>(table: Node<'a>, known: &mut Known) -> Result<Rest<'a>, Fault>
+fn rows_of<'a>(table: Node<'a>, known: &mut KnownParts) -> Result<Rest<'a>, Fault>
     requires sound { tc_fault (table_of_node table) (roots_of table) ≡ None }
     requires known { IsTrueOf (table_of_node table) known.old }
     ensures known { IsTrueOf (table_of_node table.entry) known.new }
@@ -53,7 +53,7 @@ fn open_held<'a>(
     node: Node<'a>,
     limit: u32,
     holder: Option<Node<'a>>,
-    known: &mut Known,
+    known: &mut KnownParts,
 ) -> Result<Option<Frame<'a>>, Fault>
     requires sound { sub_fault (table_of_node node) limit (sub_bid_of node) ≡ None }
     requires known { IsTrueOf (table_of_node node) known.old }
@@ -92,7 +92,7 @@ fn open_list<'a>(
     node: Node<'a>,
     limit: u32,
     holder: Option<Node<'a>>,
-    known: &mut Known,
+    known: &mut KnownParts,
 ) -> Result<Option<Frame<'a>>, Fault>
     requires sound { sub_fault (table_of_node node) limit (sub_bid_of node) ≡ None }
     requires known { IsTrueOf (table_of_node node) known.old }
@@ -113,7 +113,7 @@ pub(crate) fn open_message<'a>(
     node: Node<'a>,
     limit: u32,
     holder: Option<Node<'a>>,
-    known: &mut Known,
+    known: &mut KnownParts,
 ) -> Result<Option<Frame<'a>>, Fault>
     requires sound { sub_fault (table_of_node node) limit (sub_bid_of node) ≡ None }
     requires known { IsTrueOf (table_of_node node) known.old }
@@ -138,7 +138,7 @@ fn open_embedded<'a>(
     node: Node<'a>,
     object: Object,
     limit: u32,
-    known: &mut Known,
+    known: &mut KnownParts,
 ) -> Result<Option<Frame<'a>>, Fault>
     requires sound { sub_fault (table_of_node node) limit (sub_bid_of node) ≡ None }
     requires known { IsTrueOf (table_of_node node) known.old }
@@ -156,7 +156,11 @@ fn open_embedded<'a>(
 }
 
 // An attachment that is not remembered.
-fn open_part<'a>(node: Node<'a>, limit: u32, known: &mut Known) -> Result<Option<Frame<'a>>, Fault>
+fn open_part<'a>(
+    node: Node<'a>,
+    limit: u32,
+    known: &mut KnownParts,
+) -> Result<Option<Frame<'a>>, Fault>
     requires sound { sub_fault (table_of_node node) limit (sub_bid_of node) ≡ None }
     requires known { IsTrueOf (table_of_node node) known.old }
     ensures opening { let t = table_of_node node.entry in let r = roots_of node.entry in
@@ -174,7 +178,7 @@ fn open_part<'a>(node: Node<'a>, limit: u32, known: &mut Known) -> Result<Option
 fn open_attachment<'a>(
     node: Node<'a>,
     limit: u32,
-    known: &mut Known,
+    known: &mut KnownParts,
 ) -> Result<Option<Frame<'a>>, Fault>
     requires sound { sub_fault (table_of_node node) limit (sub_bid_of node) ≡ None }
     requires known { IsTrueOf (table_of_node node) known.old }
@@ -199,7 +203,7 @@ pub(crate) fn open_row<'a>(
     bid: u64,
     row: RowName,
     limit: u32,
-    known: &mut Known,
+    known: &mut KnownParts,
 ) -> Result<Option<Frame<'a>>, Fault>
     requires sound { sub_fault (table_of_node node) limit (sub_bid_of node) ≡ None }
     requires known { IsTrueOf (table_of_node node) known.old }

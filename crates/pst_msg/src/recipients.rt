@@ -13,14 +13,14 @@ ghost use Rattle.pst_msg.specs.Growth.{Grows};
 ghost use Rattle.pst_msg.specs.Known.{ContextIn, IsTrueOf};
 
 use crate::context::once;
-use crate::known::Known;
+use crate::known::KnownParts;
 use pst_fault::Fault;
 use pst_mail::RECIPIENTS;
 use pst_ndb::Node;
 use pst_remembered::Role;
 
 /// Checks the recipient table of a message, where it is there.
-pub(crate) fn check_recipients(node: Node, known: &mut Known) -> Result<(), Fault>
+pub(crate) fn check_recipients(node: Node, known: &mut KnownParts) -> Result<(), Fault>
     requires { IsTrueOf (table_of_node node) known.old }
     ensures known { IsTrueOf (table_of_node node.entry) known.new }
     ensures grows { let t = table_of_node node.entry in

@@ -11,13 +11,13 @@ ghost use Rattle.pst_mail.specs.Fault.{held_fault, below_message, attachment_fau
 ghost use Rattle.pst_msg.specs.Growth.{Grows};
 ghost use Rattle.pst_msg.specs.Known.{ContextIn, WholeIn, HeldIn, AttachmentIn, IsTrueOf};
 
-use crate::known::Known;
+use crate::known::KnownParts;
 use pst_fault::Fault;
 use pst_ndb::Node;
 use pst_remembered::{is_alike, key_of, key_of_list, part_of_list};
 
 // What a message holds in its list of subnodes, by that list.
-fn remember_list(node: Node, known: &mut Known) -> Result<(), Fault>
+fn remember_list(node: Node, known: &mut KnownParts) -> Result<(), Fault>
     requires known { IsTrueOf (table_of_node node) known.old }
     requires none { let t = table_of_node node in
         held_fault t (below_message t LISTS) (roots_of node) ≡ None }
@@ -30,7 +30,7 @@ fn remember_list(node: Node, known: &mut Known) -> Result<(), Fault>
 }
 
 /// A message, whole: its properties are known, and what it holds has no fault.
-pub(crate) fn remember_message(node: Node, known: &mut Known) -> Result<(), Fault>
+pub(crate) fn remember_message(node: Node, known: &mut KnownParts) -> Result<(), Fault>
     requires known { IsTrueOf (table_of_node node) known.old }
     requires none { let t = table_of_node node in
         held_fault t (below_message t LISTS) (roots_of node) ≡ None }
@@ -45,7 +45,7 @@ pub(crate) fn remember_message(node: Node, known: &mut Known) -> Result<(), Faul
 }
 
 /// What a message holds, and the message.
-pub(crate) fn remember_held(node: Node, known: &mut Known) -> Result<(), Fault>
+pub(crate) fn remember_held(node: Node, known: &mut KnownParts) -> Result<(), Fault>
     requires known { IsTrueOf (table_of_node node) known.old }
     requires none { let t = table_of_node node in
         held_fault t (below_message t LISTS) (roots_of node) ≡ None }
@@ -61,7 +61,7 @@ pub(crate) fn remember_held(node: Node, known: &mut Known) -> Result<(), Fault>
 }
 
 /// An attachment, whole.
-pub(crate) fn remember_attachment(node: Node, known: &mut Known) -> Result<(), Fault>
+pub(crate) fn remember_attachment(node: Node, known: &mut KnownParts) -> Result<(), Fault>
     requires known { IsTrueOf (table_of_node node) known.old }
     requires none { attachment_fault (table_of_node node) (roots_of node) ≡ None }
     requires inside { AttachmentIn (table_of_node node) known.old (roots_of node) }
@@ -74,7 +74,7 @@ pub(crate) fn remember_attachment(node: Node, known: &mut Known) -> Result<(), F
 }
 
 /// The fault of what a message holds is known from then on, by its list, where it is the same in each message that has that.
-pub(crate) fn remember_broken(node: Node, fault: Fault, known: &mut Known) -> Result<(), Fault>
+pub(crate) fn remember_broken(node: Node, fault: Fault, known: &mut KnownParts) -> Result<(), Fault>
     requires known { IsTrueOf (table_of_node node) known.old }
     requires first { let t = table_of_node node in
         IsFirst (held_fault t (below_message t LISTS) (roots_of node)) fault }
@@ -92,7 +92,7 @@ pub(crate) fn remember_broken(node: Node, fault: Fault, known: &mut Known) -> Re
 /// none, so this stands apart.
 #[cold]
 #[inline(never)]
-pub(crate) fn refuse_held(node: Node, limit: u32, fault: Fault, known: &mut Known) -> Fault
+pub(crate) fn refuse_held(node: Node, limit: u32, fault: Fault, known: &mut KnownParts) -> Fault
     requires sound { sub_fault (table_of_node node) limit (sub_bid_of node) ≡ None }
     requires known { IsTrueOf (table_of_node node) known.old }
     requires first { let t = table_of_node node in

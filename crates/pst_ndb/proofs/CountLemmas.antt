@@ -31,7 +31,7 @@ use Rattle.pst_subnode.specs.Known as both
 use Rattle.pst_subnode.proofs.StateLemmas.{state_key, key_state}
 use Rattle.pst_subnode.proofs.AddLemmas.{contains_cases}
 use Rattle.pst_subnode.proofs.ReachLemmas.{slblock_type, siblock_type, list_type}
-use Rattle.pst_ndb.specs.declared.check_nodes.Known.{Known}
+use Rattle.pst_ndb.specs.declared.check_nodes.SoundTrees.{SoundTrees}
 use Rattle.pst_ndb.specs.Counts.{roots_of, capped, AreExpanded, ExpansionLaw}
 use Rattle.pst_ndb.specs.Known.{IsKnownTrue, IsNew, IsCounted, AddsKnown, entry_of_node}
 
@@ -145,7 +145,7 @@ reached_known t nodes s h bid e true_of closed known (goes_on before _ lead name
 
 -- ---- no block is known twice
 
-keys_apart : (t : Table) (from : List ℕ) (k : Known) → IsKnownTrue t k → both.AreReached t from k.seen k.heights → (key : ℕ) → Contains (seen.tree_keys k.seen) key → Contains (heights.list_keys k.heights) key → ⊥
+keys_apart : (t : Table) (from : List ℕ) (k : SoundTrees) → IsKnownTrue t k → both.AreReached t from k.seen k.heights → (key : ℕ) → Contains (seen.tree_keys k.seen) key → Contains (heights.list_keys k.heights) key → ⊥
 keys_apart t from k true_of reached key in_trees in_lists =
     let held = key_held k.seen key in_trees in
     let state = key_state k.heights key in_lists in
@@ -164,7 +164,7 @@ length_keys : {K X : Type 0} (es : List (K × X)) → length (keys_of es) ≡ le
 length_keys [] = refl
 length_keys (e ∷ rest) = ap suc (length_keys rest)
 
-pub expanded : (t : Table) (nodes : List NodeEntry) (k : Known) (count : ℕ) → IsKnownTrue t k → both.AreClosed t k.seen k.heights → both.AreReached t (roots_of nodes) k.seen k.heights → both.AreKnownEach t k.seen k.heights (map entry_of_node nodes) → IsCounted k → IsStrictlySortedBy nat_cmp (seen.tree_keys k.seen) → IsStrictlySortedBy nat_cmp (heights.list_keys k.heights) → count ≡ capped (seen.tree_expansions k.seen + heights.list_expansions k.heights) → AreExpanded t nodes count
+pub expanded : (t : Table) (nodes : List NodeEntry) (k : SoundTrees) (count : ℕ) → IsKnownTrue t k → both.AreClosed t k.seen k.heights → both.AreReached t (roots_of nodes) k.seen k.heights → both.AreKnownEach t k.seen k.heights (map entry_of_node nodes) → IsCounted k → IsStrictlySortedBy nat_cmp (seen.tree_keys k.seen) → IsStrictlySortedBy nat_cmp (heights.list_keys k.heights) → count ≡ capped (seen.tree_expansions k.seen + heights.list_expansions k.heights) → AreExpanded t nodes count
 expanded t nodes k count true_of closed reached known counted trees lists is =
     let xs = seen.tree_keys k.seen in
     let ys = heights.list_keys k.heights in (
@@ -190,20 +190,20 @@ expanded t nodes k count true_of closed reached known counted trees lists is =
 
 -- ---- nothing is known yet
 
-pub closed_new : (t : Table) (k : Known) → IsNew k → both.AreClosed t k.seen k.heights
+pub closed_new : (t : Table) (k : SoundTrees) → IsNew k → both.AreClosed t k.seen k.heights
 closed_new t k new = record {
   trees = λ bid e known internal next x names is. let bad : false ≡ true = sym (new.trees (bid_key bid)) ∙ (sym (has_held k.seen bid) ∙ known) in cc;
   lists = λ bid next e high names is. let bad : None ≡ Some high.0 = sym (new.lists (bid_key bid)) ∙ high.2 in cc;
 }
 
-pub reached_new : (t : Table) (from : List ℕ) (k : Known) → IsNew k → both.AreReached t from k.seen k.heights
+pub reached_new : (t : Table) (from : List ℕ) (k : SoundTrees) → IsNew k → both.AreReached t from k.seen k.heights
 reached_new t from k new = record {
   trees = λ key known. let bad : false ≡ true = sym (new.trees key) ∙ known in cc;
   lists = λ key state known. let bad : None ≡ Some state = sym (new.lists key) ∙ known in cc;
 }
 
 -- all nodes were gone through
-pub all_expanded : (t : Table) (nodes : List NodeEntry) (old k : Known) (count : ℕ) → IsNew old → IsKnownTrue t k → AddsKnown t (both.AreLedEach t (map entry_of_node nodes)) old k → both.AreKnownEach t k.seen k.heights (map entry_of_node nodes) → IsCounted k → IsStrictlySortedBy nat_cmp (seen.tree_keys k.seen) → IsStrictlySortedBy nat_cmp (heights.list_keys k.heights) → count ≡ capped (seen.tree_expansions k.seen + heights.list_expansions k.heights) → AreExpanded t nodes count
+pub all_expanded : (t : Table) (nodes : List NodeEntry) (old k : SoundTrees) (count : ℕ) → IsNew old → IsKnownTrue t k → AddsKnown t (both.AreLedEach t (map entry_of_node nodes)) old k → both.AreKnownEach t k.seen k.heights (map entry_of_node nodes) → IsCounted k → IsStrictlySortedBy nat_cmp (seen.tree_keys k.seen) → IsStrictlySortedBy nat_cmp (heights.list_keys k.heights) → count ≡ capped (seen.tree_expansions k.seen + heights.list_expansions k.heights) → AreExpanded t nodes count
 all_expanded t nodes old k count new true_of adds known counted trees lists is =
     expanded t nodes k count true_of (adds.closed (closed_new t old new)) (adds.reached (roots_of nodes) (led_each t nodes) (reached_new t (roots_of nodes) old new)) known counted trees lists is
 

@@ -21,12 +21,12 @@ use std::alloc::Global;
 
 // What is known of the trees that were looked at.
 #[derive(Drop)]
-struct Known {
+struct SoundTrees {
     seen: Seen,
     heights: Heights,
 }
 
-impl Known {
+impl SoundTrees {
     ghost use Rattle.std.specs.Prelude.{◌≡◌, ◌+◌};
     ghost use Rattle.std.specs.List.Sorted.{IsStrictlySortedBy};
     ghost use Rattle.std.specs.Ordering.{nat_cmp};
@@ -37,12 +37,12 @@ impl Known {
     ghost use Rattle.pst_ndb.specs.Known.{IsKnownTrue, IsNew, IsCounted};
 
     // Nothing yet.
-    fn new(alloc: Global) -> Known
+    fn new(alloc: Global) -> SoundTrees
         ensures known { (t : Table) → IsKnownTrue t result }
         ensures empty { IsNew result }
         ensures counts { IsCounted result }
     {
-        Known {
+        SoundTrees {
             seen: Seen::new(alloc),
             heights: Heights::new(alloc),
         }
@@ -68,7 +68,7 @@ fn check_subs(
     alloc: Global,
     blocks: &Blocks,
     entry: NodeEntry,
-    known: &mut Known,
+    known: &mut SoundTrees,
 ) -> Result<(), Fault>
     requires { IsKnownTrue (table_of blocks.now) known.old }
     ensures known { IsKnownTrue (table_of blocks.now) known.new }
@@ -97,7 +97,7 @@ fn check_node(
     alloc: Global,
     blocks: &Blocks,
     entry: NodeEntry,
-    known: &mut Known,
+    known: &mut SoundTrees,
 ) -> Result<(), Fault>
     requires { IsKnownTrue (table_of blocks.now) known.old }
     ensures known { IsKnownTrue (table_of blocks.now) known.new }
@@ -118,7 +118,7 @@ fn check_each(
     alloc: Global,
     blocks: &Blocks,
     tree: &NodeTree,
-    known: &mut Known,
+    known: &mut SoundTrees,
 ) -> Result<(), Fault>
     requires { IsKnownTrue (table_of blocks.now) known.old }
     ensures known { IsKnownTrue (table_of blocks.now) known.new }
@@ -144,7 +144,7 @@ pub(crate) fn check_nodes(alloc: Global, blocks: &Blocks, tree: &NodeTree) -> Re
     ensures none { OnOk result (nodes_fault (table_of blocks.now) (node_entries tree.now) ≡ None) }
     ensures expansions { IfOk result (AreExpanded (table_of blocks.now) (node_entries tree.now)) }
 {
-    let mut known = Known::new(alloc);
+    let mut known = SoundTrees::new(alloc);
     check_each(alloc, blocks, tree, &mut known)?;
     Ok(known.expansions())
 }

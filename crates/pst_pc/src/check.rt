@@ -6,7 +6,7 @@ ghost use Rattle.pst_fault.specs.Each.{first_of};
 ghost use Rattle.pst_fault.specs.First.{Checks, TellsFirst};
 ghost use Rattle.pst_ndb.specs.Views.{table_of_node, roots_of};
 ghost use Rattle.pst_heap.specs.Fault.{told_under};
-ghost use Rattle.pst_heap.specs.Maps.{AreMapsTrue};
+ghost use Rattle.pst_heap.specs.PageMaps.{AreMapsTrue};
 ghost use Rattle.pst_heap.specs.View.{node_of, data_of};
 ghost use Rattle.pst_heap.specs.Items.{heap_of_items, node_of_items, data_of_items};
 ghost use Rattle.pst_bth.specs.View.{heap_of, sizes_in, records_of};
@@ -19,7 +19,7 @@ use crate::pc::Pc;
 use pst_bth::{Bth, check_bth_at};
 use pst_bytes::Span;
 use pst_fault::Fault;
-use pst_heap::{Heap, Items, Maps, check_client, check_heap, check_heap_with, known_heap};
+use pst_heap::{Heap, Items, PageMaps, check_client, check_heap, check_heap_with, known_heap};
 use pst_ndb::Node;
 use pst_value::{PropType, check_value};
 
@@ -118,7 +118,7 @@ pub fn check_pc(node: Node<'_>) -> Result<Pc<'_>, Fault>
 
 /// Checks the property context of a node as `check_pc` does, its heap by what is known of page maps, as `check_heap_with` does.
 /// NoMemory where memory is refused for that.
-pub fn check_pc_with<'a>(node: Node<'a>, maps: &mut Maps) -> Result<Pc<'a>, Fault>
+pub fn check_pc_with<'a>(node: Node<'a>, maps: &mut PageMaps) -> Result<Pc<'a>, Fault>
     // What is known is true, and stays so.
     requires known { AreMapsTrue (table_of_node node) maps.old }
     ensures known { AreMapsTrue (table_of_node node.entry) maps.new }

@@ -22,4 +22,4 @@ pub use laws::{pc_decides, pc_has_records, pc_is_of_keys, pc_keys_rise, pc_look_
 pub use pc::Pc;
 pub use prop::Prop;
 pub use props::Props;
-pub use pst_heap::Maps;
+pub use pst_heap::PageMaps;

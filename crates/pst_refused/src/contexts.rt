@@ -1,12 +1,12 @@
 //! The contexts of each node, by the calls that remember page maps, with an index of its subnodes.
 
 ghost use Rattle.pst_ndb.specs.Views.{table_of_ndb};
-ghost use Rattle.pst_heap.specs.Maps.{AreMapsTrue};
+ghost use Rattle.pst_heap.specs.PageMaps.{AreMapsTrue};
 
 use crate::refused::Refused;
 use pst_bytes::Image;
 use pst_fault::{Fault, Kind};
-use pst_heap::{Maps, check_heap_with};
+use pst_heap::{PageMaps, check_heap_with};
 use pst_names::check_names;
 use pst_ndb::{Ndb, check_ndb};
 use pst_pc::check_pc_with;
@@ -17,7 +17,7 @@ use std::alloc::Global;
 #[derive(Drop)]
 struct Known<'a> {
     ndb: Ndb<'a>,
-    maps: Maps,
+    maps: PageMaps,
     ghost known: { AreMapsTrue (table_of_ndb ndb) maps },
 }
 
@@ -43,7 +43,7 @@ fn check_pc(alloc: Global, ndb: Ndb, nid: u32) -> Result<(), Refused> {
         return Ok(());
     };
     let index = node.index(alloc)?;
-    let mut maps = Maps::new(alloc);
+    let mut maps = PageMaps::new(alloc);
     match check_pc_with(node.indexed(&index), &mut maps) {
         Ok(pc) => {
             passed(pc.asks(alloc).err())?;
@@ -59,7 +59,7 @@ fn check_tc(alloc: Global, ndb: Ndb, nid: u32) -> Result<(), Refused> {
         return Ok(());
     };
     let index = node.index(alloc)?;
-    let mut maps = Maps::new(alloc);
+    let mut maps = PageMaps::new(alloc);
     match check_tc_with(node.indexed(&index), &mut maps) {
         Ok(tc) => passed(tc.asks(alloc).err()),
         Err(fault) => passed(Some(fault)),
@@ -81,7 +81,7 @@ pub(crate) fn contexts(alloc: Global, bytes: &[u8]) -> Result<(), Refused> {
     let ndb = check_ndb(alloc, Image::new(bytes))?.ndb;
     let mut known = Known {
         ndb,
-        maps: Maps::new(alloc),
+        maps: PageMaps::new(alloc),
     };
     for node in ndb.nodes() {
         check_contexts(alloc, &mut known, node.top())?;

@@ -8,7 +8,7 @@ use Rattle.pst_block.specs.Table.{Table}
 use Rattle.pst_ndb.specs.Roots.{Roots}
 use Rattle.pst_value.specs.declared.asks.Asks.{Asks}
 use Rattle.pst_value.specs.Met.{HoldsWith}
-use Rattle.pst_remembered.specs.declared.asked.Asked.{Asked}
+use Rattle.pst_remembered.specs.declared.asked.KnownAsks.{KnownAsks}
 use Rattle.pst_remembered.specs.declared.role.Role.{Role}
 use Rattle.pst_remembered.specs.Asked.{IsAskTrue, AreAskedTrue}
 use Rattle.pst_remembered.specs.Keys.{Key, key_cmp}
@@ -23,7 +23,7 @@ ask_true t role r q asks holds block number = λ other s same e met.
     rw (← is) (holds s (sym (e ∙ block)) met)
 
 -- one more is kept
-pub asks_put : (t : Table) (role : Role) (r : Roots) (q : Key) (asks : Asks) (old new : Asked) → AreAskedTrue t old → HoldsWith t r asks (role_fault t role) → q.0.0 ≡ bid_key r.bid_data → q.1 ≡ role_number role
+pub asks_put : (t : Table) (role : Role) (r : Roots) (q : Key) (asks : Asks) (old new : KnownAsks) → AreAskedTrue t old → HoldsWith t r asks (role_fault t role) → q.0.0 ≡ bid_key r.bid_data → q.1 ≡ role_number role
     → ((p : Key) → get key_cmp new.asks p ≡ cond (eq_by_cmp key_cmp q p) (Some asks) (get key_cmp old.asks p)) → AreAskedTrue t new
 unfolding AreAskedTrue
 asks_put t role r q asks old new are holds block number put = λ p kept found. by_test p kept (eq_by_cmp key_cmp q p) refl (sym (put p) ∙ found)
@@ -36,6 +36,6 @@ asks_put t role r q asks old new are holds block number put = λ p kept found. b
     by_test p kept false here found = are p kept found
 
 -- they stay
-pub asks_same : (t : Table) (old new : Asked) → new.asks.entries ≡ old.asks.entries → AreAskedTrue t old → AreAskedTrue t new
+pub asks_same : (t : Table) (old new : KnownAsks) → new.asks.entries ≡ old.asks.entries → AreAskedTrue t old → AreAskedTrue t new
 unfolding AreAskedTrue
 asks_same t old new same are = λ q asks found. are q asks (rw same at found)

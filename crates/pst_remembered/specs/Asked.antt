@@ -7,7 +7,7 @@ use Rattle.pst_block.specs.Table.{Table}
 use Rattle.pst_ndb.specs.Roots.{Roots}
 use Rattle.pst_value.specs.declared.asks.Asks.{Asks}
 use Rattle.pst_value.specs.Met.{are_met}
-use Rattle.pst_remembered.specs.declared.asked.Asked.{Asked}
+use Rattle.pst_remembered.specs.declared.asked.KnownAsks.{KnownAsks}
 use Rattle.pst_remembered.specs.declared.role.Role.{Role}
 use Rattle.pst_remembered.specs.Keys.{Key, key_cmp}
 use Rattle.pst_remembered.specs.Roles.{role_number, role_fault}
@@ -18,5 +18,5 @@ IsAskTrue t q asks =
     (role : Role) (s : Roots) → role_number role ≡ q.1 → bid_key s.bid_data ≡ q.0.0 → are_met t s asks ≡ true → role_fault t role s ≡ None
 
 -- so it is of all that are kept
-unfoldable pub AreAskedTrue : Table → Asked → Type 0
+unfoldable pub AreAskedTrue : Table → KnownAsks → Type 0
 AreAskedTrue t a = (q : Key) (asks : Asks) → get key_cmp a.asks q ≡ Some asks → IsAskTrue t q asks

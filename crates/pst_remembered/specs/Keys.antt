@@ -7,7 +7,7 @@ use Rattle.std.specs.BTreeMap.{is_at}
 use Rattle.std.specs.BTreeSet.{insert_key}
 use Rattle.pst_block.specs.Block.{bid_key}
 use Rattle.pst_ndb.specs.Roots.{Roots}
-use Rattle.pst_remembered.specs.declared.keys.Keys.{Keys}
+use Rattle.pst_remembered.specs.declared.keys.NodeSet.{NodeSet}
 
 -- pairs in the order of their first parts, then of their second
 abbrev pub pair_cmp : (ℕ × ℕ) → (ℕ × ℕ) → Ordering
@@ -41,11 +41,11 @@ abbrev pub with_alone : List (ℕ × ℕ) → List Key → List Key
 with_alone [] ks = ks
 with_alone (x ∷ rest) ks = insert_key key_cmp (with_alone rest ks) (alone_key x)
 
-unfoldable pub keys_in : Keys → List Key
+unfoldable pub keys_in : NodeSet → List Key
 keys_in keys = with_alone keys.alone keys.others
 
-unfoldable pub holds : Keys → Key → Bool
+unfoldable pub holds : NodeSet → Key → Bool
 holds keys k = list_any (is_at (key_cmp k)) (keys_in keys)
 
-abbrev pub has : Keys → ℕ → Roots → Bool
+abbrev pub has : NodeSet → ℕ → Roots → Bool
 has keys n r = holds keys (key n r)

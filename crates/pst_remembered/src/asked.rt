@@ -29,7 +29,7 @@ const SHARE: u64 = 16;
 /// What contexts that were found without fault asked of their lists of subnodes. It is kept by the data, by that of the row matrix
 /// where it is a subnode, and by the role; and of so many subnodes at most that it takes no more memory than the file.
 #[derive(Drop)]
-pub struct Asked {
+pub struct KnownAsks {
     asks: BTreeMap<Key, Asks>,
     // Which subnode the row matrix is, by the data of the table.
     matrices: BTreeMap<u64, u32>,
@@ -63,7 +63,7 @@ fn is_worth(role: Role, node: Node) -> bool {
     }
 }
 
-impl Asked {
+impl KnownAsks {
     ghost use Rattle.std.specs.Prelude.{◌≡◌, true, None, IfErr};
     ghost use Rattle.pst_block.specs.Block.{bid_key};
     ghost use Rattle.pst_block.specs.Table.{Table};
@@ -75,10 +75,10 @@ impl Asked {
 
     /// Nothing yet. No memory is taken.
     #[tactic(auto, unfolding(crate::specs::Asked::AreAskedTrue))]
-    pub fn new(alloc: Global) -> Asked
+    pub fn new(alloc: Global) -> KnownAsks
         ensures { (t : Table) → AreAskedTrue t result }
     {
-        Asked {
+        KnownAsks {
             asks: BTreeMap::new(alloc),
             matrices: BTreeMap::new(alloc),
             count: 0,

@@ -18,7 +18,7 @@ pub type Key = ((u64, u64), u64);
 
 /// A set of nodes, each with a number.
 #[derive(Drop)]
-pub struct Keys {
+pub struct NodeSet {
     // Those of nodes without subnodes, by their data alone: most contexts are, and so each takes less memory.
     alone: RisingSet<(u64, u64)>,
     others: RisingSet<((u64, u64), u64)>,
@@ -52,14 +52,14 @@ pub fn key_of_list(node: Node) -> Key
     ((0, cleared(node.bid_sub())), 0)
 }
 
-impl Keys {
+impl NodeSet {
     /// None.
     #[tactic(auto, unfolding(crate::specs::Keys::holds, crate::specs::Keys::keys_in))]
-    pub fn new(alloc: Global) -> Keys
+    pub fn new(alloc: Global) -> NodeSet
         ensures none { (q : SpecKey) → holds result q ≡ false }
         ensures empty { keys_in result ≡ [] }
     {
-        Keys {
+        NodeSet {
             alone: RisingSet::new(alloc),
             others: RisingSet::new(alloc),
         }

@@ -4,14 +4,14 @@ ghost use Rattle.std.specs.Prelude.{◌≡◌};
 ghost use Rattle.pst_fault.specs.First.{Tells};
 ghost use Rattle.pst_ndb.specs.Views.{table_of_node, roots_of};
 ghost use Rattle.pst_pc.specs.Fault.{pc_fault};
-ghost use Rattle.pst_pc.specs.pst_heap.Maps.{AreMapsTrue};
+ghost use Rattle.pst_pc.specs.pst_heap.PageMaps.{AreMapsTrue};
 ghost use Rattle.pst_tc.specs.Fault.{tc_fault};
 ghost use Rattle.pst_remembered.specs.Roles.{role_number, role_fault};
 
 use pst_fault::Fault;
 use pst_mail::Items;
 use pst_ndb::Node;
-use pst_pc::{Maps, check_pc_with};
+use pst_pc::{PageMaps, check_pc_with};
 use pst_tc::check_tc_with;
 
 /// What a context is to what names it.
@@ -42,7 +42,7 @@ pub fn role_number(role: Role) -> u64
 }
 
 // The property context of a node.
-fn check_properties(node: Node, maps: &mut Maps) -> Result<(), Fault>
+fn check_properties(node: Node, maps: &mut PageMaps) -> Result<(), Fault>
     requires known { AreMapsTrue (table_of_node node) maps.old }
     ensures known { AreMapsTrue (table_of_node node.entry) maps.new }
     ensures exact { Tells result (pc_fault (table_of_node node.entry) (roots_of node.entry)) tt }
@@ -52,7 +52,7 @@ fn check_properties(node: Node, maps: &mut Maps) -> Result<(), Fault>
 }
 
 // A table context of a node, in a role.
-fn check_table(node: Node, maps: &mut Maps) -> Result<(), Fault>
+fn check_table(node: Node, maps: &mut PageMaps) -> Result<(), Fault>
     requires known { AreMapsTrue (table_of_node node) maps.old }
     ensures known { AreMapsTrue (table_of_node node.entry) maps.new }
     ensures exact { Tells result (tc_fault (table_of_node node.entry) (roots_of node.entry)) tt }
@@ -63,7 +63,7 @@ fn check_table(node: Node, maps: &mut Maps) -> Result<(), Fault>
 
 /// Checks the context of a node in a role, by what is known of page maps: properties as `check_pc_with` answers ([MS-PST] 2.3.3), a
 /// table as `check_tc_with` does (2.3.4). NoMemory where memory is refused.
-pub fn check_context(role: Role, node: Node, maps: &mut Maps) -> Result<(), Fault>
+pub fn check_context(role: Role, node: Node, maps: &mut PageMaps) -> Result<(), Fault>
     requires known { AreMapsTrue (table_of_node node) maps.old }
     ensures known { AreMapsTrue (table_of_node node.entry) maps.new }
     ensures exact { let t = table_of_node node.entry in

@@ -28,7 +28,7 @@ use pst_value::{Asks, Hnid, PropType, ask_value, hnid_of};
 use std::alloc::Global;
 
 // Asks for what the cell of a column in a row does.
-#[tactic(auto, unfolding(crate::specs::Fault::cell_fault), using(crate::proofs::InfoLemmas::cell_inside, crate::proofs::TypedLemmas::typed_room, crate::proofs::TypedLemmas::typed_is, crate::proofs::RowLemmas::cell_sound))]
+#[tactic(auto, unfolding(crate::specs::Fault::cell_fault), using(crate::proofs::InfoLemmas::cell_inside, pst_value::proofs::TypeLemmas::typed_room, crate::proofs::TypedLemmas::typed_is, crate::proofs::RowLemmas::cell_sound))]
 fn ask_cell(heap: &Heap, info: Span, row: Span, column: u64, asks: &mut Asks) -> Result<(), Fault>
     requires info { info.at + 22 ≤ length (data_of heap.now).image }
     requires column { column + 8 ≤ length (data_of heap.now).image }

@@ -29,7 +29,7 @@ use pst_ndb::Node;
 use pst_value::{PropType, check_value, missing_at};
 
 // The cell of a column in a row.
-#[tactic(auto, unfolding(crate::specs::Fault::cell_fault), using(crate::proofs::InfoLemmas::cell_inside, crate::proofs::TypedLemmas::typed_room, crate::proofs::TypedLemmas::typed_is))]
+#[tactic(auto, unfolding(crate::specs::Fault::cell_fault), using(crate::proofs::InfoLemmas::cell_inside, pst_value::proofs::TypeLemmas::typed_room, crate::proofs::TypedLemmas::typed_is))]
 fn check_cell(items: &mut Items, info: Span, row: Span, column: u64) -> Result<(), Fault>
     requires info { info.at + 22 ≤ length (data_of_items items.old).image }
     requires column { column + 8 ≤ length (data_of_items items.old).image }

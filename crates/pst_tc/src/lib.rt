@@ -1,10 +1,10 @@
 //! Table contexts ([MS-PST] 2.3.4): the columns of a node's table, its rows, found by their identifiers, and their cells.
 //!
 //! Begin with `check_tc_with`, which answers a `Tc` or the first fault of a node's data as one, and remembers for its next calls
-//! which heaps have no fault. What a `Tc` is asked cannot fail any more, takes no memory, and lends the file's own bytes:
+//! which page maps are good. What a `Tc` is asked cannot fail any more, takes no memory, and lends the file's own bytes:
 //!
 //! ```text
-//! let mut maps = Maps::new(alloc);
+//! let mut maps = PageMaps::new(alloc);
 //! let table = check_tc_with(node, &mut maps)?;
 //! for row in table.rows() {
 //!     let name = row.cell(0x3001_001F);

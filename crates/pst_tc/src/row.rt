@@ -74,7 +74,7 @@ impl<'a> Row<'a> {
     }
 
     // The value of its cell in a column, which is there.
-    #[tactic(auto, unfolding(crate::specs::Values::cell_spans), using(crate::proofs::RowLemmas::body_room, crate::proofs::RowLemmas::cell_sound, crate::proofs::InfoLemmas::cell_inside, crate::proofs::TypedLemmas::typed_room, crate::proofs::TypedLemmas::typed_is))]
+    #[tactic(auto, unfolding(crate::specs::Values::cell_spans), using(crate::proofs::RowLemmas::body_room, crate::proofs::RowLemmas::cell_sound, crate::proofs::InfoLemmas::cell_inside, pst_value::proofs::TypeLemmas::typed_room, crate::proofs::TypedLemmas::typed_is))]
     fn value(&self, column: u64) -> Value<'a>
         requires column { let t = table_of_node (node_of_tc (tc_of_row self.now)) in
             column + 8 ≤ length t.image }

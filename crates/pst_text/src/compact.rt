@@ -1,10 +1,9 @@
 //! The text of a document.
 
-ghost use Rattle.std.specs.Prelude.{◌≡◌, ◌++◌, IfOk, OnOk, OnErr, false};
+ghost use Rattle.std.specs.Prelude.{◌≡◌, IfOk, false};
 ghost use Rattle.serde_json.specs.View.{view};
-ghost use Rattle.serde_json.specs.Written.{comma_if, has_float};
+ghost use Rattle.serde_json.specs.Written.{has_float};
 ghost use Rattle.pst_text.specs.Line.{data_line};
-ghost use Rattle.pst_text.specs.Kept.{BeginsWith};
 
 use serde_json::Value as Doc;
 use std::alloc::{AllocError, Global};
@@ -26,15 +25,4 @@ pub fn line_text(alloc: Global, doc: &Doc) -> Result<Vec<u8>, AllocError>
     ensures { IfOk result (λ t. t.items ≡ data_line (view doc.now)) }
 {
     text(alloc, doc)
-}
-
-/// Puts a comma behind a text where something stands there.
-pub fn put_comma(later: bool, text: &mut Vec<u8>) -> Result<(), AllocError>
-    ensures put { OnOk result (text.new.items ≡ text.old.items ++ comma_if later) }
-    ensures kept { OnErr result (BeginsWith text.new.items text.old.items) }
-{
-    if later {
-        text.push(b',')?;
-    }
-    Ok(())
 }

@@ -6,7 +6,6 @@
 //!
 //! ```text
 //! let mut text = Vec::new(alloc);
-//! put_key("nid", false, &mut text)?;
 //! put_nid(0x21, &mut text)?;
 //! ```
 #![tactic(auto)]
@@ -22,11 +21,11 @@ mod time;
 mod utf16;
 mod values;
 
-pub use compact::{line_text, put_comma, text};
+pub use compact::{line_text, text};
 pub use digits::{put_hex, put_id, put_lower_bytes, put_nid, put_nid_or_null, put_tag};
 pub use docs::{hex_doc, text_doc, text_of};
 pub use names::{id_text, nid_text, tag_text};
-pub use put::{put_integer, put_key, put_natural, put_null, put_plain, put_string, put_truth};
+pub use put::{put_integer, put_natural, put_null, put_plain, put_string, put_truth};
 pub use time::{put_i32_or_null, put_time_or_null};
 pub use utf16::put_units;
 pub use values::{put_bytes, put_guid, put_text};

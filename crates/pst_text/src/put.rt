@@ -3,11 +3,10 @@
 ghost use Rattle.std.specs.Prelude.{◌≡◌, ◌++◌, OnOk, OnErr, true};
 ghost use Rattle.serde_json.specs.Data.{null, boolean, string};
 ghost use Rattle.serde_json.specs.Written.{compact_text};
-ghost use Rattle.pst_text.specs.Quoted.{all_plain, key_text};
+ghost use Rattle.pst_text.specs.Quoted.{all_plain};
 ghost use Rattle.pst_text.specs.Parts.{natural, integer};
 ghost use Rattle.pst_text.specs.Kept.{BeginsWith};
 
-use crate::compact::put_comma;
 use crate::escape::put_quoted;
 use std::alloc::AllocError;
 
@@ -67,16 +66,5 @@ pub fn put_null(text: &mut Vec<u8>) -> Result<(), AllocError>
     ensures kept { OnErr result (BeginsWith text.new.items text.old.items) }
 {
     text.extend_from_slice(b"null")?;
-    Ok(())
-}
-
-/// Puts a key behind a text, and a comma before it where others stand there.
-pub fn put_key(key: &str, later: bool, text: &mut Vec<u8>) -> Result<(), AllocError>
-    ensures put { OnOk result (text.new.items ≡ text.old.items ++ key_text later key.now) }
-    ensures kept { OnErr result (BeginsWith text.new.items text.old.items) }
-{
-    put_comma(later, text)?;
-    put_string(key, text)?;
-    text.push(b':')?;
     Ok(())
 }

@@ -1,3 +1,4 @@
+pub mod TypeLemmas
 pub mod UnitLemmas
 pub mod MultiLemmas
 pub mod ElementLemmas

@@ -1,6 +1,6 @@
 -- The spans of the value of a property or a cell ([MS-PST] 2.3.3.2, 2.3.3.3, 2.3.4.4.1): bytes of its raw span itself, or what the
 -- HNID there names. Where an HNID names nothing there are none: the first fault tells it.
-use Rattle.std.specs.Prelude.{ℕ, nat_eq, nat_le, List, [], ◌∷◌, Option, Some, None, option_map, if◌then◌else◌}
+use Rattle.std.specs.Prelude.{ℕ, nat_le, List, [], ◌∷◌, Option, Some, None, option_map, if◌then◌else◌}
 use Rattle.pst_bytes.specs.declared.span.Span.{Span}
 use Rattle.pst_bytes.specs.Image.{num}
 use Rattle.pst_block.specs.Table.{Table}
@@ -9,32 +9,30 @@ use Rattle.pst_ndb.specs.Roots.{Roots, subnode_of}
 use Rattle.pst_heap.specs.Values.{item_of, heap_at}
 use Rattle.pst_value.specs.declared.class.Class.{Class}
 use Rattle.pst_value.specs.declared.class.Class.TheVariants.{Inline, Eight, Guid, Object, Open, Multi, Opaque}
-use Rattle.pst_value.specs.Class.{class_of}
+use Rattle.pst_value.specs.Class.{class_of, cell_width_of}
 use Rattle.pst_value.specs.declared.hnid.Hnid.{Hnid}
 use Rattle.pst_value.specs.declared.hnid.Hnid.TheVariants.{Nothing, Item, Subnode}
 use Rattle.pst_value.specs.Hnid.{hnid_of}
 
 -- ---- values in the raw span itself
 
--- how many bytes they have
-abbrev inline_width : ℕ → ℕ
-inline_width t = if nat_eq t 0x000B then 1 else if nat_eq t 0x0002 then 2 else 4
+-- they have as many bytes as a cell, where these fit
+abbrev pub fitting : Option ℕ → ℕ → Option ℕ
+fitting None len = None
+fitting (Some width) len = if nat_le width len then Some width else None
 
-abbrev fitting : ℕ → ℕ → Option ℕ
-fitting width len = if nat_le width len then Some width else None
-
-abbrev held_as : Class → ℕ → ℕ → Option ℕ
-held_as Inline t len = fitting (inline_width t) len
-held_as Eight t len = fitting 8 len
-held_as Guid t len = None
-held_as Object t len = None
-held_as Open t len = None
-held_as Multi t len = None
-held_as Opaque t len = Some len
+abbrev pub held_as : Class → Option ℕ → ℕ → Option ℕ
+held_as Inline cell len = fitting cell len
+held_as Eight cell len = fitting cell len
+held_as Guid cell len = None
+held_as Object cell len = None
+held_as Open cell len = None
+held_as Multi cell len = None
+held_as Opaque cell len = Some len
 
 -- how many bytes of a raw span with so many are the value; none where an HNID stands there
 unfoldable pub held_of : ℕ → ℕ → Option ℕ
-held_of t len = held_as (class_of t) t len
+held_of t len = held_as (class_of t) (cell_width_of t) len
 
 -- ---- what an HNID names
 

@@ -28,14 +28,10 @@ pub(crate) fn held(kind: PropType, len: u64) -> Option<u64>
     ensures value { result ≡ held_of kind.0 len }
     ensures fits { IfSome result (λ width. width ≤ len) }
 {
-    let width = match kind.class() {
+    let row = kind.row();
+    let width = match row.class {
         Class::Opaque => len,
-        Class::Eight => 8,
-        Class::Inline => match kind.0 {
-            0x000B => 1,
-            0x0002 => 2,
-            _ => 4,
-        },
+        Class::Inline | Class::Eight => u64::from(row.cell?),
         Class::Guid | Class::Object | Class::Open | Class::Multi => return None,
     };
     if width <= len { Some(width) } else { None }

@@ -1,4 +1,3 @@
-pub mod Form
 pub mod Value
 pub mod Places
 pub mod Filed

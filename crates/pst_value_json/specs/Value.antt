@@ -6,9 +6,9 @@ use Rattle.pst_value.specs.Multi.{elements_of}
 use Rattle.pst_text.specs.Names.{nid_data}
 use Rattle.pst_text.specs.Parts.{natural, integer, list_data}
 use Rattle.pst_text.specs.Text.{guid_data, hex_data, text_data}
-use Rattle.pst_value_json.specs.declared.form.Form.{Form}
-use Rattle.pst_value_json.specs.declared.form.Form.TheVariants.{Int16, Int32, Int64, Nat32, Nat64, Truth, Guid, Object, Text, Fixed, Open}
-use Rattle.pst_value_json.specs.Form.{form_of}
+use Rattle.pst_value.specs.declared.form.Form.{Form}
+use Rattle.pst_value.specs.declared.form.Form.TheVariants.{Int16, Int32, Int64, Nat32, Nat64, Truth, Guid, Object, Text, Fixed, Open}
+use Rattle.pst_value.specs.Class.{form_of}
 
 abbrev pub object_data : ℕ × ℕ → Data
 object_data o = object (member (codes "nid") (nid_data o.0) (member (codes "size") (natural o.1) no_members))

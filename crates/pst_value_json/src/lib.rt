@@ -27,7 +27,6 @@
 mod cells;
 mod digest;
 mod filed;
-mod form;
 mod laws;
 mod leaf;
 mod pens;
@@ -53,8 +52,8 @@ pub use pst_names::{NameIndex, NameMap};
 pub use pst_pc::{Pc, Prop, check_pc};
 pub use pst_tc::{Row, Rows, Tc, check_tc, tc_ids_rise, tc_is_of_keys};
 pub use pst_text::{
-    hex_doc, line_text, nid_text, put_comma, put_i32_or_null, put_key, put_natural, put_nid,
-    put_null, put_text, put_time_or_null, text, text_doc, text_of,
+    hex_doc, line_text, nid_text, put_i32_or_null, put_natural, put_nid, put_null, put_text,
+    put_time_or_null, text, text_doc, text_of,
 };
 pub use pst_value::PropType;
 pub use put_values::put_leaf;

@@ -9,10 +9,11 @@ ghost use Rattle.pst_text.specs.Parts.{natural, integer};
 ghost use Rattle.pst_text.specs.Text.{guid_data};
 ghost use Rattle.pst_value_json.specs.Value.{object_data, null_or_hex, or_hex, single_data};
 
-use crate::form::{Form, form_of_type};
 use crate::leaf::Leaf;
 use pst_datatree::Value;
-use pst_value::{PropType, as_bool, as_guid, as_i16, as_i32, as_i64, as_object, as_u32, as_u64};
+use pst_value::{
+    Form, PropType, as_bool, as_guid, as_i16, as_i32, as_i64, as_object, as_u32, as_u64,
+};
 
 // Null where a value has no byte, and else its bytes.
 #[inline(always)]
@@ -126,7 +127,7 @@ fn object<'a>(value: &'a Value<'a>) -> Leaf<'a>
 pub(crate) fn single<'a>(kind: PropType, value: &'a Value<'a>) -> Leaf<'a>
     ensures { leaf_data result ≡ single_data kind.0 (bytes_in value.now) }
 {
-    match form_of_type(kind) {
+    match kind.form() {
         Form::Int16 => int16(value),
         Form::Int32 => int32(value),
         Form::Int64 => int64(value),

@@ -58,6 +58,6 @@ fn help_and_the_version_are_shown(rt: HostRuntime) {
         has_help(&rt, name, help);
     }
     for word in ["--version", "-V"] {
-        is_answered(&rt, &[word], false, "pst_show 1.0.3\n");
+        is_answered(&rt, &[word], false, "pst_show 1.0.4\n");
     }
 }

@@ -1,13 +1,13 @@
 //! Heaps that share spans, checked by one who remembers page maps.
 
 ghost use Rattle.pst_ndb.specs.Views.{table_of_ndb};
-ghost use Rattle.pst_heap.specs.Maps.{AreMapsTrue};
+ghost use Rattle.pst_heap.specs.PageMaps.{AreMapsTrue};
 
 use super::{SPAN, list_of};
 use crate::made::{MEMORY, add_block, add_node, image_of, plan_of};
 use crate::opened::{line_of_fault, ndb_in};
 use crate::told::is;
-use pst_heap::{Maps, check_heap_with};
+use pst_heap::{PageMaps, check_heap_with};
 use pst_ndb::Ndb;
 use std::alloc::Global;
 use std::process::Abort;
@@ -16,7 +16,7 @@ use std::process::Abort;
 #[derive(Drop)]
 struct Known<'a> {
     ndb: Ndb<'a>,
-    maps: Maps,
+    maps: PageMaps,
     ghost known: { AreMapsTrue (table_of_ndb ndb) maps },
 }
 
@@ -90,7 +90,7 @@ fn shared_spans(rt: HostRuntime) {
     let image = store(&rt, alloc);
     let mut known = Known {
         ndb: ndb_in(&rt, alloc, &image),
-        maps: Maps::new(alloc),
+        maps: PageMaps::new(alloc),
     };
     for (nid, line) in ROWS {
         let told = line_of(&rt, alloc, &mut known, nid);

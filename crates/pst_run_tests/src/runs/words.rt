@@ -57,7 +57,7 @@ fn help_and_the_version_go_to_the_output(rt: HostRuntime) -> Result<(), Fail> {
         are_answered(&rt, words, 0, HELP, "")?;
     }
     for word in ["--version", "-V"] {
-        are_answered(&rt, &[word], 0, "pst_show 1.0.3\n", "")?;
+        are_answered(&rt, &[word], 0, "pst_show 1.0.4\n", "")?;
     }
     Ok(())
 }

@@ -5,7 +5,7 @@ use Rattle.pst_fault.proofs.FirstLemmas.{answer_ok, answer_err}
 use Rattle.pst_datatree.specs.Spans.{first_span}
 use Rattle.pst_heap.specs.Values.{data_of_node}
 use Rattle.pst_heap.specs.Fault.{told_of as told}
-use Rattle.pst_heap.specs.Maps.{start_fault}
+use Rattle.pst_heap.specs.PageMaps.{start_fault}
 use Rattle.pst_heap.proofs.KnownLemmas.{start_fails, maps_fail, heap_sound}
 use Rattle.pst_heap.proofs.check_with.check_heap_with.Goals as goal
 

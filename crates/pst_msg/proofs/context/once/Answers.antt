@@ -1,5 +1,5 @@
 use Rattle.pst_ndb.specs.Views.{table_of_node, roots_of}
-use Rattle.pst_msg.specs.declared.known.Known.{Known}
+use Rattle.pst_msg.specs.declared.known.KnownParts.{KnownParts}
 use Rattle.pst_remembered.specs.Keys.{key}
 use Rattle.pst_msg.specs.Known.{IsTrueOf}
 use Rattle.pst_remembered.specs.Roles.{role_number}
@@ -15,7 +15,7 @@ returns-in_err-check_anew-clause-known c =
 pub returns-in_err-insert-clause-known : goal.returns-in_err-insert-clause-known
 returns-in_err-insert-clause-known c =
     let k = c.args.known.now in
-    let turned : Known = record k { index = c.check_anew.new.index; maps = c.check_anew.new.maps; asked = c.check_anew.new.asked; broken = c.check_anew.new.broken } in
+    let turned : KnownParts = record k { index = c.check_anew.new.index; maps = c.check_anew.new.maps; asked = c.check_anew.new.asked; broken = c.check_anew.new.broken } in
     let is : IsTrueOf (table_of_node c.args.node) turned =
     aids_turned (table_of_node c.args.node) k c.check_anew.new.index c.check_anew.new.maps c.check_anew.new.asked c.check_anew.new.broken c.requires c.check_anew.ensures.index c.check_anew.ensures.maps c.check_anew.ensures.asked c.check_anew.ensures.broken in
     let more : OneMore k.contexts c.insert.new.self (key (role_number c.args.role) (roots_of c.args.node)) = rw (← c.role_number.ensures, ← c.key_of-taken.ensures) c.insert.ensures.only in
@@ -24,7 +24,7 @@ returns-in_err-insert-clause-known c =
 pub returns-clause-known : goal.returns-clause-known
 returns-clause-known c =
     let k = c.args.known.now in
-    let turned : Known = record k { index = c.check_anew.new.index; maps = c.check_anew.new.maps; asked = c.check_anew.new.asked; broken = c.check_anew.new.broken } in
+    let turned : KnownParts = record k { index = c.check_anew.new.index; maps = c.check_anew.new.maps; asked = c.check_anew.new.asked; broken = c.check_anew.new.broken } in
     let is : IsTrueOf (table_of_node c.args.node) turned =
     aids_turned (table_of_node c.args.node) k c.check_anew.new.index c.check_anew.new.maps c.check_anew.new.asked c.check_anew.new.broken c.requires c.check_anew.ensures.index c.check_anew.ensures.maps c.check_anew.ensures.asked c.check_anew.ensures.broken in
     let more : OneMore k.contexts c.insert.new.self (key (role_number c.args.role) (roots_of c.args.node)) = rw (← c.role_number.ensures, ← c.key_of-taken.ensures) c.insert.ensures.only in

@@ -8,7 +8,7 @@ use Rattle.pst_mail.specs.Fault.{below_message}
 use Rattle.pst_mail.specs.declared.nid.TheConstants.{ATTACHMENTS}
 use Rattle.pst_remembered.specs.declared.role.Role.TheVariants.{Attachments}
 use Rattle.pst_msg.specs.declared.frame.Frame.{Frame}
-use Rattle.pst_msg.specs.declared.known.Known.{Known}
+use Rattle.pst_msg.specs.declared.known.KnownParts.{KnownParts}
 use Rattle.pst_msg.specs.Counts.{HasMessage, Names}
 use Rattle.pst_msg.specs.Growth.{Grows}
 use Rattle.pst_msg.proofs.CountLemmas.{grows_then}
@@ -17,7 +17,7 @@ use Rattle.pst_msg.proofs.GrowLemmas.{attachments_grow}
 use Rattle.pst_msg.proofs.open.open_held.Goals as goal
 
 -- what is known, once the attachment table is
-table_grown : (t u : Table) (r : Roots) (s : Node) (a b c : Known) → u ≡ t → Some (roots_of s) ≡ subnode_of t r ATTACHMENTS → Grows t (λ nodes. HasMessage t nodes r) a b → Grows u (λ nodes. Names u nodes Attachments (roots_of s)) b c → Grows t (λ nodes. HasMessage t nodes r) a c
+table_grown : (t u : Table) (r : Roots) (s : Node) (a b c : KnownParts) → u ≡ t → Some (roots_of s) ≡ subnode_of t r ATTACHMENTS → Grows t (λ nodes. HasMessage t nodes r) a b → Grows u (λ nodes. Names u nodes Attachments (roots_of s)) b c → Grows t (λ nodes. HasMessage t nodes r) a c
 table_grown t u r s a b c same is g h = grows_then t _ a b c g (attachments_grow t u r s b c same is h)
 
 pub returns-in-Err : goal.returns-in-Err

@@ -2,9 +2,10 @@ use Rattle.std.proofs.Common.{◌≡◌, true, Some, arith}
 use Rattle.pst_ndb.specs.Views.{table_of_node}
 use Rattle.pst_heap.specs.Items.{node_of_items}
 use Rattle.pst_value.specs.Class.{cell_width_of}
+use Rattle.pst_value.proofs.TypeLemmas.{typed_room}
 use Rattle.pst_tc.specs.Info.{column_kind, column_start, column_width, is_typed}
 use Rattle.pst_tc.proofs.InfoLemmas.{cell_inside}
-use Rattle.pst_tc.proofs.TypedLemmas.{typed_is, typed_room}
+use Rattle.pst_tc.proofs.TypedLemmas.{typed_is}
 use Rattle.pst_tc.proofs.check.check_cell.Goals as goal
 
 pub check_value-requires-clause-inside : goal.check_value-requires-clause-inside

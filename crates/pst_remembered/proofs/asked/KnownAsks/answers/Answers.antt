@@ -3,7 +3,7 @@ use Rattle.std.specs.BTreeMap.{get}
 use Rattle.pst_ndb.specs.Views.{roots_of}
 use Rattle.pst_remembered.specs.Asked.{AreAskedTrue}
 use Rattle.pst_remembered.specs.Keys.{key_cmp}
-use Rattle.pst_remembered.proofs.asked.Asked.answers.Goals as goal
+use Rattle.pst_remembered.proofs.asked.KnownAsks.answers.Goals as goal
 
 pub returns-in-Some : goal.returns-in-Some
 unfolding AreAskedTrue

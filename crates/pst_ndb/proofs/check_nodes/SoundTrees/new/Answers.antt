@@ -1,5 +1,5 @@
 use Rattle.std.proofs.Common.{arith}
-use Rattle.pst_ndb.proofs.check_nodes.Known.new.Goals as goal
+use Rattle.pst_ndb.proofs.check_nodes.SoundTrees.new.Goals as goal
 
 pub returns-clause-known : goal.returns-clause-known
 returns-clause-known c t = record { trees = c.new.ensures.known t; lists = c.new-2.ensures.known t }
